@@ -6,14 +6,14 @@ use Rattle.hir_item_tree.specs.SourceTree.{SourceTreeValue}
 use Rattle.hir_item_tree.specs.declared.tree_id.TreeId.{TreeId}
 use Rattle.hir_tables.specs.SourcePlaces.{SourcePlaceValue}
 use Rattle.hir_tables.specs.Tables.{KeepsTables, TablesValue, source_of}
-use Rattle.hir_def_map.specs.Overlay.{Maps}
-use Rattle.hir_def_collector.specs.declared.collector.Start.{Start}
-use Rattle.hir_def_collector.specs.Workspace.{Workspace, crate_in}
-use Rattle.hir_def_collector.specs.Keys.{source_in, source_under}
-use Rattle.hir_def_collector.specs.Start.{began, core_of, krate_of, root_site, start_by, tree_key, tree_visits, is_proc_macro_by}
-use Rattle.hir_def_collector.specs.State.{Core, at_rest, joined}
-use Rattle.hir_def_collector.specs.Moves.{IsHeld}
-use Rattle.hir_def_collector.proofs.Outline.{held_grown, held_source}
+use Rattle.hir_def_map_rules.specs.Overlay.{Maps}
+use Rattle.hir_collector_rules.specs.declared.start.Start.{Start}
+use Rattle.hir_collector_rules.specs.Workspace.{Workspace, crate_in}
+use Rattle.hir_collector_rules.specs.Keys.{source_in, source_under}
+use Rattle.hir_collector_rules.specs.Start.{began, core_of, krate_of, root_site, start_by, tree_key, tree_visits, is_proc_macro_by}
+use Rattle.hir_collector_rules.specs.State.{Core, at_rest, joined}
+use Rattle.hir_collector_rules.specs.Moves.{IsHeld}
+use Rattle.hir_mod_collector.proofs.Outline.{held_grown, held_source}
 
 -- whether something is there, as it is asked
 pub none_there : {A B : Type 0} (f : A → B) (o : Option A) (s : Option B) (b : Bool) → option_map f o ≡ s → is_some o ≡ not b → b ≡ true → s ≡ None

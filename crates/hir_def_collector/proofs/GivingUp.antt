@@ -4,24 +4,25 @@ use Rattle.std.proofs.lemmas.Bool.{cases_lt}
 use Rattle.hir_base.specs.declared.ast_id.AstId.{AstId}
 use Rattle.hir_base.specs.declared.macro_kind.MacroId.{MacroId}
 use Rattle.hir_base.specs.declared.macro_kind.MacroId.TheVariants.{Macro2Id, MacroRulesId, ProcMacroId}
-use Rattle.hir_def_map.specs.Overlay.{Maps}
-use Rattle.hir_def_map.specs.State.{Map}
-use Rattle.hir_def_collector.specs.declared.collector.macro_directive.Fate.{Fate}
-use Rattle.hir_def_collector.specs.declared.collector.macro_directive.Fate.TheVariants.{GivenUp, Waits}
-use Rattle.hir_def_collector.specs.declared.collector.macro_directive.MacroDirective.{MacroDirective}
-use Rattle.hir_def_collector.specs.declared.collector.macro_directive.MacroDirectiveKind.{MacroDirectiveKind}
-use Rattle.hir_def_collector.specs.declared.collector.macro_directive.MacroDirectiveKind.TheVariants.{Attr, Derive, FnLike}
+use Rattle.hir_def_map_rules.specs.Overlay.{Maps}
+use Rattle.hir_def_map_rules.specs.State.{Map}
+use Rattle.hir_collector_rules.specs.declared.macro_directive.Fate.{Fate}
+use Rattle.hir_collector_rules.specs.declared.macro_directive.Fate.TheVariants.{GivenUp, Waits}
+use Rattle.hir_collector_rules.specs.declared.macro_directive.MacroDirective.{MacroDirective}
+use Rattle.hir_collector_rules.specs.declared.macro_directive.MacroDirectiveKind.{MacroDirectiveKind}
+use Rattle.hir_collector_rules.specs.declared.macro_directive.MacroDirectiveKind.TheVariants.{Attr, Derive, FnLike}
 use Rattle.hir_def_collector.specs.declared.collector.calls.Due.{Due}
 use Rattle.hir_def_collector.specs.declared.collector.calls.Due.TheVariants.{Derives, Nothing, Reaches, Skips}
-use Rattle.hir_def_collector.specs.declared.collector.macro_directive.WaitingItem.{WaitingItem}
-use Rattle.hir_def_collector.specs.CallMoves.{FindsBuiltin, IsAttributeWaiting, IsDueOf, IsFirstWaiting, NoneWaits, NoneWaitsBefore}
-use Rattle.hir_def_collector.specs.Calls.{IsWaiting, LeadsNowhere, builtin_impl, called_macro, expands_by, is_call, is_inert_by, is_inert_now, item_in, waiting_item}
-use Rattle.hir_def_collector.specs.Keys.{Environment}
-use Rattle.hir_def_collector.specs.State.{Core, Task, at_rest, joined}
-use Rattle.hir_def_collector.specs.Steps.{Steps, by_builtin}
-use Rattle.hir_def_collector.proofs.Bound.{number_same_or_not}
-use Rattle.hir_def_collector.proofs.Lists.{get_inside, get_set_other, get_set_same, length_set}
-use Rattle.hir_def_collector.proofs.Tried.{calls_longer, waiting_before}
+use Rattle.hir_collector_rules.specs.declared.macro_directive.WaitingItem.{WaitingItem}
+use Rattle.hir_collector_rules.specs.CallMoves.{FindsBuiltin, IsAttributeWaiting, IsFirstWaiting, NoneWaits, NoneWaitsBefore}
+use Rattle.hir_def_collector.specs.Turns.{IsDueOf}
+use Rattle.hir_collector_rules.specs.Calls.{IsWaiting, LeadsNowhere, builtin_impl, called_macro, expands_by, is_call, is_inert_by, is_inert_now, item_in, waiting_item}
+use Rattle.hir_collector_rules.specs.Keys.{Environment}
+use Rattle.hir_collector_rules.specs.State.{Core, Task, at_rest, joined}
+use Rattle.hir_collector_rules.specs.Steps.{Steps, by_builtin}
+use Rattle.hir_collector_rules.proofs.Bound.{number_same_or_not}
+use Rattle.hir_collector_rules.proofs.Lists.{get_inside, get_set_other, get_set_same, length_set}
+use Rattle.hir_collector_rules.proofs.Tried.{calls_longer, waiting_before}
 
 -- where nothing waits at a place, nothing there leads anywhere
 pub nothing_waits : (finished : Maps) (c : Core) (i : ℕ) → ((d : MacroDirective) → ¬ IsWaiting (at_rest c) i d) → LeadsNowhere finished (at_rest c) i

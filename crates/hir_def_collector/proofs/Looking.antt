@@ -16,26 +16,26 @@ use Rattle.hir_tables.specs.Interning.{Interns, gets_next, had_number}
 use Rattle.hir_tables.specs.SourcePlaces.{ExpansionValue, SourcePlaceValue, expansion}
 use Rattle.hir_tables.specs.Tables.{KeepsTables, TablesValue, call_at, entry_at, source_of, source_under as source_under_file}
 use Rattle.hir_tables.proofs.Growth.{KeepsTables-trans}
-use Rattle.hir_def_map.specs.Diagnostics.{call_node}
-use Rattle.hir_def_map.specs.Overlay.{Maps}
-use Rattle.hir_def_collector.specs.declared.collector.macro_directive.MacroDirective.{MacroDirective}
-use Rattle.hir_def_collector.specs.declared.source_database.Key.{Key}
-use Rattle.hir_def_collector.specs.declared.source_database.Key.TheVariants as keys
-use Rattle.hir_def_collector.specs.CallMoves.{SeesCall}
-use Rattle.hir_def_collector.specs.declared.collector.macro_directive.MacroDirectiveKind.{MacroDirectiveKind}
-use Rattle.hir_def_collector.specs.declared.collector.macro_directive.MacroDirectiveKind.TheVariants.{Attr, Derive, FnLike}
-use Rattle.hir_def_collector.specs.Calls.{AreCallsPlaced, Expanding, IsMeantCall, IsPlacedBelow, IsNumberedCall, IsTextOf, call_key, call_loc, call_style, call_tree, called_text, expansion_of_call, expansion_readings, kind_by, text_readings}
-use Rattle.hir_def_collector.specs.Keys.{Environment, IsMeant, entry_under, environment, input_at, node_tree, of_entry, of_input, of_text, of_tree, source_in, text_at}
-use Rattle.hir_def_collector.specs.ModuleFiles.{Reading}
-use Rattle.hir_def_collector.specs.Moves.{OnceGrown}
-use Rattle.hir_def_collector.specs.State.{Core, with_asked}
-use Rattle.hir_def_collector.specs.Steps.{Sees, keys_read, with_keys}
-use Rattle.hir_def_collector.specs.Workspace.{Workspace, seen_of}
-use Rattle.hir_def_collector.proofs.CallPlaces.{placed_grown}
-use Rattle.hir_def_collector.proofs.Lists.{get_inside}
-use Rattle.hir_def_collector.proofs.Meaning.{looks_stand}
-use Rattle.hir_def_collector.proofs.ModuleFiles.{call_kept, macro_kept, site_kept}
-use Rattle.hir_def_collector.proofs.Rootless.{root_there}
+use Rattle.hir_def_map_rules.specs.Diagnostics.{call_node}
+use Rattle.hir_def_map_rules.specs.Overlay.{Maps}
+use Rattle.hir_collector_rules.specs.declared.macro_directive.MacroDirective.{MacroDirective}
+use Rattle.hir_collector_rules.specs.declared.source_database.Key.{Key}
+use Rattle.hir_collector_rules.specs.declared.source_database.Key.TheVariants as keys
+use Rattle.hir_collector_rules.specs.CallMoves.{SeesCall}
+use Rattle.hir_collector_rules.specs.declared.macro_directive.MacroDirectiveKind.{MacroDirectiveKind}
+use Rattle.hir_collector_rules.specs.declared.macro_directive.MacroDirectiveKind.TheVariants.{Attr, Derive, FnLike}
+use Rattle.hir_collector_rules.specs.Calls.{AreCallsPlaced, Expanding, IsMeantCall, IsPlacedBelow, IsNumberedCall, IsTextOf, call_key, call_loc, call_style, call_tree, called_text, expansion_of_call, expansion_readings, kind_by, text_readings}
+use Rattle.hir_collector_rules.specs.Keys.{Environment, IsMeant, entry_under, environment, input_at, node_tree, of_entry, of_input, of_text, of_tree, source_in, text_at}
+use Rattle.hir_collector_rules.specs.ModuleFiles.{Reading}
+use Rattle.hir_collector_rules.specs.Moves.{OnceGrown}
+use Rattle.hir_collector_rules.specs.State.{Core, with_asked}
+use Rattle.hir_collector_rules.specs.Steps.{Sees, keys_read, with_keys}
+use Rattle.hir_collector_rules.specs.Workspace.{Workspace, seen_of}
+use Rattle.hir_mod_collector.proofs.CallPlaces.{placed_grown}
+use Rattle.hir_collector_rules.proofs.Lists.{get_inside}
+use Rattle.hir_collector_rules.proofs.Meaning.{looks_stand}
+use Rattle.hir_collector_rules.proofs.ModuleFiles.{call_kept, macro_kept, site_kept}
+use Rattle.hir_mod_collector.proofs.Rootless.{root_there}
 
 -- ---- keys, one after another
 

@@ -2,26 +2,26 @@
 use Rattle.std.proofs.Common.{◌≡◌, ◌∙◌, ◌⊎◌, inl, inr, ◌==◌, ◌&&◌, ◌||◌, sym, refl, subst, ap, ℕ, ◌+◌, ◌<◌, Bool, true, false, List, [], length, slice_get, None, Some, cond, arith, add-one}
 use Rattle.std.proofs.lemmas.Bool.Decides.{nat_tests}
 use Rattle.std.specs.Prelude.{not}
-use Rattle.hir_def_map.specs.Overlay.{Maps}
+use Rattle.hir_def_map_rules.specs.Overlay.{Maps}
 use Rattle.hir_import_resolution.specs.Rest.{IsAtRest}
 use Rattle.hir_worklist.specs.Moves.{Takes, opened}
 use Rattle.hir_worklist.specs.Queue.{IsIdle, Queue, count_of, is_among}
 use Rattle.hir_call_queue.specs.Waking.{KeepsQueued, worklist_of}
 use Rattle.hir_call_queue.specs.declared.queue.CallQueue.{CallQueue}
-use Rattle.hir_def_collector.specs.declared.collector.macro_directive.Fate.TheVariants.{Handled}
-use Rattle.hir_def_collector.specs.declared.collector.macro_directive.MacroDirective.{MacroDirective}
-use Rattle.hir_def_collector.specs.CallMoves.{ComesToRest, NoneWaits, TriesCall, TriesCalls, handled, idle, left, rested, round}
-use Rattle.hir_def_collector.specs.Calls.{IsWaiting, LeadsNowhere}
-use Rattle.hir_def_collector.specs.Keys.{Environment}
-use Rattle.hir_def_collector.specs.Rounds as rounds
-use Rattle.hir_def_collector.specs.Rounds.{IsRound, Rises, Rounds, WasTried, met, more}
-use Rattle.hir_def_collector.specs.State.{Core, State, at_rest, import_state}
-use Rattle.hir_def_collector.specs.Steps as steps
-use Rattle.hir_def_collector.specs.Steps.{Steps}
-use Rattle.hir_def_collector.specs.Waiting.{IsUpToDate}
-use Rattle.hir_def_collector.proofs.Lists.{get_inside}
-use Rattle.hir_def_collector.proofs.Moves.{Steps-append}
-use Rattle.hir_def_collector.proofs.Tried.{WasTried-extend, rounds_steps, waiting_before}
+use Rattle.hir_collector_rules.specs.declared.macro_directive.Fate.TheVariants.{Handled}
+use Rattle.hir_collector_rules.specs.declared.macro_directive.MacroDirective.{MacroDirective}
+use Rattle.hir_collector_rules.specs.CallMoves.{ComesToRest, NoneWaits, TriesCall, TriesCalls, handled, idle, left, rested, round}
+use Rattle.hir_collector_rules.specs.Calls.{IsWaiting, LeadsNowhere}
+use Rattle.hir_collector_rules.specs.Keys.{Environment}
+use Rattle.hir_collector_rules.specs.Rounds as rounds
+use Rattle.hir_collector_rules.specs.Rounds.{IsRound, Rises, Rounds, WasTried, met, more}
+use Rattle.hir_collector_rules.specs.State.{Core, State, at_rest, import_state}
+use Rattle.hir_collector_rules.specs.Steps as steps
+use Rattle.hir_collector_rules.specs.Steps.{Steps}
+use Rattle.hir_collector_rules.specs.Waiting.{IsUpToDate}
+use Rattle.hir_collector_rules.proofs.Lists.{get_inside}
+use Rattle.hir_collector_rules.proofs.Moves.{Steps-append}
+use Rattle.hir_collector_rules.proofs.Tried.{WasTried-extend, rounds_steps, waiting_before}
 
 -- the calls were tried that aren't left: one was handled, or nothing was done
 pub data AreTried (env : Environment) (finished : Maps) (old now : Core) (places : List ℕ) : Bool → Type 0 where

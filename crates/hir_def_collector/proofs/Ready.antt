@@ -8,9 +8,9 @@ use Rattle.hir_tables.specs.Tables.{KeepsTables, TablesValue, source_of}
 use Rattle.hir_textual_scope.specs.Macros.{with_macro}
 use Rattle.hir_scope.specs.Scope.{ScopeValue}
 use Rattle.hir_scope.specs.declared.visibility.Visibility.TheVariants as visibilities
-use Rattle.hir_def_map.specs.Macros.{with_derive_helper, with_diagnostic, with_exported, with_macro_data, with_macro_def}
-use Rattle.hir_def_map.specs.Overlay.{Maps}
-use Rattle.hir_def_map.specs.State.{IsInOrder, Map, entry_at, module_at, new_module, with_enum}
+use Rattle.hir_def_map_rules.specs.Macros.{with_derive_helper, with_diagnostic, with_exported, with_macro_data, with_macro_def}
+use Rattle.hir_def_map_rules.specs.Overlay.{Maps}
+use Rattle.hir_def_map_rules.specs.State.{IsInOrder, Map, entry_at, module_at, new_module, with_enum}
 use Rattle.hir_glob_imports.specs.Waves.{Stands}
 use Rattle.hir_glob_imports.specs.declared.edge.Brought.{Brought}
 use Rattle.hir_glob_imports.specs.declared.edge.Key.{Key as SlotKey}
@@ -26,30 +26,30 @@ use Rattle.hir_import_resolution.specs.State.{ImportState, scopes_of}
 use Rattle.hir_import_resolution.specs.declared.directive.ImportDirective.{ImportDirective}
 use Rattle.hir_import_resolution.proofs.GrowingAround.{lists_around, modules_around, scopes_around}
 use Rattle.hir_import_resolution.proofs.Soundness.{local_keeps_sound, pushes_keep_sound, reached_keep_sound, steps_keep_sound}
-use Rattle.hir_def_collector.specs.declared.collector.Start.{Start}
-use Rattle.hir_def_collector.specs.declared.collector.macro_directive.MacroDirective.{MacroDirective}
-use Rattle.hir_def_collector.specs.Calls.{IsMeantCall, error_of}
-use Rattle.hir_def_collector.specs.CallMoves.{IsReady}
-use Rattle.hir_def_collector.specs.Keys.{environment, node_tree}
-use Rattle.hir_def_collector.specs.Workspace.{Workspace}
-use Rattle.hir_def_collector.specs.Imports.{extern_after}
-use Rattle.hir_def_collector.specs.ItemIds.{module_id}
-use Rattle.hir_def_collector.specs.Macros.{textual_at, with_macros_used}
-use Rattle.hir_def_collector.specs.Start.{began, origin_of}
-use Rattle.hir_def_collector.specs.State.{Core, State, at_rest, import_state, ticked}
-use Rattle.hir_def_collector.specs.Changes.{Change, lists, makes, gives_variants, begins_paths, reaches, awaits, ends, settles, changes_imports, adds_textual, takes_textual, defines, describes, helps, lists_derive, exports, uses_macros, tells, goes_on, act, on_map, perform, with_builtin_derive}
-use Rattle.hir_def_collector.specs.Steps.{Rule, drops_item, awaits_attribute, lists_derives, faults_derive, exports_macro, reaches_call, rests, expands_call, drops_call, drops_reached, derives_builtin, skips_attribute, falls_back, defines_rules, defines_macro, closes_module, declares_item, declares_enum, lists_constant, lists_impl, opens_module, opens_file, drops_file, misses_file, enters_block, reaches_imports, reaches_crate, resolves_imports, May, acts, after, asking, Step, Steps, none, more}
-use Rattle.hir_def_collector.proofs.Changes.{AllFine, fine_bringing, fine_expanding, fine_macro, fine_reporting, perform_keeps}
-use Rattle.hir_def_collector.proofs.Holds.{in_range-begun}
-use Rattle.hir_def_collector.proofs.ImportEdits.{imports_after}
-use Rattle.hir_def_collector.proofs.ImportSteps.{perform-imports}
-use Rattle.hir_def_collector.proofs.InOrder.{in_order_Step, root_in_order}
-use Rattle.hir_def_collector.proofs.InRange.{CallsBelow, ImportsBelow, IsInRange, call_below, import_at, in_range-Step}
-use Rattle.hir_def_collector.proofs.Lists.{length_both, length_mapped, length_set}
-use Rattle.hir_def_collector.proofs.Meaning.{CallsMeant, IsAllMeant, call_meant, meant-Step, meant-begun}
-use Rattle.hir_def_collector.proofs.Moves.{Steps-one}
-use Rattle.hir_def_collector.proofs.ModuleFiles.{site_kept, source_kept}
-use Rattle.hir_def_collector.proofs.Tried.{fates_paired}
+use Rattle.hir_collector_rules.specs.declared.start.Start.{Start}
+use Rattle.hir_collector_rules.specs.declared.macro_directive.MacroDirective.{MacroDirective}
+use Rattle.hir_collector_rules.specs.Calls.{IsMeantCall, error_of}
+use Rattle.hir_collector_rules.specs.CallMoves.{IsReady}
+use Rattle.hir_collector_rules.specs.Keys.{environment, node_tree}
+use Rattle.hir_collector_rules.specs.Workspace.{Workspace}
+use Rattle.hir_collector_rules.specs.Imports.{extern_after}
+use Rattle.hir_collector_rules.specs.ItemIds.{module_id}
+use Rattle.hir_collector_rules.specs.Macros.{textual_at, with_macros_used}
+use Rattle.hir_collector_rules.specs.Start.{began, origin_of}
+use Rattle.hir_collector_rules.specs.State.{Core, State, at_rest, import_state, ticked}
+use Rattle.hir_collector_rules.specs.Changes.{Change, lists, makes, gives_variants, begins_paths, reaches, awaits, ends, settles, changes_imports, adds_textual, takes_textual, defines, describes, helps, lists_derive, exports, uses_macros, tells, goes_on, act, on_map, perform, with_builtin_derive}
+use Rattle.hir_collector_rules.specs.Steps.{Rule, drops_item, awaits_attribute, lists_derives, faults_derive, exports_macro, reaches_call, rests, expands_call, drops_call, drops_reached, derives_builtin, skips_attribute, falls_back, defines_rules, defines_macro, closes_module, declares_item, declares_enum, lists_constant, lists_impl, opens_module, opens_file, drops_file, misses_file, enters_block, reaches_imports, reaches_crate, resolves_imports, May, acts, after, asking, Step, Steps, none, more}
+use Rattle.hir_collector_rules.proofs.Changes.{AllFine, fine_bringing, fine_expanding, fine_macro, fine_reporting, perform_keeps}
+use Rattle.hir_collector_rules.proofs.Holds.{in_range-begun}
+use Rattle.hir_collector_rules.proofs.ImportEdits.{imports_after}
+use Rattle.hir_collector_state.proofs.ImportSteps.{perform-imports}
+use Rattle.hir_collector_state.proofs.InOrder.{in_order_Step, root_in_order}
+use Rattle.hir_collector_rules.proofs.InRange.{CallsBelow, ImportsBelow, IsInRange, call_below, import_at, in_range-Step}
+use Rattle.hir_collector_rules.proofs.Lists.{length_both, length_mapped, length_set}
+use Rattle.hir_collector_rules.proofs.Meaning.{CallsMeant, IsAllMeant, call_meant, meant-Step, meant-begun}
+use Rattle.hir_collector_rules.proofs.Moves.{Steps-one}
+use Rattle.hir_collector_rules.proofs.ModuleFiles.{site_kept, source_kept}
+use Rattle.hir_collector_rules.proofs.Tried.{fates_paired}
 
 -- ---- what globs brought and what imports were taken for, where the map grows
 

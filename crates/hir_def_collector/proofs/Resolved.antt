@@ -4,8 +4,8 @@ use Rattle.std.specs.BTreeMap.{BTreeMap}
 use Rattle.std.proofs.Common.{refl, subst, sym}
 use Rattle.hir_base.specs.declared.ids.Crate.{Crate}
 use Rattle.hir_base.specs.declared.ids.MapId.{MapId}
-use Rattle.hir_def_map.specs.Overlay.{Maps, Placed}
-use Rattle.hir_def_map.specs.State.{Local}
+use Rattle.hir_def_map_rules.specs.Overlay.{Maps, Placed}
+use Rattle.hir_def_map_rules.specs.State.{Local}
 use Rattle.hir_def_map.specs.World.{IsChecked, finished_in}
 use Rattle.hir_def_map.specs.WorldParts.{among}
 use Rattle.hir_def_map.specs.declared.world.finished.Finished.{Finished}

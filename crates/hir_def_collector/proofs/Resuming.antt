@@ -2,8 +2,8 @@
 use Rattle.std.proofs.Common.{Result, Err, ◌≡◌, ◌⊎◌, inl, inr, ◌∙◌, ap, sym, refl, subst, ℕ, ◌<◌, Bool, true, false, List, [], ◌++◌, length, slice_get, Contains, Some, cond, append-nil, arith}
 use Rattle.std.proofs.lemmas.List.Elements.{Contains-append_cases, Contains-append_left, Contains-append_right}
 use Rattle.hir_base.specs.declared.ids.MapId.{MapId}
-use Rattle.hir_def_map.specs.Overlay.{Maps}
-use Rattle.hir_def_map.specs.State.{Local}
+use Rattle.hir_def_map_rules.specs.Overlay.{Maps}
+use Rattle.hir_def_map_rules.specs.State.{Local}
 use Rattle.hir_def_map.specs.declared.nameres.path_resolution.slots.Slot.{Slot as PathSlot}
 use Rattle.hir_import_resolution.specs.Inner.State.{IsApart}
 use Rattle.hir_import_resolution.specs.Rounds.{GlobsLast, Grew, HaveGlobs, IsResumable, IsUpToDate as AreUpToDate, is_apart, is_lasting}
@@ -12,11 +12,11 @@ use Rattle.hir_import_resolution.specs.State.{ImportState}
 use Rattle.hir_import_resolution.proofs.GlobsLasting.{globs_at_rest}
 use Rattle.hir_import_resolution.specs.declared.import_queue.ImportQueue.{ImportQueue}
 use Rattle.hir_call_queue.specs.Changes.{ChangedValue, IsUntouched, everything, joined, nothing, with_slots}
-use Rattle.hir_def_collector.specs.State.{Core, Run, at_rest, core_in, counted, import_state, with_settled}
-use Rattle.hir_def_collector.specs.Waiting.{IsBehind, IsGathered, IsNotedBeside, IsOutgrown, KeepsModules, LeavesImports, NotesSlots}
-use Rattle.hir_def_collector.proofs.CallReads.{agree_itself, agree_later}
-use Rattle.hir_def_collector.proofs.Lists.{get_inside, get_there}
-use Rattle.hir_def_collector.proofs.Noted.{around_itself, grown_kept, have_globs, modules_kept_later, there_later}
+use Rattle.hir_collector_rules.specs.State.{Core, Run, at_rest, core_in, counted, import_state, with_settled}
+use Rattle.hir_collector_rules.specs.Waiting.{IsBehind, IsGathered, IsNotedBeside, IsOutgrown, KeepsModules, LeavesImports, NotesSlots}
+use Rattle.hir_collector_state.proofs.CallReads.{agree_itself, agree_later}
+use Rattle.hir_collector_rules.proofs.Lists.{get_inside, get_there}
+use Rattle.hir_collector_state.proofs.Noted.{around_itself, grown_kept, have_globs, modules_kept_later, there_later}
 
 -- ---- slots of two
 

@@ -6,8 +6,8 @@ use Rattle.std.specs.List.{All}
 use Rattle.std.specs.Prelude.{not, slice_index_or}
 use Rattle.hir_base.specs.declared.ast_id.AstId.{AstId}
 use Rattle.hir_base.specs.declared.ids.MapId.{MapId}
-use Rattle.hir_def_map.specs.Overlay.{Maps}
-use Rattle.hir_def_map.specs.State.{CrateData, IsInOrder}
+use Rattle.hir_def_map_rules.specs.Overlay.{Maps}
+use Rattle.hir_def_map_rules.specs.State.{CrateData, IsInOrder}
 use Rattle.hir_def_map.specs.declared.nameres.path_resolution.slots.Slot.{Slot as PathSlot}
 use Rattle.hir_def_map.specs.declared.nameres.path_resolution.slots.Slot.TheVariants.{Preludes as of_preludes}
 use Rattle.hir_worklist.proofs.Idle.{idle-closed, idle-opened, idle-taken}
@@ -20,16 +20,16 @@ use Rattle.hir_import_resolution.specs.Inner.State.{IsApart}
 use Rattle.hir_call_queue.specs.Changes.{IsThere, IsUntouched}
 use Rattle.hir_call_queue.specs.Waking.{AreWatching, IsWatching, IsWoken, is_apart, watchers_of, with_worklist, worklist_of}
 use Rattle.hir_call_queue.specs.declared.queue.CallQueue.{CallQueue}
-use Rattle.hir_def_collector.specs.declared.collector.macro_directive.Fate.TheVariants.{Handled, Waits}
-use Rattle.hir_def_collector.specs.declared.collector.macro_directive.MacroDirective.{MacroDirective}
-use Rattle.hir_def_collector.specs.Calls.{IsWaiting, LeadsNowhere, called_macro, is_call, is_inert_now}
-use Rattle.hir_def_collector.specs.Keys.{Environment}
-use Rattle.hir_def_collector.specs.State.{Core, Run, at_rest, core_in}
-use Rattle.hir_def_collector.specs.Steps.{Steps}
-use Rattle.hir_def_collector.specs.Waiting.{IsStale, IsUpToDate, KeepsWaiting, LiesApart, NotesSlots, StandsStill, call_reads, is_helped}
-use Rattle.hir_def_collector.proofs.CallReads.{agree_itself, agree_later, inert_by_kind, modules_kept_itself, stands_nowhere}
-use Rattle.hir_def_collector.proofs.Noted.{modules_kept_later, slots_follow, slots_same, there_later}
-use Rattle.hir_def_collector.proofs.Tried.{calls_longer, waiting_before}
+use Rattle.hir_collector_rules.specs.declared.macro_directive.Fate.TheVariants.{Handled, Waits}
+use Rattle.hir_collector_rules.specs.declared.macro_directive.MacroDirective.{MacroDirective}
+use Rattle.hir_collector_rules.specs.Calls.{IsWaiting, LeadsNowhere, called_macro, is_call, is_inert_now}
+use Rattle.hir_collector_rules.specs.Keys.{Environment}
+use Rattle.hir_collector_rules.specs.State.{Core, Run, at_rest, core_in}
+use Rattle.hir_collector_rules.specs.Steps.{Steps}
+use Rattle.hir_collector_rules.specs.Waiting.{IsStale, IsUpToDate, KeepsWaiting, LiesApart, NotesSlots, StandsStill, call_reads, is_helped}
+use Rattle.hir_collector_state.proofs.CallReads.{agree_itself, agree_later, inert_by_kind, modules_kept_itself, stands_nowhere}
+use Rattle.hir_collector_state.proofs.Noted.{modules_kept_later, slots_follow, slots_same, there_later}
+use Rattle.hir_collector_rules.proofs.Tried.{calls_longer, waiting_before}
 
 -- ---- what a call has seen
 

@@ -36,175 +36,48 @@ ghost use Rattle.std.specs.Prelude.{◌≡◌, ◌<◌, IfOk, IsSome, None, OnOk
 ghost use Rattle.hir_item_tree.specs.Collected.{is_enabled};
 ghost use Rattle.hir_tables.specs.Tables.{KeepsTables, source_of};
 ghost use Rattle.hir_def_map.specs.WorldParts.{part_of};
-ghost use Rattle.hir_def_map.specs.Overlay.{Maps};
+ghost use Rattle.hir_def_map_rules.specs.Overlay.{Maps};
 ghost use Rattle.hir_def_map.specs.World.{finished_in};
-ghost use Rattle.hir_def_collector.specs.Workspace.{Workspace, config_view, dependencies_of, options_of};
-ghost use Rattle.hir_def_collector.specs.Keys.{AgreeOn, Environment, environment};
-ghost use Rattle.hir_def_collector.specs.Start.{began, beginning, core_of, edition_of, is_proc_macro_by, krate_of, origin_of, root_site, tree_visits};
-ghost use Rattle.hir_def_collector.specs.CallMoves.{ComesToRest, IsReady};
-ghost use Rattle.hir_def_collector.specs.Calls.{AreCallsPlaced};
-ghost use Rattle.hir_def_collector.specs.State.{at_rest, core_in, joined};
-ghost use Rattle.hir_def_collector.specs.Steps.{Steps};
-ghost use Rattle.hir_def_collector.specs.Derivation.{Ends, IsOverlong, IsSpent, collected_view};
-ghost use Rattle.hir_def_collector.specs.Moves.{OnceGrown};
+ghost use Rattle.hir_collector_rules.specs.Workspace.{Workspace, config_view, dependencies_of, options_of};
+ghost use Rattle.hir_collector_rules.specs.Keys.{AgreeOn, Environment, environment};
+ghost use Rattle.hir_collector_rules.specs.Start.{began, beginning, core_of, is_proc_macro_by, root_site, tree_visits};
+ghost use Rattle.hir_collector_rules.specs.CallMoves.{ComesToRest, IsReady};
+ghost use Rattle.hir_collector_rules.specs.Calls.{AreCallsPlaced};
+ghost use Rattle.hir_collector_rules.specs.State.{at_rest, core_in, joined};
+ghost use Rattle.hir_collector_rules.specs.Steps.{Steps};
+ghost use Rattle.hir_collector_rules.specs.Derivation.{Ends, IsOverlong, IsSpent, collected_view};
+ghost use Rattle.hir_collector_rules.specs.Moves.{OnceGrown};
 
-pub mod attributes;
 pub mod calls;
-pub mod collected;
-mod crate_attrs;
-pub mod declaration;
-mod declare;
-mod def_collector;
-mod derives;
-mod diagnostics;
-mod enums;
-pub mod exports;
-mod imports;
-mod known_name;
-mod leftovers;
-pub mod macro_directive;
-mod macro_use;
-mod macros;
-pub mod mod_collector;
-pub mod mod_resolution;
-mod preludes;
 mod resume;
-pub mod shared_tree;
-pub mod site;
-mod sources;
-mod textual;
 
-use crate::source_database::{Config, CrateRoot, Dependency, SourceDatabase};
-use calls::resolve_rounds;
-use collected::Collected;
-use crate_attrs::top_data;
-use def_collector::DefCollector;
-use hir_base::ast_id::EditionedFileId;
+use crate::collector::calls::resolve_rounds;
 use hir_base::cfg_options::CfgOptions;
-use hir_base::edition::Edition;
-use hir_base::ids::{Crate, MapId};
-use hir_base::locations::LocationsError;
+use hir_base::ids::MapId;
+use hir_collector_items::crate_top::top_data;
+pub use hir_collector_items::exports;
+use hir_collector_items::extern_prelude::extern_prelude;
+use hir_collector_items::sources::source_at;
+use hir_collector_rules::collected::Collected;
+use hir_collector_rules::site::Site;
+use hir_collector_rules::source_database::{Config, CrateRoot, Dependency, SourceDatabase};
+pub use hir_collector_rules::start::{CollectError, STEP_LIMIT, Start};
+pub use hir_collector_rules::{collected, declaration, macro_directive, shared_tree, site};
+use hir_collector_state::def_collector::DefCollector;
 use hir_crate_graph::crate_set::CrateSet;
-use hir_def_map::nameres::AddModuleError;
 use hir_def_map::nameres::local_def_map::LocalDefMap;
-use hir_def_map::nameres::origin::ModuleOrigin;
 use hir_def_map::world::World;
 use hir_def_map::world::part::WorldPart;
-use hir_glob_imports::MAX_STEPS;
-use hir_import_resolution::ImportError;
 use hir_item_tree::item_tree::ItemTree;
 use hir_item_tree::source_tree::SourceTree;
 use hir_item_tree::tree_id::{TreeId, TreeKey};
+use hir_mod_collector::mod_collector::walk_all;
+use hir_mod_collector::mod_resolution::file_of_tree;
+pub use hir_mod_collector::{attributes, mod_collector, mod_resolution};
 use hir_mod_dir::ModDir;
 use hir_tables::Tables;
-use mod_collector::walk_all;
-use mod_resolution::file_of_tree;
-use preludes::extern_prelude;
-use site::Site;
-use sources::source_at;
 use std::alloc::{AllocError, Global};
 use std::rc::Rc;
-
-/// Where a run begins.
-#[derive(Clone, Copy, Debug, PartialEq, Eq, Hash)]
-pub enum Start {
-    /// A crate, and its root file in the crate's edition.
-    Crate { krate: Crate, root: EditionedFileId },
-}
-
-impl Start {
-    /// The crate that the names are of.
-    pub fn krate(self) -> Crate
-        ensures value { result ≡ krate_of self }
-    {
-        match self {
-            Start::Crate { krate, .. } => krate,
-        }
-    }
-
-    fn edition(self) -> Edition
-        ensures value { result ≡ edition_of self }
-    {
-        match self {
-            Start::Crate { root, .. } => root.edition,
-        }
-    }
-
-    /// What the root module is of.
-    fn origin(self) -> ModuleOrigin
-        ensures value { result ≡ origin_of self }
-    {
-        match self {
-            Start::Crate { root, .. } => ModuleOrigin::CrateRoot { definition: root },
-        }
-    }
-}
-
-/// How many steps a run may take, those along globs among them, and how many modules it may make.
-pub const STEP_LIMIT: u32 = MAX_STEPS;
-
-/// Why a run was given up.
-#[derive(Clone, Copy, Debug, PartialEq, Eq)]
-pub enum CollectError {
-    /// As many steps or modules as are counted, and another was wanted.
-    TooMany,
-    /// A macro of a finished map is written in a source that has no number: the map was made over other tables.
-    UnknownSource,
-    Memory,
-}
-
-impl From<AllocError> for CollectError {
-    ghost use Rattle.std.specs.Prelude.{◌≡◌};
-    ghost use Rattle.hir_def_collector.specs.declared.collector.CollectError.TheVariants as Errors;
-
-    ghost from_gives = { λ _ e. e ≡ Errors.Memory };
-
-    fn from(_error: AllocError) -> CollectError {
-        CollectError::Memory
-    }
-}
-
-impl From<AddModuleError> for CollectError {
-    ghost use Rattle.std.specs.Prelude.{◌≡◌};
-    ghost use Rattle.hir_def_collector.specs.Moves.{refusal_of};
-
-    ghost from_gives = { λ x e. e ≡ refusal_of x };
-
-    fn from(error: AddModuleError) -> CollectError {
-        match error {
-            AddModuleError::TooMany => CollectError::TooMany,
-            AddModuleError::Memory => CollectError::Memory,
-        }
-    }
-}
-
-impl From<LocationsError> for CollectError {
-    ghost use Rattle.std.specs.Prelude.{◌≡◌};
-    ghost use Rattle.hir_def_collector.specs.Moves.{refusal_of_number};
-
-    ghost from_gives = { λ x e. e ≡ refusal_of_number x };
-
-    fn from(error: LocationsError) -> CollectError {
-        match error {
-            LocationsError::TooMany => CollectError::TooMany,
-            LocationsError::Memory => CollectError::Memory,
-        }
-    }
-}
-
-impl From<ImportError> for CollectError {
-    ghost use Rattle.std.specs.Prelude.{◌≡◌};
-    ghost use Rattle.hir_def_collector.specs.Moves.{refusal_of_import};
-
-    ghost from_gives = { λ x e. e ≡ refusal_of_import x };
-
-    fn from(error: ImportError) -> CollectError {
-        match error {
-            ImportError::TooMany => CollectError::TooMany,
-            ImportError::Memory => CollectError::Memory,
-        }
-    }
-}
 
 /// Finds what the names of a crate's modules stand for, beside the finished maps of the crates on which it depends.
 ///

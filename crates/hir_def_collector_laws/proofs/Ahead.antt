@@ -8,20 +8,20 @@ use Rattle.hir_base.specs.declared.ids.ModuleDefId.TheVariants as definitions
 use Rattle.hir_item_tree.specs.KeptForest.{KeptForest, KeptItem, item, no_items}
 use Rattle.hir_scope.specs.declared.visibility.Visibility.{Visibility}
 use Rattle.hir_tables.specs.Tables.{TablesValue}
-use Rattle.hir_def_map.specs.Overlay.{Maps}
-use Rattle.hir_def_map.specs.State.{Map, ModuleValue, module_at, new_id, new_module, numbered}
-use Rattle.hir_def_map.proofs.StaysWellFormed.{length-made}
-use Rattle.hir_def_map.specs.declared.nameres.origin.ModuleOrigin.{ModuleOrigin}
-use Rattle.hir_def_collector.specs.declared.collector.site.Site.{Site}
-use Rattle.hir_def_collector.specs.Causes.{declarations_of}
-use Rattle.hir_def_collector.specs.Changes.{Change, makes, act, perform}
-use Rattle.hir_def_collector.specs.Derivation.{CollectedValue}
-use Rattle.hir_def_collector.specs.ItemIds.{module_id}
-use Rattle.hir_def_collector.specs.Start.{Beginning}
-use Rattle.hir_def_collector.specs.State.{Core, State, Task, behind, visits, closes, visits_over}
-use Rattle.hir_def_collector.specs.Steps.{closing, visit}
-use Rattle.hir_def_collector.specs.Workspace.{Workspace}
-use Rattle.hir_def_collector.proofs.InRange.{VisitsBelow}
+use Rattle.hir_def_map_rules.specs.Overlay.{Maps}
+use Rattle.hir_def_map_rules.specs.State.{Map, ModuleValue, module_at, new_id, new_module, numbered}
+use Rattle.hir_def_map_rules.proofs.StaysWellFormed.{length-made}
+use Rattle.hir_def_map_rules.specs.declared.origin.ModuleOrigin.{ModuleOrigin}
+use Rattle.hir_collector_rules.specs.declared.site.Site.{Site}
+use Rattle.hir_collector_rules.specs.Causes.{declarations_of}
+use Rattle.hir_collector_rules.specs.Changes.{Change, makes, act, perform}
+use Rattle.hir_collector_rules.specs.Derivation.{CollectedValue}
+use Rattle.hir_collector_rules.specs.ItemIds.{module_id}
+use Rattle.hir_collector_rules.specs.Start.{Beginning}
+use Rattle.hir_collector_rules.specs.State.{Core, State, Task, behind, visits, closes, visits_over}
+use Rattle.hir_collector_rules.specs.Steps.{closing, visit}
+use Rattle.hir_collector_rules.specs.Workspace.{Workspace}
+use Rattle.hir_collector_rules.proofs.InRange.{VisitsBelow}
 use Rattle.hir_def_collector_laws.specs.Declares.{Declares, DeclaresOne, HaveNoCall, IsModuleOf, ListsFirst, module_alone}
 use Rattle.hir_def_collector_laws.specs.Expansions.{Expansion, IsExpansion, at_home, expanded_in}
 use Rattle.hir_def_collector_laws.specs.Modules.{ListsItsItems}

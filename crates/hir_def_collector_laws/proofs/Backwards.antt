@@ -24,36 +24,36 @@ use Rattle.hir_mod_dir.specs.Directory.{Directory}
 use Rattle.hir_mod_dir.specs.ModuleFiles.{inline_directory}
 use Rattle.hir_tables.specs.Tables.{TablesValue}
 use Rattle.hir_scope.specs.declared.visibility.Visibility.{Visibility}
-use Rattle.hir_def_map.specs.Overlay.{Maps}
-use Rattle.hir_def_map.specs.State.{CrateData, Map, module_at, new_id}
-use Rattle.hir_def_map.specs.declared.nameres.derive_helpers.DeriveHelper.{DeriveHelper}
-use Rattle.hir_def_map.specs.declared.nameres.diagnostics.DefDiagnostic.{DefDiagnostic}
-use Rattle.hir_def_map.specs.declared.nameres.origin.ModuleOrigin.{ModuleOrigin}
+use Rattle.hir_def_map_rules.specs.Overlay.{Maps}
+use Rattle.hir_def_map_rules.specs.State.{CrateData, Map, module_at, new_id}
+use Rattle.hir_def_map_rules.specs.declared.derive_helpers.DeriveHelper.{DeriveHelper}
+use Rattle.hir_def_map_rules.specs.declared.diagnostics.DefDiagnostic.{DefDiagnostic}
+use Rattle.hir_def_map_rules.specs.declared.origin.ModuleOrigin.{ModuleOrigin}
 use Rattle.hir_import_resolution.specs.Changes.{Change as ImportChange}
 use Rattle.hir_import_resolution.specs.Rules.{acts as import_acts}
-use Rattle.hir_def_collector.specs.declared.collector.declaration.Declaration.{Declaration}
-use Rattle.hir_def_collector.specs.declared.collector.macro_directive.Fate.TheVariants.{Handled}
-use Rattle.hir_def_collector.specs.declared.collector.exports.Export.{Export}
-use Rattle.hir_def_collector.specs.declared.collector.macro_directive.MacroDirective.{MacroDirective}
-use Rattle.hir_def_collector.specs.declared.collector.macro_directive.WaitingItem.{WaitingItem}
-use Rattle.hir_def_collector.specs.declared.collector.site.Site.{Site}
-use Rattle.hir_def_collector.specs.declared.source_database.Key.TheVariants as keys
-use Rattle.hir_def_collector.specs.Attributes.{attr_id, export_at, is_derive, is_passed, item_node, proc_macro_id}
-use Rattle.hir_def_collector.specs.Calls.{Expanding, IsNumberedCall, call_key, call_site, error_of, expansion_readings, helpers_brought, text_readings}
-use Rattle.hir_def_collector.specs.Causes.{declarations_of}
-use Rattle.hir_def_collector.specs.Changes.{Change, act, adds_textual, changes_imports, defines, describes, ends, goes_on, lists_derive, makes, perform, takes_textual, tells}
-use Rattle.hir_def_collector.specs.Derivation.{CollectedValue}
-use Rattle.hir_def_collector.specs.Items.{declaration_of, declared_by, declared_by_leaf, file_origin, inline_origin, own_visibility}
-use Rattle.hir_def_collector.specs.ItemIds.{enum_id, function_id, macro_def_id, macro_rules_id, module_id, node_of}
-use Rattle.hir_def_collector.specs.Keys.{environment, tree_at}
-use Rattle.hir_def_collector.specs.Macros.{is_macro_use, macro_declaration}
-use Rattle.hir_def_collector.specs.ModuleFiles.{IsNumbered, ModuleFile, Search, file_key, file_readings, file_tree, module_file, tried_in}
-use Rattle.hir_def_collector.specs.Start.{Beginning}
-use Rattle.hir_def_collector.specs.State.{Core, State, Task, Visit, behind, visits, import_state, visits_over}
-use Rattle.hir_def_collector.specs.Steps.{Rule, drops_item, awaits_attribute, lists_derives, faults_derive, exports_macro, reaches_call, rests, expands_call, drops_call, drops_reached, derives_builtin, skips_attribute, falls_back, defines_rules, defines_macro, closes_module, declares_item, declares_enum, lists_constant, lists_impl, opens_module, opens_file, drops_file, misses_file, enters_block, reaches_imports, reaches_crate, resolves_imports, Drops, Expands, HasAttribute, IsItemOf, IsNext, LooksFor, May, Numbered, Sees, acts, after, asking, attribute_at, declaring, inside_block, inside_file, inside_module, keys_read, macro_data_of, module_declaration, path_of, reads, search_readings, visit, visit_behind, visits_in_file, visits_inside}
-use Rattle.hir_def_collector.specs.Workspace.{TreeLook, Workspace}
-use Rattle.hir_def_collector.proofs.InRange.{IsInRange, VisitsBelow, call_below, next_below}
-use Rattle.hir_def_collector.proofs.ModuleFiles.{found_read}
+use Rattle.hir_collector_rules.specs.declared.declaration.Declaration.{Declaration}
+use Rattle.hir_collector_rules.specs.declared.macro_directive.Fate.TheVariants.{Handled}
+use Rattle.hir_collector_rules.specs.declared.exported.Export.{Export}
+use Rattle.hir_collector_rules.specs.declared.macro_directive.MacroDirective.{MacroDirective}
+use Rattle.hir_collector_rules.specs.declared.macro_directive.WaitingItem.{WaitingItem}
+use Rattle.hir_collector_rules.specs.declared.site.Site.{Site}
+use Rattle.hir_collector_rules.specs.declared.source_database.Key.TheVariants as keys
+use Rattle.hir_collector_rules.specs.Attributes.{attr_id, export_at, is_derive, is_passed, item_node, proc_macro_id}
+use Rattle.hir_collector_rules.specs.Calls.{Expanding, IsNumberedCall, call_key, call_site, error_of, expansion_readings, helpers_brought, text_readings}
+use Rattle.hir_collector_rules.specs.Causes.{declarations_of}
+use Rattle.hir_collector_rules.specs.Changes.{Change, act, adds_textual, changes_imports, defines, describes, ends, goes_on, lists_derive, makes, perform, takes_textual, tells}
+use Rattle.hir_collector_rules.specs.Derivation.{CollectedValue}
+use Rattle.hir_collector_rules.specs.Items.{declaration_of, declared_by, declared_by_leaf, file_origin, inline_origin, own_visibility}
+use Rattle.hir_collector_rules.specs.ItemIds.{enum_id, function_id, macro_def_id, macro_rules_id, module_id, node_of}
+use Rattle.hir_collector_rules.specs.Keys.{environment, tree_at}
+use Rattle.hir_collector_rules.specs.Macros.{is_macro_use, macro_declaration}
+use Rattle.hir_collector_rules.specs.ModuleFiles.{IsNumbered, ModuleFile, Search, file_key, file_readings, file_tree, module_file, tried_in}
+use Rattle.hir_collector_rules.specs.Start.{Beginning}
+use Rattle.hir_collector_rules.specs.State.{Core, State, Task, Visit, behind, visits, import_state, visits_over}
+use Rattle.hir_collector_rules.specs.Steps.{Rule, drops_item, awaits_attribute, lists_derives, faults_derive, exports_macro, reaches_call, rests, expands_call, drops_call, drops_reached, derives_builtin, skips_attribute, falls_back, defines_rules, defines_macro, closes_module, declares_item, declares_enum, lists_constant, lists_impl, opens_module, opens_file, drops_file, misses_file, enters_block, reaches_imports, reaches_crate, resolves_imports, Drops, Expands, HasAttribute, IsItemOf, IsNext, LooksFor, May, Numbered, Sees, acts, after, asking, attribute_at, declaring, inside_block, inside_file, inside_module, keys_read, macro_data_of, module_declaration, path_of, reads, search_readings, visit, visit_behind, visits_in_file, visits_inside}
+use Rattle.hir_collector_rules.specs.Workspace.{TreeLook, Workspace}
+use Rattle.hir_collector_rules.proofs.InRange.{IsInRange, VisitsBelow, call_below, next_below}
+use Rattle.hir_collector_rules.proofs.ModuleFiles.{found_read}
 use Rattle.hir_def_collector_laws.specs.Declares.{AreDoneWith, Declares, DeclaresOne, HaveNoCall, InPlace, IsDoneWith, IsLookedFor, IfEnabled, IsModuleOf, LeafDeclares, ListsFirst, Waited, definitions_of, disabled_file, in_place, macro_exported, module_alone, of_file, site_inside, waited, without_file}
 use Rattle.hir_def_collector_laws.specs.Expansions.{Expansion, IsExpansion, at_home, expanded, expanded_in, resumed}
 use Rattle.hir_def_collector_laws.specs.Modules.{HasItems, inside_item, items_of, of_file as has_file, too_deep, without_file as has_none}

@@ -8,18 +8,18 @@ use Rattle.hir_scope.specs.Scope.{ScopeValue}
 use Rattle.hir_scope.specs.Scope.Push.{taken_candidates, with_unresolved, written_scope}
 use Rattle.hir_scope.specs.declared.item_in_ns.ItemInNs.{ItemInNs}
 use Rattle.hir_scope.specs.declared.item_in_ns.ItemInNs.TheVariants as in_ns
-use Rattle.hir_def_map.specs.Declaration.{listed}
-use Rattle.hir_def_map.specs.State.{Map, ModuleValue, changed_at, module_at, new_id, numbered, with_child, with_module_scope, with_scope}
-use Rattle.hir_def_map.specs.declared.nameres.declaration.Declaration.{Declaration as Listing}
-use Rattle.hir_def_map.specs.declared.nameres.declaration.Declaration.TheVariants as listings
+use Rattle.hir_def_map_rules.specs.Declaration.{listed}
+use Rattle.hir_def_map_rules.specs.State.{Map, ModuleValue, changed_at, module_at, new_id, numbered, with_child, with_module_scope, with_scope}
+use Rattle.hir_def_map_rules.specs.declared.declaration.Declaration.{Declaration as Listing}
+use Rattle.hir_def_map_rules.specs.declared.declaration.Declaration.TheVariants as listings
 use Rattle.hir_glob_imports.specs.declared.edge.Key.{Key}
 use Rattle.hir_glob_imports.specs.declared.edge.Key.TheVariants.{Types, Values, Macros, Unnamed}
 use Rattle.hir_import_resolution.specs.Names.{redefined, revised}
-use Rattle.hir_def_collector.specs.declared.collector.exports.ExportedFunction.{ExportedFunction}
-use Rattle.hir_def_collector.specs.Changes.{Change, lists, makes, gives_variants, begins_paths, reaches, awaits, ends, settles, changes_imports, adds_textual, takes_textual, defines, describes, helps, lists_derive, exports, uses_macros, tells, goes_on, act, perform, with_builtin_derive}
-use Rattle.hir_def_collector.specs.Ended.{ended, exporting_scope, without_function, without_functions}
-use Rattle.hir_def_collector.specs.State.{Core, State, import_state}
-use Rattle.hir_def_collector.proofs.ImportEdits.{Edit, edit, edit_of, edited, keeps_unnamed, map_after, pushes_to, redefines, revises}
+use Rattle.hir_collector_rules.specs.declared.exported.ExportedFunction.{ExportedFunction}
+use Rattle.hir_collector_rules.specs.Changes.{Change, lists, makes, gives_variants, begins_paths, reaches, awaits, ends, settles, changes_imports, adds_textual, takes_textual, defines, describes, helps, lists_derive, exports, uses_macros, tells, goes_on, act, perform, with_builtin_derive}
+use Rattle.hir_collector_rules.specs.Ended.{ended, exporting_scope, without_function, without_functions}
+use Rattle.hir_collector_rules.specs.State.{Core, State, import_state}
+use Rattle.hir_collector_rules.proofs.ImportEdits.{Edit, edit, edit_of, edited, keeps_unnamed, map_after, pushes_to, redefines, revises}
 use Rattle.hir_def_collector_laws.specs.Expansions.{derived_in}
 use Rattle.hir_def_collector_laws.proofs.Ended.{ended_by}
 use Rattle.hir_def_collector_laws.proofs.Lists.{at_first}

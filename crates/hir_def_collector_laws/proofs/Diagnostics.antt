@@ -11,38 +11,38 @@ use Rattle.hir_item_tree.specs.Collected.{Numbered}
 use Rattle.hir_item_tree.specs.KeptForest.{KeptItem, extern_crate, import, leaf, macro_call}
 use Rattle.hir_item_tree.specs.Kinds.{item_head, item_kind}
 use Rattle.hir_tables.specs.Tables.{TablesValue}
-use Rattle.hir_def_map.specs.Diagnostics.{call_node, diagnostic_view, node_of as node_told}
-use Rattle.hir_def_map.specs.Overlay.{Maps}
-use Rattle.hir_def_map.specs.State.{Map, numbered}
-use Rattle.hir_def_map.specs.declared.nameres.diagnostics.DefDiagnostic.{DefDiagnostic}
-use Rattle.hir_def_map.specs.declared.nameres.diagnostics.DefDiagnosticKind.TheVariants as kinds
+use Rattle.hir_def_map_rules.specs.Diagnostics.{call_node, diagnostic_view, node_of as node_told}
+use Rattle.hir_def_map_rules.specs.Overlay.{Maps}
+use Rattle.hir_def_map_rules.specs.State.{Map, numbered}
+use Rattle.hir_def_map_rules.specs.declared.diagnostics.DefDiagnostic.{DefDiagnostic}
+use Rattle.hir_def_map_rules.specs.declared.diagnostics.DefDiagnosticKind.TheVariants as kinds
 use Rattle.hir_import_resolution.specs.Directives.{TakenValue, is_untaken}
 use Rattle.hir_import_resolution.specs.Rules.{acts as import_acts}
 use Rattle.hir_import_resolution.specs.declared.directive.ImportDirective.{ImportDirective}
 use Rattle.hir_import_resolution.specs.declared.directive.ImportSource.{ImportSource}
 use Rattle.hir_import_resolution.specs.declared.directive.ImportSource.TheVariants as sources
-use Rattle.hir_def_collector.specs.declared.collector.macro_directive.Fate.{Fate}
-use Rattle.hir_def_collector.specs.declared.collector.macro_directive.Fate.TheVariants as fates
-use Rattle.hir_def_collector.specs.declared.collector.macro_directive.MacroDirective.{MacroDirective}
-use Rattle.hir_def_collector.specs.declared.collector.macro_directive.MacroDirectiveKind.{MacroDirectiveKind}
-use Rattle.hir_def_collector.specs.declared.collector.macro_directive.MacroDirectiveKind.TheVariants.{Attr, Derive, FnLike}
-use Rattle.hir_def_collector.specs.Attributes.{item_node}
-use Rattle.hir_def_collector.specs.Calls.{call_kind, error_of, kind_by, path_of_call}
-use Rattle.hir_def_collector.specs.Changes.{Change, lists, makes, gives_variants, begins_paths, reaches, awaits, ends, settles, changes_imports, adds_textual, takes_textual, defines, describes, helps, lists_derive, exports, uses_macros, tells, goes_on, act}
-use Rattle.hir_def_collector.specs.Derivation.{CollectedValue, Ends}
-use Rattle.hir_def_collector.specs.ItemIds.{module_id, node_of}
-use Rattle.hir_def_collector.specs.Keys.{environment}
-use Rattle.hir_def_collector.specs.Reports.{begins_with, call_report, crates_among, failed_call, leftover_diagnostics, report_by, reports_of, unimplemented_macro, unresolved_among, unresolved_calls}
-use Rattle.hir_def_collector.specs.Start.{Beginning, begin_of, krate_of, read_by}
-use Rattle.hir_def_collector.specs.State.{State, Task, Visit, visits, import_state}
-use Rattle.hir_def_collector.specs.Steps.{Rule, drops_item, awaits_attribute, lists_derives, faults_derive, exports_macro, reaches_call, rests, expands_call, drops_call, drops_reached, derives_builtin, skips_attribute, falls_back, defines_rules, defines_macro, closes_module, declares_item, declares_enum, lists_constant, lists_impl, opens_module, opens_file, drops_file, misses_file, enters_block, reaches_imports, reaches_crate, resolves_imports, IsFaulty, May, Steps, no_paths, no_target, acts, asking, call_at, more, none}
-use Rattle.hir_def_collector.specs.Workspace.{Workspace}
-use Rattle.hir_def_collector.proofs.Asks.{only, still_asked-Step}
-use Rattle.hir_def_collector.proofs.Changes.{AllFine, all_fine, fine_bringing, fine_expanding, fine_macro, fine_reporting, perform_keeps}
-use Rattle.hir_def_collector.proofs.Grows.{Grows-Step}
-use Rattle.hir_def_collector.proofs.Holds.{in_range-start}
-use Rattle.hir_def_collector.proofs.ImportEdits.{Edit, edit_of, edited, map_after}
-use Rattle.hir_def_collector.proofs.InRange.{ImportsBelow, IsInRange, call_below, in_range-Steps, next_home}
+use Rattle.hir_collector_rules.specs.declared.macro_directive.Fate.{Fate}
+use Rattle.hir_collector_rules.specs.declared.macro_directive.Fate.TheVariants as fates
+use Rattle.hir_collector_rules.specs.declared.macro_directive.MacroDirective.{MacroDirective}
+use Rattle.hir_collector_rules.specs.declared.macro_directive.MacroDirectiveKind.{MacroDirectiveKind}
+use Rattle.hir_collector_rules.specs.declared.macro_directive.MacroDirectiveKind.TheVariants.{Attr, Derive, FnLike}
+use Rattle.hir_collector_rules.specs.Attributes.{item_node}
+use Rattle.hir_collector_rules.specs.Calls.{call_kind, error_of, kind_by, path_of_call}
+use Rattle.hir_collector_rules.specs.Changes.{Change, lists, makes, gives_variants, begins_paths, reaches, awaits, ends, settles, changes_imports, adds_textual, takes_textual, defines, describes, helps, lists_derive, exports, uses_macros, tells, goes_on, act}
+use Rattle.hir_collector_rules.specs.Derivation.{CollectedValue, Ends}
+use Rattle.hir_collector_rules.specs.ItemIds.{module_id, node_of}
+use Rattle.hir_collector_rules.specs.Keys.{environment}
+use Rattle.hir_collector_rules.specs.Reports.{begins_with, call_report, crates_among, failed_call, leftover_diagnostics, report_by, reports_of, unimplemented_macro, unresolved_among, unresolved_calls}
+use Rattle.hir_collector_rules.specs.Start.{Beginning, begin_of, krate_of, read_by}
+use Rattle.hir_collector_rules.specs.State.{State, Task, Visit, visits, import_state}
+use Rattle.hir_collector_rules.specs.Steps.{Rule, drops_item, awaits_attribute, lists_derives, faults_derive, exports_macro, reaches_call, rests, expands_call, drops_call, drops_reached, derives_builtin, skips_attribute, falls_back, defines_rules, defines_macro, closes_module, declares_item, declares_enum, lists_constant, lists_impl, opens_module, opens_file, drops_file, misses_file, enters_block, reaches_imports, reaches_crate, resolves_imports, IsFaulty, May, Steps, no_paths, no_target, acts, asking, call_at, more, none}
+use Rattle.hir_collector_rules.specs.Workspace.{Workspace}
+use Rattle.hir_collector_rules.proofs.Asks.{only, still_asked-Step}
+use Rattle.hir_collector_rules.proofs.Changes.{AllFine, all_fine, fine_bringing, fine_expanding, fine_macro, fine_reporting, perform_keeps}
+use Rattle.hir_collector_rules.proofs.Grows.{Grows-Step}
+use Rattle.hir_collector_rules.proofs.Holds.{in_range-start}
+use Rattle.hir_collector_rules.proofs.ImportEdits.{Edit, edit_of, edited, map_after}
+use Rattle.hir_collector_rules.proofs.InRange.{ImportsBelow, IsInRange, call_below, in_range-Steps, next_home}
 use Rattle.hir_def_collector_laws.specs.Calls.{HasAttributeAt, IsCall, IsCallBy}
 use Rattle.hir_def_collector_laws.specs.Diagnostics.{DiagnosticsAreOfItems, IsOfItem, IsToldOfItem}
 use Rattle.hir_def_collector_laws.specs.Imports.{IsImport, IsOfSource}

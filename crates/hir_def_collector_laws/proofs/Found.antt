@@ -7,16 +7,16 @@ use Rattle.hir_base.specs.declared.ids.Crate.{Crate}
 use Rattle.hir_base.specs.declared.macro_kind.MacroId.{MacroId}
 use Rattle.hir_base.specs.declared.macro_kind.MacroId.TheVariants as macros
 use Rattle.hir_tables.specs.Tables.{TablesValue}
-use Rattle.hir_def_map.specs.Overlay.{Maps}
-use Rattle.hir_def_collector.specs.declared.collector.macro_directive.MacroDirective.{MacroDirective}
-use Rattle.hir_def_collector.specs.declared.source_database.Key.TheVariants as keys
-use Rattle.hir_def_collector.specs.Calls.{Expanding, call_key, expansion_readings, text_readings}
-use Rattle.hir_def_collector.specs.Workspace.{Workspace, seen_of}
-use Rattle.hir_def_collector.specs.Keys.{Look, absent_source, environment, tree_at}
-use Rattle.hir_def_collector.specs.ModuleFiles.{LookedAt, ModuleFile, Tried, file_key, file_reading, file_readings, module_file}
-use Rattle.hir_def_collector.specs.Steps.{Sees, keys_read}
-use Rattle.hir_def_collector.proofs.Asked.{seen_tree}
-use Rattle.hir_def_collector.proofs.ModuleFiles.{found_at}
+use Rattle.hir_def_map_rules.specs.Overlay.{Maps}
+use Rattle.hir_collector_rules.specs.declared.macro_directive.MacroDirective.{MacroDirective}
+use Rattle.hir_collector_rules.specs.declared.source_database.Key.TheVariants as keys
+use Rattle.hir_collector_rules.specs.Calls.{Expanding, call_key, expansion_readings, text_readings}
+use Rattle.hir_collector_rules.specs.Workspace.{Workspace, seen_of}
+use Rattle.hir_collector_rules.specs.Keys.{Look, absent_source, environment, tree_at}
+use Rattle.hir_collector_rules.specs.ModuleFiles.{LookedAt, ModuleFile, Tried, file_key, file_reading, file_readings, module_file}
+use Rattle.hir_collector_rules.specs.Steps.{Sees, keys_read}
+use Rattle.hir_collector_rules.proofs.Asked.{seen_tree}
+use Rattle.hir_collector_rules.proofs.ModuleFiles.{found_at}
 
 module _ (tables : TablesValue) (w : Workspace) (finished : Maps) (krate : Crate) (edition : Edition) where
   pub found_seen : (absent : List Tried) (found : Option Tried) (f : ModuleFile) → module_file found ≡ Some f

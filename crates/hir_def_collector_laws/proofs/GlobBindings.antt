@@ -32,9 +32,9 @@ use Rattle.hir_scope.specs.declared.per_ns.PerNs.{PerNs}
 use Rattle.hir_scope.specs.declared.visibility.Visibility.{Visibility}
 use Rattle.hir_scope.specs.declared.visibility.Visibility.TheVariants.{Module, PubCrate, Public}
 use Rattle.hir_tables.specs.Tables.{TablesValue}
-use Rattle.hir_def_map.specs.Declaration.{listed}
-use Rattle.hir_def_map.specs.Overlay.{Maps}
-use Rattle.hir_def_map.specs.State.{Map, ModuleValue, changed_at, entry_at, entry_of, module_at, new_id, new_module, with_child, with_module_scope}
+use Rattle.hir_def_map_rules.specs.Declaration.{listed}
+use Rattle.hir_def_map_rules.specs.Overlay.{Maps}
+use Rattle.hir_def_map_rules.specs.State.{Map, ModuleValue, changed_at, entry_at, entry_of, module_at, new_id, new_module, with_child, with_module_scope}
 use Rattle.hir_glob_imports.specs.Keys.{is_unnamed, slot_at}
 use Rattle.hir_glob_imports.specs.Moves.{brought_vis, is_as_seen, may_raise, same_bound, same_def, same_vis, seen_by, shown}
 use Rattle.hir_glob_imports.specs.Rules.{BroughtBy, CanCopy, CanFollow, CanRaise, Rule as GlobRule, May as MayAlong, acts as glob_acts, as_seen, copies_along, follows_along, noted, raises_along}
@@ -54,18 +54,18 @@ use Rattle.hir_import_resolution.specs.Visibilities.{greater_in, lesser_in}
 use Rattle.hir_import_resolution.specs.declared.directive.ImportDirective.{ImportDirective}
 use Rattle.hir_import_resolution.specs.declared.directive.ImportSource.{ImportSource}
 use Rattle.hir_import_resolution.specs.declared.directive.ImportSource.TheVariants as sources
-use Rattle.hir_def_collector.specs.Calls.{error_of}
-use Rattle.hir_def_collector.specs.Changes.{Change, lists, makes, gives_variants, begins_paths, reaches, awaits, ends, settles, changes_imports, adds_textual, takes_textual, defines, describes, helps, lists_derive, exports, uses_macros, tells, goes_on, act, perform, with_builtin_derive}
-use Rattle.hir_def_collector.specs.declared.collector.exports.ExportedFunction.{ExportedFunction}
-use Rattle.hir_def_collector.specs.Derivation.{CollectedValue, Ends}
-use Rattle.hir_def_collector.specs.Ended.{ended, exporting_scope, without_function, without_functions}
-use Rattle.hir_def_collector.specs.ItemIds.{module_id}
-use Rattle.hir_def_collector.specs.Keys.{Environment}
-use Rattle.hir_def_collector.specs.Start.{Beginning, read_by}
-use Rattle.hir_def_collector.specs.State.{Core, State, import_state}
-use Rattle.hir_def_collector.specs.Steps.{Rule, drops_item, awaits_attribute, lists_derives, faults_derive, exports_macro, reaches_call, rests, expands_call, drops_call, drops_reached, derives_builtin, skips_attribute, falls_back, defines_rules, defines_macro, closes_module, declares_item, declares_enum, lists_constant, lists_impl, opens_module, opens_file, drops_file, misses_file, enters_block, reaches_imports, reaches_crate, resolves_imports, May, Steps, acts, asking, more, none}
-use Rattle.hir_def_collector.specs.Workspace.{Workspace}
-use Rattle.hir_def_collector.proofs.Changes.{AllFine, fine_bringing, fine_expanding, fine_macro, fine_reporting, perform_keeps}
+use Rattle.hir_collector_rules.specs.Calls.{error_of}
+use Rattle.hir_collector_rules.specs.Changes.{Change, lists, makes, gives_variants, begins_paths, reaches, awaits, ends, settles, changes_imports, adds_textual, takes_textual, defines, describes, helps, lists_derive, exports, uses_macros, tells, goes_on, act, perform, with_builtin_derive}
+use Rattle.hir_collector_rules.specs.declared.exported.ExportedFunction.{ExportedFunction}
+use Rattle.hir_collector_rules.specs.Derivation.{CollectedValue, Ends}
+use Rattle.hir_collector_rules.specs.Ended.{ended, exporting_scope, without_function, without_functions}
+use Rattle.hir_collector_rules.specs.ItemIds.{module_id}
+use Rattle.hir_collector_rules.specs.Keys.{Environment}
+use Rattle.hir_collector_rules.specs.Start.{Beginning, read_by}
+use Rattle.hir_collector_rules.specs.State.{Core, State, import_state}
+use Rattle.hir_collector_rules.specs.Steps.{Rule, drops_item, awaits_attribute, lists_derives, faults_derive, exports_macro, reaches_call, rests, expands_call, drops_call, drops_reached, derives_builtin, skips_attribute, falls_back, defines_rules, defines_macro, closes_module, declares_item, declares_enum, lists_constant, lists_impl, opens_module, opens_file, drops_file, misses_file, enters_block, reaches_imports, reaches_crate, resolves_imports, May, Steps, acts, asking, more, none}
+use Rattle.hir_collector_rules.specs.Workspace.{Workspace}
+use Rattle.hir_collector_rules.proofs.Changes.{AllFine, fine_bringing, fine_expanding, fine_macro, fine_reporting, perform_keeps}
 use Rattle.hir_def_collector_laws.specs.Globs.{AlsoShows, GlobsBringWhatIsShown, IsAsShown, IsBrought, WasSeen, glob_at, glob_by, glob_of_value, is_open_in, view_in}
 use Rattle.hir_def_collector_laws.proofs.Bindings.{AreFine, IsFineScope, fine_last, fine_without}
 use Rattle.hir_def_collector_laws.proofs.Ended.{ended_by}

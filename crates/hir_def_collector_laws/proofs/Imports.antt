@@ -4,21 +4,21 @@ use Rattle.std.proofs.lemmas.List.Elements.{Contains-append_left}
 use Rattle.hir_base.specs.declared.ids.MapId.{MapId}
 use Rattle.hir_scope.specs.declared.imports.ImportOrExternCrate.{ImportOrExternCrate}
 use Rattle.hir_tables.specs.Tables.{TablesValue}
-use Rattle.hir_def_map.specs.Overlay.{Maps}
-use Rattle.hir_def_map.specs.State.{Map}
+use Rattle.hir_def_map_rules.specs.Overlay.{Maps}
+use Rattle.hir_def_map_rules.specs.State.{Map}
 use Rattle.hir_glob_imports.specs.declared.edge.Edge.{Edge}
 use Rattle.hir_import_resolution.specs.Directives.{TakenValue, glob_of, is_untaken, way_of}
 use Rattle.hir_import_resolution.specs.declared.directive.ImportDirective.{ImportDirective}
-use Rattle.hir_def_collector.specs.declared.collector.macro_directive.MacroDirective.{MacroDirective}
-use Rattle.hir_def_collector.specs.declared.source_database.Key.{Key}
-use Rattle.hir_def_collector.specs.Derivation.{CollectedValue, Ends, leftover_among}
-use Rattle.hir_def_collector.specs.Keys.{map_keys}
-use Rattle.hir_def_collector.specs.Start.{Beginning, begin_of, krate_of, read_by}
-use Rattle.hir_def_collector.specs.Workspace.{Workspace, transitive_dependencies_in}
-use Rattle.hir_def_collector.proofs.Asks.{still_asked}
-use Rattle.hir_def_collector.proofs.Changes.{data-Steps}
-use Rattle.hir_def_collector.proofs.Holds.{in_range-start}
-use Rattle.hir_def_collector.proofs.InRange.{CallsBelow, in_range-Steps}
+use Rattle.hir_collector_rules.specs.declared.macro_directive.MacroDirective.{MacroDirective}
+use Rattle.hir_collector_rules.specs.declared.source_database.Key.{Key}
+use Rattle.hir_collector_rules.specs.Derivation.{CollectedValue, Ends, leftover_among}
+use Rattle.hir_collector_rules.specs.Keys.{map_keys}
+use Rattle.hir_collector_rules.specs.Start.{Beginning, begin_of, krate_of, read_by}
+use Rattle.hir_collector_rules.specs.Workspace.{Workspace, transitive_dependencies_in}
+use Rattle.hir_collector_rules.proofs.Asks.{still_asked}
+use Rattle.hir_collector_rules.proofs.Changes.{data-Steps}
+use Rattle.hir_collector_rules.proofs.Holds.{in_range-start}
+use Rattle.hir_collector_rules.proofs.InRange.{CallsBelow, in_range-Steps}
 use Rattle.hir_def_collector_laws.specs.Calls.{CallsAreWritten, IsCall}
 use Rattle.hir_def_collector_laws.specs.Imports.{GlobsAreWritten, HasImport, ImportsAreWritten, IsImport, LeftoversAreWritten}
 use Rattle.hir_def_collector_laws.proofs.Ended.{same_data, same_length}

@@ -24,3 +24,17 @@ pub mod Backwards
 pub mod Modules
 -- ---- diagnostics
 pub mod Diagnostics
+pub mod MacroEdits
+pub mod LastVariants
+pub mod Visible
+pub mod WholeEnums
+pub mod WholeEdits
+pub mod WholeChanges
+pub mod WholeEnded
+pub mod Whole
+pub mod SourcedItems
+pub mod SourcedEdits
+pub mod SourcedMacros
+pub mod SourcedState
+pub mod SourcedEnded
+pub mod Sourced

@@ -9,31 +9,31 @@ use Rattle.hir_item_tree.specs.KeptForest.{Head}
 use Rattle.hir_scope.specs.PerNs.{macros_only}
 use Rattle.hir_scope.specs.Scope.{ScopeValue}
 use Rattle.hir_scope.specs.declared.visibility.Visibility.TheVariants as visibilities
-use Rattle.hir_def_map.specs.Declaration.{listed}
-use Rattle.hir_def_map.specs.State.{Map, ModuleValue, changed_at, module_at, new_id, new_module, numbered, with_child, with_module, with_module_scope, with_scope}
-use Rattle.hir_def_map.specs.Overlay.{Maps}
-use Rattle.hir_def_map.specs.declared.nameres.declaration.Declaration.{Declaration as Listing}
-use Rattle.hir_def_map.specs.declared.nameres.declaration.Declaration.TheVariants as listings
-use Rattle.hir_def_map.specs.declared.nameres.derive_helpers.DeriveHelper.{DeriveHelper}
-use Rattle.hir_def_map.proofs.Grown.{length-changed}
-use Rattle.hir_def_map.proofs.StaysWellFormed.{length-made}
+use Rattle.hir_def_map_rules.specs.Declaration.{listed}
+use Rattle.hir_def_map_rules.specs.State.{Map, ModuleValue, changed_at, module_at, new_id, new_module, numbered, with_child, with_module, with_module_scope, with_scope}
+use Rattle.hir_def_map_rules.specs.Overlay.{Maps}
+use Rattle.hir_def_map_rules.specs.declared.declaration.Declaration.{Declaration as Listing}
+use Rattle.hir_def_map_rules.specs.declared.declaration.Declaration.TheVariants as listings
+use Rattle.hir_def_map_rules.specs.declared.derive_helpers.DeriveHelper.{DeriveHelper}
+use Rattle.hir_def_map_rules.proofs.Grown.{length-changed}
+use Rattle.hir_def_map_rules.proofs.StaysWellFormed.{length-made}
 use Rattle.hir_import_resolution.specs.Changes.{Change as ImportChange, pushes}
-use Rattle.hir_def_collector.specs.declared.collector.macro_directive.MacroDirective.{MacroDirective}
-use Rattle.hir_def_collector.specs.Causes.{declarations_of}
-use Rattle.hir_def_collector.specs.Changes.{Change, lists, makes, gives_variants, begins_paths, reaches, awaits, ends, settles, changes_imports, adds_textual, takes_textual, defines, describes, helps, lists_derive, exports, uses_macros, tells, goes_on, act, perform, with_builtin_derive}
-use Rattle.hir_def_collector.specs.ItemIds.{module_id}
-use Rattle.hir_def_collector.specs.Macros.{is_exported}
-use Rattle.hir_def_collector.specs.Reports.{is_unimplemented, unimplemented_macro}
-use Rattle.hir_def_collector.specs.declared.collector.exports.ExportedFunction.{ExportedFunction}
-use Rattle.hir_def_collector.specs.Ended.{ended, exporting_scope, without_function, without_functions}
-use Rattle.hir_def_collector.specs.Keys.{Environment}
-use Rattle.hir_def_collector.specs.State.{Core, State, import_state}
-use Rattle.hir_def_collector.specs.Steps.{Step, acts, asking, bringing, exporting, failing, reporting}
-use Rattle.hir_def_collector.proofs.Bound.{keeps-edit}
-use Rattle.hir_def_collector.proofs.Changes.{Keeps-act}
-use Rattle.hir_def_collector.proofs.Grows.{Grows-act}
-use Rattle.hir_def_collector.proofs.ImportEdits.{Edit, edit, edit_of, edited, map_after}
-use Rattle.hir_def_collector.proofs.Lists.{get_left}
+use Rattle.hir_collector_rules.specs.declared.macro_directive.MacroDirective.{MacroDirective}
+use Rattle.hir_collector_rules.specs.Causes.{declarations_of}
+use Rattle.hir_collector_rules.specs.Changes.{Change, lists, makes, gives_variants, begins_paths, reaches, awaits, ends, settles, changes_imports, adds_textual, takes_textual, defines, describes, helps, lists_derive, exports, uses_macros, tells, goes_on, act, perform, with_builtin_derive}
+use Rattle.hir_collector_rules.specs.ItemIds.{module_id}
+use Rattle.hir_collector_rules.specs.Macros.{is_exported}
+use Rattle.hir_collector_rules.specs.Reports.{is_unimplemented, unimplemented_macro}
+use Rattle.hir_collector_rules.specs.declared.exported.ExportedFunction.{ExportedFunction}
+use Rattle.hir_collector_rules.specs.Ended.{ended, exporting_scope, without_function, without_functions}
+use Rattle.hir_collector_rules.specs.Keys.{Environment}
+use Rattle.hir_collector_rules.specs.State.{Core, State, import_state}
+use Rattle.hir_collector_rules.specs.Steps.{Step, acts, asking, bringing, exporting, failing, reporting}
+use Rattle.hir_collector_rules.proofs.Bound.{keeps-edit}
+use Rattle.hir_collector_rules.proofs.Changes.{Keeps-act}
+use Rattle.hir_collector_rules.proofs.Grows.{Grows-act}
+use Rattle.hir_collector_rules.proofs.ImportEdits.{Edit, edit, edit_of, edited, map_after}
+use Rattle.hir_collector_rules.proofs.Lists.{get_left}
 use Rattle.hir_def_collector_laws.specs.Expansions.{at_home}
 use Rattle.hir_def_collector_laws.proofs.Ended.{ended_by}
 

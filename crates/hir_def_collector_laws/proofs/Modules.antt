@@ -11,31 +11,31 @@ use Rattle.hir_item_tree.specs.KeptForest.{KeptForest, KeptItem, no_items}
 use Rattle.hir_item_tree.specs.declared.tree_id.TreeKey.{TreeKey}
 use Rattle.hir_scope.specs.declared.visibility.Visibility.TheVariants as visibilities
 use Rattle.hir_tables.specs.Tables.{TablesValue}
-use Rattle.hir_def_map.specs.Overlay.{Maps}
-use Rattle.hir_def_map.specs.State.{CrateData, Map, module_at, new_module}
-use Rattle.hir_def_map.specs.declared.nameres.diagnostics.DefDiagnostic.{DefDiagnostic}
-use Rattle.hir_def_collector.specs.declared.collector.macro_directive.Fate.TheVariants.{GivenUp, Handled}
-use Rattle.hir_def_collector.specs.declared.collector.macro_directive.MacroDirective.{MacroDirective}
-use Rattle.hir_def_collector.specs.declared.collector.macro_directive.MacroDirectiveKind.{MacroDirectiveKind}
-use Rattle.hir_def_collector.specs.declared.collector.macro_directive.MacroDirectiveKind.TheVariants.{Attr, Derive, FnLike}
-use Rattle.hir_def_collector.specs.Attributes.{is_always_passed}
-use Rattle.hir_def_collector.specs.declared.collector.site.Site.{Site}
-use Rattle.hir_def_collector.specs.declared.source_database.Key.{Key}
-use Rattle.hir_def_collector.specs.declared.source_database.Key.TheVariants as keys
-use Rattle.hir_def_collector.specs.Causes.{declarations_of}
-use Rattle.hir_def_collector.specs.Derivation.{CollectedValue, leftover_reports}
-use Rattle.hir_def_collector.specs.Ended.{ended}
-use Rattle.hir_def_collector.specs.Keys.{environment}
-use Rattle.hir_def_collector.specs.Reports.{with_diagnostics}
-use Rattle.hir_def_collector.specs.Start.{Beginning, krate_of, origin_of, read_by, root_site, root_tree, start_of, tree_visits}
-use Rattle.hir_def_collector.specs.State.{Core, State, Task, visits_over}
-use Rattle.hir_def_collector.specs.Steps.{Rule, drops_item, awaits_attribute, lists_derives, faults_derive, exports_macro, reaches_call, rests, expands_call, drops_call, drops_reached, derives_builtin, skips_attribute, falls_back, defines_rules, defines_macro, closes_module, declares_item, declares_enum, lists_constant, lists_impl, opens_module, opens_file, drops_file, misses_file, enters_block, reaches_imports, reaches_crate, resolves_imports, May, Step, Steps, acts, after, asking, keys_read, more, none, reads}
-use Rattle.hir_def_collector.specs.Workspace.{Workspace}
-use Rattle.hir_def_collector.proofs.Asks.{still_asked-Step}
-use Rattle.hir_def_collector.proofs.Changes.{asked-Step}
-use Rattle.hir_def_collector.proofs.Grows.{Grows-Step}
-use Rattle.hir_def_collector.proofs.Holds.{in_range-start}
-use Rattle.hir_def_collector.proofs.InRange.{IsInRange, in_range-Steps}
+use Rattle.hir_def_map_rules.specs.Overlay.{Maps}
+use Rattle.hir_def_map_rules.specs.State.{CrateData, Map, module_at, new_module}
+use Rattle.hir_def_map_rules.specs.declared.diagnostics.DefDiagnostic.{DefDiagnostic}
+use Rattle.hir_collector_rules.specs.declared.macro_directive.Fate.TheVariants.{GivenUp, Handled}
+use Rattle.hir_collector_rules.specs.declared.macro_directive.MacroDirective.{MacroDirective}
+use Rattle.hir_collector_rules.specs.declared.macro_directive.MacroDirectiveKind.{MacroDirectiveKind}
+use Rattle.hir_collector_rules.specs.declared.macro_directive.MacroDirectiveKind.TheVariants.{Attr, Derive, FnLike}
+use Rattle.hir_collector_rules.specs.Attributes.{is_always_passed}
+use Rattle.hir_collector_rules.specs.declared.site.Site.{Site}
+use Rattle.hir_collector_rules.specs.declared.source_database.Key.{Key}
+use Rattle.hir_collector_rules.specs.declared.source_database.Key.TheVariants as keys
+use Rattle.hir_collector_rules.specs.Causes.{declarations_of}
+use Rattle.hir_collector_rules.specs.Derivation.{CollectedValue, leftover_reports}
+use Rattle.hir_collector_rules.specs.Ended.{ended}
+use Rattle.hir_collector_rules.specs.Keys.{environment}
+use Rattle.hir_collector_rules.specs.Reports.{with_diagnostics}
+use Rattle.hir_collector_rules.specs.Start.{Beginning, krate_of, origin_of, read_by, root_site, root_tree, start_of, tree_visits}
+use Rattle.hir_collector_rules.specs.State.{Core, State, Task, visits_over}
+use Rattle.hir_collector_rules.specs.Steps.{Rule, drops_item, awaits_attribute, lists_derives, faults_derive, exports_macro, reaches_call, rests, expands_call, drops_call, drops_reached, derives_builtin, skips_attribute, falls_back, defines_rules, defines_macro, closes_module, declares_item, declares_enum, lists_constant, lists_impl, opens_module, opens_file, drops_file, misses_file, enters_block, reaches_imports, reaches_crate, resolves_imports, May, Step, Steps, acts, after, asking, keys_read, more, none, reads}
+use Rattle.hir_collector_rules.specs.Workspace.{Workspace}
+use Rattle.hir_collector_rules.proofs.Asks.{still_asked-Step}
+use Rattle.hir_collector_rules.proofs.Changes.{asked-Step}
+use Rattle.hir_collector_rules.proofs.Grows.{Grows-Step}
+use Rattle.hir_collector_rules.proofs.Holds.{in_range-start}
+use Rattle.hir_collector_rules.proofs.InRange.{IsInRange, in_range-Steps}
 use Rattle.hir_def_collector_laws.specs.Calls.{HasAttributeAt, IsCallBy, NoCallIsWritten}
 use Rattle.hir_def_collector_laws.specs.Declares.{HaveNoCall}
 use Rattle.hir_def_collector_laws.specs.Expansions.{Expansion, IsDone, IsExpansion, expanded, expanded_in, resumed}

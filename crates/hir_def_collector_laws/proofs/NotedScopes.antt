@@ -25,10 +25,10 @@ use Rattle.hir_scope.specs.declared.imports.ImportOrGlob.TheVariants as value_wa
 use Rattle.hir_scope.specs.declared.per_ns.PerNs.{PerNs}
 use Rattle.hir_scope.specs.declared.visibility.Visibility.{Visibility}
 use Rattle.hir_scope.proofs.Pushes.{pushed-macros, pushed-types, pushed-values}
-use Rattle.hir_def_map.specs.Declaration.{listed}
-use Rattle.hir_def_map.specs.State.{ModuleValue, changed_at, globs_in, place_at, pushed_module, with_module_scope}
-use Rattle.hir_def_map.specs.declared.nameres.declaration.Declaration.{Declaration as Listing}
-use Rattle.hir_def_map.specs.declared.nameres.declaration.Declaration.TheVariants as listings
+use Rattle.hir_def_map_rules.specs.Declaration.{listed}
+use Rattle.hir_def_map_rules.specs.State.{ModuleValue, changed_at, globs_in, place_at, pushed_module, with_module_scope}
+use Rattle.hir_def_map_rules.specs.declared.declaration.Declaration.{Declaration as Listing}
+use Rattle.hir_def_map_rules.specs.declared.declaration.Declaration.TheVariants as listings
 use Rattle.hir_glob_imports.specs.Keys.{same_slot, slot_at}
 use Rattle.hir_glob_imports.specs.Rules.{BroughtBy, with_brought}
 use Rattle.hir_glob_imports.specs.declared.edge.Brought.{Brought}

@@ -15,15 +15,15 @@ use Rattle.hir_base.specs.declared.ast_id.AstId.{AstId}
 use Rattle.hir_base.specs.declared.mod_path.PathKind.{PathKind}
 use Rattle.hir_base.specs.declared.mod_path.PathKind.TheVariants as roots
 use Rattle.hir_item_tree.specs.Collected.{Numbered}
-use Rattle.hir_def_map.specs.Macros.{helpers_at, with_derive_helper, with_helper}
-use Rattle.hir_def_map.specs.State.{CrateData, Map}
-use Rattle.hir_def_map.specs.declared.nameres.derive_helpers.DeriveHelper.{DeriveHelper}
-use Rattle.hir_def_collector.specs.Attributes.{first_looked_up, is_always_passed, is_helper, is_helper_among, is_named_by, is_passed, is_tool, next_among}
-use Rattle.hir_def_collector.specs.BuiltinAttributes.{is_inert}
-use Rattle.hir_def_collector.specs.Changes.{Change, lists, makes, gives_variants, begins_paths, reaches, awaits, ends, settles, changes_imports, adds_textual, takes_textual, defines, describes, helps, lists_derive, exports, uses_macros, tells, goes_on, act, perform}
-use Rattle.hir_def_collector.specs.Ended.{ended}
-use Rattle.hir_def_collector.specs.State.{Core, State, import_state}
-use Rattle.hir_def_collector.proofs.ImportEdits.{Edit, edit_of, edited, map_after}
+use Rattle.hir_def_map_rules.specs.Macros.{helpers_at, with_derive_helper, with_helper}
+use Rattle.hir_def_map_rules.specs.State.{CrateData, Map}
+use Rattle.hir_def_map_rules.specs.declared.derive_helpers.DeriveHelper.{DeriveHelper}
+use Rattle.hir_collector_rules.specs.Attributes.{first_looked_up, is_always_passed, is_helper, is_helper_among, is_named_by, is_passed, is_tool, next_among}
+use Rattle.hir_collector_rules.specs.BuiltinAttributes.{is_inert}
+use Rattle.hir_collector_rules.specs.Changes.{Change, lists, makes, gives_variants, begins_paths, reaches, awaits, ends, settles, changes_imports, adds_textual, takes_textual, defines, describes, helps, lists_derive, exports, uses_macros, tells, goes_on, act, perform}
+use Rattle.hir_collector_rules.specs.Ended.{ended}
+use Rattle.hir_collector_rules.specs.State.{Core, State, import_state}
+use Rattle.hir_collector_rules.proofs.ImportEdits.{Edit, edit_of, edited, map_after}
 use Rattle.hir_def_collector_laws.proofs.Ended.{ended_by}
 use Rattle.hir_def_collector_laws.proofs.Entries.{tied_alike}
 use Rattle.hir_def_collector_laws.proofs.Lists.{at_first, later}

@@ -10,19 +10,19 @@ use Rattle.hir_item_tree.specs.Kinds.{item_head}
 use Rattle.hir_item_tree.specs.KeptForest.{Head, KeptForest, KeptItem, constant, enumeration, extern_block, extern_crate, function, holder, implementation, import, inline_module, item, leaf, macro_call, macro_def, macro_rules, no_items, outline_module, static_item, structure, trait_item, type_alias, union_structure}
 use Rattle.hir_mod_dir.specs.Directory.{Directory}
 use Rattle.hir_mod_dir.specs.ModuleFiles.{inline_directory}
-use Rattle.hir_def_map.specs.Overlay.{Maps}
+use Rattle.hir_def_map_rules.specs.Overlay.{Maps}
 use Rattle.hir_import_resolution.specs.Rules.{acts as import_acts}
-use Rattle.hir_def_collector.specs.declared.collector.macro_directive.MacroDirective.{MacroDirective}
-use Rattle.hir_def_collector.specs.declared.collector.site.Site.{Site}
-use Rattle.hir_def_collector.specs.Attributes.{AreAlwaysPassed, attr_id, is_always_passed, is_passed, item_node}
-use Rattle.hir_def_collector.specs.Calls.{call_site, error_of}
-use Rattle.hir_def_collector.specs.Changes.{Change, lists, makes, gives_variants, begins_paths, reaches, awaits, ends, settles, changes_imports, adds_textual, takes_textual, defines, describes, helps, lists_derive, exports, uses_macros, tells, goes_on, act}
-use Rattle.hir_def_collector.specs.Keys.{Environment}
-use Rattle.hir_def_collector.specs.Macros.{is_macro_use}
-use Rattle.hir_def_collector.specs.State.{State, Task, Visit, visits, closes, import_state, visits_over}
-use Rattle.hir_def_collector.specs.Steps.{Rule, drops_item, awaits_attribute, lists_derives, faults_derive, exports_macro, reaches_call, rests, expands_call, drops_call, drops_reached, derives_builtin, skips_attribute, falls_back, defines_rules, defines_macro, closes_module, closing, declares_item, declares_enum, lists_constant, lists_impl, opens_module, opens_file, drops_file, misses_file, enters_block, reaches_imports, reaches_crate, resolves_imports, HasAttribute, May, Step, acts, asking, derives_from, inside_block, inside_file, inside_module, path_of, visits_inside}
-use Rattle.hir_def_collector.proofs.Changes.{AllFine, all_fine, fine_bringing, fine_expanding, fine_macro, fine_reporting, perform_keeps}
-use Rattle.hir_def_collector.proofs.InRange.{CallsBelow, VisitsBelow}
+use Rattle.hir_collector_rules.specs.declared.macro_directive.MacroDirective.{MacroDirective}
+use Rattle.hir_collector_rules.specs.declared.site.Site.{Site}
+use Rattle.hir_collector_rules.specs.Attributes.{AreAlwaysPassed, attr_id, is_always_passed, is_passed, item_node}
+use Rattle.hir_collector_rules.specs.Calls.{call_site, error_of}
+use Rattle.hir_collector_rules.specs.Changes.{Change, lists, makes, gives_variants, begins_paths, reaches, awaits, ends, settles, changes_imports, adds_textual, takes_textual, defines, describes, helps, lists_derive, exports, uses_macros, tells, goes_on, act}
+use Rattle.hir_collector_rules.specs.Keys.{Environment}
+use Rattle.hir_collector_rules.specs.Macros.{is_macro_use}
+use Rattle.hir_collector_rules.specs.State.{State, Task, Visit, visits, closes, import_state, visits_over}
+use Rattle.hir_collector_rules.specs.Steps.{Rule, drops_item, awaits_attribute, lists_derives, faults_derive, exports_macro, reaches_call, rests, expands_call, drops_call, drops_reached, derives_builtin, skips_attribute, falls_back, defines_rules, defines_macro, closes_module, closing, declares_item, declares_enum, lists_constant, lists_impl, opens_module, opens_file, drops_file, misses_file, enters_block, reaches_imports, reaches_crate, resolves_imports, HasAttribute, May, Step, acts, asking, derives_from, inside_block, inside_file, inside_module, path_of, visits_inside}
+use Rattle.hir_collector_rules.proofs.Changes.{AllFine, all_fine, fine_bringing, fine_expanding, fine_macro, fine_reporting, perform_keeps}
+use Rattle.hir_collector_rules.proofs.InRange.{CallsBelow, VisitsBelow}
 use Rattle.hir_def_collector_laws.specs.Declares.{HasNoCall, HaveNoCall}
 use Rattle.hir_def_collector_laws.proofs.Passed.{IsLookedUp, always_passed, looked_up}
 

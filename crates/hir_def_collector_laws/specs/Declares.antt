@@ -11,24 +11,24 @@ use Rattle.hir_item_tree.specs.Kinds.{item_head}
 use Rattle.hir_mod_dir.specs.Directory.{Directory}
 use Rattle.hir_mod_dir.specs.ModuleFiles.{candidates_of, inline_directory}
 use Rattle.hir_tables.specs.Tables.{TablesValue}
-use Rattle.hir_def_map.specs.Overlay.{Maps}
-use Rattle.hir_def_map.specs.State.{Map, ModuleValue, module_at, numbered}
-use Rattle.hir_def_map.specs.declared.nameres.origin.ModuleOrigin.{ModuleOrigin}
-use Rattle.hir_def_collector.specs.declared.collector.exports.Export.{Export}
-use Rattle.hir_def_collector.specs.declared.collector.macro_directive.MacroDirective.{MacroDirective}
-use Rattle.hir_def_collector.specs.declared.collector.macro_directive.WaitingItem.{WaitingItem}
-use Rattle.hir_def_collector.specs.declared.collector.site.Site.{Site}
-use Rattle.hir_def_collector.specs.Attributes.{AreAlwaysPassed, export_at, is_derive, is_passed, item_node, proc_macro_id}
-use Rattle.hir_def_collector.specs.Calls.{item_kept, waiting_item}
-use Rattle.hir_def_collector.specs.Causes.{declarations_of}
-use Rattle.hir_def_collector.specs.Derivation.{CollectedValue}
-use Rattle.hir_def_collector.specs.ItemIds.{const_id, enum_id, function_id, macro_def_id, static_id, struct_id, trait_id, type_alias_id, union_id}
-use Rattle.hir_def_collector.specs.Items.{file_origin, inline_origin}
-use Rattle.hir_def_collector.specs.Keys.{environment}
-use Rattle.hir_def_collector.specs.ModuleFiles.{IsNumbered, IsSearch, ModuleFile, Search, module_file}
-use Rattle.hir_def_collector.specs.State.{Core}
-use Rattle.hir_def_collector.specs.Steps.{Sees, inside_block, path_of, search_readings}
-use Rattle.hir_def_collector.specs.Workspace.{Workspace}
+use Rattle.hir_def_map_rules.specs.Overlay.{Maps}
+use Rattle.hir_def_map_rules.specs.State.{Map, ModuleValue, module_at, numbered}
+use Rattle.hir_def_map_rules.specs.declared.origin.ModuleOrigin.{ModuleOrigin}
+use Rattle.hir_collector_rules.specs.declared.exported.Export.{Export}
+use Rattle.hir_collector_rules.specs.declared.macro_directive.MacroDirective.{MacroDirective}
+use Rattle.hir_collector_rules.specs.declared.macro_directive.WaitingItem.{WaitingItem}
+use Rattle.hir_collector_rules.specs.declared.site.Site.{Site}
+use Rattle.hir_collector_rules.specs.Attributes.{AreAlwaysPassed, export_at, is_derive, is_passed, item_node, proc_macro_id}
+use Rattle.hir_collector_rules.specs.Calls.{item_kept, waiting_item}
+use Rattle.hir_collector_rules.specs.Causes.{declarations_of}
+use Rattle.hir_collector_rules.specs.Derivation.{CollectedValue}
+use Rattle.hir_collector_rules.specs.ItemIds.{const_id, enum_id, function_id, macro_def_id, static_id, struct_id, trait_id, type_alias_id, union_id}
+use Rattle.hir_collector_rules.specs.Items.{file_origin, inline_origin}
+use Rattle.hir_collector_rules.specs.Keys.{environment}
+use Rattle.hir_collector_rules.specs.ModuleFiles.{IsNumbered, IsSearch, ModuleFile, Search, module_file}
+use Rattle.hir_collector_rules.specs.State.{Core}
+use Rattle.hir_collector_rules.specs.Steps.{Sees, inside_block, path_of, search_readings}
+use Rattle.hir_collector_rules.specs.Workspace.{Workspace}
 
 -- the macro that a function exports, if it exports one
 abbrev pub macro_exported : Map → Site → Head → Option Export → List ModuleDefId

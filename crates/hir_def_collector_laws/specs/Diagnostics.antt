@@ -4,13 +4,13 @@ use Rattle.hir_base.specs.declared.ast_id.AstId.{AstId}
 use Rattle.hir_item_tree.specs.KeptForest.{KeptItem}
 use Rattle.hir_item_tree.specs.Kinds.{item_head, item_kind}
 use Rattle.hir_tables.specs.Tables.{TablesValue}
-use Rattle.hir_def_map.specs.Diagnostics.{DiagnosticValue, diagnostic_view, node_of}
-use Rattle.hir_def_map.specs.Overlay.{Maps}
-use Rattle.hir_def_map.specs.State.{numbered}
-use Rattle.hir_def_map.specs.declared.nameres.diagnostics.DefDiagnostic.{DefDiagnostic}
-use Rattle.hir_def_collector.specs.Derivation.{CollectedValue, Ends}
-use Rattle.hir_def_collector.specs.Start.{Beginning}
-use Rattle.hir_def_collector.specs.Workspace.{Workspace}
+use Rattle.hir_def_map_rules.specs.Diagnostics.{DiagnosticValue, diagnostic_view, node_of}
+use Rattle.hir_def_map_rules.specs.Overlay.{Maps}
+use Rattle.hir_def_map_rules.specs.State.{numbered}
+use Rattle.hir_def_map_rules.specs.declared.diagnostics.DefDiagnostic.{DefDiagnostic}
+use Rattle.hir_collector_rules.specs.Derivation.{CollectedValue, Ends}
+use Rattle.hir_collector_rules.specs.Start.{Beginning}
+use Rattle.hir_collector_rules.specs.Workspace.{Workspace}
 use Rattle.hir_def_collector_laws.specs.Written.{IsWritten, key_of}
 
 -- a node is that of an item, which is written in the node's tree

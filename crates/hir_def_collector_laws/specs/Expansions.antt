@@ -5,17 +5,17 @@ use Rattle.hir_base.specs.declared.macro_kind.BuiltinDeriveImplId.{BuiltinDerive
 use Rattle.hir_base.specs.declared.macro_kind.MacroId.{MacroId}
 use Rattle.hir_item_tree.specs.KeptForest.{KeptItem}
 use Rattle.hir_tables.specs.Tables.{TablesValue}
-use Rattle.hir_def_map.specs.Overlay.{Maps}
-use Rattle.hir_def_map.specs.State.{Map, ModuleValue, module_at}
-use Rattle.hir_def_collector.specs.declared.collector.macro_directive.MacroDirective.{MacroDirective}
-use Rattle.hir_def_collector.specs.declared.collector.macro_directive.WaitingItem.{WaitingItem}
-use Rattle.hir_def_collector.specs.declared.source_database.Key.TheVariants.{Tree}
-use Rattle.hir_def_collector.specs.Calls.{Expanding, IsNumberedCall, builtin_impl, call_key, call_site, expansion_readings, has_expansion, item_kept, text_readings, waiting_item}
-use Rattle.hir_def_collector.specs.Derivation.{CollectedValue}
-use Rattle.hir_def_collector.specs.Keys.{environment, tree_at}
-use Rattle.hir_def_collector.specs.State.{Core}
-use Rattle.hir_def_collector.specs.Steps.{Sees, site_behind}
-use Rattle.hir_def_collector.specs.Workspace.{Workspace}
+use Rattle.hir_def_map_rules.specs.Overlay.{Maps}
+use Rattle.hir_def_map_rules.specs.State.{Map, ModuleValue, module_at}
+use Rattle.hir_collector_rules.specs.declared.macro_directive.MacroDirective.{MacroDirective}
+use Rattle.hir_collector_rules.specs.declared.macro_directive.WaitingItem.{WaitingItem}
+use Rattle.hir_collector_rules.specs.declared.source_database.Key.TheVariants.{Tree}
+use Rattle.hir_collector_rules.specs.Calls.{Expanding, IsNumberedCall, builtin_impl, call_key, call_site, expansion_readings, has_expansion, item_kept, text_readings, waiting_item}
+use Rattle.hir_collector_rules.specs.Derivation.{CollectedValue}
+use Rattle.hir_collector_rules.specs.Keys.{environment, tree_at}
+use Rattle.hir_collector_rules.specs.State.{Core}
+use Rattle.hir_collector_rules.specs.Steps.{Sees, site_behind}
+use Rattle.hir_collector_rules.specs.Workspace.{Workspace}
 use Rattle.hir_def_collector_laws.specs.Calls.{IsCall}
 use Rattle.hir_def_collector_laws.specs.Declares.{Declares, DeclaresOne}
 

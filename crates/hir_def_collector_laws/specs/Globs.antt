@@ -9,8 +9,8 @@ use Rattle.hir_scope.specs.declared.imports.ImportOrGlob.{ImportOrGlob}
 use Rattle.hir_scope.specs.declared.per_ns.PerNs.{PerNs}
 use Rattle.hir_scope.specs.declared.visibility.Visibility.{Visibility}
 use Rattle.hir_scope.specs.declared.visibility.Visibility.TheVariants.{Module, PubCrate, Public}
-use Rattle.hir_def_map.specs.Overlay.{Maps}
-use Rattle.hir_def_map.specs.State.{entry_at}
+use Rattle.hir_def_map_rules.specs.Overlay.{Maps}
+use Rattle.hir_def_map_rules.specs.State.{entry_at}
 use Rattle.hir_glob_imports.specs.Keys.{slot_at}
 use Rattle.hir_glob_imports.specs.Moves.{brought_vis, shown}
 use Rattle.hir_glob_imports.specs.View.{View, bound_in}
@@ -22,10 +22,10 @@ use Rattle.hir_glob_imports.specs.declared.edge.Key.TheVariants.{Types, Values, 
 use Rattle.hir_import_resolution.specs.Names.{view_of}
 use Rattle.hir_import_resolution.specs.State.{scopes_of}
 use Rattle.hir_tables.specs.Tables.{TablesValue}
-use Rattle.hir_def_collector.specs.Derivation.{CollectedValue, Ends}
-use Rattle.hir_def_collector.specs.Start.{Beginning, read_by}
-use Rattle.hir_def_collector.specs.State.{State, import_state}
-use Rattle.hir_def_collector.specs.Workspace.{Workspace}
+use Rattle.hir_collector_rules.specs.Derivation.{CollectedValue, Ends}
+use Rattle.hir_collector_rules.specs.Start.{Beginning, read_by}
+use Rattle.hir_collector_rules.specs.State.{State, import_state}
+use Rattle.hir_collector_rules.specs.Workspace.{Workspace}
 
 -- the glob that brought an item, if one did
 abbrev pub glob_by : {D I : Type 0} → (I → Option GlobId) → Option (Item D I) → Option GlobId

@@ -22,18 +22,18 @@ use Rattle.hir_scope.specs.declared.imports.ImportOrGlob.{ImportOrGlob}
 use Rattle.hir_scope.specs.declared.imports.ImportOrGlob.TheVariants as value_ways
 use Rattle.hir_scope.specs.PerNs.{Item}
 use Rattle.hir_scope.specs.declared.per_ns.PerNs.{PerNs}
-use Rattle.hir_def_map.specs.Overlay.{Maps}
-use Rattle.hir_def_map.specs.State.{ModuleValue, entry_at, module_at, numbered}
+use Rattle.hir_def_map_rules.specs.Overlay.{Maps}
+use Rattle.hir_def_map_rules.specs.State.{ModuleValue, entry_at, module_at, numbered}
 use Rattle.hir_glob_imports.specs.declared.edge.Edge.{Edge}
 use Rattle.hir_import_resolution.specs.declared.directive.ImportDirective.{ImportDirective}
 use Rattle.hir_import_resolution.specs.declared.directive.ImportSource.{ImportSource}
 use Rattle.hir_import_resolution.specs.declared.directive.ImportSource.TheVariants as sources
 use Rattle.hir_import_resolution.specs.Directives.{glob_of, way_of}
 use Rattle.hir_tables.specs.Tables.{TablesValue}
-use Rattle.hir_def_collector.specs.Derivation.{CollectedValue, Ends}
-use Rattle.hir_def_collector.specs.Imports.{crate_named, path_of_crate}
-use Rattle.hir_def_collector.specs.Start.{Beginning, krate_of}
-use Rattle.hir_def_collector.specs.Workspace.{Workspace, dependencies_in}
+use Rattle.hir_collector_rules.specs.Derivation.{CollectedValue, Ends}
+use Rattle.hir_collector_rules.specs.Imports.{crate_named, path_of_crate}
+use Rattle.hir_collector_rules.specs.Start.{Beginning, krate_of}
+use Rattle.hir_collector_rules.specs.Workspace.{Workspace, dependencies_in}
 use Rattle.hir_def_collector_laws.specs.Written.{IsWritten}
 
 -- the tree that writes a `use` item, under the crate of its module

@@ -9,3 +9,6 @@ pub mod Expansions
 pub mod Modules
 -- ---- of what is told
 pub mod Diagnostics
+-- ---- what a run comes to
+pub mod Whole
+pub mod Sources

@@ -9,22 +9,22 @@ use Rattle.hir_item_tree.specs.KeptForest.{Head, KeptForest, holder, inline_modu
 use Rattle.hir_item_tree.specs.declared.tree_id.TreeId.{TreeId}
 use Rattle.hir_mod_dir.specs.ModuleFiles.{inline_directory}
 use Rattle.hir_tables.specs.Tables.{TablesValue}
-use Rattle.hir_def_map.specs.Overlay.{Maps}
-use Rattle.hir_def_map.specs.State.{ModuleValue, module_at}
-use Rattle.hir_def_map.specs.declared.nameres.origin.ModuleOrigin.{ModuleOrigin}
-use Rattle.hir_def_map.specs.declared.nameres.origin.ModuleOrigin.TheVariants as origins
-use Rattle.hir_def_collector.specs.declared.collector.macro_directive.Fate.TheVariants.{GivenUp, Handled}
-use Rattle.hir_def_collector.specs.declared.collector.macro_directive.MacroDirective.{MacroDirective}
-use Rattle.hir_def_collector.specs.declared.collector.site.Site.{Site}
-use Rattle.hir_def_collector.specs.declared.source_database.Key.TheVariants.{Tree}
-use Rattle.hir_def_collector.specs.Derivation.{CollectedValue, Ends}
-use Rattle.hir_def_collector.specs.Items.{inline_origin}
-use Rattle.hir_def_collector.specs.Keys.{tree_at}
-use Rattle.hir_def_collector.specs.ModuleFiles.{Search, file_key, file_tree, module_file}
-use Rattle.hir_def_collector.specs.Start.{Beginning, origin_of, read_by, root_site, root_tree}
-use Rattle.hir_def_collector.specs.State.{Core}
-use Rattle.hir_def_collector.specs.Steps.{path_of}
-use Rattle.hir_def_collector.specs.Workspace.{Workspace}
+use Rattle.hir_def_map_rules.specs.Overlay.{Maps}
+use Rattle.hir_def_map_rules.specs.State.{ModuleValue, module_at}
+use Rattle.hir_def_map_rules.specs.declared.origin.ModuleOrigin.{ModuleOrigin}
+use Rattle.hir_def_map_rules.specs.declared.origin.ModuleOrigin.TheVariants as origins
+use Rattle.hir_collector_rules.specs.declared.macro_directive.Fate.TheVariants.{GivenUp, Handled}
+use Rattle.hir_collector_rules.specs.declared.macro_directive.MacroDirective.{MacroDirective}
+use Rattle.hir_collector_rules.specs.declared.site.Site.{Site}
+use Rattle.hir_collector_rules.specs.declared.source_database.Key.TheVariants.{Tree}
+use Rattle.hir_collector_rules.specs.Derivation.{CollectedValue, Ends}
+use Rattle.hir_collector_rules.specs.Items.{inline_origin}
+use Rattle.hir_collector_rules.specs.Keys.{tree_at}
+use Rattle.hir_collector_rules.specs.ModuleFiles.{Search, file_key, file_tree, module_file}
+use Rattle.hir_collector_rules.specs.Start.{Beginning, origin_of, read_by, root_site, root_tree}
+use Rattle.hir_collector_rules.specs.State.{Core}
+use Rattle.hir_collector_rules.specs.Steps.{path_of}
+use Rattle.hir_collector_rules.specs.Workspace.{Workspace}
 use Rattle.hir_def_collector_laws.specs.Calls.{NoCallIsWritten}
 use Rattle.hir_def_collector_laws.specs.Declares.{Declares, IsLookedFor, ListsFirst}
 use Rattle.hir_def_collector_laws.specs.Expansions.{Expansion, IsDone, IsExpansion, expanded_in}

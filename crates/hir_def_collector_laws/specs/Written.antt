@@ -6,12 +6,12 @@ use Rattle.hir_item_tree.specs.KeptForest.{Head, Holder, KeptItem, KeptForest, h
 use Rattle.hir_item_tree.specs.declared.tree_id.TreeId.{TreeId}
 use Rattle.hir_item_tree.specs.declared.tree_id.TreeKey.{TreeKey}
 use Rattle.hir_tables.specs.Tables.{TablesValue}
-use Rattle.hir_def_collector.specs.Calls.{call_tree}
-use Rattle.hir_def_collector.specs.Derivation.{CollectedValue}
-use Rattle.hir_def_collector.specs.Keys.{tree_at}
-use Rattle.hir_def_collector.specs.Workspace.{Workspace}
-use Rattle.hir_def_collector.specs.declared.source_database.Key.{Key}
-use Rattle.hir_def_collector.specs.declared.source_database.Key.TheVariants.{Tree}
+use Rattle.hir_collector_rules.specs.Calls.{call_tree}
+use Rattle.hir_collector_rules.specs.Derivation.{CollectedValue}
+use Rattle.hir_collector_rules.specs.Keys.{tree_at}
+use Rattle.hir_collector_rules.specs.Workspace.{Workspace}
+use Rattle.hir_collector_rules.specs.declared.source_database.Key.{Key}
+use Rattle.hir_collector_rules.specs.declared.source_database.Key.TheVariants.{Tree}
 
 -- a tree under the crate of a run
 abbrev pub key_of : CollectedValue → TreeId → TreeKey

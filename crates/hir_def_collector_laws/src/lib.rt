@@ -7,6 +7,8 @@ ghost use Rattle.hir_def_collector_laws.specs.Globs.{GlobsBringWhatIsShown};
 ghost use Rattle.hir_def_collector_laws.specs.Imports.{BindingsAreWritten, GlobsAreWritten, ImportsAreWritten, LeftoversAreWritten, UnnamedTraitsAreWritten};
 ghost use Rattle.hir_def_collector_laws.specs.Modules.{ModulesListTheirItems, ModulesListTheirItemsAlone};
 
+pub mod laws;
+
 /// Each import that a run came upon is a leaf of an enabled `use` item, at its own place in preorder, or an enabled `extern
 /// crate` item, in a tree that the run asked for; so is each import that is left over, and each glob that was recorded.
 pub fn imports_are_written()

@@ -7,10 +7,10 @@ use Rattle.hir_base.specs.declared.ids.Crate.{Crate}
 use Rattle.hir_crate_graph.specs.Dependencies.{AreTransitive, transitive_below, transitive_dependencies}
 use Rattle.std.proofs.lemmas.List.{length-append}
 use Rattle.hir_crate_graph.specs.Graph.{Adds, crates_at}
-use Rattle.hir_def_collector.specs.declared.source_database.Dependency.{Dependency}
+use Rattle.hir_collector_rules.specs.declared.source_database.Dependency.{Dependency}
 use Rattle.hir_crate_graph.proofs.Closure.{transitive_at}
-use Rattle.hir_def_collector.specs.Workspace.{ConfigValue, config_view, direct_by, transitive_by}
-use Rattle.hir_def_collector.specs.declared.source_database.Config.{Config}
+use Rattle.hir_collector_rules.specs.Workspace.{ConfigValue, config_view, direct_by, transitive_by}
+use Rattle.hir_collector_rules.specs.declared.source_database.Config.{Config}
 use Rattle.hir_def_collector_tests.specs.Crates.{AreTheirs, config_in}
 
 there : {A : Type 0} (xs : List A) (k : ℕ) (d : A) → k < length xs → slice_get xs k ≡ Some (slice_index_or xs k d)

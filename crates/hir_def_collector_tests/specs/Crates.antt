@@ -8,8 +8,8 @@ use Rattle.hir_base.specs.declared.ids.Crate.{Crate}
 use Rattle.hir_item_tree.specs.Source.{SourceValue, source_view}
 use Rattle.hir_item_tree.specs.declared.source.Source.{Source}
 use Rattle.hir_tables.specs.SourcePlaces.{SourcePlaceValue, file, block, expansion}
-use Rattle.hir_def_collector.specs.Workspace.{ConfigValue, config_view, transitive_by}
-use Rattle.hir_def_collector.specs.declared.source_database.Config.{Config}
+use Rattle.hir_collector_rules.specs.Workspace.{ConfigValue, config_view, transitive_by}
+use Rattle.hir_collector_rules.specs.declared.source_database.Config.{Config}
 
 -- the source at a place, if it is that of a file that is there
 abbrev pub source_in : List (List ℕ × Source) → SourcePlaceValue → Option SourceValue

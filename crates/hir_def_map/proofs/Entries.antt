@@ -11,8 +11,8 @@ use Rattle.hir_base.specs.declared.ids.MapId.{MapId}
 use Rattle.hir_base.specs.contracts.ids.MapIdOrd.TheImpl as map_order
 use Rattle.hir_def_map.specs.declared.world.dependents.Dependents.{Dependents}
 use Rattle.hir_def_map.specs.declared.world.finished.Finished.{Finished}
-use Rattle.hir_def_map.specs.State.{Local, Map}
-use Rattle.hir_def_map.specs.References.{is_well_formed}
+use Rattle.hir_def_map_rules.specs.State.{Local, Map}
+use Rattle.hir_def_map_rules.specs.References.{is_well_formed}
 use Rattle.hir_def_map.specs.Insertion.{may_join}
 use Rattle.hir_def_map.specs.World.{finished_in, placed_of}
 use Rattle.hir_def_map.specs.Removal.{lists_in, lists_of}

@@ -9,9 +9,9 @@ use Rattle.hir_base.specs.declared.ids.ModuleId.{ModuleId}
 use Rattle.hir_base.specs.contracts.ids.MapIdOrd.TheImpl as map_order
 use Rattle.hir_scope.specs.ModuleTree.{same_crate}
 use Rattle.hir_def_map.specs.declared.world.finished.Finished.{Finished}
-use Rattle.hir_def_map.specs.Overlay.{Maps, Placed, holders_of, holders_under}
-use Rattle.hir_def_map.specs.Ancestors.{HolderLeads, IsPlaced, frame_of, frames_of, holders_of_frame}
-use Rattle.hir_def_map.specs.References.{lies_in, refers_to, any_reference}
+use Rattle.hir_def_map_rules.specs.Overlay.{Maps, Placed, holders_of, holders_under}
+use Rattle.hir_def_map_rules.specs.Ancestors.{HolderLeads, IsPlaced, frame_of, frames_of, holders_of_frame}
+use Rattle.hir_def_map_rules.specs.References.{lies_in, refers_to, any_reference}
 use Rattle.hir_def_map.specs.World.{IsChecked, IsFinished, finished_in, placed_of}
 use Rattle.hir_def_map.specs.Removal.{Depends, FallsWith, IsClosed, IsFalling, IsUpward, lacks_some, lists_in, lists_of, refers_in, refers_of}
 use Rattle.hir_def_map.specs.Removal.Depends.{itself, through}

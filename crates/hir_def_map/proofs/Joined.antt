@@ -19,13 +19,13 @@ use Rattle.hir_scope.specs.ModuleTree.{same_crate}
 use Rattle.hir_scope.specs.PerNs.{Item}
 use Rattle.hir_scope.specs.Scope.{ScopeValue}
 use Rattle.hir_def_map.specs.declared.world.finished.Finished.{Finished}
-use Rattle.hir_def_map.specs.declared.world.reference.Reference.{Reference}
-use Rattle.hir_def_map.specs.declared.world.reference.Reference.TheVariants as named
-use Rattle.hir_def_map.specs.State.{Local, Map, ModuleValue, module_at, variants_at}
-use Rattle.hir_def_map.specs.Overlay.{Maps, Placed, overlay, holders_of, holders_or, holders_under, module_in, placed_in, placed_with, with_map}
-use Rattle.hir_def_map.specs.Ancestors.{IsPlaced}
-use Rattle.hir_def_map.specs.Inner.OverlayLaws.{exact_map, IsPlaced-with_map}
-use Rattle.hir_def_map.specs.References.{each_leads_to_root, has_its_parents, has_its_variants, is_well_formed, is_holder_for, is_missing, is_there, lies_in, map_of_reference, reference_to, any_reference_in, any_reference_in_scope, any_own_crate, any_reference, prelude_reference, test_child, test_crate, test_extern, test_item, test_macro, test_of, test_trait, test_type, test_value, test_visibility, visibility_reference}
+use Rattle.hir_def_map_rules.specs.declared.reference.Reference.{Reference}
+use Rattle.hir_def_map_rules.specs.declared.reference.Reference.TheVariants as named
+use Rattle.hir_def_map_rules.specs.State.{Local, Map, ModuleValue, module_at, variants_at}
+use Rattle.hir_def_map_rules.specs.Overlay.{Maps, Placed, overlay, holders_of, holders_or, holders_under, module_in, placed_in, placed_with, with_map}
+use Rattle.hir_def_map_rules.specs.Ancestors.{IsPlaced}
+use Rattle.hir_def_map_rules.specs.Inner.OverlayLaws.{exact_map, IsPlaced-with_map}
+use Rattle.hir_def_map_rules.specs.References.{each_leads_to_root, has_its_parents, has_its_variants, is_well_formed, is_holder_for, is_missing, is_there, lies_in, map_of_reference, reference_to, any_reference_in, any_reference_in_scope, any_own_crate, any_reference, prelude_reference, test_child, test_crate, test_extern, test_item, test_macro, test_of, test_trait, test_type, test_value, test_visibility, visibility_reference}
 use Rattle.hir_def_map.specs.World.{IsChecked, IsFinished, finished_in, placed_of}
 use Rattle.hir_def_map.specs.Removal.{FallsWith, lists_in, lists_of, refers_in, refers_of}
 use Rattle.hir_def_map.specs.Inner.Recorded.{IsRecordedFor}

@@ -9,17 +9,17 @@ use Rattle.hir_base.specs.declared.ids.MapId.{MapId}
 use Rattle.hir_base.specs.declared.ids.ModuleId.{ModuleId}
 use Rattle.hir_base.specs.contracts.ids.MapIdOrd.TheImpl as map_order
 use Rattle.hir_base.specs.contracts.ids.MapIdPartialEq.TheImpl as map_id
-use Rattle.hir_def_map.specs.declared.world.reference.Reference.{Reference}
-use Rattle.hir_def_map.specs.declared.world.reference.Reference.TheVariants as named
+use Rattle.hir_def_map_rules.specs.declared.reference.Reference.{Reference}
+use Rattle.hir_def_map_rules.specs.declared.reference.Reference.TheVariants as named
 use Rattle.hir_def_map.specs.WorldParts.{among}
 use Rattle.hir_def_map.specs.Inner.PartLaws.{among-only}
-use Rattle.hir_def_map.specs.Inner.OverlayLaws.{exact_map}
+use Rattle.hir_def_map_rules.specs.Inner.OverlayLaws.{exact_map}
 use Rattle.hir_scope.specs.ModuleTree.{same_crate}
-use Rattle.hir_def_map.specs.WellFormed.{HasNoDanglingExtern, Extends, HasNoDanglingReference, is_held_outside}
-use Rattle.hir_def_map.specs.References.{is_well_formed, is_holder_for, is_missing, is_there, lies_in, map_of_reference, refers_to, any_reference}
-use Rattle.hir_def_map.specs.State.{Local, Map, module_at, variants_at}
-use Rattle.hir_def_map.specs.Overlay.{Maps, Placed, overlay, module_in, placed_in}
-use Rattle.hir_def_map.proofs.WellFormed.{HasNoDanglingExtern-more, HasNoDanglingReference-more, complete}
+use Rattle.hir_def_map_rules.specs.WellFormed.{HasNoDanglingExtern, Extends, HasNoDanglingReference, is_held_outside}
+use Rattle.hir_def_map_rules.specs.References.{is_well_formed, is_holder_for, is_missing, is_there, lies_in, map_of_reference, refers_to, any_reference}
+use Rattle.hir_def_map_rules.specs.State.{Local, Map, module_at, variants_at}
+use Rattle.hir_def_map_rules.specs.Overlay.{Maps, Placed, overlay, module_in, placed_in}
+use Rattle.hir_def_map_rules.proofs.WellFormed.{HasNoDanglingExtern-more, HasNoDanglingReference-more, complete}
 use Rattle.hir_def_map.proofs.Joined.{finds_some, nothing_missing, own_id, same_id, there_in}
 
 -- where nothing is missing that a map names, each map is there in which something lies that it names

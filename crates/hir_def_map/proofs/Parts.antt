@@ -8,7 +8,7 @@ use Rattle.hir_base.specs.declared.ids.ModuleId.{ModuleId}
 use Rattle.hir_base.specs.contracts.ids.MapIdPartialEq.TheImpl as map_id
 use Rattle.hir_scope.specs.ModuleTree.{same_crate}
 use Rattle.hir_def_map.specs.declared.world.part.WorldPart.{WorldPart}
-use Rattle.hir_def_map.specs.Overlay.{Maps, Placed}
+use Rattle.hir_def_map_rules.specs.Overlay.{Maps, Placed}
 use Rattle.hir_def_map.specs.WorldParts.{among, is_of_some, with_its_holders, are_within, is_within, limited_to, part_of}
 use Rattle.hir_def_map.specs.Inner.PartLaws.{among-there}
 use Rattle.hir_def_map.specs.World.{finished_in}

@@ -13,19 +13,19 @@ use Rattle.hir_base.specs.declared.ast_id.BlockId.{BlockId}
 use mathlib.Core.Bool.{true≢false}
 use Rattle.hir_crate_graph.specs.CrateSet.{Gains as CratesGain, has_crate}
 use Rattle.hir_def_map.specs.declared.world.finished.Finished.{Finished}
-use Rattle.hir_def_map.specs.State.{Local, Map, crate_map}
+use Rattle.hir_def_map_rules.specs.State.{Local, Map, crate_map}
 use Rattle.hir_def_map.specs.Insertion.{Gains}
-use Rattle.hir_def_map.specs.References.{any_own_crate, any_reference, lies_in, test_crate}
+use Rattle.hir_def_map_rules.specs.References.{any_own_crate, any_reference, lies_in, test_crate}
 use Rattle.hir_def_map.specs.Removal.{lists_in, refers_in, refers_of}
 use Rattle.hir_def_map.specs.World.{IsChecked}
 use Rattle.hir_def_map.specs.Inner.Recorded.{AreCovered, GainsOnly, IsCovered, IsRecordedFor, Records, is_left_out, is_other}
-use Rattle.hir_def_map.specs.Inner.ReferenceLists.{any_listed}
-use Rattle.hir_def_map.proofs.References.{any-append, any_is}
+use Rattle.hir_def_map_rules.specs.Inner.ReferenceLists.{any_listed}
+use Rattle.hir_def_map_rules.proofs.References.{any-append, any_is}
 use Rattle.hir_def_map.proofs.Depending.{falls_itself}
 use Rattle.hir_scope.specs.ModuleTree.{same_crate}
-use Rattle.hir_def_map.specs.Inner.OverlayLaws.{exact_crate, exact_map}
+use Rattle.hir_def_map_rules.specs.Inner.OverlayLaws.{exact_crate, exact_map}
 use Rattle.hir_def_map.proofs.Joined.{both, crate_named, equal_id, own_crate_named, own_id, same_id}
-use Rattle.hir_def_map.proofs.NoneOf.{not_first}
+use Rattle.hir_def_map_rules.proofs.NoneOf.{not_first}
 
 abbrev pub has : BTreeSet MapId → MapId → Bool
 has ids id = contains map_order.ghosts.cmp ids id

@@ -1,8 +1,8 @@
 -- Which maps are seen at once?
 use Rattle.hir_def_map.specs.declared.def_maps.DefMaps.{DefMaps}
-use Rattle.hir_def_map.specs.Overlay.{Maps, overlay}
-use Rattle.hir_def_map.specs.Ancestors.{IsPlaced}
-use Rattle.hir_def_map.specs.Inner.OverlayLaws.{IsPlaced-overlay}
+use Rattle.hir_def_map_rules.specs.Overlay.{Maps, overlay}
+use Rattle.hir_def_map_rules.specs.Ancestors.{IsPlaced}
+use Rattle.hir_def_map_rules.specs.Inner.OverlayLaws.{IsPlaced-overlay}
 use Rattle.hir_def_map.specs.WorldParts.{part_of}
 use Rattle.hir_def_map.specs.Inner.PartLaws.{part_placed}
 

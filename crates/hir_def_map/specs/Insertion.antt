@@ -6,9 +6,9 @@ use Rattle.hir_base.specs.contracts.ids.MapIdOrd.TheImpl as map_order
 use Rattle.hir_def_map.specs.declared.world.insert.InsertError.{InsertError}
 use Rattle.hir_def_map.specs.declared.world.insert.InsertError.TheVariants.{Unchecked, Memory}
 use Rattle.hir_def_map.specs.declared.world.insert.Refused.{Refused}
-use Rattle.hir_def_map.specs.State.{Local, Map}
-use Rattle.hir_def_map.specs.Overlay.{Maps}
-use Rattle.hir_def_map.specs.References.{is_well_formed}
+use Rattle.hir_def_map_rules.specs.State.{Local, Map}
+use Rattle.hir_def_map_rules.specs.Overlay.{Maps}
+use Rattle.hir_def_map_rules.specs.References.{is_well_formed}
 
 -- whether a map may join finished ones: none has its id, and it's complete beside them
 abbrev pub may_join : Maps → Map → Local → Bool

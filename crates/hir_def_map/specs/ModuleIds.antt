@@ -9,12 +9,12 @@ use Rattle.hir_base.specs.declared.ast_id.HirFileId.TheVariants as files
 use Rattle.hir_base.specs.declared.ast_id.MacroCallId.{MacroCallId}
 use Rattle.hir_base.specs.declared.ids.MapId.{MapId}
 use Rattle.hir_base.specs.declared.ids.ModuleId.{ModuleId}
-use Rattle.hir_def_map.specs.Origins.{file_of}
-use Rattle.hir_def_map.specs.State.{ModuleValue, numbered}
+use Rattle.hir_def_map_rules.specs.Origins.{file_of}
+use Rattle.hir_def_map_rules.specs.State.{ModuleValue, numbered}
 use Rattle.hir_def_map.specs.declared.nameres.module_ids.WantedFile.{WantedFile}
 use Rattle.hir_def_map.specs.declared.nameres.module_ids.WantedFile.TheVariants.{Expansion, Own}
-use Rattle.hir_def_map.specs.declared.nameres.origin.ModuleOrigin.{ModuleOrigin}
-use Rattle.hir_def_map.specs.declared.nameres.origin.ModuleOrigin.TheVariants as origins
+use Rattle.hir_def_map_rules.specs.declared.origin.ModuleOrigin.{ModuleOrigin}
+use Rattle.hir_def_map_rules.specs.declared.origin.ModuleOrigin.TheVariants as origins
 
 -- whether a module's own file is this one, whatever its edition
 abbrev pub is_file : FileId → Option EditionedFileId → Bool

@@ -1,22 +1,2 @@
--- What does a path mean, asked from a module?
-use Rattle.hir_base.specs.ModPath.{Path}
-use Rattle.hir_base.specs.declared.ids.ModuleId.{ModuleId}
-use Rattle.hir_def_map.specs.Overlay.{Maps}
-use Rattle.hir_def_map.specs.Scoping.Asking.{Asking as Asked}
-use Rattle.hir_def_map.specs.Scoping.Blocks.{from_blocks}
-use Rattle.hir_def_map.specs.declared.nameres.path_resolution.ResolvePathResult.{ResolvePathResult}
-pub mod Asking
 pub mod Query
-pub mod FirstSegment
-pub mod Segments
-pub mod Start
-pub mod Blocks
 pub mod Slots
-
--- the answer
-abbrev pub Resolution : Type 0
-Resolution = ResolvePathResult
-
--- what a path means
-abbrev pub resolution_of : Maps → Asked → ModuleId → Path → Resolution
-resolution_of maps asking from path = from_blocks maps asking from path.kind path.segments

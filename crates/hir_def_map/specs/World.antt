@@ -7,11 +7,11 @@ use Rattle.std.proofs.Common.{ap, sym, ◌∙◌}
 use Rattle.hir_base.specs.declared.ids.MapId.{MapId}
 use Rattle.hir_base.specs.contracts.ids.MapIdOrd.TheImpl as map_order
 use Rattle.hir_def_map.specs.declared.world.finished.Finished.{Finished}
-use Rattle.hir_def_map.specs.State.{Local, Map}
-use Rattle.hir_def_map.specs.Overlay.{Maps, Placed, holders_under, no_maps}
-use Rattle.hir_def_map.specs.References.{is_well_formed, refers_to}
+use Rattle.hir_def_map_rules.specs.State.{Local, Map}
+use Rattle.hir_def_map_rules.specs.Overlay.{Maps, Placed, holders_under, no_maps}
+use Rattle.hir_def_map_rules.specs.References.{is_well_formed, refers_to}
 use Rattle.hir_def_map.specs.Removal.{FallsWith, lists_in, refers_in, refers_of}
-use Rattle.hir_def_map.specs.Ancestors.{IsPlaced, frame_of, frames_of, holders_of_frame}
+use Rattle.hir_def_map_rules.specs.Ancestors.{IsPlaced, frame_of, frames_of, holders_of_frame}
 
 abbrev pub placed_of : Finished → Placed
 placed_of finished = record { map = finished.map; local = finished.local; holders = finished.holders.items }

@@ -7,8 +7,8 @@ use Rattle.hir_base.specs.declared.ids.ModuleId.{ModuleId}
 use Rattle.hir_base.specs.contracts.ids.MapIdPartialEq.TheImpl as map_id
 use Rattle.hir_scope.specs.ModuleTree.{same_crate}
 use Rattle.hir_def_map.specs.declared.world.part.WorldPart.{WorldPart}
-use Rattle.hir_def_map.specs.State.{Local, Map}
-use Rattle.hir_def_map.specs.Overlay.{Maps, Placed}
+use Rattle.hir_def_map_rules.specs.State.{Local, Map}
+use Rattle.hir_def_map_rules.specs.Overlay.{Maps, Placed}
 use Rattle.hir_def_map.specs.World.{finished_in}
 
 -- a map by itself

@@ -1,12 +1,12 @@
 //! The finished maps with the current one on top.
 ghost use Rattle.std.specs.Prelude.{◌≡◌, option_map};
 ghost use Rattle.hir_scope.specs.ModuleTree.{chain_from};
-ghost use Rattle.hir_def_map.specs.Overlay.{overlay, entry_in, holders_under, map_in, module_in, parent_in, placed_in};
-ghost use Rattle.hir_def_map.specs.Ancestors.{above_in, head_of, holder_in, holders_in, up_in};
-ghost use Rattle.hir_def_map.specs.Inner.AncestorLaws.{above_in_crate, above_up, holders_up, same_holder};
-ghost use Rattle.hir_def_map.specs.Scoping.FirstSegment.{legacy_of, macro_use_of, prelude_of};
-ghost use Rattle.hir_def_map.specs.Scoping.Segments.{variant_in};
-ghost use Rattle.hir_def_map.specs.Scoping.Start.{is_dependency, is_in_edition_2015};
+ghost use Rattle.hir_def_map_rules.specs.Overlay.{overlay, entry_in, holders_under, map_in, module_in, parent_in, placed_in};
+ghost use Rattle.hir_def_map_rules.specs.Ancestors.{above_in, head_of, holder_in, holders_in, up_in};
+ghost use Rattle.hir_def_map_rules.specs.Inner.AncestorLaws.{above_in_crate, above_up, holders_up, same_holder};
+ghost use Rattle.hir_def_map_rules.specs.Scoping.FirstSegment.{legacy_of, macro_use_of, prelude_of};
+ghost use Rattle.hir_def_map_rules.specs.Scoping.Segments.{variant_in};
+ghost use Rattle.hir_def_map_rules.specs.Scoping.Start.{is_dependency, is_in_edition_2015};
 ghost use Rattle.hir_def_map.specs.WorldParts.{part_of};
 ghost use Rattle.hir_def_map.specs.DefMaps.{maps_of, maps_placed};
 
@@ -16,12 +16,12 @@ mod paths;
 mod visibilities;
 
 use crate::nameres::DefMap;
-use crate::nameres::enum_variants::EnumVariant;
 use crate::world::part::WorldPart;
 use hir_base::edition::Edition;
 use hir_base::ids::{Crate, EnumId, ExternCrateId, MapId, ModuleId, UseId};
 use hir_base::macro_kind::MacroId;
 use hir_base::name::Name;
+use hir_def_map_rules::enum_variants::EnumVariant;
 use hir_scope::module_tree::ModuleTree;
 use hir_scope::per_ns::PerNs;
 
@@ -42,7 +42,7 @@ impl<'a> DefMaps<'a> {
     }
 
     /// The map of an id.
-    #[tactic(auto, using(crate::proofs::LookUps::beside_found), unfolding(crate::specs::DefMaps::maps_of))]
+    #[tactic(auto, using(hir_def_map_rules::proofs::LookUps::beside_found), unfolding(crate::specs::DefMaps::maps_of))]
     pub fn map(&self, id: MapId) -> Option<&'a DefMap>
         ensures value { option_map (λ m. m.now) result ≡ map_in (maps_of self.now) id }
     {
@@ -56,7 +56,7 @@ impl<'a> DefMaps<'a> {
 
 impl DefMaps<'_> {
     /// What a name stands for in a module; nothing where the module isn't there.
-    #[tactic(auto, using(crate::proofs::LookUps::found))]
+    #[tactic(auto, using(hir_def_map_rules::proofs::LookUps::found))]
     pub fn entry(&self, at: ModuleId, name: &Name) -> PerNs
         ensures value { result ≡ entry_in (maps_of self.now) at name.now }
     {
@@ -67,7 +67,7 @@ impl DefMaps<'_> {
     }
 
     /// What a module is in.
-    #[tactic(auto, using(crate::proofs::LookUps::found))]
+    #[tactic(auto, using(hir_def_map_rules::proofs::LookUps::found))]
     pub fn parent_of(&self, of: ModuleId) -> Option<ModuleId>
         ensures value { result ≡ parent_in (maps_of self.now) of }
     {
@@ -78,7 +78,7 @@ impl DefMaps<'_> {
     }
 
     /// The last of the macros of a name that are in textual scope in a module.
-    #[tactic(auto, using(crate::proofs::LookUps::found))]
+    #[tactic(auto, using(hir_def_map_rules::proofs::LookUps::found))]
     pub fn legacy_macro(&self, at: ModuleId, name: &Name) -> Option<MacroId>
         ensures value { result ≡ legacy_of (module_in (maps_of self.now) at) name.now }
     {
@@ -89,7 +89,7 @@ impl DefMaps<'_> {
     }
 
     /// The variant of a name in an enum.
-    #[tactic(auto, using(crate::proofs::LookUps::found))]
+    #[tactic(auto, using(hir_def_map_rules::proofs::LookUps::found))]
     pub fn variant(&self, id: EnumId, name: &Name) -> Option<EnumVariant>
         ensures value { result ≡ variant_in (maps_of self.now) id name.now }
     {
@@ -167,7 +167,7 @@ impl DefMaps<'_> {
     }
 
     /// The holder of the own map: that of the finished map of its id, where there is one.
-    #[tactic(auto, using(crate::proofs::LookUps::beside_found))]
+    #[tactic(auto, using(hir_def_map_rules::proofs::LookUps::beside_found))]
     fn own_holder(&self) -> Option<ModuleId>
         ensures value { result ≡ head_of (placed_in (part_of self.now.world) self.now.own.now).holders }
     {
@@ -197,7 +197,7 @@ impl ModuleTree for DefMaps<'_> {
 
     ghost one_crate = { λ m. above_in_crate (maps_of m) (maps_placed m) };
 
-    #[tactic(auto, using(crate::proofs::LookUps::found))]
+    #[tactic(auto, using(hir_def_map_rules::proofs::LookUps::found))]
     fn parent(&self, of: ModuleId) -> Option<ModuleId> {
         match self.map(of.map) {
             Some(map) => match map.step_up(of.index) {
@@ -208,7 +208,7 @@ impl ModuleTree for DefMaps<'_> {
         }
     }
 
-    #[tactic(auto, using(crate::proofs::LookUps::beside_found), unfolding(crate::specs::DefMaps::maps_of))]
+    #[tactic(auto, using(hir_def_map_rules::proofs::LookUps::beside_found), unfolding(crate::specs::DefMaps::maps_of))]
     fn holder(&self, of: ModuleId) -> Option<ModuleId> {
         if of.map == self.own.id() {
             self.own_holder()

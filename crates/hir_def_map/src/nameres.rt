@@ -1,69 +1,51 @@
 //! The def map of a crate, after rust-analyzer's `nameres.rs`.
-ghost use Rattle.std.specs.Prelude.{◌≡◌, ◌<◌, ◌++◌, [], ◌∷◌, length, slice_get, IfOk, OnOk, OnErr, IfSome, Some, is_some, option_map};
+ghost use Rattle.std.specs.Prelude.{◌≡◌, ◌<◌, length, IfOk, OnOk, OnErr, Some, is_some, option_map};
 ghost use Rattle.std.specs.Borrow.{sem};
 ghost use Rattle.hir_base.specs.Refusal.{Gives};
-ghost use Rattle.hir_def_map.specs.State.{at_name, child_at, entry_at, parent_at, module_at, empty_map, scope_at, root_of, variants_at, with_child, with_enum, with_macro_use, with_module, with_prelude, changed_at, changes_module, globs_in, globs_after, pushed_module, pushed, push_changes, IsNumbered};
-ghost use Rattle.hir_def_map.specs.Scoping.FirstSegment.{legacy_of};
-ghost use Rattle.hir_def_map.specs.Building.{new_module_verdict, IsMemory};
+ghost use Rattle.hir_def_map_rules.specs.State.{at_name, child_at, entry_at, parent_at, module_at, empty_map, scope_at, root_of, variants_at, with_enum, with_macro_use, with_module, with_prelude, globs_after, pushed, push_changes, IsNumbered};
+ghost use Rattle.hir_def_map_rules.specs.Scoping.FirstSegment.{legacy_of};
+ghost use Rattle.hir_def_map_rules.specs.Building.{new_module_verdict, IsMemory};
 ghost use Rattle.hir_def_map.specs.Lending.{LendsCrateData, LendsModules, LendsScopeAt};
 
-pub mod crate_data;
-pub mod declaration;
-pub mod derive_helpers;
-pub mod diagnostics;
+mod declare;
 mod dump;
-pub mod enum_variants;
-pub mod local_def_map;
-pub mod macro_data;
 mod macros;
-pub mod module_data;
 pub mod module_ids;
-pub mod modules_map;
-pub mod origin;
 pub mod path_resolution;
 mod reads;
 mod same;
 mod tree;
 
-use crate_data::DefMapCrateData;
-use derive_helpers::DeriveHelpers;
-use diagnostics::DefDiagnostics;
-use enum_variants::EnumVariants;
-use hir_base::ast_id::{AstId, BlockId};
+use hir_base::ast_id::AstId;
 use hir_base::edition::Edition;
 use hir_base::ids::{Crate, EnumId, ExternCrateId, FunctionId, MapId, ModuleId, UseId};
 use hir_base::macro_kind::{MacroId, ProcMacroId};
 use hir_base::name::Name;
+pub use hir_def_map_rules::add_module_error::AddModuleError;
+pub use hir_def_map_rules::block_info::BlockInfo;
+use hir_def_map_rules::crate_data::DefMapCrateData;
+use hir_def_map_rules::derive_helpers::DeriveHelpers;
+use hir_def_map_rules::diagnostics::DefDiagnostics;
+use hir_def_map_rules::enum_variants::EnumVariants;
+use hir_def_map_rules::macro_data::MacroData;
+use hir_def_map_rules::module_data::ModuleData;
+use hir_def_map_rules::modules_map::ModulesMap;
+use hir_def_map_rules::origin::ModuleOrigin;
+pub use hir_def_map_rules::{
+    crate_data, declaration, derive_helpers, diagnostics, enum_variants, local_def_map, macro_data,
+    module_data, modules_map, origin,
+};
 use hir_scope::glob_imports::PerNsGlobImports;
 use hir_scope::imports::ImportOrExternCrate;
 use hir_scope::item_scope::ItemScope;
 use hir_scope::per_ns::PerNs;
 use hir_scope::visibility::Visibility;
-use macro_data::MacroData;
-use module_data::ModuleData;
-use modules_map::ModulesMap;
-use origin::ModuleOrigin;
 use std::alloc::{AllocError, Global};
 use std::collections::BTreeMap;
 use std::marker::Model;
 
 /// The most modules that a map may have.
 pub const MAX_MODULES: usize = 0x7fff_ffff;
-
-/// Why a module isn't added, in the order in which it is looked for.
-#[derive(Clone, Copy, Debug, PartialEq, Eq)]
-pub enum AddModuleError {
-    /// The map has `MAX_MODULES` modules.
-    TooMany,
-    Memory,
-}
-
-/// A block, and the module in which it is written.
-#[derive(Clone, Copy, Debug, PartialEq, Eq, Hash)]
-pub struct BlockInfo {
-    pub block: BlockId,
-    pub parent: ModuleId,
-}
 
 /// The modules of a crate or of a block by number, the root first, with what their names stand for.
 #[derive(Drop)]
@@ -82,8 +64,8 @@ pub struct DefMap {
 }
 
 impl Model for DefMap {
-    ghost use Rattle.hir_def_map.specs.Inner.Codes.{coded_map};
-    ghost use Rattle.hir_def_map.specs.State.{Map, IsNumbered};
+    ghost use Rattle.hir_def_map_rules.specs.Inner.Codes.{coded_map};
+    ghost use Rattle.hir_def_map_rules.specs.State.{Map, IsNumbered};
 
     ghost Value = { Map };
 
@@ -192,7 +174,7 @@ impl DefMap {
 
     /// What the names of a module stand for, to be changed: each write of `ItemScope` can be made on it. The names that
     /// globs brought are kept by the caller.
-    #[tactic(auto, using(crate::specs::Inner::OverlayLaws::same_id))]
+    #[tactic(auto, using(hir_def_map_rules::specs::Inner::OverlayLaws::same_id))]
     pub fn scope_mut(&mut self, at: u32) -> &mut ItemScope
         requires in_range { at < length self.old.modules }
         ensures value { Some result.now ≡ scope_at self.old at }
@@ -409,51 +391,4 @@ impl DefMap {
         self.modules
             .push(glob_imports, at as usize, (module, name), items, import)
     }
-}
-
-/// Puts a module behind the others, and gives one of those its name as a child's.
-fn insert_module(
-    modules: &mut Vec<ModuleData>,
-    parent: usize,
-    name: Name,
-    id: ModuleId,
-    module: ModuleData,
-) -> Result<(), AllocError>
-    requires in_range { parent < length modules.old.items }
-    ensures ok { OnOk result (modules.new.items ≡ changed_at modules.old.items parent (with_child name id) ++ «module» ∷ []) }
-    ensures err { OnErr result (modules.new.items ≡ modules.old.items) }
-{
-    let count = modules.len();
-    modules.push(module)?;
-    match modules[parent].add_child(name, id) {
-        Ok(()) => Ok(()),
-        Err(error) => {
-            modules.truncate(count);
-            Err(error)
-        }
-    }
-}
-
-/// Binds items to a place in one of the modules, where it is there.
-fn push_in(
-    modules: &mut Vec<ModuleData>,
-    glob_imports: &mut PerNsGlobImports,
-    at: usize,
-    place: (ModuleId, Name),
-    items: PerNs,
-    import: Option<ImportOrExternCrate>,
-) -> Result<bool, AllocError>
-    ensures ok { OnOk result (modules.new.items
-        ≡ changed_at modules.old.items at (pushed_module glob_imports.old place items import)) }
-    ensures globs { OnOk result (glob_imports.new
-        ≡ globs_in (slice_get modules.old.items at) glob_imports.old place items import) }
-    ensures changed { IfOk result (λ changed. changed
-        ≡ changes_module (slice_get modules.old.items at) glob_imports.old place items import) }
-    ensures err { OnErr result (modules.new.items ≡ modules.old.items) }
-    ensures err_globs { OnErr result (glob_imports.new ≡ glob_imports.old) }
-{
-    if at >= modules.len() {
-        return Ok(false);
-    }
-    modules[at].push(glob_imports, place, items, import)
 }

@@ -1,18 +1,18 @@
 //! What written visibilities mean in a map.
 ghost use Rattle.std.specs.Prelude.{◌≡◌, IfSome, option_copied};
 ghost use Rattle.hir_scope.specs.Visibility.{is_visible, lesser_of, IsMeet};
-ghost use Rattle.hir_def_map.specs.Overlay.{overlay};
-ghost use Rattle.hir_def_map.specs.Ancestors.{above_in, holders_in};
+ghost use Rattle.hir_def_map_rules.specs.Overlay.{overlay};
+ghost use Rattle.hir_def_map_rules.specs.Ancestors.{above_in, holders_in};
 ghost use Rattle.hir_def_map.specs.World.{finished_in};
-ghost use Rattle.hir_def_map.specs.Scoping.Asking.{local_of};
-ghost use Rattle.hir_def_map.specs.Visibilities.{module_seen, path_seen, resolved_visibility};
+ghost use Rattle.hir_def_map_rules.specs.Scoping.Asking.{local_of};
+ghost use Rattle.hir_def_map_rules.specs.Visibilities.{module_seen, path_seen, resolved_visibility};
 
 use crate::def_maps::DefMaps;
 use crate::nameres::DefMap;
-use crate::nameres::local_def_map::LocalDefMap;
 use crate::world::World;
 use crate::world::part::WorldPart;
 use hir_base::ids::{MapId, ModuleDefId, ModuleId};
+use hir_def_map_rules::local_def_map::LocalDefMap;
 use hir_item_tree::raw_visibility::{RawVisibility, VisibilityExplicitness};
 use hir_scope::per_ns::PerNs;
 use hir_scope::visibility::Visibility;

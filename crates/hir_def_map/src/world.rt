@@ -1,6 +1,6 @@
 //! The maps that are finished.
 ghost use Rattle.std.specs.Prelude.{◌≡◌};
-ghost use Rattle.hir_def_map.specs.Overlay.{no_maps};
+ghost use Rattle.hir_def_map_rules.specs.Overlay.{no_maps};
 ghost use Rattle.hir_def_map.specs.World.{IsChecked, finished_in};
 ghost use Rattle.hir_def_map.specs.Inner.Dependents.{HasRoom, IsIndexed};
 
@@ -11,7 +11,6 @@ pub mod insert;
 pub mod look_up;
 pub mod part;
 mod recorded;
-pub mod reference;
 mod references;
 pub mod remove;
 mod well_formed;
@@ -19,6 +18,7 @@ mod well_formed;
 use dependents::Dependents;
 use finished::Finished;
 use hir_base::ids::MapId;
+pub use hir_def_map_rules::reference;
 use std::alloc::Global;
 use std::collections::BTreeMap;
 

@@ -19,17 +19,17 @@ use Rattle.hir_scope.specs.PerNs.{Item, keep_of, nothing, or_of}
 use Rattle.hir_scope.specs.declared.per_ns.PerNs.{PerNs}
 use Rattle.hir_scope.specs.ModuleTree.{same_block, same_crate}
 use Rattle.hir_scope.specs.Visibility.{is_visible}
-use Rattle.hir_def_map.specs.State.{CrateData, Map, module_at, parent_of, root_of, crate_root}
-use Rattle.hir_def_map.specs.Overlay.{Maps, Placed, entry_in, map_in, parent_in}
-use Rattle.hir_def_map.proofs.WellFormed.{parent_listed}
-use Rattle.hir_def_map.specs.Ancestors.{Frame, above_by, above_in, frame_of, frames_of, holders_by, holders_in}
-use Rattle.hir_def_map.specs.Scoping.Asking.{Asking}
-use Rattle.hir_def_map.specs.Scoping.Blocks.{from_blocks, in_preludes, inherited, joined, with_preludes}
-use Rattle.hir_def_map.specs.Scoping.FirstSegment.{builtin_name, extern_name, is_block_root, legacy_bound, macro_use_bound, name_in_module, name_in_preludes, name_in_crate_root_or_extern_prelude, of_style, prelude_bound, prelude_name, prelude_of, shadow_before, unless_block_root, with_builtin}
-use Rattle.hir_def_map.specs.Scoping.Segments.{after_enum, crossing, nearest_non_block_among, nearest_non_block_module, rest, seen, through, through_adt, through_type, unresolved}
-use Rattle.hir_def_map.specs.Scoping.Start.{abs_from, climb, from_start, is_edition_2015, is_dependency, is_import, is_in_reach, module_bound, is_in_edition_2015, settled_in_block, super_from}
-use Rattle.hir_def_map.specs.declared.nameres.path_resolution.ReachedFixedPoint.TheVariants.{No}
-use Rattle.hir_def_map.specs.declared.nameres.path_resolution.ResolvePathResult.{ResolvePathResult}
+use Rattle.hir_def_map_rules.specs.State.{CrateData, Map, module_at, parent_of, root_of, crate_root}
+use Rattle.hir_def_map_rules.specs.Overlay.{Maps, Placed, entry_in, map_in, parent_in}
+use Rattle.hir_def_map_rules.proofs.WellFormed.{parent_listed}
+use Rattle.hir_def_map_rules.specs.Ancestors.{Frame, above_by, above_in, frame_of, frames_of, holders_by, holders_in}
+use Rattle.hir_def_map_rules.specs.Scoping.Asking.{Asking}
+use Rattle.hir_def_map_rules.specs.Scoping.Blocks.{from_blocks, in_preludes, inherited, joined, with_preludes}
+use Rattle.hir_def_map_rules.specs.Scoping.FirstSegment.{builtin_name, extern_name, is_block_root, legacy_bound, macro_use_bound, name_in_module, name_in_preludes, name_in_crate_root_or_extern_prelude, of_style, prelude_bound, prelude_name, prelude_of, shadow_before, unless_block_root, with_builtin}
+use Rattle.hir_def_map_rules.specs.Scoping.Segments.{after_enum, crossing, nearest_non_block_among, nearest_non_block_module, rest, seen, through, through_adt, through_type, unresolved}
+use Rattle.hir_def_map_rules.specs.Scoping.Start.{abs_from, climb, from_start, is_edition_2015, is_dependency, is_import, is_in_reach, module_bound, is_in_edition_2015, settled_in_block, super_from}
+use Rattle.hir_def_map_rules.specs.declared.path_result.ReachedFixedPoint.TheVariants.{No}
+use Rattle.hir_def_map_rules.specs.declared.path_result.ResolvePathResult.{ResolvePathResult}
 use Rattle.hir_def_map_laws.specs.Paths.{data_of, AgreeOnName}
 use Rattle.hir_def_map.specs.Scoping.Slots.{prelude_module_of}
 

@@ -13,20 +13,20 @@ use Rattle.hir_base.specs.declared.ids.ModuleId.{ModuleId}
 use Rattle.hir_base.specs.declared.ids.UseId.{UseId}
 use Rattle.hir_base.specs.contracts.ids.MapIdOrd.TheImpl as map_order
 use Rattle.hir_base.specs.contracts.ids.MapIdPartialEq.TheImpl as map_id
-use Rattle.hir_def_map.specs.Inner.OverlayLaws.{exact_map}
+use Rattle.hir_def_map_rules.specs.Inner.OverlayLaws.{exact_map}
 use Rattle.hir_def_map.specs.Inner.PartLaws.{among-only}
-use Rattle.hir_def_map.specs.Ancestors.{frame_of, frames_of, holders_in, holders_of_frame}
-use Rattle.hir_def_map.specs.References.{any_reference, any_reference_besides, any_reference_in, each_leads_to_root, has_its_parents, has_its_variants, is_holder_for, is_missing, is_well_formed, prelude_reference, test_of}
-use Rattle.hir_def_map.specs.State.{ModuleValue, module_at}
-use Rattle.hir_def_map.specs.Overlay.{Maps, Placed, map_in, module_in, overlay, placed_in}
+use Rattle.hir_def_map_rules.specs.Ancestors.{frame_of, frames_of, holders_in, holders_of_frame}
+use Rattle.hir_def_map_rules.specs.References.{any_reference, any_reference_besides, any_reference_in, each_leads_to_root, has_its_parents, has_its_variants, is_holder_for, is_missing, is_well_formed, prelude_reference, test_of}
+use Rattle.hir_def_map_rules.specs.State.{ModuleValue, module_at}
+use Rattle.hir_def_map_rules.specs.Overlay.{Maps, Placed, map_in, module_in, overlay, placed_in}
 use Rattle.hir_def_map.specs.Scoping.Slots.{is_in, prelude_module_of}
 use Rattle.hir_def_map.specs.World.{IsChecked, finished_in, placed_of}
 use Rattle.hir_def_map.specs.WorldParts.{among, limited_to, part_of}
 use Rattle.hir_def_map.specs.declared.world.finished.Finished.{Finished}
-use Rattle.hir_def_map.specs.declared.world.reference.Reference.{Reference}
-use Rattle.hir_def_map.specs.declared.world.reference.Reference.TheVariants as named
-use Rattle.hir_def_map.proofs.NoneOf.{none_at, not_first, not_second}
-use Rattle.hir_def_map.proofs.Referred.{module_less}
+use Rattle.hir_def_map_rules.specs.declared.reference.Reference.{Reference}
+use Rattle.hir_def_map_rules.specs.declared.reference.Reference.TheVariants as named
+use Rattle.hir_def_map_rules.proofs.NoneOf.{none_at, not_first, not_second}
+use Rattle.hir_def_map_rules.proofs.Referred.{module_less}
 use Rattle.hir_def_map_laws.proofs.Whole.{elsewhere}
 use Rattle.hir_def_map_laws.specs.ReadLaw.{KeepApart, PartsKeepApart, SomeMapsKeepApart, WorldsKeepApart, is_named_in}
 

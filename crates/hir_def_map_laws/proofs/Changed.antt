@@ -15,17 +15,17 @@ use Rattle.hir_scope.specs.PerNs.{keep_of}
 use Rattle.hir_scope.specs.Visibility.{is_visible, stands_for}
 use Rattle.hir_scope.specs.declared.visibility.Visibility.{Visibility}
 use Rattle.hir_scope.specs.declared.visibility.Visibility.TheVariants.{Module, PubCrate, Public}
-use Rattle.hir_def_map.specs.Inner.OverlayLaws.{exact_map}
-use Rattle.hir_def_map.specs.Ancestors.{above_in, above_inside, above_under, frame_of, frames_of, holders_in, holders_of_frame, numbers_above, numbers_of}
-use Rattle.hir_def_map.specs.Scoping.FirstSegment.{is_block_root, legacy_of}
-use Rattle.hir_def_map.specs.Scoping.Segments.{nearest_non_block_among, nearest_non_block_module, seen, variant_in}
-use Rattle.hir_def_map.specs.Scoping.Start.{climb, is_dependency, is_edition_2015, is_in_edition_2015, is_in_reach}
-use Rattle.hir_def_map.specs.State.{Map, ModuleValue, Variants, at_name, entry_at, entry_of, module_at, numbered, parent_at, parent_of, variants_at}
-use Rattle.hir_def_map.specs.Overlay.{Maps, Placed, overlay, entry_in, holders_of, holders_or, holders_under, map_in, module_in, parent_in, placed_in}
-use Rattle.hir_def_map.specs.declared.world.reference.Reference.{Reference}
-use Rattle.hir_def_map.specs.declared.world.reference.Reference.TheVariants as named
-use Rattle.hir_def_map.specs.References.{any_reference_in, test_of, Fails}
-use Rattle.hir_def_map.proofs.Referred.{entry_fails, module_parts}
+use Rattle.hir_def_map_rules.specs.Inner.OverlayLaws.{exact_map}
+use Rattle.hir_def_map_rules.specs.Ancestors.{above_in, above_inside, above_under, frame_of, frames_of, holders_in, holders_of_frame, numbers_above, numbers_of}
+use Rattle.hir_def_map_rules.specs.Scoping.FirstSegment.{is_block_root, legacy_of}
+use Rattle.hir_def_map_rules.specs.Scoping.Segments.{nearest_non_block_among, nearest_non_block_module, seen, variant_in}
+use Rattle.hir_def_map_rules.specs.Scoping.Start.{climb, is_dependency, is_edition_2015, is_in_edition_2015, is_in_reach}
+use Rattle.hir_def_map_rules.specs.State.{Map, ModuleValue, Variants, at_name, entry_at, entry_of, module_at, numbered, parent_at, parent_of, variants_at}
+use Rattle.hir_def_map_rules.specs.Overlay.{Maps, Placed, overlay, entry_in, holders_of, holders_or, holders_under, map_in, module_in, parent_in, placed_in}
+use Rattle.hir_def_map_rules.specs.declared.reference.Reference.{Reference}
+use Rattle.hir_def_map_rules.specs.declared.reference.Reference.TheVariants as named
+use Rattle.hir_def_map_rules.specs.References.{any_reference_in, test_of, Fails}
+use Rattle.hir_def_map_rules.proofs.Referred.{entry_fails, module_parts}
 use Rattle.hir_def_map_laws.specs.ReadLaw.{KeepApart, is_named_in}
 use Rattle.hir_def_map.specs.Scoping.Slots.{is_in, prelude_module_of}
 

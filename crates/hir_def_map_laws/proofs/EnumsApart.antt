@@ -11,13 +11,13 @@ use Rattle.hir_scope.specs.ModuleTree.{same_crate}
 use Rattle.hir_scope.specs.PerNs.{keep_of, or_of}
 use Rattle.hir_scope.specs.Visibility.{is_visible}
 use Rattle.hir_scope.specs.declared.per_ns.PerNs.{PerNs}
-use Rattle.hir_def_map.specs.Ancestors.{above_by, above_in, frame_of, frames_of, holders_by, holders_in}
-use Rattle.hir_def_map.specs.Overlay.{Maps, Placed, entry_in, map_in, module_in, overlay, parent_in, placed_in}
-use Rattle.hir_def_map.specs.Scoping.Asking.{Asking}
-use Rattle.hir_def_map.specs.Scoping.FirstSegment.{builtin_name, extern_name, legacy_bound, legacy_of, macro_use_bound, macro_use_of, name_in_crate_root_or_extern_prelude, name_in_module, name_in_preludes, of_style, prelude_bound, prelude_name, prelude_of, shadow_before, unless_block_root, with_builtin}
-use Rattle.hir_def_map.specs.Scoping.Segments.{nearest_non_block_among, nearest_non_block_module, seen}
-use Rattle.hir_def_map.specs.Scoping.Start.{climb, is_dependency, is_in_edition_2015, is_in_reach}
-use Rattle.hir_def_map.specs.State.{Map, ModuleValue, Variants, crate_root, entry_of, module_at, parent_of}
+use Rattle.hir_def_map_rules.specs.Ancestors.{above_by, above_in, frame_of, frames_of, holders_by, holders_in}
+use Rattle.hir_def_map_rules.specs.Overlay.{Maps, Placed, entry_in, map_in, module_in, overlay, parent_in, placed_in}
+use Rattle.hir_def_map_rules.specs.Scoping.Asking.{Asking}
+use Rattle.hir_def_map_rules.specs.Scoping.FirstSegment.{builtin_name, extern_name, legacy_bound, legacy_of, macro_use_bound, macro_use_of, name_in_crate_root_or_extern_prelude, name_in_module, name_in_preludes, of_style, prelude_bound, prelude_name, prelude_of, shadow_before, unless_block_root, with_builtin}
+use Rattle.hir_def_map_rules.specs.Scoping.Segments.{nearest_non_block_among, nearest_non_block_module, seen}
+use Rattle.hir_def_map_rules.specs.Scoping.Start.{climb, is_dependency, is_in_edition_2015, is_in_reach}
+use Rattle.hir_def_map_rules.specs.State.{Map, ModuleValue, Variants, crate_root, entry_of, module_at, parent_of}
 
 module _ (finished : Maps) (map : Map) (enums : List (EnumId × Variants)) where
   -- the map with other enums, and as it is

@@ -19,19 +19,19 @@ use Rattle.hir_scope.specs.ModuleTree.{same_block, same_crate}
 use Rattle.hir_scope.specs.PerNs.{Item}
 use Rattle.hir_scope.specs.declared.imports.ImportOrExternCrate.{ImportOrExternCrate}
 use Rattle.hir_scope.specs.declared.per_ns.PerNs.{PerNs}
-use Rattle.hir_def_map.proofs.Fails.{Fails-nowhere}
-use Rattle.hir_def_map.specs.Overlay.{Maps, Placed, map_in, overlay, placed_in}
-use Rattle.hir_def_map.specs.Scoping.{Resolution, resolution_of}
-use Rattle.hir_def_map.specs.Scoping.Asking.{Asking}
-use Rattle.hir_def_map.specs.Scoping.Blocks.{from_blocks}
-use Rattle.hir_def_map.specs.Scoping.FirstSegment.{extern_name, is_block_root, name_in_crate_root_or_extern_prelude, name_in_module, shadow_before}
-use Rattle.hir_def_map.specs.Scoping.Segments.{after_enum, crossing, nearest_non_block_module, rest, seen, through, through_adt, through_type, unresolved, variant_in}
+use Rattle.hir_def_map_rules.proofs.Fails.{Fails-nowhere}
+use Rattle.hir_def_map_rules.specs.Overlay.{Maps, Placed, map_in, overlay, placed_in}
+use Rattle.hir_def_map_rules.specs.Scoping.{Resolution, resolution_of}
+use Rattle.hir_def_map_rules.specs.Scoping.Asking.{Asking}
+use Rattle.hir_def_map_rules.specs.Scoping.Blocks.{from_blocks}
+use Rattle.hir_def_map_rules.specs.Scoping.FirstSegment.{extern_name, is_block_root, name_in_crate_root_or_extern_prelude, name_in_module, shadow_before}
+use Rattle.hir_def_map_rules.specs.Scoping.Segments.{after_enum, crossing, nearest_non_block_module, rest, seen, through, through_adt, through_type, unresolved, variant_in}
 use Rattle.hir_def_map.specs.Scoping.Slots.{further_slots, kept_in, module_among, prelude_module_of, reads, slots_after, slots_from_crates, slots_from_module, slots_from_root, slots_of, with_prelude_slot, with_slot}
-use Rattle.hir_def_map.specs.Scoping.Start.{abs_from, climb, from_start, is_import, is_in_edition_2015, is_in_reach, module_bound, settled_in_block, super_from}
-use Rattle.hir_def_map.specs.State.{IsInOrder, Local, Map, Variants, at_name, crate_root, entry_at, numbered, variants_at}
-use Rattle.hir_def_map.specs.declared.nameres.enum_variants.EnumVariant.{EnumVariant}
-use Rattle.hir_def_map.specs.declared.nameres.path_resolution.ReachedFixedPoint.TheVariants.{No, Yes}
-use Rattle.hir_def_map.specs.declared.nameres.path_resolution.ResolvePathResult.{ResolvePathResult}
+use Rattle.hir_def_map_rules.specs.Scoping.Start.{abs_from, climb, from_start, is_import, is_in_edition_2015, is_in_reach, module_bound, settled_in_block, super_from}
+use Rattle.hir_def_map_rules.specs.State.{IsInOrder, Local, Map, Variants, at_name, crate_root, entry_at, numbered, variants_at}
+use Rattle.hir_def_map_rules.specs.declared.enum_variants.EnumVariant.{EnumVariant}
+use Rattle.hir_def_map_rules.specs.declared.path_result.ReachedFixedPoint.TheVariants.{No, Yes}
+use Rattle.hir_def_map_rules.specs.declared.path_result.ResolvePathResult.{ResolvePathResult}
 use Rattle.hir_def_map.specs.declared.nameres.path_resolution.slots.Slot.{Slot}
 use Rattle.hir_def_map.specs.declared.nameres.path_resolution.slots.Slot.TheVariants.{Module as of_module, Preludes as of_preludes}
 use Rattle.hir_def_map_laws.proofs.Changed.{Change, has_others}

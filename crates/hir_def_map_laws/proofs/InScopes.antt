@@ -6,17 +6,17 @@ use Rattle.hir_base.specs.declared.ids.MapId.{MapId}
 use Rattle.hir_base.specs.declared.ids.ModuleId.{ModuleId}
 use Rattle.hir_base.specs.declared.ast_id.BlockId.{BlockId}
 use Rattle.hir_base.specs.contracts.ids.MapIdPartialEq.TheImpl as map_id
-use Rattle.hir_def_map.specs.Inner.OverlayLaws.{exact_map}
-use Rattle.hir_def_map.specs.Ancestors.{Frame, frame_of, numbers_above}
-use Rattle.hir_def_map.specs.State.{Map, entry_at, parent_at}
-use Rattle.hir_def_map.specs.Overlay.{Maps, holders_or, holders_under, placed_in}
+use Rattle.hir_def_map_rules.specs.Inner.OverlayLaws.{exact_map}
+use Rattle.hir_def_map_rules.specs.Ancestors.{Frame, frame_of, numbers_above}
+use Rattle.hir_def_map_rules.specs.State.{Map, entry_at, parent_at}
+use Rattle.hir_def_map_rules.specs.Overlay.{Maps, holders_or, holders_under, placed_in}
 use Rattle.hir_def_map.specs.Scoping.Slots.{is_in}
-use Rattle.hir_def_map.specs.declared.world.reference.Reference.{Reference}
-use Rattle.hir_def_map.specs.declared.world.reference.Reference.TheVariants as named
-use Rattle.hir_def_map.proofs.Grown.{frame_of-changed}
-use Rattle.hir_def_map.proofs.WellFormed.{parent_listed}
+use Rattle.hir_def_map_rules.specs.declared.reference.Reference.{Reference}
+use Rattle.hir_def_map_rules.specs.declared.reference.Reference.TheVariants as named
+use Rattle.hir_def_map_rules.proofs.Grown.{frame_of-changed}
+use Rattle.hir_def_map_rules.proofs.WellFormed.{parent_listed}
 use Rattle.hir_def_map_laws.proofs.Changed.{Change, has_others}
-use Rattle.hir_def_map.proofs.Fails.{Fails-nowhere}
+use Rattle.hir_def_map_rules.proofs.Fails.{Fails-nowhere}
 use Rattle.hir_def_map_laws.specs.ReadLaw.{ChangedModulesDifferInScopes, CrateMapsBeginOutside, CratesAreOutside, DiffersInScopes, KeepApart}
 
 and-no : (b : Bool) → (b && false) ≡ false

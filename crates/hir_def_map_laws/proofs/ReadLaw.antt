@@ -23,25 +23,25 @@ use Rattle.hir_scope.specs.Visibility.{is_visible}
 use Rattle.hir_scope.specs.declared.imports.ImportOrExternCrate.{ImportOrExternCrate}
 use Rattle.hir_scope.specs.declared.imports.ImportOrExternCrate.TheVariants as ways
 use Rattle.hir_scope.specs.declared.per_ns.PerNs.{PerNs}
-use Rattle.hir_def_map.specs.Inner.OverlayLaws.{same_id}
-use Rattle.hir_def_map.specs.Ancestors.{above_in, holders_in}
-use Rattle.hir_def_map.specs.References.{reference_to, test_of, test_visibility, Fails, FailsAtItem}
-use Rattle.hir_def_map.specs.Scoping.Asking.{Asking}
-use Rattle.hir_def_map.specs.Scoping.Blocks.{from_blocks, inherited}
-use Rattle.hir_def_map.specs.Scoping.FirstSegment.{builtin_name, extern_bound, extern_name, legacy_bound, legacy_of, macro_use_bound, macro_use_name, macro_use_of, name_in_crate_root_or_extern_prelude, name_in_module, of_style, prelude_name, shadow_before, unless_block_root, with_builtin}
-use Rattle.hir_def_map.specs.Scoping.Segments.{after_enum, crossing, nearest_non_block_module, rest, seen, through, through_adt, through_module, through_type, unresolved}
-use Rattle.hir_def_map.specs.Scoping.Start.{abs_from, climb, from_start, is_import, is_in_edition_2015, module_bound, settled_in_block, super_from}
-use Rattle.hir_def_map.specs.State.{Local, Map, at_name, crate_root, numbered}
-use Rattle.hir_def_map.specs.Overlay.{Maps, entry_in, map_in, module_in}
-use Rattle.hir_def_map.specs.declared.nameres.path_resolution.ReachedFixedPoint.TheVariants.{No}
-use Rattle.hir_def_map.specs.declared.nameres.path_resolution.ResolvePathResult.{ResolvePathResult}
-use Rattle.hir_def_map.specs.declared.world.reference.Reference.{Reference}
-use Rattle.hir_def_map.specs.declared.world.reference.Reference.TheVariants as named
+use Rattle.hir_def_map_rules.specs.Inner.OverlayLaws.{same_id}
+use Rattle.hir_def_map_rules.specs.Ancestors.{above_in, holders_in}
+use Rattle.hir_def_map_rules.specs.References.{reference_to, test_of, test_visibility, Fails, FailsAtItem}
+use Rattle.hir_def_map_rules.specs.Scoping.Asking.{Asking}
+use Rattle.hir_def_map_rules.specs.Scoping.Blocks.{from_blocks, inherited}
+use Rattle.hir_def_map_rules.specs.Scoping.FirstSegment.{builtin_name, extern_bound, extern_name, legacy_bound, legacy_of, macro_use_bound, macro_use_name, macro_use_of, name_in_crate_root_or_extern_prelude, name_in_module, of_style, prelude_name, shadow_before, unless_block_root, with_builtin}
+use Rattle.hir_def_map_rules.specs.Scoping.Segments.{after_enum, crossing, nearest_non_block_module, rest, seen, through, through_adt, through_module, through_type, unresolved}
+use Rattle.hir_def_map_rules.specs.Scoping.Start.{abs_from, climb, from_start, is_import, is_in_edition_2015, module_bound, settled_in_block, super_from}
+use Rattle.hir_def_map_rules.specs.State.{Local, Map, at_name, crate_root, numbered}
+use Rattle.hir_def_map_rules.specs.Overlay.{Maps, entry_in, map_in, module_in}
+use Rattle.hir_def_map_rules.specs.declared.path_result.ReachedFixedPoint.TheVariants.{No}
+use Rattle.hir_def_map_rules.specs.declared.path_result.ResolvePathResult.{ResolvePathResult}
+use Rattle.hir_def_map_rules.specs.declared.reference.Reference.{Reference}
+use Rattle.hir_def_map_rules.specs.declared.reference.Reference.TheVariants as named
 use Rattle.hir_def_map_laws.proofs.Agreement.{bound-in, bound_in}
 use Rattle.hir_def_map_laws.proofs.Growing.{grown}
 use Rattle.hir_def_map_laws.proofs.InScopes.{crates_outside, in_scopes}
-use Rattle.hir_def_map.proofs.Fails.{Fails-in_module, Fails-in_root, Fails-keep, Fails-nothing, Fails-public, Fails-weaker}
-use Rattle.hir_def_map.proofs.NoneOf.{not_first}
+use Rattle.hir_def_map_rules.proofs.Fails.{Fails-in_module, Fails-in_root, Fails-keep, Fails-nothing, Fails-public, Fails-weaker}
+use Rattle.hir_def_map_rules.proofs.NoneOf.{not_first}
 use Rattle.hir_def_map_laws.proofs.Changed.{Change, Here, IsBelow, Out, either-false, entry_here, entry_out, has_other_variants, here_out, holders_out, is_own, legacy_here, legacy_out, names_here, names_out, nearest_here, new, new_map, old, old_map, own, same_2015, same_climb, same_holders, same_nearest, same_prelude_module, same_reach, same_seen, variant_here, variant_out}
 use Rattle.hir_def_map_laws.proofs.Holders.{start-of_crate}
 use Rattle.hir_def_map_laws.proofs.ReadOutside.{Outside, SameFirst, bound_outside, inherited_out, rest_out, through_out}

@@ -20,20 +20,20 @@ use Rattle.hir_scope.specs.Visibility.{is_visible}
 use Rattle.hir_scope.specs.declared.imports.ImportOrExternCrate.{ImportOrExternCrate}
 use Rattle.hir_scope.specs.declared.imports.ImportOrExternCrate.TheVariants as ways
 use Rattle.hir_scope.specs.declared.per_ns.PerNs.{PerNs}
-use Rattle.hir_def_map.specs.Ancestors.{above_in, holders_in}
-use Rattle.hir_def_map.specs.References.{reference_to, test_of, test_visibility, Fails, FailsAtItem}
-use Rattle.hir_def_map.specs.Scoping.Asking.{Asking}
-use Rattle.hir_def_map.specs.Scoping.Blocks.{in_preludes, inherited, joined, with_preludes}
-use Rattle.hir_def_map.specs.Scoping.FirstSegment.{builtin_name, extern_bound, extern_name, is_block_root, legacy_bound, macro_use_bound, macro_use_name, macro_use_of, name_in_crate_root_or_extern_prelude, name_in_module, name_in_preludes, of_style, prelude_name, shadow_before, unless_block_root, with_builtin}
-use Rattle.hir_def_map.specs.Scoping.Segments.{after_enum, crossing, nearest_non_block_module, rest, seen, through, through_adt, through_type, unresolved}
-use Rattle.hir_def_map.specs.Scoping.Start.{abs_from, climb, from_start, is_import, module_bound, settled_in_block, super_from}
-use Rattle.hir_def_map.specs.State.{Local, Map, at_name, crate_root}
-use Rattle.hir_def_map.specs.Overlay.{entry_in, map_in}
-use Rattle.hir_def_map.specs.declared.nameres.path_resolution.ReachedFixedPoint.TheVariants.{No}
-use Rattle.hir_def_map.specs.declared.nameres.path_resolution.ResolvePathResult.{ResolvePathResult}
+use Rattle.hir_def_map_rules.specs.Ancestors.{above_in, holders_in}
+use Rattle.hir_def_map_rules.specs.References.{reference_to, test_of, test_visibility, Fails, FailsAtItem}
+use Rattle.hir_def_map_rules.specs.Scoping.Asking.{Asking}
+use Rattle.hir_def_map_rules.specs.Scoping.Blocks.{in_preludes, inherited, joined, with_preludes}
+use Rattle.hir_def_map_rules.specs.Scoping.FirstSegment.{builtin_name, extern_bound, extern_name, is_block_root, legacy_bound, macro_use_bound, macro_use_name, macro_use_of, name_in_crate_root_or_extern_prelude, name_in_module, name_in_preludes, of_style, prelude_name, shadow_before, unless_block_root, with_builtin}
+use Rattle.hir_def_map_rules.specs.Scoping.Segments.{after_enum, crossing, nearest_non_block_module, rest, seen, through, through_adt, through_type, unresolved}
+use Rattle.hir_def_map_rules.specs.Scoping.Start.{abs_from, climb, from_start, is_import, module_bound, settled_in_block, super_from}
+use Rattle.hir_def_map_rules.specs.State.{Local, Map, at_name, crate_root}
+use Rattle.hir_def_map_rules.specs.Overlay.{entry_in, map_in}
+use Rattle.hir_def_map_rules.specs.declared.path_result.ReachedFixedPoint.TheVariants.{No}
+use Rattle.hir_def_map_rules.specs.declared.path_result.ResolvePathResult.{ResolvePathResult}
 use Rattle.hir_def_map_laws.proofs.Agreement.{bound-in, bound_in}
-use Rattle.hir_def_map.proofs.Fails.{Fails-in_module, Fails-in_preludes, Fails-in_root, Fails-keep, Fails-nothing, Fails-public}
-use Rattle.hir_def_map.proofs.NoneOf.{not_first}
+use Rattle.hir_def_map_rules.proofs.Fails.{Fails-in_module, Fails-in_preludes, Fails-in_root, Fails-keep, Fails-nothing, Fails-public}
+use Rattle.hir_def_map_rules.proofs.NoneOf.{not_first}
 use Rattle.hir_def_map_laws.proofs.Changed.{Change, Here, Out, climb_out, entry_out, here_out, is_own, legacy_out, map_in-out, names_out, nearest_out, new, old, own, prelude_out, same_2015, same_climb, same_nearest, same_prelude_module, same_reach, same_seen, variant_out}
 use Rattle.hir_def_map_laws.specs.ReadLaw.{BeginsOutside, SameInPreludes, is_named_in, with_crates}
 use Rattle.hir_def_map.specs.Scoping.Slots.{is_in, prelude_module_of}

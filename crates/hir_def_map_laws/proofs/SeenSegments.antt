@@ -5,9 +5,9 @@ use Rattle.hir_scope.specs.PerNs.{Item, keep_item, keep_of}
 use Rattle.hir_scope.specs.declared.per_ns.PerNs.{PerNs}
 use Rattle.hir_scope.specs.declared.visibility.Visibility.{Visibility}
 use Rattle.hir_scope.specs.ModuleTree.{same_crate}
-use Rattle.hir_def_map.specs.Overlay.{Maps, entry_in}
-use Rattle.hir_def_map.specs.Scoping.Segments.{crossing, nearest_non_block_module, seen}
-use Rattle.hir_def_map.specs.declared.nameres.path_resolution.ResolvePathResult.{ResolvePathResult}
+use Rattle.hir_def_map_rules.specs.Overlay.{Maps, entry_in}
+use Rattle.hir_def_map_rules.specs.Scoping.Segments.{crossing, nearest_non_block_module, seen}
+use Rattle.hir_def_map_rules.specs.declared.path_result.ResolvePathResult.{ResolvePathResult}
 use Rattle.hir_def_map_laws.specs.Paths.{may_see, AreKept, IsKept, TakesHere, TakesThere}
 
 IsKept-keep_item : {D I : Type 0} (test : Visibility → Bool) (o : Option (Item D I)) → IsKept test o (keep_item test o)

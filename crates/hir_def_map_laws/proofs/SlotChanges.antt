@@ -24,15 +24,15 @@ use Rattle.hir_scope.specs.Scope.Reads.{last_legacy_at}
 use Rattle.hir_scope.specs.declared.imports.ImportOrExternCrate.{ImportOrExternCrate}
 use Rattle.hir_scope.specs.declared.per_ns.PerNs.{PerNs}
 use Rattle.hir_scope.specs.declared.visibility.Visibility.{Visibility}
-use Rattle.hir_def_map.specs.Declaration.{listed}
-use Rattle.hir_def_map.specs.Scoping.FirstSegment.{legacy_of}
-use Rattle.hir_def_map.specs.State.{Local, Map, ModuleValue, Variants, changed_at, entry_at, module_at, new_id, new_module, numbered, parent_at, parent_of, place_at, pushed, pushed_module, variants_at, with_child, with_enum, with_extern, with_macro_use, with_module, with_module_scope, with_scope}
-use Rattle.hir_def_map.specs.declared.nameres.declaration.Declaration.{Declaration}
-use Rattle.hir_def_map.specs.declared.nameres.declaration.Declaration.TheVariants as declaration
-use Rattle.hir_def_map.specs.declared.nameres.origin.ModuleOrigin.{ModuleOrigin}
-use Rattle.hir_def_map.proofs.Externs.{at_name-with_extern_other}
-use Rattle.hir_def_map.proofs.Grown.{at_name-with_name_other, entry_at-pushed_elsewhere, entry_at-pushed_other, entry_at-with_module, kept}
-use Rattle.hir_def_map.proofs.Listed.{KeepsNames-listed}
+use Rattle.hir_def_map_rules.specs.Declaration.{listed}
+use Rattle.hir_def_map_rules.specs.Scoping.FirstSegment.{legacy_of}
+use Rattle.hir_def_map_rules.specs.State.{Local, Map, ModuleValue, Variants, changed_at, entry_at, module_at, new_id, new_module, numbered, parent_at, parent_of, place_at, pushed, pushed_module, variants_at, with_child, with_enum, with_extern, with_macro_use, with_module, with_module_scope, with_scope}
+use Rattle.hir_def_map_rules.specs.declared.declaration.Declaration.{Declaration}
+use Rattle.hir_def_map_rules.specs.declared.declaration.Declaration.TheVariants as declaration
+use Rattle.hir_def_map_rules.specs.declared.origin.ModuleOrigin.{ModuleOrigin}
+use Rattle.hir_def_map_rules.proofs.Externs.{at_name-with_extern_other}
+use Rattle.hir_def_map_rules.proofs.Grown.{at_name-with_name_other, entry_at-pushed_elsewhere, entry_at-pushed_other, entry_at-with_module, kept}
+use Rattle.hir_def_map_rules.proofs.Listed.{KeepsNames-listed}
 use Rattle.hir_def_map_laws.specs.ReadLaw.{AgreeAt, Grows}
 use Rattle.hir_def_map_laws.proofs.ReadLaw.{reads_decide}
 use Rattle.hir_def_map_laws.specs.SlotChanges.{ChangesOnly, OtherSlotsDoNotMatter}

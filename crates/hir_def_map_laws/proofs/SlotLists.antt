@@ -18,9 +18,9 @@ use Rattle.hir_scope.specs.Entries.{item_at}
 use Rattle.hir_scope.specs.Scope.{ScopeValue, binding_of}
 use Rattle.hir_textual_scope.proofs.NewMacro.{other_names_keep_theirs}
 use Rattle.hir_scope.specs.Scope.Reads.{last_legacy_at}
-use Rattle.hir_def_map.specs.Scoping.FirstSegment.{legacy_of}
-use Rattle.hir_def_map.specs.State.{Local, Map, ModuleValue, changed_at, entry_at, entry_of, module_at, numbered, parent_at, parent_of, place_at, pushed, pushed_module, with_module_scope, with_scope}
-use Rattle.hir_def_map.proofs.Grown.{kept}
+use Rattle.hir_def_map_rules.specs.Scoping.FirstSegment.{legacy_of}
+use Rattle.hir_def_map_rules.specs.State.{Local, Map, ModuleValue, changed_at, entry_at, entry_of, module_at, numbered, parent_at, parent_of, place_at, pushed, pushed_module, with_module_scope, with_scope}
+use Rattle.hir_def_map_rules.proofs.Grown.{kept}
 use Rattle.hir_def_map_laws.specs.ReadLaw.{AgreeAt, DiffersInScopes, Grows}
 use Rattle.hir_def_map_laws.proofs.InScopes.{changed_modules}
 use Rattle.hir_def_map_laws.proofs.ReadLaw.{reads_decide, scopes_read}

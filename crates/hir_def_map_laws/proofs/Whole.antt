@@ -8,20 +8,20 @@ use Rattle.hir_base.specs.declared.ids.MapId.{MapId}
 use Rattle.hir_base.specs.declared.ids.ModuleId.{ModuleId}
 use Rattle.hir_base.specs.declared.ids.UseId.{UseId}
 use Rattle.hir_base.specs.contracts.ids.MapIdPartialEq.TheImpl as map_id
-use Rattle.hir_def_map.specs.Inner.OverlayLaws.{exact_map, same_id}
-use Rattle.hir_def_map.specs.Ancestors.{holders_in}
-use Rattle.hir_def_map.specs.Closed.{AreThere, ModuleIsThere}
-use Rattle.hir_def_map.specs.WellFormed.{AreWellFormed, HasNoDanglingReference}
-use Rattle.hir_def_map.specs.References.{any_reference_in, is_missing, is_there, map_of_reference, prelude_reference, test_of}
-use Rattle.hir_def_map.specs.State.{Map, ModuleValue, entry_at, entry_of, module_at, numbered, variants_at}
-use Rattle.hir_def_map.specs.Overlay.{Maps, Placed, overlay, entry_in, module_in, placed_in}
-use Rattle.hir_def_map.specs.declared.world.reference.Reference.{Reference}
-use Rattle.hir_def_map.specs.declared.world.reference.Reference.TheVariants as named
-use Rattle.hir_def_map.proofs.WellFormed.{IsClosed-well_formed}
-use Rattle.hir_def_map.proofs.StaysWellFormed.{IsClosed-overlay}
-use Rattle.hir_def_map.proofs.Fails.{Fails-weaker}
-use Rattle.hir_def_map.proofs.NoneOf.{none_at}
-use Rattle.hir_def_map.proofs.Referred.{module_less}
+use Rattle.hir_def_map_rules.specs.Inner.OverlayLaws.{exact_map, same_id}
+use Rattle.hir_def_map_rules.specs.Ancestors.{holders_in}
+use Rattle.hir_def_map_rules.specs.Closed.{AreThere, ModuleIsThere}
+use Rattle.hir_def_map_rules.specs.WellFormed.{AreWellFormed, HasNoDanglingReference}
+use Rattle.hir_def_map_rules.specs.References.{any_reference_in, is_missing, is_there, map_of_reference, prelude_reference, test_of}
+use Rattle.hir_def_map_rules.specs.State.{Map, ModuleValue, entry_at, entry_of, module_at, numbered, variants_at}
+use Rattle.hir_def_map_rules.specs.Overlay.{Maps, Placed, overlay, entry_in, module_in, placed_in}
+use Rattle.hir_def_map_rules.specs.declared.reference.Reference.{Reference}
+use Rattle.hir_def_map_rules.specs.declared.reference.Reference.TheVariants as named
+use Rattle.hir_def_map_rules.proofs.WellFormed.{IsClosed-well_formed}
+use Rattle.hir_def_map_rules.proofs.StaysWellFormed.{IsClosed-overlay}
+use Rattle.hir_def_map_rules.proofs.Fails.{Fails-weaker}
+use Rattle.hir_def_map_rules.proofs.NoneOf.{none_at}
+use Rattle.hir_def_map_rules.proofs.Referred.{module_less}
 use Rattle.hir_def_map_laws.specs.ReadLaw.{KeepApart, StandsBeside, has_no_variants, is_named_in}
 use Rattle.hir_def_map.specs.Scoping.Slots.{is_in, prelude_module_of}
 

@@ -11,17 +11,17 @@ use Rattle.hir_scope.specs.declared.imports.ImportId.{ImportId}
 use Rattle.hir_scope.specs.declared.imports.ImportOrExternCrate.{ImportOrExternCrate}
 use Rattle.hir_scope.specs.declared.per_ns.PerNs.{PerNs}
 use Rattle.hir_scope.specs.declared.visibility.Visibility.{Visibility}
-use Rattle.hir_def_map.specs.Ancestors.{above_in, holders_in}
-use Rattle.hir_def_map.specs.Listed.{KeepsNames}
-use Rattle.hir_def_map.specs.Overlay.{Maps, overlay}
-use Rattle.hir_def_map.specs.Closed.{AreThere, IsThere, VisibilityIsThere}
-use Rattle.hir_def_map.specs.References.{any_reference_in_scope, are_variants_of, is_missing}
-use Rattle.hir_def_map.specs.WellFormed.{HasNoDanglingReference}
-use Rattle.hir_def_map.specs.Sources.{SourceTest, HoldsOfNone, HoldsNowhereIn, on_import, on_some, on_origin, on_values, on_variant}
-use Rattle.hir_def_map.specs.State.{Map, pushed, with_scope, new_module, numbered, with_module, Variants, with_enum}
-use Rattle.hir_def_map.specs.Declaration.{listed}
-use Rattle.hir_def_map.specs.declared.nameres.declaration.Declaration.{Declaration}
-use Rattle.hir_def_map.specs.declared.nameres.origin.ModuleOrigin.{ModuleOrigin}
+use Rattle.hir_def_map_rules.specs.Ancestors.{above_in, holders_in}
+use Rattle.hir_def_map_rules.specs.Listed.{KeepsNames}
+use Rattle.hir_def_map_rules.specs.Overlay.{Maps, overlay}
+use Rattle.hir_def_map_rules.specs.Closed.{AreThere, IsThere, VisibilityIsThere}
+use Rattle.hir_def_map_rules.specs.References.{any_reference_in_scope, are_variants_of, is_missing}
+use Rattle.hir_def_map_rules.specs.WellFormed.{HasNoDanglingReference}
+use Rattle.hir_def_map_rules.specs.Sources.{SourceTest, HoldsOfNone, HoldsNowhereIn, on_import, on_some, on_origin, on_values, on_variant}
+use Rattle.hir_def_map_rules.specs.State.{Map, pushed, with_scope, new_module, numbered, with_module, Variants, with_enum}
+use Rattle.hir_def_map_rules.specs.Declaration.{listed}
+use Rattle.hir_def_map_rules.specs.declared.declaration.Declaration.{Declaration}
+use Rattle.hir_def_map_rules.specs.declared.origin.ModuleOrigin.{ModuleOrigin}
 use Rattle.hir_def_map_laws.specs.SlotChanges.{with_macro, with_macro_vis, with_trait, with_type, with_type_vis, with_value, with_value_vis}
 
 -- the same lies above each module, and the same modules hold its map

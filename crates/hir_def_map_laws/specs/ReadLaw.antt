@@ -15,21 +15,21 @@ use Rattle.hir_base.specs.declared.ids.ModuleId.{ModuleId}
 use Rattle.hir_base.specs.contracts.ids.MapIdPartialEq.TheImpl as map_id
 use Rattle.hir_scope.specs.PerNs.{Item}
 use Rattle.hir_scope.specs.declared.imports.ImportOrExternCrate.{ImportOrExternCrate}
-use Rattle.hir_def_map.specs.Ancestors.{holders_in}
-use Rattle.hir_def_map.specs.WellFormed.{AreWellFormed, HasNoDanglingReference}
-use Rattle.hir_def_map.specs.References.{map_of_reference, any_reference_in, Fails}
-use Rattle.hir_def_map.specs.Reaches.{by_import}
-use Rattle.hir_def_map.specs.Scoping.{Resolution, resolution_of}
-use Rattle.hir_def_map.specs.Scoping.Asking.{Asking}
-use Rattle.hir_def_map.specs.Scoping.FirstSegment.{legacy_of}
-use Rattle.hir_def_map.specs.State.{IsInOrder, Local, Map, ModuleValue, Variants, at_name, changed_at, entry_at, module_at, numbered, parent_at, variants_at}
-use Rattle.hir_def_map.specs.Overlay.{Maps, overlay, map_in, module_in}
+use Rattle.hir_def_map_rules.specs.Ancestors.{holders_in}
+use Rattle.hir_def_map_rules.specs.WellFormed.{AreWellFormed, HasNoDanglingReference}
+use Rattle.hir_def_map_rules.specs.References.{map_of_reference, any_reference_in, Fails}
+use Rattle.hir_def_map_rules.specs.Reaches.{by_import}
+use Rattle.hir_def_map_rules.specs.Scoping.{Resolution, resolution_of}
+use Rattle.hir_def_map_rules.specs.Scoping.Asking.{Asking}
+use Rattle.hir_def_map_rules.specs.Scoping.FirstSegment.{legacy_of}
+use Rattle.hir_def_map_rules.specs.State.{IsInOrder, Local, Map, ModuleValue, Variants, at_name, changed_at, entry_at, module_at, numbered, parent_at, variants_at}
+use Rattle.hir_def_map_rules.specs.Overlay.{Maps, overlay, map_in, module_in}
 use Rattle.hir_def_map.specs.World.{IsChecked, finished_in}
 use Rattle.hir_def_map.specs.WorldParts.{among, part_of}
 use Rattle.hir_def_map.specs.declared.world.finished.Finished.{Finished}
 use Rattle.hir_def_map.specs.declared.world.part.WorldPart.{WorldPart}
-use Rattle.hir_def_map.specs.declared.world.reference.Reference.{Reference}
-use Rattle.hir_def_map.specs.declared.world.reference.Reference.TheVariants as named
+use Rattle.hir_def_map_rules.specs.declared.reference.Reference.{Reference}
+use Rattle.hir_def_map_rules.specs.declared.reference.Reference.TheVariants as named
 use Rattle.hir_def_map.specs.declared.nameres.path_resolution.slots.Slot.{Slot}
 use Rattle.hir_def_map.specs.declared.nameres.path_resolution.slots.Slot.TheVariants.{Module as of_module, Preludes as of_preludes}
 use Rattle.hir_def_map.specs.Scoping.Slots.{is_in, prelude_module_of, reads}

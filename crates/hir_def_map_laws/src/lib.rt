@@ -4,11 +4,11 @@
 ghost use Rattle.std.specs.Prelude.{◌≡◌, ℕ, true, List};
 ghost use Rattle.hir_base.specs.Laws.{HashesAlike};
 ghost use Rattle.hir_scope.specs.Laws.{GivesItsList};
-ghost use Rattle.hir_def_map.specs.Overlay.{Maps, overlay};
-ghost use Rattle.hir_def_map.specs.References.{is_well_formed};
-ghost use Rattle.hir_def_map.specs.WellFormed.{AreWellFormed, HasNoDanglingExtern, HasNoDanglingReference};
-ghost use Rattle.hir_def_map.specs.Closed.{IsClosed};
-ghost use Rattle.hir_def_map.specs.State.{Local, Map};
+ghost use Rattle.hir_def_map_rules.specs.Overlay.{Maps, overlay};
+ghost use Rattle.hir_def_map_rules.specs.References.{is_well_formed};
+ghost use Rattle.hir_def_map_rules.specs.WellFormed.{AreWellFormed, HasNoDanglingExtern, HasNoDanglingReference};
+ghost use Rattle.hir_def_map_rules.specs.Closed.{IsClosed};
+ghost use Rattle.hir_def_map_rules.specs.State.{Local, Map};
 ghost use Rattle.hir_def_map_laws.specs.Building.{DeclarationsKeepNames, DeclarationsKeepPlaces, DeclarationsNameWhatIsThere, EnumsKeepToSources, EnumsNameWhatIsThere, ListsKeepToSources, ModulesKeepToSources, ModulesNameWhatIsThere, PushesKeepPlaces, PushesKeepToSources, PushesNameWhatIsThere, ScopesNameWhatIsThere, UpdatesNameWhatIsThere};
 ghost use Rattle.hir_def_map_laws.specs.ReadLaw.{ChangedModulesDifferInScopes, CrateMapsBeginOutside, CratesAreOutside, ImportsReadAlike, PartsKeepApart, ReadsDecide, ScopesReadAlike, SomeMapsKeepApart, UnstoppedReadsDecide, WholeMapsKeepApart, WholeMapsStandBeside, WorldsKeepApart};
 ghost use Rattle.hir_def_map_laws.specs.SlotChanges.{ChangedScopesChangeTheirSlot, ChangesFollowOneAnother, CratesChangeTheirSlot, EnumsChangeNoSlot, ListsChangeNoSlot, MacroUsesChangeTheirSlot, ModulesChangeNoSlot, NothingChangesNoScope, NothingChangesNoSlot, OneChangeIsAmongItsSlot, OneScopeChangeIsAmongItsSlot, OtherSlotsDoNotMatter, PushesChangeTheirScope, PushesChangeTheirSlot, ScopeChangesFollowOneAnother, TextualMacrosChangeTheirSlot, TraitsChangeNoScope, TraitsChangeNoSlot, UnreadScopesDoNotMatter, UnreadSlotsDoNotMatter, UpdatesChangeTheirScope, UpdatesChangeTheirSlot};

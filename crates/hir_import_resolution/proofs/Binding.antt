@@ -26,8 +26,8 @@ use Rattle.hir_scope.specs.Scope.Push.{pushed_scope, taken_macro, taken_type, ta
 use Rattle.hir_scope.specs.Scope.Reads.{unnamed_vis}
 use Rattle.hir_scope.proofs.AfterPush.{declarations_stay, item_at-with_entry, item_at-with_entry_other}
 use Rattle.hir_scope.proofs.Pushes.{pushed-macros, pushed-types, pushed-values}
-use Rattle.hir_def_map.proofs.Grown.{length-changed}
-use Rattle.hir_def_map.specs.State.{ModuleValue, globs_after, module_at, place_at, pushed, with_module_scope, with_scope}
+use Rattle.hir_def_map_rules.proofs.Grown.{length-changed}
+use Rattle.hir_def_map_rules.specs.State.{ModuleValue, globs_after, module_at, place_at, pushed, with_module_scope, with_scope}
 use Rattle.hir_glob_imports.specs.Keys.{slot_at}
 use Rattle.hir_glob_imports.specs.View.{bound_in}
 use Rattle.hir_glob_imports.specs.Waves.{IsExplicit}

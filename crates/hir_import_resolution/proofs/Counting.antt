@@ -1,6 +1,6 @@
 -- Steps one after another, and how many they are.
 use Rattle.std.proofs.Common.{◌≡◌, ◌∙◌, ap, refl, ◌+◌, ◌<◌, ◌≤◌, List, [], ◌∷◌, None, Some, arith}
-use Rattle.hir_def_map.specs.Overlay.{Maps}
+use Rattle.hir_def_map_rules.specs.Overlay.{Maps}
 use Rattle.hir_glob_imports.specs.Rules.{brings, copies, follows, raises}
 use Rattle.hir_import_resolution.specs.Changes.{Change, act, along, keeps_trait, perform, pushes, records, takes}
 use Rattle.hir_import_resolution.specs.Rest.{IsSpent}

@@ -5,8 +5,8 @@ use Rattle.hir_base.specs.declared.ids.EnumId.{EnumId}
 use Rattle.hir_base.specs.declared.ids.ModuleId.{ModuleId}
 use Rattle.hir_base.specs.declared.ids.TraitId.{TraitId}
 use Rattle.hir_scope.specs.Scope.{ScopeValue}
-use Rattle.hir_def_map.specs.Overlay.{Maps, Placed, map_in, module_in, variants_in}
-use Rattle.hir_def_map.specs.State.{Map, ModuleValue, module_at, scope_at, variants_at}
+use Rattle.hir_def_map_rules.specs.Overlay.{Maps, Placed, map_in, module_in, variants_in}
+use Rattle.hir_def_map_rules.specs.State.{Map, ModuleValue, module_at, scope_at, variants_at}
 use Rattle.hir_glob_imports.specs.declared.edge.Key.{Key}
 use Rattle.hir_glob_imports.specs.declared.edge.Key.TheVariants.{Types, Values, Macros, Unnamed}
 use Rattle.hir_import_resolution.specs.KeyLists.{scope_in}

@@ -10,10 +10,10 @@ use Rattle.hir_scope.specs.ModuleTree.{same_crate, same_module}
 use Rattle.hir_scope.specs.Visibility.{both_in, greater_of, is_visible, lesser_of}
 use Rattle.hir_scope.specs.declared.visibility.Visibility.{Visibility}
 use Rattle.hir_scope.specs.declared.visibility.Visibility.TheVariants.{Module, PubCrate, Public}
-use Rattle.hir_def_map.specs.Ancestors.{above_in, holders_in}
-use Rattle.hir_def_map.specs.Inner.OverlayLaws.{same_id}
-use Rattle.hir_def_map.specs.Overlay.{Maps, entry_in, module_in, overlay}
-use Rattle.hir_def_map.specs.State.{Map, numbered}
+use Rattle.hir_def_map_rules.specs.Ancestors.{above_in, holders_in}
+use Rattle.hir_def_map_rules.specs.Inner.OverlayLaws.{same_id}
+use Rattle.hir_def_map_rules.specs.Overlay.{Maps, entry_in, module_in, overlay}
+use Rattle.hir_def_map_rules.specs.State.{Map, numbered}
 use Rattle.hir_def_map_laws.specs.ReadLaw.{Grows}
 use Rattle.hir_glob_imports.specs.Keys.{is_unnamed}
 use Rattle.hir_glob_imports.specs.Moves.{brought_vis, is_as_seen, raise_of, raise_to, same_def, seen_by, shown, update_of, update_of_brought}

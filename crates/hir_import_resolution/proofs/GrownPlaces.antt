@@ -16,12 +16,12 @@ use Rattle.hir_scope.specs.ModuleTree.{same_crate, same_map, same_module}
 use Rattle.hir_scope.specs.Visibility.{both_in, either_written, greater_of, is_visible, lesser_of, lower_of, stands_for, upper_of}
 use Rattle.hir_scope.specs.declared.visibility.Visibility.{Visibility}
 use Rattle.hir_scope.specs.declared.visibility.Visibility.TheVariants.{Module, PubCrate, Public}
-use Rattle.hir_def_map.specs.Ancestors.{above_in, above_inside, above_under, frame_of, frames_of, holders_in, numbers_of}
-use Rattle.hir_def_map.specs.Inner.OverlayLaws.{frame_holders}
-use Rattle.hir_def_map.specs.Overlay.{Maps, Placed, holders_of, holders_or, holders_under, overlay, placed_in}
-use Rattle.hir_def_map.specs.Scoping.Segments.{variant_in}
+use Rattle.hir_def_map_rules.specs.Ancestors.{above_in, above_inside, above_under, frame_of, frames_of, holders_in, numbers_of}
+use Rattle.hir_def_map_rules.specs.Inner.OverlayLaws.{frame_holders}
+use Rattle.hir_def_map_rules.specs.Overlay.{Maps, Placed, holders_of, holders_or, holders_under, overlay, placed_in}
+use Rattle.hir_def_map_rules.specs.Scoping.Segments.{variant_in}
 use Rattle.hir_def_map.specs.Scoping.Slots.{is_in}
-use Rattle.hir_def_map.specs.State.{Map, Variants, at_name, numbered, variants_at}
+use Rattle.hir_def_map_rules.specs.State.{Map, Variants, at_name, numbered, variants_at}
 use Rattle.hir_def_map_laws.proofs.SameAbove.{same_numbers_above}
 use Rattle.hir_def_map_laws.specs.ReadLaw.{Grows}
 use Rattle.hir_import_resolution.specs.Rounds.{IsOrdered, IsPlaced}

@@ -6,11 +6,11 @@ use Rattle.hir_base.specs.ModPath.{Path}
 use Rattle.hir_base.specs.declared.ids.ModuleId.{ModuleId}
 use Rattle.hir_scope.specs.declared.imports.ImportId.{ImportId}
 use Rattle.hir_use_tree.specs.declared.imports.ImportKind.{ImportKind}
-use Rattle.hir_def_map.specs.Overlay.{Maps}
-use Rattle.hir_def_map.specs.Reaches.{by_import}
-use Rattle.hir_def_map.specs.Scoping.Asking.{Asking}
+use Rattle.hir_def_map_rules.specs.Overlay.{Maps}
+use Rattle.hir_def_map_rules.specs.Reaches.{by_import}
+use Rattle.hir_def_map_rules.specs.Scoping.Asking.{Asking}
 use Rattle.hir_def_map.specs.Scoping.Slots.{reads, slots_of}
-use Rattle.hir_def_map.specs.State.{Map, numbered}
+use Rattle.hir_def_map_rules.specs.State.{Map, numbered}
 use Rattle.hir_def_map.specs.declared.nameres.path_resolution.slots.Slot.{Slot}
 use Rattle.hir_import_resolution.specs.declared.directive.ImportDirective.{ImportDirective}
 use Rattle.hir_import_resolution.specs.declared.directive.ImportSource.TheVariants as sources

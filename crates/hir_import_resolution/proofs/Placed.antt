@@ -7,9 +7,9 @@ use Rattle.hir_base.specs.declared.ids.TraitId.{TraitId}
 use Rattle.hir_scope.specs.declared.per_ns.PerNs.{PerNs}
 use Rattle.hir_scope.specs.declared.visibility.Visibility.{Visibility}
 use Rattle.hir_scope.specs.declared.visibility.Visibility.TheVariants.{Module, PubCrate, Public}
-use Rattle.hir_def_map.specs.Overlay.{Maps}
+use Rattle.hir_def_map_rules.specs.Overlay.{Maps}
 use Rattle.hir_def_map.specs.Scoping.Slots.{is_in}
-use Rattle.hir_def_map.specs.State.{Map, module_at}
+use Rattle.hir_def_map_rules.specs.State.{Map, module_at}
 use Rattle.hir_def_map_laws.specs.ReadLaw.{DiffersInScopes}
 use Rattle.hir_glob_imports.proofs.Exact.{exact_slot}
 use Rattle.hir_glob_imports.specs.Keys.{is_unnamed, same_slot, slot_at}

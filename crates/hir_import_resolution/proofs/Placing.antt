@@ -18,11 +18,11 @@ use Rattle.hir_scope.specs.ModuleTree.{is_at_or_above, same_block, same_crate, s
 use Rattle.hir_scope.specs.Visibility.{both_in, greater_of, is_visible, stands_for}
 use Rattle.hir_scope.specs.declared.visibility.Visibility.{Visibility}
 use Rattle.hir_scope.specs.declared.visibility.Visibility.TheVariants.{Module, PubCrate, Public}
-use Rattle.hir_def_map.specs.Ancestors.{above_in, above_inside, above_under, frame_of, frames_of, holders_in, leads_to_root, number_in, numbers_above, numbers_of, step_in, step_to, steps_by, steps_from}
-use Rattle.hir_def_map.specs.Inner.OverlayLaws.{exact_map, frame_holders, same_id}
-use Rattle.hir_def_map.specs.Overlay.{Maps, Placed, holders_of, overlay, placed_in}
+use Rattle.hir_def_map_rules.specs.Ancestors.{above_in, above_inside, above_under, frame_of, frames_of, holders_in, leads_to_root, number_in, numbers_above, numbers_of, step_in, step_to, steps_by, steps_from}
+use Rattle.hir_def_map_rules.specs.Inner.OverlayLaws.{exact_map, frame_holders, same_id}
+use Rattle.hir_def_map_rules.specs.Overlay.{Maps, Placed, holders_of, overlay, placed_in}
 use Rattle.hir_def_map.specs.Scoping.Slots.{is_in}
-use Rattle.hir_def_map.specs.State.{IsBefore, Map, numbered, parent_at}
+use Rattle.hir_def_map_rules.specs.State.{IsBefore, Map, numbered, parent_at}
 use Rattle.hir_def_map_laws.proofs.SameAbove.{before_at}
 use Rattle.hir_def_map_laws.proofs.SlotChanges.{Grows-itself}
 use Rattle.hir_def_map_laws.proofs.Steps.{number_there, step_listed}

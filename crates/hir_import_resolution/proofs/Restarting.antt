@@ -2,7 +2,7 @@
 use Rattle.std.proofs.Common.{◌≡◌, ◌∙◌, ap, sym, subst, ℕ, true, [], Some, length}
 use Rattle.std.proofs.lemmas.Bool.{lt-ltb, ltb-true}
 use Rattle.std.specs.Prelude.{slice_get}
-use Rattle.hir_def_map.specs.Overlay.{Maps}
+use Rattle.hir_def_map_rules.specs.Overlay.{Maps}
 use Rattle.hir_glob_imports.proofs.Resting.{waved}
 use Rattle.hir_glob_imports.proofs.Taking.{brought_by_list}
 use Rattle.hir_glob_imports.specs.Waves.{GlobsValue}

@@ -9,11 +9,11 @@ use Rattle.hir_base.specs.declared.ids.ExternCrateId.{ExternCrateId}
 use Rattle.hir_scope.specs.declared.imports.GlobId.{GlobId}
 use Rattle.hir_scope.specs.declared.per_ns.PerNs.{PerNs}
 use Rattle.hir_use_tree.specs.declared.imports.ImportKind.TheVariants as kinds
-use Rattle.hir_def_map.specs.Overlay.{Maps, overlay}
-use Rattle.hir_def_map.specs.Reaches.{by_import}
-use Rattle.hir_def_map.specs.Scoping.{Resolution, resolution_of}
+use Rattle.hir_def_map_rules.specs.Overlay.{Maps, overlay}
+use Rattle.hir_def_map_rules.specs.Reaches.{by_import}
+use Rattle.hir_def_map_rules.specs.Scoping.{Resolution, resolution_of}
 use Rattle.hir_def_map.specs.Scoping.Slots.{reads}
-use Rattle.hir_def_map.specs.State.{IsInOrder, numbered}
+use Rattle.hir_def_map_rules.specs.State.{IsInOrder, numbered}
 use Rattle.hir_def_map.specs.declared.nameres.path_resolution.slots.Slot.{Slot as PathSlot}
 use Rattle.hir_def_map_laws.proofs.EnumsGrow.{unstopped_reads}
 use Rattle.hir_def_map_laws.proofs.SlotLists.{unread_scopes}

@@ -7,9 +7,9 @@ use Rattle.hir_scope.specs.declared.imports.ImportId.{ImportId}
 use Rattle.hir_scope.specs.declared.imports.ImportOrExternCrate.{ImportOrExternCrate}
 use Rattle.hir_scope.specs.declared.per_ns.PerNs.{PerNs}
 use Rattle.hir_scope.specs.declared.visibility.Visibility.{Visibility}
-use Rattle.hir_def_map.specs.Overlay.{Maps}
-use Rattle.hir_def_map.specs.State.{globs_after, module_at, place_at, pushed, pushed_module, with_module_scope}
-use Rattle.hir_def_map.proofs.Grown.{length-changed}
+use Rattle.hir_def_map_rules.specs.Overlay.{Maps}
+use Rattle.hir_def_map_rules.specs.State.{globs_after, module_at, place_at, pushed, pushed_module, with_module_scope}
+use Rattle.hir_def_map_rules.proofs.Grown.{length-changed}
 use Rattle.hir_glob_imports.proofs.Exact.{exact_slot}
 use Rattle.hir_glob_imports.proofs.Linking.{one_or_last}
 use Rattle.hir_glob_imports.proofs.Taking.{noted-named, noted-other, noted-unnamed}

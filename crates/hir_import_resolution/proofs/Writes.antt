@@ -16,8 +16,8 @@ use Rattle.hir_scope.specs.declared.item_in_ns.ItemInNs.{ItemInNs}
 use Rattle.hir_scope.specs.declared.item_in_ns.ItemInNs.TheVariants as in_ns
 use Rattle.hir_scope.specs.declared.per_ns.PerNs.{PerNs}
 use Rattle.hir_scope.specs.declared.visibility.Visibility.{Visibility}
-use Rattle.hir_def_map.proofs.Grown.{kept}
-use Rattle.hir_def_map.specs.State.{Local, Map, ModuleValue, module_at, place_at, pushed, pushed_module, with_module_scope, with_scope}
+use Rattle.hir_def_map_rules.proofs.Grown.{kept}
+use Rattle.hir_def_map_rules.specs.State.{Local, Map, ModuleValue, module_at, place_at, pushed, pushed_module, with_module_scope, with_scope}
 use Rattle.hir_def_map.specs.declared.nameres.path_resolution.slots.Slot.{Slot as PathSlot}
 use Rattle.hir_def_map.specs.declared.nameres.path_resolution.slots.Slot.TheVariants.{Module as of_module}
 use Rattle.hir_def_map_laws.specs.SlotChanges.{ScopesChangeAmong}

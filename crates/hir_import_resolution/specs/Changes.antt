@@ -5,8 +5,8 @@ use Rattle.hir_scope.specs.declared.imports.ImportId.{ImportId}
 use Rattle.hir_scope.specs.declared.imports.ImportOrExternCrate.{ImportOrExternCrate}
 use Rattle.hir_scope.specs.declared.per_ns.PerNs.{PerNs}
 use Rattle.hir_scope.specs.declared.visibility.Visibility.{Visibility}
-use Rattle.hir_def_map.specs.State.{Map, globs_after, module_at, pushed, with_scope}
-use Rattle.hir_def_map.specs.Overlay.{Maps}
+use Rattle.hir_def_map_rules.specs.State.{Map, globs_after, module_at, pushed, with_scope}
+use Rattle.hir_def_map_rules.specs.Overlay.{Maps}
 use Rattle.hir_glob_imports.specs.Keys.{slot_at}
 use Rattle.hir_glob_imports.specs.Rules.{Act, BroughtBy, with_brought, act as glob_act}
 use Rattle.hir_glob_imports.specs.declared.edge.Edge.{Edge}

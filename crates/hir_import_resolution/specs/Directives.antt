@@ -23,13 +23,13 @@ use Rattle.hir_scope.specs.declared.imports.ImportOrExternCrate.{ImportOrExternC
 use Rattle.hir_scope.specs.declared.imports.ImportOrExternCrate.TheVariants as ways
 use Rattle.hir_scope.specs.declared.per_ns.PerNs.{PerNs}
 use Rattle.hir_scope.specs.declared.visibility.Visibility.{Visibility}
-use Rattle.hir_def_map.specs.Reaches.{by_import}
-use Rattle.hir_def_map.specs.Scoping.{Resolution, resolution_of}
-use Rattle.hir_def_map.specs.Scoping.Segments.{resolved, unresolved}
-use Rattle.hir_def_map.specs.Scoping.Start.{crate_root, module_bound}
-use Rattle.hir_def_map.specs.State.{Local, Map, numbered}
-use Rattle.hir_def_map.specs.Overlay.{Maps, overlay}
-use Rattle.hir_def_map.specs.declared.nameres.path_resolution.ReachedFixedPoint.TheVariants.{No}
+use Rattle.hir_def_map_rules.specs.Reaches.{by_import}
+use Rattle.hir_def_map_rules.specs.Scoping.{Resolution, resolution_of}
+use Rattle.hir_def_map_rules.specs.Scoping.Segments.{resolved, unresolved}
+use Rattle.hir_def_map_rules.specs.Scoping.Start.{crate_root, module_bound}
+use Rattle.hir_def_map_rules.specs.State.{Local, Map, numbered}
+use Rattle.hir_def_map_rules.specs.Overlay.{Maps, overlay}
+use Rattle.hir_def_map_rules.specs.declared.path_result.ReachedFixedPoint.TheVariants.{No}
 use Rattle.hir_glob_imports.specs.declared.edge.Edge.{Edge}
 use Rattle.hir_glob_imports.specs.declared.edge.Target.{Target}
 use Rattle.hir_glob_imports.specs.declared.edge.Target.TheVariants as targets

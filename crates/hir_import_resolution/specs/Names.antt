@@ -16,10 +16,10 @@ use Rattle.hir_scope.specs.declared.item_in_ns.ItemInNs.TheVariants as in_ns
 use Rattle.hir_scope.specs.declared.per_ns.PerNs.{PerNs}
 use Rattle.hir_scope.specs.declared.visibility.Visibility.{Visibility}
 use Rattle.hir_scope.specs.declared.visibility.Visibility.TheVariants.{Public}
-use Rattle.hir_def_map.specs.Overlay.{Maps, entry_in, module_in, overlay}
-use Rattle.hir_def_map.specs.Scoping.Segments.{variant_bound, variant_in}
-use Rattle.hir_def_map.specs.State.{Map, ModuleValue, entry_at, globs_after, module_at, numbered, pushed, with_scope}
-use Rattle.hir_def_map.specs.declared.nameres.enum_variants.EnumVariant.{EnumVariant}
+use Rattle.hir_def_map_rules.specs.Overlay.{Maps, entry_in, module_in, overlay}
+use Rattle.hir_def_map_rules.specs.Scoping.Segments.{variant_bound, variant_in}
+use Rattle.hir_def_map_rules.specs.State.{Map, ModuleValue, entry_at, globs_after, module_at, numbered, pushed, with_scope}
+use Rattle.hir_def_map_rules.specs.declared.enum_variants.EnumVariant.{EnumVariant}
 pub use Rattle.hir_def_map_laws.specs.SlotChanges.{with_macro, with_macro_vis, with_trait, with_type, with_type_vis, with_value, with_value_vis}
 use Rattle.hir_glob_imports.specs.View.{NameTable, View}
 use Rattle.hir_glob_imports.specs.declared.edge.Bound.{Bound}

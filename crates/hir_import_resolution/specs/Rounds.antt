@@ -10,11 +10,11 @@ use Rattle.hir_scope.specs.Scope.Reads.{unnamed_vis}
 use Rattle.hir_scope.specs.declared.imports.ImportOrExternCrate.{ImportOrExternCrate}
 use Rattle.hir_scope.specs.declared.per_ns.PerNs.{PerNs}
 use Rattle.hir_scope.specs.declared.visibility.Visibility.{Visibility}
-use Rattle.hir_def_map.specs.Declaration.{listed}
-use Rattle.hir_def_map.specs.Overlay.{Maps}
-use Rattle.hir_def_map.specs.State.{IsInOrder, Map, Variants, entry_at, globs_after, module_at, new_module, pushed, variants_at, with_enum, with_macro_use, with_module, with_scope}
-use Rattle.hir_def_map.specs.declared.nameres.declaration.Declaration.{Declaration}
-use Rattle.hir_def_map.specs.declared.nameres.origin.ModuleOrigin.{ModuleOrigin}
+use Rattle.hir_def_map_rules.specs.Declaration.{listed}
+use Rattle.hir_def_map_rules.specs.Overlay.{Maps}
+use Rattle.hir_def_map_rules.specs.State.{IsInOrder, Map, Variants, entry_at, globs_after, module_at, new_module, pushed, variants_at, with_enum, with_macro_use, with_module, with_scope}
+use Rattle.hir_def_map_rules.specs.declared.declaration.Declaration.{Declaration}
+use Rattle.hir_def_map_rules.specs.declared.origin.ModuleOrigin.{ModuleOrigin}
 use Rattle.hir_def_map.specs.declared.nameres.path_resolution.slots.Slot.{Slot as PathSlot}
 use Rattle.hir_def_map_laws.specs.ReadLaw.{AgreeAt, Grows}
 use Rattle.hir_glob_imports.specs.View.{View}

@@ -5,10 +5,10 @@ use Rattle.hir_item_tree.specs.declared.raw_visibility.RawVisibility.{RawVisibil
 use Rattle.hir_scope.specs.Visibility.{greater_of, is_visible, lesser_of}
 use Rattle.hir_scope.specs.declared.visibility.Visibility.{Visibility}
 use Rattle.hir_scope.specs.declared.visibility.Visibility.TheVariants as visibilities
-use Rattle.hir_def_map.specs.Ancestors.{above_in, holders_in}
-use Rattle.hir_def_map.specs.State.{Local, Map}
-use Rattle.hir_def_map.specs.Overlay.{Maps, overlay}
-use Rattle.hir_def_map.specs.Visibilities.{written_visibility}
+use Rattle.hir_def_map_rules.specs.Ancestors.{above_in, holders_in}
+use Rattle.hir_def_map_rules.specs.State.{Local, Map}
+use Rattle.hir_def_map_rules.specs.Overlay.{Maps, overlay}
+use Rattle.hir_def_map_rules.specs.Visibilities.{written_visibility}
 
 -- what a visibility means that is written in a module of the map; one whose path leads to no module counts as public
 unfoldable pub visibility_in : Maps → Local → Map → ModuleId → RawVisibility → Visibility

@@ -1,7 +1,7 @@
 //! Imports until no more comes of them.
 ghost use Rattle.std.specs.Prelude.{◌≡◌, ◌≤◌, ◌<◌, ℕ, true, IfOk, Some, length, slice_get};
 ghost use Rattle.hir_import_resolution.specs.declared.directive.ImportDirective.{ImportDirective};
-ghost use Rattle.hir_def_map.specs.State.{IsInOrder};
+ghost use Rattle.hir_def_map_rules.specs.State.{IsInOrder};
 ghost use Rattle.hir_def_map.specs.WorldParts.{part_of};
 ghost use Rattle.hir_import_resolution.specs.Rest.{IsAtRest, IsSound, IsSpent};
 ghost use Rattle.hir_import_resolution.specs.Rules.{Steps};

@@ -1,6 +1,6 @@
 //! Imports that are resolved round by round, while the map that has them grows between rounds.
 ghost use Rattle.std.specs.Prelude.{◌≡◌, ◌≤◌, ◌<◌, ℕ, [], true, IfOk, None, Some, length, slice_get};
-ghost use Rattle.hir_def_map.specs.State.{IsInOrder};
+ghost use Rattle.hir_def_map_rules.specs.State.{IsInOrder};
 ghost use Rattle.hir_def_map.specs.WorldParts.{part_of};
 ghost use Rattle.hir_def_map_laws.specs.SlotChanges.{ScopesChangeAmong};
 ghost use Rattle.hir_import_resolution.specs.declared.directive.ImportDirective.{ImportDirective};

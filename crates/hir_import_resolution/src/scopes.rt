@@ -2,8 +2,8 @@
 ghost use Rattle.std.specs.Prelude.{◌≡◌, OnOk};
 ghost use Rattle.hir_scope.specs.Entries.{item_at};
 ghost use Rattle.hir_scope.specs.declared.item_in_ns.ItemInNs.TheVariants as in_ns;
-ghost use Rattle.hir_def_map.specs.Overlay.{entry_in, module_in};
-ghost use Rattle.hir_def_map.specs.State.{module_at, with_scope};
+ghost use Rattle.hir_def_map_rules.specs.Overlay.{entry_in, module_in};
+ghost use Rattle.hir_def_map_rules.specs.State.{module_at, with_scope};
 ghost use Rattle.hir_def_map.specs.WorldParts.{part_of};
 ghost use Rattle.hir_import_resolution.specs.Names.{bound_by, bound_of, bound_trait, entries_of, is_foreign, is_open, items_by, open_vis, pushed_by, redefined, revised, trait_vis, traits_of, variant_items, with_trait, with_trait_at};
 ghost use Rattle.hir_import_resolution.specs.Scopes.{value_of, with_value};
@@ -197,7 +197,7 @@ pub(crate) fn trait_vis(map: &DefMap, at: u32, id: TraitId) -> Option<Visibility
 }
 
 /// What a name stands for in a module of a finished map.
-#[tactic(auto, using(hir_def_map::proofs::LookUps::found))]
+#[tactic(auto, using(hir_def_map_rules::proofs::LookUps::found))]
 fn entry_outside(world: WorldPart<'_>, module: ModuleId, name: &Name) -> PerNs
     ensures value { result ≡ entry_in (part_of world.entry) «module» name.now }
 {

@@ -14,37 +14,37 @@ use Rattle.hir_tables.specs.SourcePlaces.{ExpansionValue, SourcePlaceValue, expa
 use Rattle.hir_tables.specs.Tables as numbers
 use Rattle.hir_tables.specs.Tables.{KeepsTables, TablesValue, source_of}
 use Rattle.hir_tables.proofs.Growth.{KeepsTables-refl}
-use Rattle.hir_def_map.specs.Overlay.{no_maps}
-use Rattle.hir_def_collector.specs.Workspace.{EntryLook, Workspace}
-use Rattle.hir_def_collector.specs.Keys.{Look, look, of_entry, of_input, of_map, of_text, of_tree, of_variants}
-use Rattle.hir_def_collector.specs.declared.source_database.Key.{Key}
-use Rattle.hir_def_collector.specs.declared.source_database.Key.TheVariants as keys
+use Rattle.hir_def_map_rules.specs.Overlay.{no_maps}
+use Rattle.hir_collector_rules.specs.Workspace.{EntryLook, Workspace}
+use Rattle.hir_collector_rules.specs.Keys.{Look, look, of_entry, of_input, of_map, of_text, of_tree, of_variants}
+use Rattle.hir_collector_rules.specs.declared.source_database.Key.{Key}
+use Rattle.hir_collector_rules.specs.declared.source_database.Key.TheVariants as keys
 use Rattle.hir_wire.specs.Edits.{EntryValue}
 use Rattle.hir_wire.specs.declared.command.Shadow.{Shadow}
 use Rattle.hir_wire.specs.declared.command.MacroStyle.{MacroStyle}
 use Rattle.hir_wire.specs.declared.reply.Status.TheVariants as status
-use Rattle.hir_session.specs.declared.error.QueryError.TheVariants as error
-use Rattle.hir_session.specs.Status.{map_of}
-use Rattle.hir_session.specs.Answers.{answer_by, answer_of}
-use Rattle.hir_session.specs.Crates.{CrateValue, crate_in, options_in}
-use Rattle.hir_session.specs.Entries.{entry_at, look_of, source_of as source_in_entry}
-use Rattle.hir_session.specs.Files.{file_at}
-use Rattle.hir_session.specs.KeySources.{key_place, key_tree}
-use Rattle.hir_session.specs.SessionState.{SessionState, Resolution, workspace_of, follows, kept_of, is_marked, IsSound}
-use Rattle.hir_session.specs.SourceEdits.{SourceEditValue, IsSeenAlike, edit_of, edited, of_expansion, of_file, place_of, source_by}
-use Rattle.hir_session.specs.SourceTable.{SourceTable, front_in, source_at, tree_under, workspace_in}
-use Rattle.hir_session.specs.SourceTrees.{is_place}
-use Rattle.hir_session.specs.Spread.{Spread}
-use Rattle.hir_session.specs.Spread.Spread.{here, depends}
-use Rattle.hir_session.specs.Marks.{IsTouched}
-use Rattle.hir_session.specs.Marks.IsTouched.{before, asked_for}
-use Rattle.hir_session.specs.EditedSources.{seen_at}
-use Rattle.hir_session.specs.Changes.{Becomes}
-use Rattle.hir_session.specs.Due.{IsBehind}
+use Rattle.hir_session_state.specs.declared.error.QueryError.TheVariants as error
+use Rattle.hir_session_answers.specs.Status.{map_of}
+use Rattle.hir_session_answers.specs.Answers.{answer_by, answer_of}
+use Rattle.hir_session_state.specs.Crates.{CrateValue, crate_in, options_in}
+use Rattle.hir_session_state.specs.Entries.{entry_at, look_of, source_of as source_in_entry}
+use Rattle.hir_session_state.specs.Files.{file_at}
+use Rattle.hir_session_state.specs.KeySources.{key_place, key_tree}
+use Rattle.hir_session_state.specs.SessionState.{SessionState, Resolution, workspace_of, follows, kept_of, is_marked, IsSound}
+use Rattle.hir_session_state.specs.SourceEdits.{SourceEditValue, IsSeenAlike, edit_of, edited, of_expansion, of_file, place_of, source_by}
+use Rattle.hir_session_state.specs.SourceTable.{SourceTable, front_in, source_at, tree_under, workspace_in}
+use Rattle.hir_session_sources.specs.SourceTrees.{is_place}
+use Rattle.hir_session_state.specs.Spread.{Spread}
+use Rattle.hir_session_state.specs.Spread.Spread.{here, depends}
+use Rattle.hir_session_state.specs.Marks.{IsTouched}
+use Rattle.hir_session_state.specs.Marks.IsTouched.{before, asked_for}
+use Rattle.hir_session_state.specs.EditedSources.{seen_at}
+use Rattle.hir_session_state.specs.Changes.{Becomes}
+use Rattle.hir_session_state.specs.Due.{IsBehind}
 use Rattle.hir_session.specs.Laws.{AnswersAlike, BodyEditsMarkNothing, BodyEditsLeaveAnswers, ExpansionBodyEditsMarkNothing, ExpansionBodyEditsLeaveAnswers, SetAbsentFileMarks, RemovePresentFileMarks, RemoveAbsentFileMarksNothing, RemoveAbsentFileLeavesAnswers, SetAbsentExpansionMarks, RemovePresentExpansionMarks, RemoveAbsentExpansionMarksNothing, RemoveAbsentExpansionLeavesAnswers, UnaskedSourcesMarkNothing, UnaskedSourcesLeaveAnswers, IsUnasked}
-use Rattle.hir_session.proofs.Differ.{alike_answer, unmarked_behind}
-use Rattle.hir_session.proofs.Truth.{clash, on_bool}
-use Rattle.hir_session.proofs.SourceLemmas.{beside-differs, look-apart, look-differs, look-same, no_value, one_value, place_same, same_place, treeless-same}
+use Rattle.hir_session_answers.proofs.Differ.{alike_answer, unmarked_behind}
+use Rattle.hir_session_state.proofs.Truth.{clash, on_bool, no_value, one_value}
+use Rattle.hir_session_sources.proofs.SourceLemmas.{beside-differs, look-apart, look-differs, look-same, place_same, same_place, treeless-same}
 
 -- each key that a run asked for sees what it saw
 abbrev AreUnaltered : SessionState → Workspace → Type 0

@@ -5,13 +5,13 @@ use Rattle.std.proofs.lemmas.Bool.Decides.{leb_tells}
 use Rattle.hir_base.specs.declared.limit.Limit.TheVariants as limit
 use Rattle.hir_wire.specs.declared.reply.Reply.{Reply}
 use Rattle.hir_wire.specs.declared.reply.Reply.TheVariants as reply
-use Rattle.hir_session.specs.declared.open_line.TheConstants.{LINE_LIMIT}
-use Rattle.hir_session.specs.declared.open_line.Fate.{Fate}
-use Rattle.hir_session.specs.declared.open_line.Fate.TheVariants as fate
-use Rattle.hir_session.specs.declared.open_line.OpenLine.{OpenLine}
-use Rattle.hir_session.specs.Machine.{MachineState, AnswersLine}
-use Rattle.hir_session.specs.Lines.{AnswersInput, AnswersWithin}
-use Rattle.hir_session.specs.Serving.{Holds, HoldsPart}
+use Rattle.hir_lines.specs.declared.open_line.TheConstants.{LINE_LIMIT}
+use Rattle.hir_lines.specs.declared.open_line.Fate.{Fate}
+use Rattle.hir_lines.specs.declared.open_line.Fate.TheVariants as fate
+use Rattle.hir_lines.specs.declared.open_line.OpenLine.{OpenLine}
+use Rattle.hir_session_machine.specs.Machine.{MachineState, AnswersLine}
+use Rattle.hir_session_machine.specs.AnsweredLines.{AnswersInput, AnswersWithin}
+use Rattle.hir_lines.specs.OpenLines.{Holds, HoldsPart}
 
 within : (line : List ℕ) → length line ≤ LINE_LIMIT → nat_le (length line) LINE_LIMIT ≡ true
 within line fits = le-leb (length line) LINE_LIMIT fits

@@ -6,17 +6,19 @@ use Rattle.std.proofs.KnownBytes.{Appends-nil, Appends-trans}
 use Rattle.hir_wire.specs.Replies.{is_fixed}
 use Rattle.hir_wire.specs.declared.reply.Reply.{Reply}
 use Rattle.hir_wire.specs.declared.reply.Reply.TheVariants as reply
-use Rattle.hir_session.specs.declared.output.Fault.{Fault}
-use Rattle.hir_session.specs.declared.output.Fault.TheVariants as fault
+use Rattle.hir_lines.specs.declared.output.Fault.{Fault}
+use Rattle.hir_lines.specs.declared.output.Fault.TheVariants as fault
 use Rattle.hir_session.specs.declared.server.Server.{Server}
-use Rattle.hir_session.specs.Machine.{MachineState, first_state}
-use Rattle.hir_session.specs.Output.{WritesPart, IsToldAs, reply_line}
-use Rattle.hir_session.specs.Headline.{RepliesHoldTheHeadline}
-use Rattle.hir_session.specs.Lines.{with_last, ended_lines, lines_of, cut_from, HasNoEnd, AnswersLines, AnswersInput}
+use Rattle.hir_session_machine.specs.Machine.{MachineState, first_state}
+use Rattle.hir_lines.specs.Output.{WritesPart, IsToldAs, reply_line}
+use Rattle.hir_session_machine.specs.Headline.{RepliesHoldTheHeadline}
+use Rattle.hir_lines.specs.Lines.{with_last, ended_lines, lines_of, cut_from, HasNoEnd}
+use Rattle.hir_session_machine.specs.AnsweredLines.{AnswersLines, AnswersInput}
 use Rattle.hir_session.specs.Runs.{BrokenAt, Answered, Ends, replies_text}
-use Rattle.hir_session.specs.Serving.{Told, BreaksOff, Fed, Finished, Holds}
-use Rattle.hir_session.proofs.CutLemmas.{cut_from-append, cut_from-ended, cut_from-plain, with_last-nil}
-use Rattle.hir_session.proofs.PartLemmas.{WritesPart-after}
+use Rattle.hir_session.specs.Serving.{Told, BreaksOff, Fed, Finished}
+use Rattle.hir_lines.specs.OpenLines.{Holds}
+use Rattle.hir_lines.proofs.CutLemmas.{cut_from-append, cut_from-ended, cut_from-plain, with_last-nil}
+use Rattle.hir_lines.proofs.PartLemmas.{WritesPart-after}
 
 -- a run goes on by another
 pub AnswersLines-append : (a : MachineState) (ls : List (List ℕ)) (rs : List Reply) (b : MachineState) (ms : List (List ℕ)) (qs : List Reply) (c : MachineState)

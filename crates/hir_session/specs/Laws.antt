@@ -10,19 +10,19 @@ use Rattle.hir_item_tree.specs.declared.tree_id.TreeKey.{TreeKey}
 use Rattle.hir_tables.specs.SourcePlaces.{ExpansionValue, SourcePlaceValue, file}
 use Rattle.hir_tables.specs.Tables as numbers
 use Rattle.hir_tables.specs.Tables.{source_of}
-use Rattle.hir_def_collector.specs.declared.source_database.Key.{Key}
-use Rattle.hir_def_collector.specs.declared.source_database.Key.TheVariants.{Tree, Expansion}
+use Rattle.hir_collector_rules.specs.declared.source_database.Key.{Key}
+use Rattle.hir_collector_rules.specs.declared.source_database.Key.TheVariants.{Tree, Expansion}
 use Rattle.hir_wire.specs.Edits.{EditValue, EntryValue, set_file, remove_file, set_expansion, remove_expansion}
 use Rattle.hir_wire.specs.declared.command.Shadow.{Shadow}
 use Rattle.hir_wire.specs.declared.command.MacroStyle.{MacroStyle}
-use Rattle.hir_session.specs.Answers.{answer_of}
-use Rattle.hir_session.specs.Entries.{entry_at}
-use Rattle.hir_session.specs.Files.{file_at}
-use Rattle.hir_session.specs.KeySources.{key_place}
-use Rattle.hir_session.specs.SessionState.{SessionState, Resolution, kept_of, is_marked, IsSound}
-use Rattle.hir_session.specs.Changes.{Applies}
-use Rattle.hir_session.specs.SourceEdits.{edit_of, place_of}
-pub use Rattle.hir_session.specs.Histories.{History, WasAltered, DifferOnlyWhereAltered}
+use Rattle.hir_session_answers.specs.Answers.{answer_of}
+use Rattle.hir_session_state.specs.Entries.{entry_at}
+use Rattle.hir_session_state.specs.Files.{file_at}
+use Rattle.hir_session_state.specs.KeySources.{key_place}
+use Rattle.hir_session_state.specs.SessionState.{SessionState, Resolution, kept_of, is_marked, IsSound}
+use Rattle.hir_session_state.specs.Changes.{Applies}
+use Rattle.hir_session_state.specs.SourceEdits.{edit_of, place_of}
+pub use Rattle.hir_session_answers.specs.Histories.{History, WasAltered, DifferOnlyWhereAltered}
 
 -- each query has the same answer in both
 abbrev pub AnswersAlike : SessionState → SessionState → Type 0

@@ -2,12 +2,13 @@
 use Rattle.std.specs.Prelude.{◌≡◌, ℕ, List, ◌++◌, flat_map, Option, Result, Ok, Err}
 use Rattle.std.specs.Io.KnownBytes.{Appends, Consumes, IsAtEnd}
 use Rattle.hir_wire.specs.declared.reply.Reply.{Reply}
-use Rattle.hir_session.specs.declared.output.Fault.{Fault}
-use Rattle.hir_session.specs.declared.output.Fault.TheVariants as fault
-use Rattle.hir_session.specs.Machine.{MachineState, first_state}
-use Rattle.hir_session.specs.Output.{WritesPart, reply_line}
-use Rattle.hir_session.specs.Lines.{AnswersLines, ended_lines, lines_of}
-use Rattle.hir_session.specs.Headline.{Headline}
+use Rattle.hir_lines.specs.declared.output.Fault.{Fault}
+use Rattle.hir_lines.specs.declared.output.Fault.TheVariants as fault
+use Rattle.hir_session_machine.specs.Machine.{MachineState, first_state}
+use Rattle.hir_lines.specs.Output.{WritesPart, reply_line}
+use Rattle.hir_lines.specs.Lines.{ended_lines, lines_of}
+use Rattle.hir_session_machine.specs.AnsweredLines.{AnswersLines}
+use Rattle.hir_session_machine.specs.Headline.{Headline}
 
 -- the texts of replies, one a line
 abbrev pub replies_text : List Reply → List ℕ

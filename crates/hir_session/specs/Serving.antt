@@ -1,26 +1,14 @@
 -- In which state is the server between two pieces of the input?
-use Rattle.std.specs.Prelude.{◌≡◌, ℕ, ◌<◌, ◌≤◌, List, [], length, Option}
+use Rattle.std.specs.Prelude.{ℕ, List, [], Option}
 use Rattle.std.specs.Io.KnownBytes.{Appends}
 use Rattle.hir_wire.specs.declared.reply.Reply.{Reply}
-use Rattle.hir_session.specs.declared.open_line.TheConstants.{LINE_LIMIT}
-use Rattle.hir_session.specs.declared.open_line.Fate.{Fate}
-use Rattle.hir_session.specs.declared.open_line.Fate.TheVariants as fate
-use Rattle.hir_session.specs.declared.open_line.OpenLine.{OpenLine}
 use Rattle.hir_session.specs.declared.server.Server.{Server}
-use Rattle.hir_session.specs.Machine.{MachineState}
-use Rattle.hir_session.specs.Output.{WritesPart, reply_line}
-use Rattle.hir_session.specs.Lines.{AnswersInput, AnswersLines, cut_from, with_last}
+use Rattle.hir_session_machine.specs.Machine.{MachineState}
+use Rattle.hir_lines.specs.Output.{WritesPart, reply_line}
+use Rattle.hir_lines.specs.Lines.{cut_from, with_last}
+use Rattle.hir_session_machine.specs.AnsweredLines.{AnswersInput, AnswersLines}
 use Rattle.hir_session.specs.Runs.{replies_text}
-
--- a line of this fate is kept whole, or is counted, or is above the limit
-abbrev pub HoldsPart : Fate → List ℕ → ℕ → List ℕ → Type 0
-HoldsPart fate.Kept kept count part = (kept ≡ part) × (count ≡ length part) × (length part ≤ LINE_LIMIT)
-HoldsPart fate.Refused kept count part = (count ≡ length part) × (length part ≤ LINE_LIMIT)
-HoldsPart fate.TooLarge kept count part = LINE_LIMIT < length part
-
--- the open line stands after this part of a line
-abbrev pub Holds : OpenLine → List ℕ → Type 0
-Holds line part = HoldsPart line.fate line.kept.items line.length part
+use Rattle.hir_lines.specs.OpenLines.{Holds}
 
 -- the line was answered and the reply was written
 abbrev pub Told : Server → List ℕ → Server → Option (List ℕ) → Option (List ℕ) → Type 0

@@ -1,9 +1,10 @@
 //! What holds of all that a session does; each function's contract is a law.
-ghost use Rattle.hir_session.specs.Headline.{RepliesHoldTheHeadline};
-ghost use Rattle.hir_session.specs.Histories.{DifferOnlyWhereAltered, LinesBeginHistories};
+ghost use Rattle.hir_session_machine.specs.Headline.{RepliesHoldTheHeadline};
+ghost use Rattle.hir_session_answers.specs.Histories.{DifferOnlyWhereAltered};
+ghost use Rattle.hir_session_machine.specs.MachineHistories.{LinesBeginHistories};
 ghost use Rattle.hir_session.specs.Laws.{BodyEditsMarkNothing, BodyEditsLeaveAnswers, ExpansionBodyEditsMarkNothing, ExpansionBodyEditsLeaveAnswers, SetAbsentFileMarks, RemovePresentFileMarks, RemoveAbsentFileMarksNothing, RemoveAbsentFileLeavesAnswers, SetAbsentExpansionMarks, RemovePresentExpansionMarks, RemoveAbsentExpansionMarksNothing, RemoveAbsentExpansionLeavesAnswers, UnaskedSourcesMarkNothing, UnaskedSourcesLeaveAnswers};
 
-use hir_def_collector::laws::runs_bind_from_sources;
+use hir_def_collector_laws::laws::runs_bind_from_sources;
 use hir_def_map::laws::{paths_answer_from_sources, paths_lead_to_what_is_there};
 use hir_item_tree::laws::body_texts_leave_the_tree;
 

@@ -1,10 +1,10 @@
 // Bytes as they come, cut into lines, each answered.
 ghost use Rattle.hir_session.specs.Runs.{Converses};
 
-use crate::open_line::{Fate, OpenLine, split_line};
-use crate::output::{Fault, write_reply};
-use crate::server_state::Machine;
 use hir_base::limit::Limit;
+use hir_lines::open_line::{Fate, OpenLine, split_line};
+use hir_lines::output::{Fault, write_reply};
+use hir_session_machine::server_state::Machine;
 use hir_wire::Reply;
 use std::alloc::Global;
 use std::io::{Read, Write};
@@ -26,10 +26,12 @@ impl Server {
     ghost use Rattle.std.specs.Prelude.{◌≡◌, ◌++◌, ◌∷◌, [], List, ℕ, false, OnOk, IfErr};
     ghost use Rattle.hir_wire.specs.Replies.{is_fixed};
     ghost use Rattle.hir_wire.specs.declared.reply.Reply.TheVariants as reply;
-    ghost use Rattle.hir_session.specs.Machine.{first_state};
-    ghost use Rattle.hir_session.specs.Lines.{AnswersInput, HasNoEnd, cut_from, with_last};
+    ghost use Rattle.hir_session_machine.specs.Machine.{first_state};
+    ghost use Rattle.hir_lines.specs.Lines.{HasNoEnd, cut_from, with_last};
+    ghost use Rattle.hir_session_machine.specs.AnsweredLines.{AnswersInput};
     ghost use Rattle.hir_session.specs.Runs.{BrokenAt, Converses};
-    ghost use Rattle.hir_session.specs.Serving.{Holds, Told, BreaksOff, Fed, Finished};
+    ghost use Rattle.hir_session.specs.Serving.{Told, BreaksOff, Fed, Finished};
+    ghost use Rattle.hir_lines.specs.OpenLines.{Holds};
 
     pub fn new(alloc: Global) -> Server
         ensures open { Holds result.line [] }

@@ -3,7 +3,7 @@ ghost use Rattle.std.specs.Prelude.{◌≡◌, ◌<◌, ℕ, cond, true, false, 
 ghost use Rattle.hir_item_tree.specs.SyntaxIds.{node_id};
 ghost use Rattle.hir_tables.specs.SourcePlaces.{expansion_value};
 ghost use Rattle.hir_tables.specs.Tables.{KeepsTables};
-ghost use Rattle.hir_def_map.specs.State.{IsInOrder, Local};
+ghost use Rattle.hir_def_map_rules.specs.State.{IsInOrder, Local};
 ghost use Rattle.hir_def_map.specs.WorldParts.{part_of};
 ghost use Rattle.hir_import_resolution.specs.Inner.State.{IsApart};
 ghost use Rattle.hir_import_resolution.specs.Rest.{IsAtRest, IsSound};
@@ -12,42 +12,43 @@ ghost use Rattle.hir_import_resolution.specs.declared.directive.ImportDirective.
 ghost use Rattle.hir_worklist.specs.Queue.{count_of};
 ghost use Rattle.hir_call_queue.specs.Changes.{ChangedValue, joined, nothing};
 ghost use Rattle.hir_call_queue.specs.Waking.{GoesOn, IsWoken, is_apart, worklist_of};
-ghost use Rattle.hir_def_collector.specs.CallMoves.{ComesToRest, IsDueOf, IsReady, NoneWaitsBefore, SeesCall, TakesTurn, TriesCall, TriesCalls};
-ghost use Rattle.hir_def_collector.specs.Calls.{AreCallsPlaced, Expanding, IsMeantCall, LeadsNowhere, call_site, called_text, error_of, expansion_of_call, text_readings, waiting_item};
-ghost use Rattle.hir_def_collector.specs.declared.collector.macro_directive.WaitingItem.{WaitingItem};
-ghost use Rattle.hir_def_collector.specs.Derivation.{IsNumberedOut, IsSpent};
-ghost use Rattle.hir_def_collector.specs.ItemIds.{module_id};
-ghost use Rattle.hir_def_collector.specs.declared.collector.macro_directive.MacroDirective.{MacroDirective};
-ghost use Rattle.hir_def_collector.specs.Keys.{Environment, IsMeant, input_at, macro_key, macro_tree, source_in, text_at, text_of};
-ghost use Rattle.hir_def_collector.specs.Moves.{Makes, OnceGrown};
-ghost use Rattle.hir_def_collector.specs.State.{Run, at_rest, core_in, import_state};
-ghost use Rattle.hir_def_collector.specs.Steps.{CallsMacro, IsDue, Steps, failing, keys_read, with_keys};
-ghost use Rattle.hir_def_collector.specs.Workspace.{entry_look};
-ghost use Rattle.hir_def_collector.specs.Waiting.{IsBehind, IsBetweenPasses, IsGathered, IsNoted, IsNotedBeside, IsStale, IsUpToDate, LiesApart, NotesSlots};
+ghost use Rattle.hir_collector_rules.specs.CallMoves.{ComesToRest, IsReady, NoneWaitsBefore, SeesCall, TriesCall, TriesCalls};
+ghost use Rattle.hir_def_collector.specs.Turns.{IsDueOf, TakesTurn};
+ghost use Rattle.hir_collector_rules.specs.Calls.{AreCallsPlaced, Expanding, IsMeantCall, LeadsNowhere, call_site, called_text, error_of, expansion_of_call, text_readings, waiting_item};
+ghost use Rattle.hir_collector_rules.specs.declared.macro_directive.WaitingItem.{WaitingItem};
+ghost use Rattle.hir_collector_rules.specs.Derivation.{IsNumberedOut, IsSpent};
+ghost use Rattle.hir_collector_rules.specs.ItemIds.{module_id};
+ghost use Rattle.hir_collector_rules.specs.declared.macro_directive.MacroDirective.{MacroDirective};
+ghost use Rattle.hir_collector_rules.specs.Keys.{Environment, IsMeant, input_at, macro_key, macro_tree, source_in, text_at, text_of};
+ghost use Rattle.hir_collector_rules.specs.Moves.{Makes, OnceGrown};
+ghost use Rattle.hir_collector_rules.specs.State.{Run, at_rest, core_in, import_state};
+ghost use Rattle.hir_collector_rules.specs.Steps.{CallsMacro, IsDue, Steps, failing, keys_read, with_keys};
+ghost use Rattle.hir_collector_rules.specs.Workspace.{entry_look};
+ghost use Rattle.hir_collector_rules.specs.Waiting.{IsBehind, IsBetweenPasses, IsGathered, IsNoted, IsNotedBeside, IsStale, IsUpToDate, LiesApart, NotesSlots};
 
-use crate::collector::def_collector::DefCollector;
-use crate::collector::derives::{
-    bring_helpers, builtin_impl, derive_builtin, drop_call, drop_reached,
-};
-use crate::collector::macro_directive::{Fate, MacroDirective};
-use crate::collector::mod_collector::walk_all;
 use crate::collector::resume::{give_up, skip};
-use crate::collector::site::Site;
-use crate::collector::sources::source_at;
-use crate::collector::{CollectError, STEP_LIMIT};
-use crate::source_database::{ExpansionLook, Key, SourceDatabase};
 use either::Either;
 use hir_base::ast_id::{AstId, AstKind, HirFileId, MacroCallId};
 use hir_base::ids::{Crate, HasModule};
 use hir_base::macro_kind::{CallStyle, ExpansionKey, MacroCallLoc, MacroId, MacroLoc, MacroText};
 use hir_base::text::Text;
 use hir_call_queue::{CallQueue, Changed};
+use hir_collector_items::derives::{
+    bring_helpers, builtin_impl, derive_builtin, drop_call, drop_reached,
+};
+use hir_collector_items::sources::source_at;
+use hir_collector_rules::macro_directive::{Fate, MacroDirective};
+use hir_collector_rules::site::Site;
+use hir_collector_rules::source_database::{ExpansionLook, Key, SourceDatabase};
+use hir_collector_rules::start::{CollectError, STEP_LIMIT};
+use hir_collector_state::def_collector::DefCollector;
 use hir_def_map::nameres::diagnostics::DefDiagnostic;
 use hir_def_map::world::part::WorldPart;
 use hir_import_resolution::ImportQueue;
 use hir_item_tree::check::NodeId;
 use hir_item_tree::source_tree::SourceTree;
 use hir_item_tree::tree_id::{TreeId, TreeKey};
+use hir_mod_collector::mod_collector::walk_all;
 use hir_tables::Tables;
 use std::alloc::{AllocError, Global};
 use std::rc::Rc;

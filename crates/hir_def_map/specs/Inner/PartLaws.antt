@@ -6,9 +6,9 @@ use Rattle.hir_base.specs.declared.ids.Crate.{Crate}
 use Rattle.hir_base.specs.declared.ids.MapId.{MapId}
 use Rattle.hir_base.specs.declared.ids.ModuleId.{ModuleId}
 use Rattle.hir_def_map.specs.declared.world.part.WorldPart.{WorldPart}
-use Rattle.hir_def_map.specs.Overlay.{Maps, Placed}
+use Rattle.hir_def_map_rules.specs.Overlay.{Maps, Placed}
 use Rattle.hir_def_map.specs.WorldParts.{among, are_of_some, is_of_some, with_its_holders, limited_to, part_of}
-use Rattle.hir_def_map.specs.Ancestors.{HolderLeads, IsPlaced, frame_of, frames_of, holders_of_frame}
+use Rattle.hir_def_map_rules.specs.Ancestors.{HolderLeads, IsPlaced, frame_of, frames_of, holders_of_frame}
 use Rattle.hir_def_map.specs.World.{finished_in}
 
 -- maps that agree on each of those are the same among them

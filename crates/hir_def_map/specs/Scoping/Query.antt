@@ -1,6 +1,6 @@
 -- What does a query ask?
 use Rattle.std.specs.Prelude.{option_copied}
-use Rattle.hir_def_map.specs.Scoping.Asking.{Asking, local_of}
+use Rattle.hir_def_map_rules.specs.Scoping.Asking.{Asking, local_of}
 use Rattle.hir_def_map.specs.declared.nameres.path_resolution.query.Query.{Query}
 
 -- how it asks, its maps aside

@@ -11,12 +11,12 @@ use Rattle.hir_base.specs.contracts.ids.MapIdPartialEq.TheImpl as map_id
 use Rattle.hir_scope.specs.declared.imports.ImportOrExternCrate.{ImportOrExternCrate}
 use Rattle.hir_scope.specs.PerNs.{Item}
 use Rattle.hir_scope.specs.declared.per_ns.PerNs.{PerNs}
-use Rattle.hir_def_map.specs.State.{Map, crate_root}
-use Rattle.hir_def_map.specs.Overlay.{Maps, overlay, map_in}
-use Rattle.hir_def_map.specs.Scoping.Asking.{Asking}
-use Rattle.hir_def_map.specs.Scoping.FirstSegment.{extern_name, prelude_of, name_in_module, name_in_crate_root_or_extern_prelude, shadow_before}
-use Rattle.hir_def_map.specs.Scoping.Segments.{nearest_non_block_module, seen}
-use Rattle.hir_def_map.specs.Scoping.Start.{climb, is_import, is_in_edition_2015}
+use Rattle.hir_def_map_rules.specs.State.{Map, crate_root}
+use Rattle.hir_def_map_rules.specs.Overlay.{Maps, overlay, map_in}
+use Rattle.hir_def_map_rules.specs.Scoping.Asking.{Asking}
+use Rattle.hir_def_map_rules.specs.Scoping.FirstSegment.{extern_name, prelude_of, name_in_module, name_in_crate_root_or_extern_prelude, shadow_before}
+use Rattle.hir_def_map_rules.specs.Scoping.Segments.{nearest_non_block_module, seen}
+use Rattle.hir_def_map_rules.specs.Scoping.Start.{climb, is_import, is_in_edition_2015}
 use Rattle.hir_def_map.specs.declared.nameres.path_resolution.slots.Slot.{Slot}
 use Rattle.hir_def_map.specs.declared.nameres.path_resolution.slots.Slot.TheVariants.{Module as of_module, Preludes as of_preludes}
 use Rattle.hir_def_map.specs.declared.nameres.path_resolution.slots.SlotRef.{SlotRef}

@@ -1,9 +1,9 @@
 //! Asking about a module and about those that hold it, after rust-analyzer's `with_ancestor_maps`.
 ghost use Rattle.std.specs.Prelude.{◌≡◌, ◌∷◌};
-ghost use Rattle.hir_def_map.specs.AskMaps.{AsksMaps, with_maps};
-ghost use Rattle.hir_def_map.specs.Ancestors.{holders_in};
+ghost use Rattle.hir_def_map_rules.specs.AskMaps.{AsksMaps, with_maps};
+ghost use Rattle.hir_def_map_rules.specs.Ancestors.{holders_in};
 ghost use Rattle.hir_def_map.specs.DefMaps.{maps_of};
-ghost use Rattle.hir_def_map.specs.Overlay.{overlay};
+ghost use Rattle.hir_def_map_rules.specs.Overlay.{overlay};
 ghost use Rattle.hir_def_map.specs.World.{finished_in};
 
 use crate::def_maps::DefMaps;

@@ -2,8 +2,8 @@
 ghost use Rattle.std.specs.Prelude.{◌≡◌, OnOk};
 ghost use Rattle.std.specs.String.{string_bytes};
 ghost use Rattle.hir_def_map.specs.DefMaps.{maps_of};
-ghost use Rattle.hir_def_map.specs.Dump.{pages_outwards};
-ghost use Rattle.hir_def_map.specs.Inner.Branches.{with_pages};
+ghost use Rattle.hir_def_map_rules.specs.Dump.{pages_outwards};
+ghost use Rattle.hir_def_map_rules.specs.Inner.Branches.{with_pages};
 
 use crate::def_maps::DefMaps;
 use hir_base::ids::ModuleId;

@@ -1,19 +1,19 @@
 //! What paths mean over several maps.
 ghost use Rattle.std.specs.Prelude.{◌≡◌, None, option_copied};
 ghost use Rattle.hir_def_map.specs.DefMaps.{maps_of};
-ghost use Rattle.hir_def_map.specs.Scoping.{resolution_of};
-ghost use Rattle.hir_def_map.specs.Scoping.Asking.{by_other, local_of};
-ghost use Rattle.hir_def_map.specs.Scoping.Start.{from_start};
-ghost use Rattle.hir_def_map.specs.Reaches.{reached_items};
+ghost use Rattle.hir_def_map_rules.specs.Scoping.{resolution_of};
+ghost use Rattle.hir_def_map_rules.specs.Scoping.Asking.{by_other, local_of};
+ghost use Rattle.hir_def_map_rules.specs.Scoping.Start.{from_start};
+ghost use Rattle.hir_def_map_rules.specs.Reaches.{reached_items};
 
 use crate::def_maps::DefMaps;
-use crate::nameres::local_def_map::LocalDefMap;
 use crate::nameres::path_resolution::query::Query;
 use crate::nameres::path_resolution::{
     BuiltinShadowMode, MacroSubNs, ResolveMode, ResolvePathResult,
 };
 use hir_base::ids::ModuleId;
 use hir_base::mod_path::ModPath;
+use hir_def_map_rules::local_def_map::LocalDefMap;
 use hir_scope::per_ns::PerNs;
 
 impl DefMaps<'_> {

@@ -1,16 +1,16 @@
 //! What visibilities mean over several maps.
 ghost use Rattle.std.specs.Prelude.{◌≡◌, false, map, IfOk, IfSome, option_copied};
 ghost use Rattle.hir_scope.specs.Visibility.{is_visible, lesser_of, IsMeet};
-ghost use Rattle.hir_def_map.specs.Ancestors.{above_in, holders_in};
+ghost use Rattle.hir_def_map_rules.specs.Ancestors.{above_in, holders_in};
 ghost use Rattle.hir_def_map.specs.DefMaps.{maps_of};
-ghost use Rattle.hir_def_map.specs.Scoping.Asking.{local_of};
-ghost use Rattle.hir_def_map.specs.Visibilities.{assoc_visibility_of, resolved_visibility, written_visibility};
+ghost use Rattle.hir_def_map_rules.specs.Scoping.Asking.{local_of};
+ghost use Rattle.hir_def_map_rules.specs.Visibilities.{assoc_visibility_of, resolved_visibility, written_visibility};
 
 use crate::def_maps::DefMaps;
-use crate::nameres::local_def_map::LocalDefMap;
 use crate::nameres::path_resolution::{BuiltinShadowMode, ResolveMode};
 use crate::resolve_visibility::path_seen;
 use hir_base::ids::ModuleId;
+use hir_def_map_rules::local_def_map::LocalDefMap;
 use hir_item_tree::raw_visibility::RawVisibility;
 use hir_scope::visibility::Visibility;
 use std::alloc::{AllocError, Global};

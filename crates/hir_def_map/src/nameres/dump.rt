@@ -1,19 +1,19 @@
 //! A map as text, for tests of whoever fills it, after rust-analyzer's `DefMap::dump`.
 ghost use Rattle.std.specs.Prelude.{◌≡◌, [], ◌∷◌, ◌++◌, length, map, reverse, IfOk, OnOk};
 ghost use Rattle.std.specs.String.{string_bytes};
-ghost use Rattle.hir_def_map.specs.Overlay.{overlay};
-ghost use Rattle.hir_def_map.specs.State.{module_at};
+ghost use Rattle.hir_def_map_rules.specs.Overlay.{overlay};
+ghost use Rattle.hir_def_map_rules.specs.State.{module_at};
 ghost use Rattle.hir_def_map.specs.World.{finished_in};
-ghost use Rattle.hir_def_map.specs.Dump.{dump_of, pages_of, path_below, root_path};
-ghost use Rattle.hir_def_map.specs.Inner.Branches.{branch_below, branches_below, own_page, with_page, with_pages};
+ghost use Rattle.hir_def_map_rules.specs.Dump.{dump_of, pages_of, path_below, root_path};
+ghost use Rattle.hir_def_map_rules.specs.Inner.Branches.{branch_below, branches_below, own_page, with_page, with_pages};
 
 use crate::def_maps::DefMaps;
 use crate::nameres::DefMap;
-use crate::nameres::module_data::ModuleData;
 use crate::world::World;
 use crate::world::part::WorldPart;
 use hir_base::edition::Edition;
 use hir_base::name::Name;
+use hir_def_map_rules::module_data::ModuleData;
 use hir_scope::item_scope::ItemScope;
 use std::alloc::{AllocError, Global};
 use std::marker::Model;
@@ -29,7 +29,7 @@ struct Branch {
 
 impl Model for Branch {
     ghost use Rattle.std.specs.String.{string_bytes};
-    ghost use Rattle.hir_def_map.specs.Inner.Branches.{BranchValue};
+    ghost use Rattle.hir_def_map_rules.specs.Inner.Branches.{BranchValue};
 
     ghost Value = { BranchValue };
 

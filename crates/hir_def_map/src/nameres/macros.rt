@@ -1,14 +1,14 @@
 //! The macros of a def map, the attributes that its derives bring, and what went wrong.
 ghost use Rattle.std.specs.Prelude.{◌≡◌, ◌++◌, ◌∷◌, [], option_map, OnOk, OnErr};
-ghost use Rattle.hir_def_map.specs.Macros.{exporting_function, helpers_at, macro_at, macro_data_at, proc_macro_at, with_derive_helper, with_diagnostic, with_exported, with_macro_data, with_macro_def};
+ghost use Rattle.hir_def_map_rules.specs.Macros.{exporting_function, helpers_at, macro_at, macro_data_at, proc_macro_at, with_derive_helper, with_diagnostic, with_exported, with_macro_data, with_macro_def};
 
 use crate::nameres::DefMap;
-use crate::nameres::derive_helpers::{DeriveHelper, DeriveHelpers, push_helper};
-use crate::nameres::diagnostics::{DefDiagnostic, DefDiagnostics};
-use crate::nameres::macro_data::MacroData;
 use hir_base::ast_id::AstId;
 use hir_base::ids::FunctionId;
 use hir_base::macro_kind::{MacroId, ProcMacroId};
+use hir_def_map_rules::derive_helpers::{DeriveHelper, DeriveHelpers, push_helper};
+use hir_def_map_rules::diagnostics::{DefDiagnostic, DefDiagnostics};
+use hir_def_map_rules::macro_data::MacroData;
 use std::alloc::AllocError;
 
 impl DefMap {

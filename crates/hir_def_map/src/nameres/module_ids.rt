@@ -5,10 +5,10 @@ ghost use Rattle.hir_def_map.specs.ModuleIds.{ids_held, is_expansion, is_file, i
 ghost use Rattle.hir_def_map.specs.declared.nameres.module_ids.WantedFile.TheVariants.{Expansion, Own};
 
 use crate::nameres::DefMap;
-use crate::nameres::module_data::ModuleData;
-use crate::nameres::origin::ModuleOrigin;
 use hir_base::ast_id::{EditionedFileId, FileId, HirFileId, MacroCallId};
 use hir_base::ids::{MapId, ModuleId};
+use hir_def_map_rules::module_data::ModuleData;
+use hir_def_map_rules::origin::ModuleOrigin;
 use std::marker::Model;
 
 /// The file that holds the modules which are asked for.

@@ -12,12 +12,12 @@
 //! asks. While a map is being built, its own names may still grow, so an answer also says whether further items could
 //! change it.
 ghost use Rattle.std.specs.Prelude.{◌≡◌, None, option_copied};
-ghost use Rattle.hir_def_map.specs.Overlay.{overlay};
+ghost use Rattle.hir_def_map_rules.specs.Overlay.{overlay};
 ghost use Rattle.hir_def_map.specs.World.{finished_in};
-ghost use Rattle.hir_def_map.specs.Scoping.{resolution_of};
-ghost use Rattle.hir_def_map.specs.Scoping.Asking.{by_other, local_of};
-ghost use Rattle.hir_def_map.specs.Scoping.Start.{from_start};
-ghost use Rattle.hir_def_map.specs.Reaches.{reached_items};
+ghost use Rattle.hir_def_map_rules.specs.Scoping.{resolution_of};
+ghost use Rattle.hir_def_map_rules.specs.Scoping.Asking.{by_other, local_of};
+ghost use Rattle.hir_def_map_rules.specs.Scoping.Start.{from_start};
+ghost use Rattle.hir_def_map_rules.specs.Reaches.{reached_items};
 
 mod blocks;
 mod first_segment;
@@ -28,45 +28,16 @@ mod start;
 
 use crate::def_maps::DefMaps;
 use crate::nameres::DefMap;
-use crate::nameres::local_def_map::LocalDefMap;
 use crate::world::World;
 use crate::world::part::WorldPart;
 use hir_base::ids::ModuleId;
 use hir_base::mod_path::ModPath;
 pub use hir_base::resolve_mode::{BuiltinShadowMode, MacroSubNs};
+use hir_def_map_rules::local_def_map::LocalDefMap;
+pub use hir_def_map_rules::path_result::{
+    ReachedFixedPoint, ResolveMode, ResolvePathResult, ResolvePathResultPrefixInfo,
+};
 use hir_scope::per_ns::PerNs;
-
-/// Whether an import asks, or something else.
-#[derive(Clone, Copy, Debug, PartialEq, Eq)]
-pub enum ResolveMode {
-    Import,
-    Other,
-}
-
-/// Whether further items could not change the answer.
-#[derive(Clone, Copy, Debug, PartialEq, Eq)]
-pub enum ReachedFixedPoint {
-    Yes,
-    No,
-}
-
-/// What the path led through.
-#[derive(Clone, Copy, Debug, Default, PartialEq, Eq)]
-pub struct ResolvePathResultPrefixInfo {
-    pub differing_crate: bool,
-    /// An enum, and a variant of it by name.
-    pub enum_variant: bool,
-}
-
-/// What a path means.
-#[derive(Clone, Copy, Debug, PartialEq, Eq)]
-pub struct ResolvePathResult {
-    pub resolved_def: PerNs,
-    /// The number of the first segment that was not resolved, where the path stopped before its end.
-    pub segment_index: Option<usize>,
-    pub reached_fixedpoint: ReachedFixedPoint,
-    pub prefix_info: ResolvePathResultPrefixInfo,
-}
 
 impl DefMap {
     /// What a path means, asked from a module.

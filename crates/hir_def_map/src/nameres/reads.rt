@@ -1,13 +1,13 @@
 //! What a def map says of itself, of its crate and of its modules.
 ghost use Rattle.std.specs.Prelude.{◌≡◌, ◌||◌, ◌&&◌, ◌<◌, Option, option_map, length, nat_lt, slice_get};
-ghost use Rattle.hir_def_map.specs.State.{at_name, crate_root, module_at, parent_at, root_of};
-ghost use Rattle.hir_def_map.specs.Reads.{containing_module, contains_module, feature_in, is_without_std};
+ghost use Rattle.hir_def_map_rules.specs.State.{at_name, crate_root, module_at, parent_at, root_of};
+ghost use Rattle.hir_def_map_rules.specs.Reads.{containing_module, contains_module, feature_in, is_without_std};
 
 use crate::nameres::DefMap;
-use crate::nameres::module_data::ModuleData;
 use hir_base::ast_id::BlockId;
 use hir_base::ids::{Crate, MapId, ModuleId};
 use hir_base::name::Name;
+use hir_def_map_rules::module_data::ModuleData;
 use std::collections::BTreeSet;
 use std::ops::{Index, IndexMut};
 
@@ -123,8 +123,8 @@ impl DefMap {
 /// A module by its id, on the condition that the map has it.
 impl Index<ModuleId> for DefMap {
     ghost use Rattle.std.specs.Prelude.{◌≡◌, true, Some};
-    ghost use Rattle.hir_def_map.specs.Reads.{contains_module};
-    ghost use Rattle.hir_def_map.specs.State.{module_at};
+    ghost use Rattle.hir_def_map_rules.specs.Reads.{contains_module};
+    ghost use Rattle.hir_def_map_rules.specs.State.{module_at};
 
     type Output = ModuleData;
 

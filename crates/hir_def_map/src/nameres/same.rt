@@ -1,6 +1,6 @@
 //! When two def maps are equal: part by part, and in each list entry by entry, in order.
 ghost use Rattle.std.specs.Prelude.{◌≡◌};
-ghost use Rattle.hir_def_map.specs.Equality.{same_def_map, same_items, same_macro_use, same_macros, same_prelude, same_preludes, same_reports};
+ghost use Rattle.hir_def_map_rules.specs.Equality.{same_def_map, same_items, same_macro_use, same_macros, same_prelude, same_preludes, same_reports};
 
 use crate::nameres::DefMap;
 use hir_base::ids::{ModuleId, UseId};
@@ -58,7 +58,7 @@ impl DefMap {
 
 impl PartialEq for DefMap {
     ghost use Rattle.std.specs.Cmp.{partial_equiv_from_equiv};
-    ghost use Rattle.hir_def_map.specs.Equality.{same_def_map_equiv};
+    ghost use Rattle.hir_def_map_rules.specs.Equality.{same_def_map_equiv};
 
     ghost eq = { same_def_map };
 
@@ -74,7 +74,7 @@ impl PartialEq for DefMap {
 }
 
 impl Eq for DefMap {
-    ghost use Rattle.hir_def_map.specs.Equality.{same_def_map_equiv};
+    ghost use Rattle.hir_def_map_rules.specs.Equality.{same_def_map_equiv};
 
     ghost laws = { same_def_map_equiv };
 }

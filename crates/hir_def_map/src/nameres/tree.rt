@@ -1,7 +1,7 @@
-//! Modules by their ids, and what lies above them.
+//! Modules by their ids, what lies above them, and enums with their variants.
 ghost use Rattle.std.specs.Prelude.{◌≡◌};
-ghost use Rattle.hir_def_map.specs.Ancestors.{leads_to_root, own_frame, parent_number, step_in};
-ghost use Rattle.hir_def_map.specs.References.{each_leads_to_root, has_its_parents, is_parent_in};
+ghost use Rattle.hir_def_map_rules.specs.Ancestors.{leads_to_root, own_frame, parent_number, step_in};
+ghost use Rattle.hir_def_map_rules.specs.References.{each_leads_to_root, has_its_variants, has_its_parents, is_parent_in};
 
 use crate::nameres::DefMap;
 use hir_base::ids::{MapId, ModuleId};
@@ -80,6 +80,21 @@ impl DefMap {
                 return false;
             }
             left = others;
+        }
+        true
+    }
+}
+
+impl DefMap {
+    /// Whether each enum has its own variants.
+    pub(crate) fn has_its_variants(&self) -> bool
+        ensures value { result ≡ has_its_variants self.now }
+    {
+        let mut left = self.enums.iter();
+        'each: while let Some((id, variants)) = left.next() {
+            if !variants.are_of(*id) {
+                return false;
+            }
         }
         true
     }

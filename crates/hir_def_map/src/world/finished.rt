@@ -1,8 +1,8 @@
 //! A finished map, and what a world keeps with it.
 
 use crate::nameres::DefMap;
-use crate::nameres::local_def_map::LocalDefMap;
 use hir_base::ids::{MapId, ModuleId};
+use hir_def_map_rules::local_def_map::LocalDefMap;
 use std::collections::BTreeSet;
 
 /// A finished map in its place.

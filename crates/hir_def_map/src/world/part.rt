@@ -3,16 +3,16 @@ ghost use Rattle.std.specs.Prelude.{◌≡◌, true, option_copied, option_map};
 ghost use Rattle.std.specs.List.{list_any};
 ghost use Rattle.hir_base.specs.contracts.ids.MapIdPartialEq.TheImpl as map_id;
 ghost use Rattle.hir_def_map.specs.WorldParts.{among, are_within, is_within, part_of};
-ghost use Rattle.hir_def_map.specs.Ancestors.{frames_of, head_of, holders_of_frame};
-ghost use Rattle.hir_def_map.specs.Overlay.{Placed, map_in};
+ghost use Rattle.hir_def_map_rules.specs.Ancestors.{frames_of, head_of, holders_of_frame};
+ghost use Rattle.hir_def_map_rules.specs.Overlay.{Placed, map_in};
 ghost use Rattle.hir_def_map.specs.World.{finished_in, placed_of};
 
 use crate::nameres::DefMap;
-use crate::nameres::local_def_map::LocalDefMap;
 use crate::world::World;
 use crate::world::finished::Finished;
 use hir_base::ids::{MapId, ModuleId};
 use hir_crate_graph::CrateSet;
+use hir_def_map_rules::local_def_map::LocalDefMap;
 
 /// The maps of a world that may be read: all, or those of some crates and those in which some modules lie that hold a
 /// block.
@@ -158,7 +158,7 @@ impl<'a> WorldPart<'a> {
     }
 
     /// The module that holds the block of a map.
-    #[tactic(auto, unfolding(crate::specs::Ancestors::frames_of))]
+    #[tactic(auto, unfolding(hir_def_map_rules::specs::Ancestors::frames_of))]
     pub fn holder(&self, id: MapId) -> Option<ModuleId>
         ensures value { result ≡ head_of (holders_of_frame (frames_of (part_of self.now) id)) }
     {

@@ -8,17 +8,17 @@ ghost use Rattle.std.specs.BTreeMap.{is_at};
 ghost use Rattle.hir_base.specs.contracts.ids.MapIdOrd.TheImpl as map_order;
 ghost use Rattle.hir_def_map.specs.Insertion.{Gains};
 ghost use Rattle.hir_def_map.specs.Inner.Recorded.{AreCovered, GainsOnly, IsRecordedFor, Records, is_left_out};
-ghost use Rattle.hir_def_map.specs.Inner.ReferenceLists.{any_listed, listed_besides, listed_in};
-ghost use Rattle.hir_def_map.specs.References.{any_own_crate, lies_in, test_crate, test_of};
+ghost use Rattle.hir_def_map_rules.specs.Inner.ReferenceLists.{any_listed, listed_besides, listed_in};
+ghost use Rattle.hir_def_map_rules.specs.References.{any_own_crate, lies_in, test_crate, test_of};
 
 use crate::nameres::DefMap;
-use crate::nameres::local_def_map::LocalDefMap;
-use crate::nameres::module_data::ModuleData;
 use crate::world::World;
-use crate::world::reference::Reference;
 use crate::world::references::{MapReferences, ModuleReferences};
 use hir_base::ids::{Crate, MapId};
 use hir_crate_graph::CrateSet;
+use hir_def_map_rules::local_def_map::LocalDefMap;
+use hir_def_map_rules::module_data::ModuleData;
+use hir_def_map_rules::reference::Reference;
 use std::alloc::AllocError;
 use std::collections::BTreeSet;
 

@@ -3,16 +3,16 @@
 //! A definition for which nothing has to be there, and a visibility that names no module, stand in a walk as `None`.
 ghost use Rattle.std.specs.Prelude.{◌≡◌, List, option_map};
 ghost use Rattle.std.specs.Iterator.{YieldsFirst, item_count};
-ghost use Rattle.hir_def_map.specs.Inner.ReferenceLists.{block_crate, references_besides, references_in, references_in_scope};
+ghost use Rattle.hir_def_map_rules.specs.Inner.ReferenceLists.{block_crate, references_besides, references_in, references_in_scope};
 
 use crate::nameres::DefMap;
-use crate::nameres::local_def_map::LocalDefMap;
-use crate::nameres::module_data::ModuleData;
-use crate::world::reference::{Reference, reference_to, visibility_reference};
 use hir_base::ids::{Crate, ExternCrateId, MapId, ModuleDefId, ModuleId, TraitId};
 use hir_base::macro_kind::MacroId;
 use hir_base::name::Name;
 use hir_crate_graph::Crates;
+use hir_def_map_rules::local_def_map::LocalDefMap;
+use hir_def_map_rules::module_data::ModuleData;
+use hir_def_map_rules::reference::{Reference, reference_to, visibility_reference};
 use hir_scope::imports::{ImportId, ImportOrExternCrate, ImportOrGlob};
 use hir_scope::item_scope::ItemScope;
 use hir_scope::item_scope::iter::bindings::Bindings;
@@ -38,8 +38,8 @@ pub(crate) struct ScopeReferences<'a> {
 
 impl<'a> Model for ScopeReferences<'a> {
     ghost use Rattle.std.specs.Prelude.{List, Option};
-    ghost use Rattle.hir_def_map.specs.declared.world.reference.Reference.{Reference};
-    ghost use Rattle.hir_def_map.specs.Inner.ReferenceLists.{scope_list};
+    ghost use Rattle.hir_def_map_rules.specs.declared.reference.Reference.{Reference};
+    ghost use Rattle.hir_def_map_rules.specs.Inner.ReferenceLists.{scope_list};
 
     ghost Value = { List (Option Reference) };
 
@@ -104,8 +104,8 @@ pub(crate) struct ModuleReferences<'a> {
 
 impl<'a> Model for ModuleReferences<'a> {
     ghost use Rattle.std.specs.Prelude.{List, Option};
-    ghost use Rattle.hir_def_map.specs.declared.world.reference.Reference.{Reference};
-    ghost use Rattle.hir_def_map.specs.Inner.ReferenceLists.{module_list};
+    ghost use Rattle.hir_def_map_rules.specs.declared.reference.Reference.{Reference};
+    ghost use Rattle.hir_def_map_rules.specs.Inner.ReferenceLists.{module_list};
 
     ghost Value = { List (Option Reference) };
 
@@ -159,8 +159,8 @@ pub(crate) struct MapReferences<'a> {
 
 impl<'a> Model for MapReferences<'a> {
     ghost use Rattle.std.specs.Prelude.{List, Option};
-    ghost use Rattle.hir_def_map.specs.declared.world.reference.Reference.{Reference};
-    ghost use Rattle.hir_def_map.specs.Inner.ReferenceLists.{besides_list};
+    ghost use Rattle.hir_def_map_rules.specs.declared.reference.Reference.{Reference};
+    ghost use Rattle.hir_def_map_rules.specs.Inner.ReferenceLists.{besides_list};
 
     ghost Value = { List (Option Reference) };
 

@@ -2,19 +2,19 @@
 //! variants are their enum's.
 ghost use Rattle.std.specs.Prelude.{◌≡◌, is_some};
 ghost use Rattle.std.specs.List.{list_any};
-ghost use Rattle.hir_def_map.specs.Overlay.{overlay, module_in, variants_in};
+ghost use Rattle.hir_def_map_rules.specs.Overlay.{overlay, module_in, variants_in};
 ghost use Rattle.hir_def_map.specs.World.{finished_in};
-ghost use Rattle.hir_def_map.specs.Inner.ReferenceLists.{any_listed, listed_besides, listed_in};
+ghost use Rattle.hir_def_map_rules.specs.Inner.ReferenceLists.{any_listed, listed_besides, listed_in};
 ghost use Rattle.hir_def_map.specs.Insertion.{may_join};
-ghost use Rattle.hir_def_map.specs.References.{any_reference, is_holder_for, is_missing, is_well_formed, test_of};
+ghost use Rattle.hir_def_map_rules.specs.References.{any_reference, is_holder_for, is_missing, is_well_formed, test_of};
 
 use crate::nameres::DefMap;
-use crate::nameres::local_def_map::LocalDefMap;
-use crate::nameres::module_data::ModuleData;
 use crate::world::World;
-use crate::world::reference::Reference;
 use crate::world::references::{MapReferences, ModuleReferences};
 use hir_base::ids::{EnumId, MapId, ModuleId};
+use hir_def_map_rules::local_def_map::LocalDefMap;
+use hir_def_map_rules::module_data::ModuleData;
+use hir_def_map_rules::reference::Reference;
 
 impl World {
     /// Whether a module is there, in a finished map or in the current one.

@@ -1,10 +1,10 @@
 -- What is queued, and what is settled?
 use Rattle.std.specs.Prelude.{◌≡◌, ℕ, ◌<◌, ◌≤◌, Bool, true, false, List, [], ◌∷◌, ◌++◌, Option, None, Some, length, slice_get, cond}
 use Rattle.std.specs.declared.cmp.Ordering.{Ordering}
-use Rattle.hir_def_map.specs.Overlay.{Maps}
-use Rattle.hir_def_map.specs.Reaches.{by_import}
+use Rattle.hir_def_map_rules.specs.Overlay.{Maps}
+use Rattle.hir_def_map_rules.specs.Reaches.{by_import}
 use Rattle.hir_def_map.specs.Scoping.Slots.{reads}
-use Rattle.hir_def_map.specs.State.{numbered}
+use Rattle.hir_def_map_rules.specs.State.{numbered}
 use Rattle.hir_def_map.specs.declared.nameres.path_resolution.slots.Slot.{Slot as PathSlot}
 use Rattle.hir_def_map.specs.contracts.nameres.path_resolution.slots.SlotOrd.TheImpl as slot_order
 use Rattle.hir_def_map_laws.specs.SlotChanges.{ScopesChangeAmong}

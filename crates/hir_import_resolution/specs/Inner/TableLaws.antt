@@ -16,7 +16,7 @@ use Rattle.hir_scope.specs.declared.imports.ImportOrGlob.{ImportOrGlob}
 use Rattle.hir_scope.specs.declared.item_in_ns.ItemInNs.{ItemInNs}
 use Rattle.hir_scope.specs.declared.item_in_ns.ItemInNs.TheVariants as in_ns
 use Rattle.hir_scope.specs.declared.visibility.Visibility.{Visibility}
-use Rattle.hir_def_map.specs.State.{ModuleValue, module_at, place_at, with_scope}
+use Rattle.hir_def_map_rules.specs.State.{ModuleValue, module_at, place_at, with_scope}
 use Rattle.hir_glob_imports.specs.Keys.{slot_at}
 use Rattle.hir_glob_imports.specs.View.{Binds, IsNameTable, with_vis}
 use Rattle.hir_glob_imports.specs.declared.edge.Bound.{Bound}

@@ -10,11 +10,11 @@ use Rattle.hir_scope.specs.Globs.{GlobNames}
 use Rattle.hir_scope.specs.Scope.{ScopeValue}
 use Rattle.hir_scope.specs.Visibility.{greater_of, is_visible, lesser_of}
 use Rattle.hir_scope.specs.declared.visibility.Visibility.{Visibility}
-use Rattle.hir_def_map.specs.Ancestors.{Frame, above_by, above_in, frame_of, frames_of, holders_by, holders_in}
-use Rattle.hir_def_map.specs.Overlay.{Maps, Placed, entry_in, holders_or, holders_under, module_in, overlay, placed_in, variants_in}
-use Rattle.hir_def_map.specs.Scoping.Segments.{variant_in}
-use Rattle.hir_def_map.specs.State.{Map, ModuleValue, Variants, at_name, changed_at, entry_of, module_at, numbered, variants_at, with_module_scope, with_scope}
-use Rattle.hir_def_map.proofs.Grown.{frame_of-changed}
+use Rattle.hir_def_map_rules.specs.Ancestors.{Frame, above_by, above_in, frame_of, frames_of, holders_by, holders_in}
+use Rattle.hir_def_map_rules.specs.Overlay.{Maps, Placed, entry_in, holders_or, holders_under, module_in, overlay, placed_in, variants_in}
+use Rattle.hir_def_map_rules.specs.Scoping.Segments.{variant_in}
+use Rattle.hir_def_map_rules.specs.State.{Map, ModuleValue, Variants, at_name, changed_at, entry_of, module_at, numbered, variants_at, with_module_scope, with_scope}
+use Rattle.hir_def_map_rules.proofs.Grown.{frame_of-changed}
 use Rattle.hir_def_map_laws.specs.ReadLaw.{DiffersInScopes}
 use Rattle.hir_glob_imports.specs.Keys.{is_slot, same_slot, slot_at}
 use Rattle.hir_glob_imports.specs.View.{ChangesOnly, bound_in}

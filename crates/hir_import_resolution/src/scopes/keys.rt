@@ -1,6 +1,6 @@
 //! The keys at which something is bound, in the order in which a glob brings it.
 ghost use Rattle.std.specs.Prelude.{◌≡◌, ◌++◌, IfOk, OnOk, option_copied, option_map};
-ghost use Rattle.hir_def_map.specs.Overlay.{overlay, variants_in};
+ghost use Rattle.hir_def_map_rules.specs.Overlay.{overlay, variants_in};
 ghost use Rattle.hir_def_map.specs.WorldParts.{part_of};
 ghost use Rattle.hir_import_resolution.specs.KeyLists.{enum_keys, has_namespace, key_in, keys_among, keys_in, keys_of, name_keys, scope_in, scope_keys, trait_key, trait_keys, traits_in, variant_keys};
 ghost use Rattle.hir_import_resolution.specs.Scopes.{value_of};

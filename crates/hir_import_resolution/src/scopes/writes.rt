@@ -1,8 +1,8 @@
 //! The names of a map that is built, as its imports read and write them.
 ghost use Rattle.std.specs.Prelude.{◌≡◌, OnOk, Some};
 ghost use Rattle.hir_def_map.specs.DefMaps.{maps_of};
-ghost use Rattle.hir_def_map.specs.Overlay.{overlay};
-ghost use Rattle.hir_def_map.specs.State.{globs_after, module_at, numbered, pushed, with_scope};
+ghost use Rattle.hir_def_map_rules.specs.Overlay.{overlay};
+ghost use Rattle.hir_def_map_rules.specs.State.{globs_after, module_at, numbered, pushed, with_scope};
 ghost use Rattle.hir_def_map.specs.WorldParts.{part_of};
 ghost use Rattle.hir_import_resolution.specs.Changes.{kept_vis};
 ghost use Rattle.hir_import_resolution.specs.Names.{trait_vis, with_trait};

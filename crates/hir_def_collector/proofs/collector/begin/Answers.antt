@@ -7,19 +7,19 @@ use Rattle.hir_tables.specs.SourcePlaces.{source_value}
 use Rattle.hir_tables.specs.Tables.{source_of}
 use Rattle.hir_tables.proofs.Growth.{KeepsTables-trans}
 use Rattle.hir_scope.specs.declared.visibility.Visibility.TheVariants as visibilities
-use Rattle.hir_def_map.specs.State.{IsInOrder, new_module}
+use Rattle.hir_def_map_rules.specs.State.{IsInOrder, new_module}
 use Rattle.hir_def_map.specs.WorldParts.{part_of}
-use Rattle.hir_def_collector.specs.Workspace.{ConfigValue, Workspace, config_view, crate_in}
-use Rattle.hir_def_collector.specs.Keys.{environment, source_in}
-use Rattle.hir_def_collector.specs.Start.{core_of, is_proc_macro_by, krate_of, origin_of, root_site, tree_key, tree_visits}
-use Rattle.hir_def_collector.specs.State.{Core, State, at_rest, core_in, joined}
-use Rattle.hir_def_collector.specs.Steps.{Steps, none}
-use Rattle.hir_def_collector.specs.Derivation.{IsSpent}
-use Rattle.hir_def_collector.proofs.InOrder.{root_in_order}
+use Rattle.hir_collector_rules.specs.Workspace.{ConfigValue, Workspace, config_view, crate_in}
+use Rattle.hir_collector_rules.specs.Keys.{environment, source_in}
+use Rattle.hir_collector_rules.specs.Start.{core_of, is_proc_macro_by, krate_of, origin_of, root_site, tree_key, tree_visits}
+use Rattle.hir_collector_rules.specs.State.{Core, State, at_rest, core_in, joined}
+use Rattle.hir_collector_rules.specs.Steps.{Steps, none}
+use Rattle.hir_collector_rules.specs.Derivation.{IsSpent}
+use Rattle.hir_collector_state.proofs.InOrder.{root_in_order}
 use Rattle.hir_def_collector.proofs.Begun.{begun_absent, begun_grown, none_there, nothing_there, some_there}
-use Rattle.hir_def_collector.proofs.Numbers.{tables_stay}
+use Rattle.hir_collector_rules.proofs.Numbers.{tables_stay}
 use Rattle.hir_def_collector.proofs.Ready.{ready_start}
-use Rattle.hir_def_collector.proofs.Rootless.{ready_empty, rests_empty, root_there}
+use Rattle.hir_mod_collector.proofs.Rootless.{ready_empty, rests_empty, root_there}
 use Rattle.hir_def_collector.proofs.collector.begin.Goals as goal
 
 pub returns-then-is_none-clause-ok : goal.returns-then-is_none-clause-ok

@@ -7,21 +7,21 @@ use Rattle.hir_tables.specs.SourcePlaces.{source_value}
 use Rattle.hir_tables.specs.Tables.{source_of}
 use Rattle.hir_tables.proofs.Growth.{KeepsTables-trans}
 use Rattle.hir_def_map.specs.WorldParts.{among, part_of}
-use Rattle.hir_def_map.specs.References.{crate_map}
+use Rattle.hir_def_map_rules.specs.References.{crate_map}
 use Rattle.hir_def_map.specs.World.{finished_in}
-use Rattle.hir_def_collector.specs.CallMoves.{ComesToRest}
-use Rattle.hir_def_collector.specs.Derivation.{IsSpent, collected_view}
-use Rattle.hir_def_collector.specs.Keys.{environment}
-use Rattle.hir_def_collector.specs.Moves.{OnceGrown}
-use Rattle.hir_def_collector.specs.Start.{began, beginning, id_of, krate_of}
-use Rattle.hir_def_collector.specs.State.{at_rest, core_in}
-use Rattle.hir_def_collector.specs.Steps.{Steps, none}
-use Rattle.hir_def_collector.specs.Workspace.{Workspace, transitive_dependencies_in}
+use Rattle.hir_collector_rules.specs.CallMoves.{ComesToRest}
+use Rattle.hir_collector_rules.specs.Derivation.{IsSpent, collected_view}
+use Rattle.hir_collector_rules.specs.Keys.{environment}
+use Rattle.hir_collector_rules.specs.Moves.{OnceGrown}
+use Rattle.hir_collector_rules.specs.Start.{began, beginning, id_of, krate_of}
+use Rattle.hir_collector_rules.specs.State.{at_rest, core_in}
+use Rattle.hir_collector_rules.specs.Steps.{Steps, none}
+use Rattle.hir_collector_rules.specs.Workspace.{Workspace, transitive_dependencies_in}
 use Rattle.hir_def_collector.proofs.Begun.{none_there, some_there}
-use Rattle.hir_def_collector.proofs.Changes.{id-Steps}
-use Rattle.hir_def_collector.proofs.Derived.{begun, depends_on, ends_from}
-use Rattle.hir_def_collector.proofs.Moves.{spent_after}
-use Rattle.hir_def_collector.proofs.Numbers.{tables_stay}
+use Rattle.hir_collector_rules.proofs.Changes.{id-Steps}
+use Rattle.hir_collector_rules.proofs.Derived.{begun, depends_on, ends_from}
+use Rattle.hir_collector_rules.proofs.Moves.{spent_after}
+use Rattle.hir_collector_rules.proofs.Numbers.{tables_stay}
 use Rattle.hir_def_collector.proofs.Resolved.{apart, apart_for, no_map}
 use Rattle.hir_def_collector.proofs.collector.collect_defs.Goals as goal
 

@@ -10,16 +10,16 @@ use Rattle.hir_item_tree.specs.Rows.{items_at, numbers_of}
 use Rattle.hir_item_tree.specs.declared.rows.ModItemId.{ModItemId}
 use Rattle.hir_mod_dir.specs.Directory.{Directory}
 use Rattle.hir_def_map.specs.WorldParts.{part_of}
-use Rattle.hir_def_collector.specs.Keys.{environment}
-use Rattle.hir_def_collector.specs.ModuleFiles.{IsFileMeant, file_of_tree}
-use Rattle.hir_def_collector.specs.Moves.{Walks, WalksTooFar}
-use Rattle.hir_def_collector.specs.Start.{root_site}
-use Rattle.hir_def_collector.specs.TreeReads.{visits_at}
-use Rattle.hir_def_collector.proofs.Numbers.{tables_stay}
-use Rattle.hir_def_collector.proofs.Meaning.{root_meant}
-use Rattle.hir_def_collector.proofs.Walked.{spent_present, walks_disabled, walks_present}
+use Rattle.hir_collector_rules.specs.Keys.{environment}
+use Rattle.hir_collector_rules.specs.ModuleFiles.{IsFileMeant, file_of_tree}
+use Rattle.hir_collector_rules.specs.Moves.{Walks, WalksTooFar}
+use Rattle.hir_collector_rules.specs.Start.{root_site}
+use Rattle.hir_collector_rules.specs.TreeReads.{visits_at}
+use Rattle.hir_collector_rules.proofs.Numbers.{tables_stay}
+use Rattle.hir_collector_rules.proofs.Meaning.{root_meant}
+use Rattle.hir_mod_collector.proofs.Walked.{spent_present, walks_disabled, walks_present}
 use Rattle.hir_def_collector.proofs.collector.walk_root.Goals as goal
-use Rattle.hir_def_collector.specs.State.{core_in}
+use Rattle.hir_collector_rules.specs.State.{core_in}
 
 pub returns-then-not-is_enabled_at_top-clause-kept : goal.returns-then-not-is_enabled_at_top-clause-kept
 returns-then-not-is_enabled_at_top-clause-kept g c = tables_stay c.args.locations.now

@@ -1,6 +1,6 @@
 use Rattle.std.proofs.Common.{◌≡◌, length}
 use Rattle.hir_crate_graph.specs.Dependencies.{AreTransitive}
-use Rattle.hir_def_collector.specs.Workspace.{direct_by}
+use Rattle.hir_collector_rules.specs.Workspace.{direct_by}
 use Rattle.hir_def_collector_tests.specs.Crates.{config_in}
 use Rattle.hir_def_collector_tests.proofs.collector.transitive.Given as goal
 

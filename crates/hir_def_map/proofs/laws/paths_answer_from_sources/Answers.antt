@@ -1,5 +1,5 @@
 -- Each place where a path looks has only what is written where the maps bind.
-use Rattle.hir_def_map.proofs.Sourced.{paths_from_sources}
+use Rattle.hir_def_map_rules.proofs.Sourced.{paths_from_sources}
 use Rattle.hir_def_map.proofs.laws.paths_answer_from_sources.Goals as goal
 
 pub returns : goal.returns

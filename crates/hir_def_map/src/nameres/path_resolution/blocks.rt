@@ -2,56 +2,16 @@
 ghost use Rattle.std.specs.Prelude.{◌≡◌};
 ghost use Rattle.hir_def_map.specs.DefMaps.{maps_of};
 ghost use Rattle.hir_def_map.specs.Scoping.Query.{asking_of};
-ghost use Rattle.hir_def_map.specs.Scoping.Blocks.{either_reached, from_blocks, in_preludes, joined, later_stop, with_preludes};
+ghost use Rattle.hir_def_map_rules.specs.Scoping.Blocks.{from_blocks, in_preludes, joined, with_preludes};
 
 use crate::nameres::path_resolution::first_segment::is_block_root;
 use crate::nameres::path_resolution::query::Query;
 use crate::nameres::path_resolution::start::is_import;
-use crate::nameres::path_resolution::{
-    ReachedFixedPoint, ResolvePathResult, ResolvePathResultPrefixInfo,
-};
+use crate::nameres::path_resolution::{ReachedFixedPoint, ResolvePathResult};
 use crate::nameres::reads::crate_root;
 use hir_base::ids::ModuleId;
 use hir_base::mod_path::PathKind;
 use hir_base::name::Name;
-
-/// The later of two stops, or the one that is there.
-fn later_stop(one: Option<usize>, other: Option<usize>) -> Option<usize>
-    ensures value { result ≡ later_stop one other }
-{
-    match (one, other) {
-        (Some(one), Some(other)) => Some(one.max(other)),
-        (Some(one), None) => Some(one),
-        (None, other) => other,
-    }
-}
-
-fn either_reached(one: ReachedFixedPoint, other: ReachedFixedPoint) -> ReachedFixedPoint
-    ensures value { result ≡ either_reached one other }
-{
-    match one {
-        ReachedFixedPoint::Yes => one,
-        ReachedFixedPoint::No => other,
-    }
-}
-
-impl ResolvePathResult {
-    /// An answer, and what another has besides.
-    fn joined(self, other: ResolvePathResult) -> ResolvePathResult
-        ensures value { result ≡ joined self other }
-    {
-        ResolvePathResult {
-            resolved_def: self.resolved_def.or(other.resolved_def),
-            segment_index: later_stop(self.segment_index, other.segment_index),
-            reached_fixedpoint: either_reached(self.reached_fixedpoint, other.reached_fixedpoint),
-            prefix_info: ResolvePathResultPrefixInfo {
-                differing_crate: self.prefix_info.differing_crate
-                    || other.prefix_info.differing_crate,
-                enum_variant: self.prefix_info.enum_variant || other.prefix_info.enum_variant,
-            },
-        }
-    }
-}
 
 impl Query<'_> {
     /// A path in the preludes of a crate, asked from its root.
@@ -103,7 +63,7 @@ impl Query<'_> {
     }
 
     /// A path, its root and its segments apart; a block's root has what its holder has too.
-    #[tactic(auto, using(crate::proofs::Blocks::stops))]
+    #[tactic(auto, using(hir_def_map_rules::proofs::Blocks::stops))]
     pub fn resolve(&self, from: ModuleId, kind: PathKind, segments: &[Name]) -> ResolvePathResult
         ensures value { result ≡ from_blocks (maps_of self.now.maps) (asking_of self.now) from kind segments.now }
     {

@@ -2,7 +2,7 @@
 ghost use Rattle.std.specs.Prelude.{◌≡◌};
 ghost use Rattle.hir_def_map.specs.DefMaps.{maps_of};
 ghost use Rattle.hir_def_map.specs.Scoping.Query.{asking_of};
-ghost use Rattle.hir_def_map.specs.Scoping.FirstSegment.{builtin_name, extern_name, fits, is_block_root, keep_fitting, legacy_name, macro_use_name, name_in_module, name_in_preludes, name_in_crate_root_or_extern_prelude, names_module, of_style, prelude_name, scope_name, shadow_before, unless_block_root, with_builtin};
+ghost use Rattle.hir_def_map_rules.specs.Scoping.FirstSegment.{builtin_name, extern_name, fits, is_block_root, keep_fitting, legacy_name, macro_use_name, name_in_module, name_in_preludes, name_in_crate_root_or_extern_prelude, names_module, of_style, prelude_name, scope_name, shadow_before, unless_block_root, with_builtin};
 
 use crate::nameres::path_resolution::query::Query;
 use crate::nameres::path_resolution::{BuiltinShadowMode, MacroSubNs};
@@ -62,7 +62,7 @@ pub fn is_block_root(at: ModuleId) -> bool
 }
 
 /// The builtin type of a name; the map of a block has none.
-#[tactic(auto, unfolding(crate::specs::Scoping::FirstSegment::builtin_name))]
+#[tactic(auto, unfolding(hir_def_map_rules::specs::Scoping::FirstSegment::builtin_name))]
 fn builtin_name(at: ModuleId, name: &Name) -> PerNs
     ensures value { result ≡ builtin_name at name.now }
 {

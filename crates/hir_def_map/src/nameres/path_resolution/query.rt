@@ -1,8 +1,8 @@
 //! How a path is asked for.
 
 use crate::def_maps::DefMaps;
-use crate::nameres::local_def_map::LocalDefMap;
 use crate::nameres::path_resolution::{BuiltinShadowMode, MacroSubNs, ResolveMode};
+use hir_def_map_rules::local_def_map::LocalDefMap;
 
 /// The maps, the crates that a path may begin with, and how it is asked for.
 #[derive(Clone, Copy)]

@@ -1,83 +1,21 @@
 //! The further segments of a path.
-ghost use Rattle.std.specs.Prelude.{◌≡◌, ℕ, ◌+◌, ◌<◌, ◌^◌, length, cond};
+ghost use Rattle.std.specs.Prelude.{◌≡◌, ℕ, ◌+◌, ◌<◌, ◌^◌, length};
 ghost use Rattle.hir_scope.specs.PerNs.{keep_item};
 ghost use Rattle.hir_scope.specs.Visibility.{is_visible};
-ghost use Rattle.hir_def_map.specs.Ancestors.{above_in, holders_in};
+ghost use Rattle.hir_def_map_rules.specs.Ancestors.{above_in, holders_in};
 ghost use Rattle.hir_def_map.specs.DefMaps.{maps_of};
-ghost use Rattle.hir_def_map.specs.Scoping.Segments.{after_enum, after_variant, crossing, nearest_non_block_module, resolved, rest, seen, stopped, through_adt, unresolved, variant_bound};
+ghost use Rattle.hir_def_map_rules.specs.Scoping.Segments.{after_enum, after_variant, nearest_non_block_module, resolved, rest, seen, stopped, through_adt, unresolved, variant_bound};
 
 use crate::def_maps::DefMaps;
-use crate::nameres::enum_variants::EnumVariant;
 use crate::nameres::path_resolution::first_segment::is_block_root;
 use crate::nameres::path_resolution::{
     ReachedFixedPoint, ResolvePathResult, ResolvePathResultPrefixInfo,
 };
 use hir_base::ids::{AdtId, ModuleDefId, ModuleId};
 use hir_base::name::Name;
+use hir_def_map_rules::enum_variants::EnumVariant;
 use hir_scope::per_ns::{Item, PerNs, TypesItem};
 use hir_scope::visibility::Visibility;
-
-/// The path led through modules of this crate alone.
-const OWN_CRATE: ResolvePathResultPrefixInfo = ResolvePathResultPrefixInfo {
-    differing_crate: false,
-    enum_variant: false,
-};
-
-impl ResolvePathResult {
-    /// The whole path was resolved.
-    fn resolved(items: PerNs) -> ResolvePathResult
-        ensures value { result ≡ resolved items }
-    {
-        ResolvePathResult {
-            resolved_def: items,
-            segment_index: None,
-            reached_fixedpoint: ReachedFixedPoint::Yes,
-            prefix_info: OWN_CRATE,
-        }
-    }
-
-    /// Nothing was found.
-    pub fn unresolved(reached: ReachedFixedPoint) -> ResolvePathResult
-        ensures value { result ≡ unresolved reached }
-    {
-        ResolvePathResult {
-            resolved_def: PerNs::none(),
-            segment_index: None,
-            reached_fixedpoint: reached,
-            prefix_info: OWN_CRATE,
-        }
-    }
-
-    /// The path stopped at a type, before the segment of this number.
-    fn stopped(segment: usize, item: TypesItem) -> ResolvePathResult
-        ensures value { result ≡ stopped segment item }
-    {
-        ResolvePathResult {
-            resolved_def: PerNs::types(item.def, item.vis, item.import),
-            segment_index: Some(segment),
-            reached_fixedpoint: ReachedFixedPoint::Yes,
-            prefix_info: OWN_CRATE,
-        }
-    }
-
-    /// The answer, where the path may have gone on in another crate.
-    fn after_crossing(self, has_crossed: bool) -> ResolvePathResult
-        ensures value { result ≡ cond has_crossed (crossing self) self }
-    {
-        if !has_crossed {
-            return self;
-        }
-        ResolvePathResult {
-            resolved_def: self.resolved_def,
-            segment_index: self.segment_index,
-            reached_fixedpoint: ReachedFixedPoint::Yes,
-            prefix_info: ResolvePathResultPrefixInfo {
-                differing_crate: true,
-                enum_variant: self.prefix_info.enum_variant,
-            },
-        }
-    }
-}
 
 /// A variant: a type, and a value where it has a constructor.
 fn variant_bound(vis: Visibility, variant: EnumVariant) -> PerNs
@@ -186,7 +124,7 @@ impl DefMaps<'_> {
     }
 
     /// The module, or the nearest of those that hold it that is no block's root.
-    #[tactic(auto, using(crate::proofs::Blocks::stops), unfolding(crate::specs::Scoping::Segments::nearest_non_block_module))]
+    #[tactic(auto, using(hir_def_map_rules::proofs::Blocks::stops), unfolding(hir_def_map_rules::specs::Scoping::Segments::nearest_non_block_module))]
     pub fn nearest_non_block_module(&self, module: ModuleId) -> ModuleId
         ensures value { result ≡ nearest_non_block_module (maps_of self.now) «module» }
     {

@@ -6,14 +6,13 @@
 ghost use Rattle.std.specs.Prelude.{◌≡◌, List, IfOk, option_copied};
 ghost use Rattle.std.specs.Iterator.{YieldsFirstBy, item_count};
 ghost use Rattle.hir_def_map.specs.DefMaps.{maps_of};
-ghost use Rattle.hir_def_map.specs.Overlay.{map_in};
-ghost use Rattle.hir_def_map.specs.Scoping.Asking.{local_of};
+ghost use Rattle.hir_def_map_rules.specs.Overlay.{map_in};
+ghost use Rattle.hir_def_map_rules.specs.Scoping.Asking.{local_of};
 ghost use Rattle.hir_def_map.specs.Scoping.Query.{asking_of};
 ghost use Rattle.hir_def_map.specs.Scoping.Slots.{before, further_slots, kept_in, module_among, prelude_module_of, slot_of, slots_from_crates, slots_from_module, slots_from_root, slots_of, with_prelude_slot, with_slot};
 ghost use Rattle.hir_def_map.specs.declared.nameres.path_resolution.slots.Slot.{Slot};
 
 use crate::def_maps::DefMaps;
-use crate::nameres::local_def_map::LocalDefMap;
 use crate::nameres::path_resolution::first_segment::shadow_before;
 use crate::nameres::path_resolution::query::Query;
 use crate::nameres::path_resolution::start::is_import;
@@ -22,6 +21,7 @@ use crate::nameres::reads::crate_root;
 use hir_base::ids::{ModuleDefId, ModuleId};
 use hir_base::mod_path::{ModPath, PathKind};
 use hir_base::name::Name;
+use hir_def_map_rules::local_def_map::LocalDefMap;
 use hir_scope::per_ns::TypesItem;
 use std::alloc::AllocError;
 use std::marker::Model;

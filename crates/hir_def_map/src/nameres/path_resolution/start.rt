@@ -2,7 +2,7 @@
 ghost use Rattle.std.specs.Prelude.{◌≡◌, ◌+◌, ◌<◌, ◌^◌, length};
 ghost use Rattle.hir_def_map.specs.DefMaps.{maps_of};
 ghost use Rattle.hir_def_map.specs.Scoping.Query.{asking_of};
-ghost use Rattle.hir_def_map.specs.Scoping.Start.{abs_from, climb, from_start, is_import, is_in_reach, module_bound, settled_in_block, super_from};
+ghost use Rattle.hir_def_map_rules.specs.Scoping.Start.{abs_from, climb, from_start, is_import, is_in_reach, module_bound, settled_in_block, super_from};
 
 use crate::def_maps::DefMaps;
 use crate::nameres::path_resolution::first_segment::{is_block_root, shadow_before};
@@ -53,7 +53,7 @@ impl DefMaps<'_> {
     }
 
     /// The module so many levels above, where there are as many; a block's root counts as the module that holds it.
-    #[tactic(auto, using(crate::proofs::Climb::climbs))]
+    #[tactic(auto, using(hir_def_map_rules::proofs::Climb::climbs))]
     pub fn climb(&self, levels: u8, from: ModuleId) -> Option<ModuleId>
         ensures value { result ≡ climb (maps_of self.now) levels from }
     {

@@ -1,7 +1,7 @@
 -- One slot less is left in each turn.
 use Rattle.std.proofs.Common.{◌≡◌, inl, subst, sym, rules, Some, List, [], ◌∷◌}
 use Rattle.std.specs.Prelude.{Contains}
-use Rattle.hir_def_map.specs.State.{module_at}
+use Rattle.hir_def_map_rules.specs.State.{module_at}
 use Rattle.hir_glob_imports.proofs.OfKind.{brought_listed}
 use Rattle.hir_glob_imports.specs.declared.edge.Bound.{Bound}
 use Rattle.hir_glob_imports.specs.declared.edge.Slot.{Slot}

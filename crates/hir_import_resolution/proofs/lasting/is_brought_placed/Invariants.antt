@@ -1,6 +1,6 @@
 use Rattle.std.proofs.Common.{◌≡◌, ◌⊎◌, Some}
 use Rattle.std.specs.Prelude.{Contains}
-use Rattle.hir_def_map.specs.State.{module_at}
+use Rattle.hir_def_map_rules.specs.State.{module_at}
 use Rattle.hir_glob_imports.specs.Waves.{brought_of}
 use Rattle.hir_glob_imports.specs.declared.edge.Bound.{Bound}
 use Rattle.hir_glob_imports.specs.declared.edge.Brought.{Brought}

@@ -1,7 +1,7 @@
 -- What is left behind the scope is in its module, where that is there.
 use Rattle.std.proofs.Common.{◌∙◌, ap, arith}
 use Rattle.hir_scope.specs.Scope.{ScopeValue}
-use Rattle.hir_def_map.specs.State.{with_scope}
+use Rattle.hir_def_map_rules.specs.State.{with_scope}
 use Rattle.hir_import_resolution.specs.Names.{redefined}
 use Rattle.hir_import_resolution.proofs.Lent.{scope_left, scope_past}
 use Rattle.hir_import_resolution.proofs.scopes.redefine_at.Goals as goal

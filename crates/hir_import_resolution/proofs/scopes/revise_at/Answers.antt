@@ -2,7 +2,7 @@
 use Rattle.std.proofs.Common.{◌≡◌, arith}
 use Rattle.hir_scope.specs.Scope.{ScopeValue}
 use Rattle.hir_scope.proofs.Pushes.{on_ok}
-use Rattle.hir_def_map.specs.State.{with_scope}
+use Rattle.hir_def_map_rules.specs.State.{with_scope}
 use Rattle.hir_import_resolution.specs.Names.{revised}
 use Rattle.hir_import_resolution.proofs.Lent.{scope_left, scope_past}
 use Rattle.hir_import_resolution.proofs.scopes.revise_at.Goals as goal

@@ -1,4 +1,4 @@
-use Rattle.hir_session.proofs.Histories as histories
+use Rattle.hir_session_machine.proofs.Histories as histories
 use Rattle.hir_session.proofs.laws.lines_begin_histories.Goals as goal
 
 pub returns : goal.returns

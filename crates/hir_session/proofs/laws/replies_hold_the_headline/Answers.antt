@@ -1,4 +1,4 @@
-use Rattle.hir_session.proofs.Headline.{headline}
+use Rattle.hir_session_machine.proofs.Headline.{headline}
 use Rattle.hir_session.proofs.laws.replies_hold_the_headline.Goals as goal
 
 pub returns : goal.returns

@@ -2,16 +2,17 @@
 use Rattle.std.proofs.Common.{rules, ◌≡◌, ◌∙◌, ◌≤◌, ◌<◌, Some, None, ap, refl, slice_get, subst, sym}
 use Rattle.hir_def_map.specs.WorldParts.{part_of}
 use Rattle.hir_def_collector.specs.declared.collector.calls.Due.TheVariants.{Derives, Drops, Nothing, Reaches, Skips, TooDeep}
-use Rattle.hir_def_collector.specs.declared.collector.macro_directive.Fate.TheVariants.{Handled, Waits}
-use Rattle.hir_def_collector.specs.CallMoves.{IsDueOf, handled, left}
-use Rattle.hir_def_collector.specs.Calls.{waiting_item}
-use Rattle.hir_def_collector.specs.Keys.{environment}
-use Rattle.hir_def_collector.specs.State.{Core, at_rest, core_in}
-use Rattle.hir_def_collector.specs.Steps.{IsDeep, drops_call, none}
-use Rattle.hir_def_collector.proofs.CallSteps.{dropped, past_rule}
-use Rattle.hir_def_collector.proofs.Lists.{get_inside, get_set_same}
+use Rattle.hir_collector_rules.specs.declared.macro_directive.Fate.TheVariants.{Handled, Waits}
+use Rattle.hir_collector_rules.specs.CallMoves.{handled, left}
+use Rattle.hir_def_collector.specs.Turns.{IsDueOf}
+use Rattle.hir_collector_rules.specs.Calls.{waiting_item}
+use Rattle.hir_collector_rules.specs.Keys.{environment}
+use Rattle.hir_collector_rules.specs.State.{Core, at_rest, core_in}
+use Rattle.hir_collector_rules.specs.Steps.{IsDeep, drops_call, none}
+use Rattle.hir_collector_items.proofs.CallSteps.{dropped, past_rule}
+use Rattle.hir_collector_rules.proofs.Lists.{get_inside, get_set_same}
 use Rattle.hir_def_collector.proofs.GivingUp.{has_impl, nothing_due}
-use Rattle.hir_def_collector.proofs.Noted.{noted_beside, noted_itself}
+use Rattle.hir_collector_state.proofs.Noted.{noted_beside, noted_itself}
 use Rattle.hir_def_collector.proofs.collector.calls.do_due.Goals as goal
 
 -- nothing is

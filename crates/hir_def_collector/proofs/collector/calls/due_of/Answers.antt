@@ -1,10 +1,10 @@
 -- An attribute that is inert by now, and what reaches a macro without an expansion.
 use Rattle.std.proofs.Common.{◌≡◌, ◌∙◌, true, sym}
 use Rattle.hir_def_map.specs.WorldParts.{part_of}
-use Rattle.hir_def_collector.specs.Calls.{is_inert_now}
-use Rattle.hir_def_collector.specs.CallMoves.{FindsBuiltin}
-use Rattle.hir_def_collector.specs.State.{core_in}
-use Rattle.hir_def_collector.specs.Steps.{by_helper}
+use Rattle.hir_collector_rules.specs.Calls.{is_inert_now}
+use Rattle.hir_collector_rules.specs.CallMoves.{FindsBuiltin}
+use Rattle.hir_collector_rules.specs.State.{core_in}
+use Rattle.hir_collector_rules.specs.Steps.{by_helper}
 use Rattle.hir_def_collector.proofs.GivingUp.{due_builtin, inert_item}
 use Rattle.hir_def_collector.proofs.collector.calls.due_of.Goals as goal
 

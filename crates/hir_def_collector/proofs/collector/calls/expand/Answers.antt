@@ -9,11 +9,11 @@ use Rattle.hir_item_tree.specs.SourceTree.{SourceTreeValue}
 use Rattle.hir_item_tree.specs.declared.rows.ModItemId.{ModItemId}
 use Rattle.hir_tables.proofs.Growth.{KeepsTables-trans}
 use Rattle.hir_def_map.specs.WorldParts.{part_of}
-use Rattle.hir_def_collector.specs.Moves.{OnceGrown, Walks, WalksTooFar}
-use Rattle.hir_def_collector.specs.State.{core_in}
-use Rattle.hir_def_collector.specs.TreeReads.{visits_at}
-use Rattle.hir_def_collector.proofs.CallSteps.{expanded_and_walked, expanded_too_far, handled_at_last, past_reported, site_inside, site_meant, spent_by_numbers}
-use Rattle.hir_def_collector.proofs.Noted.{beside_follow, noted_beside, noted_follow}
+use Rattle.hir_collector_rules.specs.Moves.{OnceGrown, Walks, WalksTooFar}
+use Rattle.hir_collector_rules.specs.State.{core_in}
+use Rattle.hir_collector_rules.specs.TreeReads.{visits_at}
+use Rattle.hir_collector_items.proofs.CallSteps.{expanded_and_walked, expanded_too_far, handled_at_last, past_reported, site_inside, site_meant, spent_by_numbers}
+use Rattle.hir_collector_state.proofs.Noted.{beside_follow, noted_beside, noted_follow}
 use Rattle.hir_def_collector.proofs.collector.calls.expand.Goals as goal
 
 pub look_at_call-requires : goal.look_at_call-requires

@@ -8,16 +8,16 @@ use Rattle.hir_tables.specs.Interning.{Interns}
 use Rattle.hir_tables.specs.SourcePlaces.{expansion_value}
 use Rattle.hir_tables.specs.Tables.{TablesValue}
 use Rattle.hir_tables.proofs.Growth.{KeepsTables-trans}
-use Rattle.hir_def_map.specs.State.{Map}
+use Rattle.hir_def_map_rules.specs.State.{Map}
 use Rattle.hir_def_map.specs.WorldParts.{part_of}
-use Rattle.hir_def_collector.specs.declared.source_database.Key.TheVariants as keys
-use Rattle.hir_def_collector.specs.Calls.{AreCallsPlaced, Expanding, call_key, call_style, expansion_of_call}
-use Rattle.hir_def_collector.specs.Keys.{input_at, source_in}
-use Rattle.hir_def_collector.specs.State.{Core, core_in, with_asked}
-use Rattle.hir_def_collector.specs.Workspace.{Workspace, entry_look, seen_of}
-use Rattle.hir_def_collector.proofs.CallPlaces.{placed_grown}
+use Rattle.hir_collector_rules.specs.declared.source_database.Key.TheVariants as keys
+use Rattle.hir_collector_rules.specs.Calls.{AreCallsPlaced, Expanding, call_key, call_style, expansion_of_call}
+use Rattle.hir_collector_rules.specs.Keys.{input_at, source_in}
+use Rattle.hir_collector_rules.specs.State.{Core, core_in, with_asked}
+use Rattle.hir_collector_rules.specs.Workspace.{Workspace, entry_look, seen_of}
+use Rattle.hir_mod_collector.proofs.CallPlaces.{placed_grown}
 use Rattle.hir_def_collector.proofs.Looking.{asked_all, placed_call, sees_call}
-use Rattle.hir_def_collector.proofs.Noted.{noted_follow}
+use Rattle.hir_collector_state.proofs.Noted.{noted_follow}
 use Rattle.hir_def_collector.proofs.collector.calls.look_at_call.Goals as goal
 
 pub returns-in_err-id-clause-placed : goal.returns-in_err-id-clause-placed

@@ -3,8 +3,8 @@ use Rattle.std.proofs.Common.{◌≡◌, ◌∙◌, ◌≤◌, ap, refl, sym, su
 use Rattle.hir_def_map.specs.WorldParts.{part_of}
 use Rattle.hir_worklist.specs.Queue.{count_of}
 use Rattle.hir_call_queue.specs.Waking.{is_apart, worklist_of}
-use Rattle.hir_def_collector.specs.State.{Core, core_in}
-use Rattle.hir_def_collector.specs.Waiting.{IsUpToDate}
+use Rattle.hir_collector_rules.specs.State.{Core, core_in}
+use Rattle.hir_collector_rules.specs.Waiting.{IsUpToDate}
 use Rattle.hir_def_collector.proofs.Waiting.{apart_later, up_to_date_again, up_to_date_appended}
 use Rattle.hir_def_collector.proofs.collector.calls.requeue.Goals as goal
 

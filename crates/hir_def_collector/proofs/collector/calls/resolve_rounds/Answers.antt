@@ -2,26 +2,27 @@
 use Rattle.std.proofs.Common.{rules, ◌≡◌, ◌∙◌, ◌<◌, ap, length, refl, subst, sym, false, arith}
 use Rattle.hir_base.specs.declared.ids.MapId.{MapId}
 use Rattle.hir_tables.proofs.Growth.{KeepsTables-trans}
-use Rattle.hir_def_map.specs.Overlay.{Maps}
+use Rattle.hir_def_map_rules.specs.Overlay.{Maps}
 use Rattle.hir_def_map.specs.WorldParts.{part_of}
 use Rattle.hir_worklist.specs.Queue.{Queue}
 use Rattle.hir_import_resolution.specs.Inner.State.{IsApart}
 use Rattle.hir_import_resolution.specs.Rounds.{is_lasting}
 use Rattle.hir_call_queue.specs.Changes.{joined}
 use Rattle.hir_def_collector.specs.declared.collector.calls.Turn.{Turn}
-use Rattle.hir_def_collector.specs.CallMoves.{ComesToRest, EndsInRound, NoneWaitsBefore, TakesTurn, cut_off, rested}
-use Rattle.hir_def_collector.specs.Derivation.{IsSpent}
-use Rattle.hir_def_collector.specs.Keys.{Environment, environment}
-use Rattle.hir_def_collector.specs.Moves.{OnceGrown}
-use Rattle.hir_def_collector.specs.Rounds as rounds
-use Rattle.hir_def_collector.specs.State.{Core, at_rest, core_in}
-use Rattle.hir_def_collector.specs.Steps as steps
-use Rattle.hir_def_collector.specs.Steps.{Steps}
-use Rattle.hir_def_collector.specs.Workspace.{Workspace}
-use Rattle.hir_def_collector.proofs.Moves.{Steps-append, spent_after}
-use Rattle.hir_def_collector.proofs.Numbers.{tables_stay}
+use Rattle.hir_collector_rules.specs.CallMoves.{ComesToRest, EndsInRound, NoneWaitsBefore, cut_off, rested}
+use Rattle.hir_def_collector.specs.Turns.{TakesTurn}
+use Rattle.hir_collector_rules.specs.Derivation.{IsSpent}
+use Rattle.hir_collector_rules.specs.Keys.{Environment, environment}
+use Rattle.hir_collector_rules.specs.Moves.{OnceGrown}
+use Rattle.hir_collector_rules.specs.Rounds as rounds
+use Rattle.hir_collector_rules.specs.State.{Core, at_rest, core_in}
+use Rattle.hir_collector_rules.specs.Steps as steps
+use Rattle.hir_collector_rules.specs.Steps.{Steps}
+use Rattle.hir_collector_rules.specs.Workspace.{Workspace}
+use Rattle.hir_collector_rules.proofs.Moves.{Steps-append, spent_after}
+use Rattle.hir_collector_rules.proofs.Numbers.{tables_stay}
 use Rattle.hir_def_collector.proofs.Ready.{ready_after, ready_grown}
-use Rattle.hir_def_collector.proofs.Changes.{id-Steps}
+use Rattle.hir_collector_rules.proofs.Changes.{id-Steps}
 use Rattle.hir_def_collector.proofs.Queued.{has_rounds_steps, rounds_next, rounds_then}
 use Rattle.hir_def_collector.proofs.Resuming.{behind_first}
 use Rattle.hir_def_collector.proofs.Waiting.{stale_now, up_to_date_first}

@@ -4,12 +4,12 @@ use Rattle.hir_def_map.specs.WorldParts.{part_of}
 use Rattle.hir_import_resolution.specs.Rounds.{is_apart as are_apart, is_lasting}
 use Rattle.hir_call_queue.specs.Changes.{joined}
 use Rattle.hir_call_queue.specs.Waking.{is_apart}
-use Rattle.hir_def_collector.specs.CallMoves.{IsReady, NoneWaitsBefore}
-use Rattle.hir_def_collector.specs.declared.collector.TheConstants.{STEP_LIMIT}
-use Rattle.hir_def_collector.specs.Calls.{AreCallsPlaced}
-use Rattle.hir_def_collector.specs.Moves.{OnceGrown}
-use Rattle.hir_def_collector.specs.State.{at_rest, core_in}
-use Rattle.hir_def_collector.specs.Waiting.{IsBehind, IsBetweenPasses, IsStale}
+use Rattle.hir_collector_rules.specs.CallMoves.{IsReady, NoneWaitsBefore}
+use Rattle.hir_collector_rules.specs.declared.start.TheConstants.{STEP_LIMIT}
+use Rattle.hir_collector_rules.specs.Calls.{AreCallsPlaced}
+use Rattle.hir_collector_rules.specs.Moves.{OnceGrown}
+use Rattle.hir_collector_rules.specs.State.{at_rest, core_in}
+use Rattle.hir_collector_rules.specs.Waiting.{IsBehind, IsBetweenPasses, IsStale}
 use Rattle.hir_def_collector.proofs.Queued.{HasRounds}
 use Rattle.hir_def_collector.proofs.collector.calls.resolve_rounds.Given as goal
 

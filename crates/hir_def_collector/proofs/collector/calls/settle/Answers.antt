@@ -2,14 +2,14 @@
 use Rattle.std.proofs.Common.{rules, ◌≡◌, ◌∙◌, ◌+◌, ◌<◌, ◌≤◌, ap, arith, length, subst, sym}
 use Rattle.hir_def_map.specs.WorldParts.{part_of}
 use Rattle.hir_import_resolution.specs.Rest.{IsAtRest}
-use Rattle.hir_def_collector.specs.declared.collector.TheConstants.{STEP_LIMIT}
-use Rattle.hir_def_collector.specs.State.{Core, at_rest, core_in, import_state}
-use Rattle.hir_def_collector.proofs.Changes.{count-Steps}
-use Rattle.hir_def_collector.proofs.CallSteps.{rest_counted, rested, rested_past}
-use Rattle.hir_def_collector.proofs.Moves.{Steps-append, spent_after}
-use Rattle.hir_def_collector.proofs.Noted.{slots_follow}
+use Rattle.hir_collector_rules.specs.declared.start.TheConstants.{STEP_LIMIT}
+use Rattle.hir_collector_rules.specs.State.{Core, at_rest, core_in, import_state}
+use Rattle.hir_collector_rules.proofs.Changes.{count-Steps}
+use Rattle.hir_collector_items.proofs.CallSteps.{rest_counted, rested, rested_past}
+use Rattle.hir_collector_rules.proofs.Moves.{Steps-append, spent_after}
+use Rattle.hir_collector_state.proofs.Noted.{slots_follow}
 use Rattle.hir_def_collector.proofs.Resuming.{behind_settled}
-use Rattle.hir_def_collector.proofs.Walked.{nowhere}
+use Rattle.hir_mod_collector.proofs.Walked.{nowhere}
 use Rattle.hir_def_collector.proofs.collector.calls.settle.Goals as goal
 
 pub returns-clause-ok : goal.returns-clause-ok

@@ -7,24 +7,24 @@ use Rattle.hir_def_map.specs.WorldParts.{part_of}
 use Rattle.hir_import_resolution.specs.Inner.State.{IsApart}
 use Rattle.hir_import_resolution.specs.Rest.{IsAtRest}
 use Rattle.hir_call_queue.specs.Changes.{ChangedValue, joined}
-use Rattle.hir_def_collector.specs.CallMoves.{IsGivenUp, IsReady, NoneWaitsBefore, TriesCalls}
-use Rattle.hir_def_collector.specs.Calls.{LeadsNowhere}
-use Rattle.hir_def_collector.specs.Derivation.{IsSpent}
-use Rattle.hir_def_collector.specs.Keys.{Environment, environment}
-use Rattle.hir_def_collector.specs.Moves.{OnceGrown}
-use Rattle.hir_def_collector.specs.State.{Core, at_rest, core_in, import_state}
-use Rattle.hir_def_collector.specs.Steps.{Steps}
-use Rattle.hir_def_collector.specs.Waiting.{IsBehind}
-use Rattle.hir_def_collector.specs.Workspace.{Workspace}
-use Rattle.hir_def_collector.proofs.Changes.{count-Steps, id-Steps}
+use Rattle.hir_collector_rules.specs.CallMoves.{IsGivenUp, IsReady, NoneWaitsBefore, TriesCalls}
+use Rattle.hir_collector_rules.specs.Calls.{LeadsNowhere}
+use Rattle.hir_collector_rules.specs.Derivation.{IsSpent}
+use Rattle.hir_collector_rules.specs.Keys.{Environment, environment}
+use Rattle.hir_collector_rules.specs.Moves.{OnceGrown}
+use Rattle.hir_collector_rules.specs.State.{Core, at_rest, core_in, import_state}
+use Rattle.hir_collector_rules.specs.Steps.{Steps}
+use Rattle.hir_collector_rules.specs.Waiting.{IsBehind}
+use Rattle.hir_collector_rules.specs.Workspace.{Workspace}
+use Rattle.hir_collector_rules.proofs.Changes.{count-Steps, id-Steps}
 use Rattle.hir_def_collector.proofs.GivingUp.{none_waits_later}
-use Rattle.hir_def_collector.proofs.Moves.{Steps-append, spent_after}
-use Rattle.hir_def_collector.proofs.Numbers.{tables_stay}
+use Rattle.hir_collector_rules.proofs.Moves.{Steps-append, spent_after}
+use Rattle.hir_collector_rules.proofs.Numbers.{tables_stay}
 use Rattle.hir_def_collector.proofs.Queued.{none_handled, of_round, rests_idle, settles_requeued}
 use Rattle.hir_def_collector.proofs.Ready.{ready_after, ready_grown}
 use Rattle.hir_def_collector.proofs.Resuming.{behind_later, behind_tried, one_error, resumable_behind}
 use Rattle.hir_def_collector.proofs.Waiting.{keeps_waiting, stale_later, stale_now}
-use Rattle.hir_def_collector.specs.declared.collector.CollectError.TheVariants.{TooMany}
+use Rattle.hir_collector_rules.specs.declared.start.CollectError.TheVariants.{TooMany}
 use Rattle.hir_def_collector.proofs.collector.calls.take_turn.Goals as goal
 
 -- what each goal below needs: `now` is where the turn begins, `settled` where imports rest and the queue is up to date, `tried` where what is queued was tried

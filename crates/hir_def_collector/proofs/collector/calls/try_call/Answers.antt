@@ -4,12 +4,13 @@ use Rattle.hir_base.specs.declared.macro_kind.MacroId.{MacroId}
 use Rattle.hir_def_map.specs.WorldParts.{part_of}
 use Rattle.hir_def_collector.specs.declared.collector.calls.Due.{Due}
 use Rattle.hir_def_collector.specs.declared.collector.calls.Due.TheVariants.{Nothing, Reaches}
-use Rattle.hir_def_collector.specs.declared.collector.macro_directive.MacroDirective.{MacroDirective}
-use Rattle.hir_def_collector.specs.CallMoves.{IsDueOf, left}
-use Rattle.hir_def_collector.specs.State.{Core, at_rest, core_in}
-use Rattle.hir_def_collector.specs.Steps.{IsDue, none}
+use Rattle.hir_collector_rules.specs.declared.macro_directive.MacroDirective.{MacroDirective}
+use Rattle.hir_collector_rules.specs.CallMoves.{left}
+use Rattle.hir_def_collector.specs.Turns.{IsDueOf}
+use Rattle.hir_collector_rules.specs.State.{Core, at_rest, core_in}
+use Rattle.hir_collector_rules.specs.Steps.{IsDue, none}
 use Rattle.hir_def_collector.proofs.GivingUp.{nothing_due, nothing_waits}
-use Rattle.hir_def_collector.proofs.Noted.{noted_beside, noted_itself}
+use Rattle.hir_collector_state.proofs.Noted.{noted_beside, noted_itself}
 use Rattle.hir_def_collector.proofs.collector.calls.try_call.Goals as goal
 
 -- nothing waits at the place

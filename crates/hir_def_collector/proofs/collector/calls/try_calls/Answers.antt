@@ -6,18 +6,18 @@ use Rattle.hir_def_map.specs.WorldParts.{part_of}
 use Rattle.hir_worklist.specs.Moves.{Takes, opened}
 use Rattle.hir_worklist.specs.Queue.{Queue, count_of, is_ahead}
 use Rattle.hir_call_queue.specs.Waking.{is_apart, worklist_of}
-use Rattle.hir_def_collector.specs.Derivation.{IsSpent}
-use Rattle.hir_def_collector.specs.Keys.{environment}
-use Rattle.hir_def_collector.specs.Moves.{OnceGrown}
-use Rattle.hir_def_collector.specs.State.{at_rest, core_in}
-use Rattle.hir_def_collector.specs.Steps.{Steps, none}
-use Rattle.hir_def_collector.specs.Workspace.{Workspace}
-use Rattle.hir_def_collector.proofs.Changes.{id-Steps}
-use Rattle.hir_def_collector.proofs.Moves.{Steps-append, spent_after}
-use Rattle.hir_def_collector.proofs.Numbers.{tables_stay}
+use Rattle.hir_collector_rules.specs.Derivation.{IsSpent}
+use Rattle.hir_collector_rules.specs.Keys.{environment}
+use Rattle.hir_collector_rules.specs.Moves.{OnceGrown}
+use Rattle.hir_collector_rules.specs.State.{at_rest, core_in}
+use Rattle.hir_collector_rules.specs.Steps.{Steps, none}
+use Rattle.hir_collector_rules.specs.Workspace.{Workspace}
+use Rattle.hir_collector_rules.proofs.Changes.{id-Steps}
+use Rattle.hir_collector_rules.proofs.Moves.{Steps-append, spent_after}
+use Rattle.hir_collector_rules.proofs.Numbers.{tables_stay}
 use Rattle.hir_def_collector.proofs.Queued.{AreTried, left_or_tried, tried_all, tried_first, tried_next}
 use Rattle.hir_def_collector.proofs.Ready.{ready_after, ready_grown}
-use Rattle.hir_def_collector.proofs.Tried.{settled_bounded, settled_more}
+use Rattle.hir_collector_rules.proofs.Tried.{settled_bounded, settled_more}
 use Rattle.hir_def_collector.proofs.Waiting.{apart_later, up_to_date_closed, up_to_date_opened, up_to_date_taken}
 use Rattle.hir_def_collector.proofs.collector.calls.try_calls.Goals as goal
 

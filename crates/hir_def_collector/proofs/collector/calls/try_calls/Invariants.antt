@@ -2,12 +2,12 @@ use Rattle.std.proofs.Common.{◌≡◌, ◌-◌, ◌≤◌, None, length}
 use Rattle.hir_tables.specs.Tables.{KeepsTables}
 use Rattle.hir_def_map.specs.WorldParts.{part_of}
 use Rattle.hir_call_queue.specs.Waking.{is_apart, worklist_of}
-use Rattle.hir_def_collector.specs.CallMoves.{IsReady}
-use Rattle.hir_def_collector.specs.Calls.{AreCallsPlaced}
-use Rattle.hir_def_collector.specs.Moves.{OnceGrown}
-use Rattle.hir_def_collector.specs.State.{at_rest, core_in}
-use Rattle.hir_def_collector.specs.Steps.{Steps}
-use Rattle.hir_def_collector.specs.Waiting.{IsGathered, IsUpToDate}
+use Rattle.hir_collector_rules.specs.CallMoves.{IsReady}
+use Rattle.hir_collector_rules.specs.Calls.{AreCallsPlaced}
+use Rattle.hir_collector_rules.specs.Moves.{OnceGrown}
+use Rattle.hir_collector_rules.specs.State.{at_rest, core_in}
+use Rattle.hir_collector_rules.specs.Steps.{Steps}
+use Rattle.hir_collector_rules.specs.Waiting.{IsGathered, IsUpToDate}
 use Rattle.hir_def_collector.proofs.Queued.{AreTried}
 use Rattle.hir_def_collector.proofs.collector.calls.try_calls.Given as goal
 

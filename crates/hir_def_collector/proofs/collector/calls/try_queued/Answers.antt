@@ -1,17 +1,17 @@
 -- A call is tried, and then what has read what has changed is queued, or it watches what it has read.
 use Rattle.std.proofs.Common.{◌≡◌, ◌∙◌, ◌<◌, ap, subst, sym, true, None, Some, length, slice_get}
-use Rattle.hir_def_map.specs.State.{IsInOrder}
+use Rattle.hir_def_map_rules.specs.State.{IsInOrder}
 use Rattle.hir_def_map.specs.WorldParts.{part_of}
 use Rattle.hir_call_queue.specs.Changes.{joined}
-use Rattle.hir_def_collector.specs.CallMoves.{TriesCall}
-use Rattle.hir_def_collector.specs.Calls.{LeadsNowhere}
-use Rattle.hir_def_collector.specs.Keys.{environment}
-use Rattle.hir_def_collector.specs.State.{Core, at_rest, core_in}
-use Rattle.hir_def_collector.specs.Steps.{Steps}
-use Rattle.hir_def_collector.specs.Waiting.{IsUpToDate}
-use Rattle.hir_def_collector.specs.declared.collector.macro_directive.MacroDirective.{MacroDirective}
-use Rattle.hir_def_collector.proofs.Changes.{id-Steps}
-use Rattle.hir_def_collector.proofs.Numbers.{tables_stay}
+use Rattle.hir_collector_rules.specs.CallMoves.{TriesCall}
+use Rattle.hir_collector_rules.specs.Calls.{LeadsNowhere}
+use Rattle.hir_collector_rules.specs.Keys.{environment}
+use Rattle.hir_collector_rules.specs.State.{Core, at_rest, core_in}
+use Rattle.hir_collector_rules.specs.Steps.{Steps}
+use Rattle.hir_collector_rules.specs.Waiting.{IsUpToDate}
+use Rattle.hir_collector_rules.specs.declared.macro_directive.MacroDirective.{MacroDirective}
+use Rattle.hir_collector_rules.proofs.Changes.{id-Steps}
+use Rattle.hir_collector_rules.proofs.Numbers.{tables_stay}
 use Rattle.hir_def_collector.proofs.Queued.{was_handled, was_left}
 use Rattle.hir_def_collector.proofs.Resuming.{behind_gathered, behind_later}
 use Rattle.hir_def_collector.proofs.Waiting.{apart_later, keeps_waiting, up_to_date_handled, waits_no_more}

@@ -1,13 +1,13 @@
 -- A call that reaches no macro watches what it has read.
 use Rattle.std.proofs.Common.{◌∙◌, ◌≡◌, ℕ, ap, subst, List, length}
-use Rattle.hir_def_map.specs.State.{Map}
+use Rattle.hir_def_map_rules.specs.State.{Map}
 use Rattle.hir_def_map.specs.WorldParts.{part_of}
 use Rattle.hir_def_map.specs.declared.nameres.path_resolution.slots.Slot.{Slot}
 use Rattle.hir_call_queue.proofs.Woken.{goes_on_itself}
 use Rattle.hir_call_queue.specs.Waking.{IsWatching}
-use Rattle.hir_def_collector.specs.Calls.{IsWaiting}
-use Rattle.hir_def_collector.specs.State.{at_rest, core_in}
-use Rattle.hir_def_collector.specs.Waiting.{call_reads}
+use Rattle.hir_collector_rules.specs.Calls.{IsWaiting}
+use Rattle.hir_collector_rules.specs.State.{at_rest, core_in}
+use Rattle.hir_collector_rules.specs.Waiting.{call_reads}
 use Rattle.hir_def_collector.proofs.Waiting.{up_to_date_over, up_to_date_watched}
 use Rattle.hir_def_collector.proofs.collector.calls.watch.Goals as goal
 

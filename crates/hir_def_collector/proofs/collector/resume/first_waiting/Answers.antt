@@ -1,6 +1,6 @@
 -- One place after another, up to the first where an attribute waits.
 use Rattle.std.proofs.Common.{◌<◌, ◌≤◌, length, arith}
-use Rattle.hir_def_collector.specs.State.{core_in}
+use Rattle.hir_collector_rules.specs.State.{core_in}
 use Rattle.hir_def_collector.proofs.GivingUp.{none_waits_anywhere, none_waits_past}
 use Rattle.hir_def_collector.proofs.collector.resume.first_waiting.Goals as goal
 

@@ -1,6 +1,6 @@
 use Rattle.std.proofs.Common.{◌-◌, length}
-use Rattle.hir_def_collector.specs.CallMoves.{NoneWaitsBefore}
-use Rattle.hir_def_collector.specs.State.{core_in}
+use Rattle.hir_collector_rules.specs.CallMoves.{NoneWaitsBefore}
+use Rattle.hir_collector_rules.specs.State.{core_in}
 use Rattle.hir_def_collector.proofs.collector.resume.first_waiting.Given as goal
 
 -- none waits before this place

@@ -2,24 +2,24 @@
 use Rattle.std.proofs.Common.{rules, ◌≡◌, ◌∙◌, ◌<◌, ◌≤◌, ◌++◌, [], Some, ap, length, refl, subst, sym}
 use Rattle.hir_item_tree.specs.KeptForest.{all_items}
 use Rattle.hir_item_tree.specs.SourceTree.{SourceTreeValue}
-use Rattle.hir_def_map.specs.Macros.{with_diagnostic}
+use Rattle.hir_def_map_rules.specs.Macros.{with_diagnostic}
 use Rattle.hir_def_map.specs.WorldParts.{part_of}
-use Rattle.hir_def_map.specs.declared.nameres.diagnostics.DefDiagnostic.{DefDiagnostic}
-use Rattle.hir_def_collector.specs.declared.collector.TheConstants.{STEP_LIMIT}
-use Rattle.hir_def_collector.specs.declared.collector.macro_directive.Fate.TheVariants.{GivenUp, Waits}
-use Rattle.hir_def_collector.specs.declared.collector.site.Site.{Site}
-use Rattle.hir_def_collector.specs.Calls.{IsMeantAt, IsMeantCall}
-use Rattle.hir_def_collector.specs.Keys.{environment}
-use Rattle.hir_def_collector.specs.Moves.{Walks, WalksTooFar}
-use Rattle.hir_def_collector.specs.Reports.{call_report}
-use Rattle.hir_def_collector.specs.State.{Core, at_rest, core_in, counted, with_map}
-use Rattle.hir_def_collector.specs.Steps.{FallsBack, falls_back}
-use Rattle.hir_def_collector.specs.TreeReads.{visits_behind}
-use Rattle.hir_def_collector.proofs.CallSteps.{falls_back_at, given_up, kept_inside, kept_item, past_rule, went_on, went_too_far}
+use Rattle.hir_def_map_rules.specs.declared.diagnostics.DefDiagnostic.{DefDiagnostic}
+use Rattle.hir_collector_rules.specs.declared.start.TheConstants.{STEP_LIMIT}
+use Rattle.hir_collector_rules.specs.declared.macro_directive.Fate.TheVariants.{GivenUp, Waits}
+use Rattle.hir_collector_rules.specs.declared.site.Site.{Site}
+use Rattle.hir_collector_rules.specs.Calls.{IsMeantAt, IsMeantCall}
+use Rattle.hir_collector_rules.specs.Keys.{environment}
+use Rattle.hir_collector_rules.specs.Moves.{Walks, WalksTooFar}
+use Rattle.hir_collector_rules.specs.Reports.{call_report}
+use Rattle.hir_collector_rules.specs.State.{Core, at_rest, core_in, counted, with_map}
+use Rattle.hir_collector_rules.specs.Steps.{FallsBack, falls_back}
+use Rattle.hir_collector_rules.specs.TreeReads.{visits_behind}
+use Rattle.hir_collector_items.proofs.CallSteps.{falls_back_at, given_up, kept_inside, kept_item, past_rule, went_on, went_too_far}
 use Rattle.hir_def_collector.proofs.GivingUp.{none_before}
-use Rattle.hir_def_collector.proofs.Lists.{get_inside}
-use Rattle.hir_def_collector.proofs.Numbers.{tables_stay}
-use Rattle.hir_def_collector.proofs.Noted.{beside_follow, noted_beside, noted_follow}
+use Rattle.hir_collector_rules.proofs.Lists.{get_inside}
+use Rattle.hir_collector_rules.proofs.Numbers.{tables_stay}
+use Rattle.hir_collector_state.proofs.Noted.{beside_follow, noted_beside, noted_follow}
 use Rattle.hir_def_collector.proofs.collector.resume.give_up_at.Goals as goal
 
 pub walk_item-requires-clause-in_range : goal.walk_item-requires-clause-in_range

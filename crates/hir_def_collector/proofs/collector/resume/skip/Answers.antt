@@ -4,22 +4,22 @@ use Rattle.std.specs.Prelude.{IsSome}
 use Rattle.hir_item_tree.specs.KeptForest.{KeptItem, all_items}
 use Rattle.hir_item_tree.specs.SourceTree.{SourceTreeValue}
 use Rattle.hir_def_map.specs.WorldParts.{part_of}
-use Rattle.hir_def_collector.specs.declared.collector.TheConstants.{STEP_LIMIT}
-use Rattle.hir_def_collector.specs.declared.collector.macro_directive.Fate.TheVariants.{Handled, Waits}
-use Rattle.hir_def_collector.specs.declared.collector.macro_directive.WaitingItem.{WaitingItem}
-use Rattle.hir_def_collector.specs.declared.collector.site.Site.{Site}
-use Rattle.hir_def_collector.specs.Calls.{IsMeantAt, IsMeantCall, item_kept}
-use Rattle.hir_def_collector.specs.Derivation.{IsSpent}
-use Rattle.hir_def_collector.specs.Keys.{environment}
-use Rattle.hir_def_collector.specs.Moves.{OnceGrown, Walks, WalksTooFar}
-use Rattle.hir_def_collector.specs.State.{Core, at_rest, core_in, counted, joined, visits}
-use Rattle.hir_def_collector.specs.Steps.{Skips, Step, skips_attribute, visit_behind}
-use Rattle.hir_def_collector.specs.TreeReads.{visits_behind}
-use Rattle.hir_def_collector.proofs.CallSteps.{kept_inside, kept_item, past_rule, skipped, went_on, went_too_far}
-use Rattle.hir_def_collector.proofs.Lists.{get_inside, get_set_same}
-use Rattle.hir_def_collector.proofs.Numbers.{tables_stay}
-use Rattle.hir_def_collector.proofs.Tried.{handled_stays}
-use Rattle.hir_def_collector.proofs.Noted.{beside_follow, noted_beside, noted_follow}
+use Rattle.hir_collector_rules.specs.declared.start.TheConstants.{STEP_LIMIT}
+use Rattle.hir_collector_rules.specs.declared.macro_directive.Fate.TheVariants.{Handled, Waits}
+use Rattle.hir_collector_rules.specs.declared.macro_directive.WaitingItem.{WaitingItem}
+use Rattle.hir_collector_rules.specs.declared.site.Site.{Site}
+use Rattle.hir_collector_rules.specs.Calls.{IsMeantAt, IsMeantCall, item_kept}
+use Rattle.hir_collector_rules.specs.Derivation.{IsSpent}
+use Rattle.hir_collector_rules.specs.Keys.{environment}
+use Rattle.hir_collector_rules.specs.Moves.{OnceGrown, Walks, WalksTooFar}
+use Rattle.hir_collector_rules.specs.State.{Core, at_rest, core_in, counted, joined, visits}
+use Rattle.hir_collector_rules.specs.Steps.{Skips, Step, skips_attribute, visit_behind}
+use Rattle.hir_collector_rules.specs.TreeReads.{visits_behind}
+use Rattle.hir_collector_items.proofs.CallSteps.{kept_inside, kept_item, past_rule, skipped, went_on, went_too_far}
+use Rattle.hir_collector_rules.proofs.Lists.{get_inside, get_set_same}
+use Rattle.hir_collector_rules.proofs.Numbers.{tables_stay}
+use Rattle.hir_collector_rules.proofs.Tried.{handled_stays}
+use Rattle.hir_collector_state.proofs.Noted.{beside_follow, noted_beside, noted_follow}
 use Rattle.hir_def_collector.proofs.collector.resume.skip.Goals as goal
 
 pub walk_item-requires-clause-in_range : goal.walk_item-requires-clause-in_range

@@ -1,7 +1,7 @@
 -- What is left to climb leads to the same module.
 use Rattle.std.proofs.Common.{◌≡◌}
 use Rattle.hir_def_map.specs.DefMaps.{maps_of}
-use Rattle.hir_def_map.specs.Scoping.Start.{climb}
+use Rattle.hir_def_map_rules.specs.Scoping.Start.{climb}
 use Rattle.hir_def_map.proofs.def_maps.DefMaps.climb.Given as goal
 
 abbrev pub invariant-up : goal.invariant-up

@@ -3,10 +3,10 @@ use Rattle.std.proofs.Common.{◌≡◌, length}
 use Rattle.std.specs.List.{flat_map}
 use Rattle.std.specs.String.{string_bytes}
 use Rattle.hir_scope.specs.ModuleTree.{chain_from}
-use Rattle.hir_def_map.specs.Ancestors.{holders_in}
+use Rattle.hir_def_map_rules.specs.Ancestors.{holders_in}
 use Rattle.hir_def_map.specs.DefMaps.{maps_of}
-use Rattle.hir_def_map.specs.Dump.{pages_around, pages_outwards}
-use Rattle.hir_def_map.specs.Inner.Branches.{with_pages}
+use Rattle.hir_def_map_rules.specs.Dump.{pages_around, pages_outwards}
+use Rattle.hir_def_map_rules.specs.Inner.Branches.{with_pages}
 use Rattle.hir_def_map.proofs.def_maps.DefMaps.dump_outwards.Given as goal
 
 abbrev pub invariant-out : goal.invariant-out

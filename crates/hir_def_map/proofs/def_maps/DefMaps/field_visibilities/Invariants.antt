@@ -1,8 +1,8 @@
 -- Each field so far has what its own visibility means.
 use Rattle.std.proofs.Common.{◌≡◌, false, map, option_copied, take}
 use Rattle.hir_def_map.specs.DefMaps.{maps_of}
-use Rattle.hir_def_map.specs.Scoping.Asking.{local_of}
-use Rattle.hir_def_map.specs.Visibilities.{written_visibility}
+use Rattle.hir_def_map_rules.specs.Scoping.Asking.{local_of}
+use Rattle.hir_def_map_rules.specs.Visibilities.{written_visibility}
 use Rattle.hir_def_map.proofs.def_maps.DefMaps.field_visibilities.Given as goal
 
 abbrev pub invariant-loop-raw : goal.invariant-loop-raw

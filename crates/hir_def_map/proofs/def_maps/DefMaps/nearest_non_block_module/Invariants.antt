@@ -1,8 +1,8 @@
 -- The module that has been reached leads to the same one.
 use Rattle.std.proofs.Common.{◌≡◌, length}
-use Rattle.hir_def_map.specs.Ancestors.{holders_in}
+use Rattle.hir_def_map_rules.specs.Ancestors.{holders_in}
 use Rattle.hir_def_map.specs.DefMaps.{maps_of}
-use Rattle.hir_def_map.specs.Scoping.Segments.{nearest_non_block_module}
+use Rattle.hir_def_map_rules.specs.Scoping.Segments.{nearest_non_block_module}
 use Rattle.hir_def_map.proofs.def_maps.DefMaps.nearest_non_block_module.Given as goal
 
 abbrev pub invariant-out : goal.invariant-out

@@ -1,7 +1,7 @@
 -- The segments that are left give the answer that all of them give from the start.
 use Rattle.std.proofs.Common.{◌≡◌, ◌+◌, ◌<◌, ◌^◌, length, cond}
 use Rattle.hir_def_map.specs.DefMaps.{maps_of}
-use Rattle.hir_def_map.specs.Scoping.Segments.{crossing, rest}
+use Rattle.hir_def_map_rules.specs.Scoping.Segments.{crossing, rest}
 use Rattle.hir_def_map.proofs.def_maps.DefMaps.resolve_rest.Given as goal
 
 abbrev pub invariant-walk : goal.invariant-walk

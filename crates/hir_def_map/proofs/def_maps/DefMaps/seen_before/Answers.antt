@@ -1,6 +1,6 @@
 -- Before a further segment the types alone count.
 use Rattle.std.proofs.Common.{rules}
-use Rattle.hir_def_map.proofs.Segments.{rest-types}
+use Rattle.hir_def_map_rules.proofs.Segments.{rest-types}
 use Rattle.hir_def_map.specs.DefMaps.{maps_of}
 use Rattle.hir_def_map.proofs.def_maps.DefMaps.seen_before.Goals as goal
 

@@ -2,9 +2,9 @@
 use Rattle.std.proofs.Common.{◌≡◌, ap, sym, arith, length, ◌<◌, ◌≤◌, ℕ, Bool, true, false, cond, nat_lt, refl, inr}
 use Rattle.std.specs.Prelude.{Ok, Err}
 use Rattle.std.proofs.lemmas.Bool.{ltb-true}
-use Rattle.hir_def_map.specs.State.{Map, new_id}
-use Rattle.hir_def_map.specs.declared.nameres.AddModuleError.TheVariants as refusals
-use Rattle.hir_def_map.proofs.Modules.{IsNumbered-inserted}
+use Rattle.hir_def_map_rules.specs.State.{Map, new_id}
+use Rattle.hir_def_map_rules.specs.declared.add_module_error.AddModuleError.TheVariants as refusals
+use Rattle.hir_def_map_rules.proofs.Modules.{IsNumbered-inserted}
 use Rattle.hir_def_map.proofs.nameres.DefMap.add_module.Goals as goal
 
 pub invariant_of-self : goal.invariant_of-self

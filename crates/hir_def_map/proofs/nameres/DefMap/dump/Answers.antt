@@ -1,12 +1,12 @@
 -- All pages are written, from the first on.
 use Rattle.std.proofs.Common.{◌≡◌, ◌∙◌, ap, ℕ, List}
 use Rattle.hir_base.specs.declared.ids.ModuleId.{ModuleId}
-use Rattle.hir_def_map.specs.Overlay.{Maps, overlay}
+use Rattle.hir_def_map_rules.specs.Overlay.{Maps, overlay}
 use Rattle.hir_def_map.specs.World.{finished_in}
 use Rattle.hir_def_map.specs.DefMaps.{maps_of}
-use Rattle.hir_def_map.specs.Dump.{pages_outwards, text_of}
-use Rattle.hir_def_map.specs.Inner.Branches.{with_pages}
-use Rattle.hir_def_map.proofs.Branches.{with_pages-text}
+use Rattle.hir_def_map_rules.specs.Dump.{pages_outwards, text_of}
+use Rattle.hir_def_map_rules.specs.Inner.Branches.{with_pages}
+use Rattle.hir_def_map_rules.proofs.Branches.{with_pages-text}
 use Rattle.hir_def_map.proofs.nameres.DefMap.dump.Goals as goal
 
 pub returns : goal.returns

@@ -4,8 +4,8 @@ use Rattle.std.specs.List.{slice_get}
 use Rattle.std.proofs.lemmas.Grind.{common_steps}
 use Rattle.std.proofs.lemmas.List.{append-nil}
 use Rattle.std.proofs.lemmas.Option.{slice_get_past}
-use Rattle.hir_def_map.specs.State.{Modules, ModuleValue, module_at}
-use Rattle.hir_def_map.specs.Inner.Branches.{BranchValue, branches_below}
+use Rattle.hir_def_map_rules.specs.State.{Modules, ModuleValue, module_at}
+use Rattle.hir_def_map_rules.specs.Inner.Branches.{BranchValue, branches_below}
 use Rattle.hir_def_map.proofs.nameres.DefMap.dump_branch.Goals as goal
 
 nothing_below : (depth : ℕ) (path : List ℕ) → branches_below depth path None ≡ []

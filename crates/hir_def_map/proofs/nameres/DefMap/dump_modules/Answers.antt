@@ -1,6 +1,6 @@
 -- A module that is taken leaves its children behind, and its page in the text.
 use Rattle.std.proofs.Common.{◌∙◌}
-use Rattle.hir_def_map.proofs.Branches.{steps_left-falls, with_pages-kept}
+use Rattle.hir_def_map_rules.proofs.Branches.{steps_left-falls, with_pages-kept}
 use Rattle.hir_def_map.proofs.nameres.DefMap.dump_modules.Goals as goal
 
 pub modules-smaller : goal.modules-smaller

@@ -1,9 +1,9 @@
 -- What is written and what is left give the whole text.
 use Rattle.std.proofs.Common.{◌≡◌}
 use Rattle.std.specs.String.{string_bytes}
-use Rattle.hir_def_map.specs.Dump.{pages_of}
-use Rattle.hir_def_map.specs.Inner.Branches.{pages_left, with_pages}
-use Rattle.hir_def_map.proofs.Branches.{steps_left}
+use Rattle.hir_def_map_rules.specs.Dump.{pages_of}
+use Rattle.hir_def_map_rules.specs.Inner.Branches.{pages_left, with_pages}
+use Rattle.hir_def_map_rules.proofs.Branches.{steps_left}
 use Rattle.hir_def_map.proofs.nameres.DefMap.dump_modules.Given as goal
 
 abbrev pub invariant-modules : goal.invariant-modules

@@ -1,7 +1,7 @@
 -- What is left decides.
 use Rattle.std.proofs.Common.{◌≡◌}
-use Rattle.hir_def_map.specs.Ancestors.{leads_to_root, own_frame}
-use Rattle.hir_def_map.specs.References.{all_below, each_leads_to_root}
+use Rattle.hir_def_map_rules.specs.Ancestors.{leads_to_root, own_frame}
+use Rattle.hir_def_map_rules.specs.References.{all_below, each_leads_to_root}
 use Rattle.hir_def_map.proofs.nameres.DefMap.each_leads_to_root.Given as goal
 
 abbrev pub invariant-each : goal.invariant-each

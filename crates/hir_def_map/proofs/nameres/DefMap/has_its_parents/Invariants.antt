@@ -1,8 +1,8 @@
 -- What is left decides.
 use Rattle.std.proofs.Common.{◌≡◌, length}
 use Rattle.std.specs.List.{list_all}
-use Rattle.hir_def_map.specs.State.{ModuleValue}
-use Rattle.hir_def_map.specs.References.{has_its_parents, is_parent_in}
+use Rattle.hir_def_map_rules.specs.State.{ModuleValue}
+use Rattle.hir_def_map_rules.specs.References.{has_its_parents, is_parent_in}
 use Rattle.hir_def_map.proofs.nameres.DefMap.has_its_parents.Given as goal
 
 abbrev pub invariant-each : goal.invariant-each

@@ -2,8 +2,8 @@
 use Rattle.std.proofs.Common.{◌≡◌, length}
 use Rattle.std.specs.List.{list_all}
 use Rattle.hir_base.specs.declared.ids.EnumId.{EnumId}
-use Rattle.hir_def_map.specs.State.{Variants}
-use Rattle.hir_def_map.specs.References.{are_variants_of, has_its_variants}
+use Rattle.hir_def_map_rules.specs.State.{Variants}
+use Rattle.hir_def_map_rules.specs.References.{are_variants_of, has_its_variants}
 use Rattle.hir_def_map.proofs.nameres.DefMap.has_its_variants.Given as goal
 
 abbrev pub invariant-each : goal.invariant-each

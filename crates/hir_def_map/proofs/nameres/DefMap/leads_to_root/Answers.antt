@@ -1,8 +1,8 @@
 -- A map has as many parents as modules.
 use Rattle.std.proofs.Common.{◌∙◌, ap, sym, ℕ}
 use Rattle.std.proofs.lemmas.List.{length-map}
-use Rattle.hir_def_map.specs.State.{ModuleValue}
-use Rattle.hir_def_map.specs.Ancestors.{ends_within, leads_to_root, own_frame, parent_number}
+use Rattle.hir_def_map_rules.specs.State.{ModuleValue}
+use Rattle.hir_def_map_rules.specs.Ancestors.{ends_within, leads_to_root, own_frame, parent_number}
 use Rattle.hir_def_map.proofs.nameres.DefMap.leads_to_root.Goals as goal
 
 pub up-init : goal.up-init

@@ -1,6 +1,6 @@
 -- What is left to climb ends where all of it does.
 use Rattle.std.proofs.Common.{◌≡◌}
-use Rattle.hir_def_map.specs.Ancestors.{ends_within, leads_to_root, own_frame, parent_number}
+use Rattle.hir_def_map_rules.specs.Ancestors.{ends_within, leads_to_root, own_frame, parent_number}
 use Rattle.hir_def_map.proofs.nameres.DefMap.leads_to_root.Given as goal
 
 abbrev pub invariant-up : goal.invariant-up

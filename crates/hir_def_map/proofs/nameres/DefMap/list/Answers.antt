@@ -1,8 +1,8 @@
 -- A list of a scope that grows leaves the modules numbered.
 use Rattle.std.proofs.Common.{List}
-use Rattle.hir_def_map.specs.Declaration.{listed}
-use Rattle.hir_def_map.specs.State.{ModuleValue, IsNumbered, changed_at, with_module_scope}
-use Rattle.hir_def_map.proofs.Modules.{IsNumbered-changed_at, either_way}
+use Rattle.hir_def_map_rules.specs.Declaration.{listed}
+use Rattle.hir_def_map_rules.specs.State.{ModuleValue, IsNumbered, changed_at, with_module_scope}
+use Rattle.hir_def_map_rules.proofs.Modules.{IsNumbered-changed_at, either_way}
 use Rattle.hir_def_map.proofs.nameres.DefMap.list.Goals as goal
 
 pub invariant_of-self : goal.invariant_of-self

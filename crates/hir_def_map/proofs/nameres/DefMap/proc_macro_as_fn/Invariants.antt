@@ -1,6 +1,6 @@
 -- What is left decides.
 use Rattle.std.proofs.Common.{◌≡◌, length}
-use Rattle.hir_def_map.specs.Macros.{exporting_function}
+use Rattle.hir_def_map_rules.specs.Macros.{exporting_function}
 use Rattle.hir_def_map.proofs.nameres.DefMap.proc_macro_as_fn.Given as goal
 
 abbrev pub invariant-next : goal.invariant-next

@@ -1,8 +1,8 @@
 -- A push leaves the modules numbered.
 use Rattle.std.proofs.Common.{List}
 use Rattle.hir_scope.specs.Globs.{Place}
-use Rattle.hir_def_map.specs.State.{ModuleValue, IsNumbered, changed_at, place_at, pushed_module}
-use Rattle.hir_def_map.proofs.Modules.{IsNumbered-changed_at, either_way}
+use Rattle.hir_def_map_rules.specs.State.{ModuleValue, IsNumbered, changed_at, place_at, pushed_module}
+use Rattle.hir_def_map_rules.proofs.Modules.{IsNumbered-changed_at, either_way}
 use Rattle.hir_def_map.proofs.nameres.DefMap.push.Goals as goal
 
 pub invariant_of-self : goal.invariant_of-self

@@ -1,9 +1,9 @@
 -- What is left behind the scope is in the module of the number.
 use Rattle.std.proofs.Common.{ap, refl, sym, ◌∙◌, List, Option, Some, option_map}
 use Rattle.hir_scope.specs.Scope.{ScopeValue}
-use Rattle.hir_def_map.specs.State.{Map, ModuleValue, scope_at, with_module_scope, with_scope}
+use Rattle.hir_def_map_rules.specs.State.{Map, ModuleValue, scope_at, with_module_scope, with_scope}
 use Rattle.hir_def_map.specs.contracts.nameres.DefMap as def_map
-use Rattle.hir_def_map.proofs.Modules.{changed_at-set}
+use Rattle.hir_def_map_rules.proofs.Modules.{changed_at-set}
 use Rattle.hir_def_map.proofs.nameres.DefMap.scope_mut.Goals as goal
 
 pub returns : goal.returns

@@ -1,9 +1,9 @@
 -- The maps that are seen at once are those of the world and this one.
 use Rattle.std.proofs.Common.{◌≡◌, ◌∷◌, ap, ◌∙◌, subst}
-use Rattle.hir_def_map.specs.AskMaps.{AsksMaps, with_maps}
-use Rattle.hir_def_map.specs.Ancestors.{holders_in}
+use Rattle.hir_def_map_rules.specs.AskMaps.{AsksMaps, with_maps}
+use Rattle.hir_def_map_rules.specs.Ancestors.{holders_in}
 use Rattle.hir_def_map.specs.DefMaps.{maps_of}
-use Rattle.hir_def_map.specs.Overlay.{Maps, overlay}
+use Rattle.hir_def_map_rules.specs.Overlay.{Maps, overlay}
 use Rattle.hir_def_map.specs.World.{finished_in}
 use Rattle.hir_def_map.proofs.nameres.DefMap.with_ancestor_maps.Given as given
 use Rattle.hir_def_map.proofs.nameres.DefMap.with_ancestor_maps.Goals as goal

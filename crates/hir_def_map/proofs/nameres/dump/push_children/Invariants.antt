@@ -1,6 +1,6 @@
 -- What is pushed and what is to be pushed is the same list.
 use Rattle.std.proofs.Common.{◌≡◌, ◌++◌, length, map, reverse}
-use Rattle.hir_def_map.specs.Inner.Branches.{branch_below}
+use Rattle.hir_def_map_rules.specs.Inner.Branches.{branch_below}
 use Rattle.hir_def_map.proofs.nameres.dump.push_children.Given as goal
 
 abbrev pub invariant-children : goal.invariant-children

@@ -1,7 +1,7 @@
 -- Those of all references that are not left are recorded.
 use Rattle.std.proofs.Common.{length}
 use Rattle.std.specs.List.{list_any}
-use Rattle.hir_def_map.specs.References.{lies_in, test_of}
+use Rattle.hir_def_map_rules.specs.References.{lies_in, test_of}
 use Rattle.hir_def_map.proofs.Recorded.{IsRecording}
 use Rattle.hir_def_map.proofs.world.World.record_besides.Given as goal
 

@@ -3,9 +3,9 @@ use Rattle.std.proofs.Common.{rules, ◌≡◌, ◌∙◌, ◌<◌, ◌≤◌, �
 use Rattle.std.specs.List.{list_any}
 use Rattle.std.proofs.lemmas.List.{drop_all, drop_more}
 use Rattle.hir_base.specs.declared.ids.MapId.{MapId}
-use Rattle.hir_def_map.specs.Inner.ReferenceLists.{listed_in}
-use Rattle.hir_def_map.specs.References.{lies_in}
-use Rattle.hir_def_map.specs.State.{ModuleValue}
+use Rattle.hir_def_map_rules.specs.Inner.ReferenceLists.{listed_in}
+use Rattle.hir_def_map_rules.specs.References.{lies_in}
+use Rattle.hir_def_map_rules.specs.State.{ModuleValue}
 use Rattle.hir_def_map.proofs.Recorded.{recording-end, recording-start, recording-step}
 use Rattle.hir_def_map.proofs.world.World.record_in_modules.Goals as goal
 

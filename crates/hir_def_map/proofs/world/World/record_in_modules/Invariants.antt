@@ -2,8 +2,8 @@
 use Rattle.std.proofs.Common.{drop}
 use Rattle.std.specs.List.{list_any}
 use Rattle.hir_base.specs.declared.ids.MapId.{MapId}
-use Rattle.hir_def_map.specs.Inner.ReferenceLists.{listed_in}
-use Rattle.hir_def_map.specs.References.{lies_in}
+use Rattle.hir_def_map_rules.specs.Inner.ReferenceLists.{listed_in}
+use Rattle.hir_def_map_rules.specs.References.{lies_in}
 use Rattle.hir_def_map.proofs.Recorded.{IsRecording}
 use Rattle.hir_def_map.proofs.world.World.record_in_modules.Given as goal
 

@@ -1,6 +1,6 @@
 -- The crates first, from none on; then all.
 use Rattle.std.proofs.Common.{◌∙◌, ap}
-use Rattle.hir_def_map.specs.State.{CrateData}
+use Rattle.hir_def_map_rules.specs.State.{CrateData}
 use Rattle.hir_def_map.proofs.Recorded.{recorded_for}
 use Rattle.hir_def_map.proofs.world.World.recorded.Goals as goal
 

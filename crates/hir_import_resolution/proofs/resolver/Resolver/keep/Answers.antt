@@ -1,7 +1,7 @@
 -- A trait without a name is in no slot that something must stand in.
 use Rattle.std.proofs.Common.{◌∙◌, ap, length}
-use Rattle.hir_def_map.proofs.Grown.{length-changed}
-use Rattle.hir_def_map.proofs.Modules.{OnOk-map}
+use Rattle.hir_def_map_rules.proofs.Grown.{length-changed}
+use Rattle.hir_def_map_rules.proofs.Modules.{OnOk-map}
 use Rattle.hir_import_resolution.specs.Names.{view_of}
 use Rattle.hir_import_resolution.specs.Scopes.{value_of}
 use Rattle.hir_import_resolution.proofs.Bound.{kept_state, kept_views, on_both}

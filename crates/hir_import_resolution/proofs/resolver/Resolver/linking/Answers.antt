@@ -1,7 +1,7 @@
 -- What wasn't found among the targets isn't there.
 use Rattle.std.proofs.Common.{◌≡◌, ◌∙◌, ap, sym, subst, rules, List}
 use Rattle.std.specs.Prelude.{Contains, slice_get}
-use Rattle.hir_def_map.proofs.Modules.{slice_get-read}
+use Rattle.hir_def_map_rules.proofs.Modules.{slice_get-read}
 use Rattle.hir_import_resolution.specs.Directives.{TakenValue}
 use Rattle.hir_import_resolution.specs.declared.directive.ImportDirective.{ImportDirective}
 use mathlib.Core.Bool.{true≢false}

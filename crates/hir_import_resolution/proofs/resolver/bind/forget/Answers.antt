@@ -1,6 +1,6 @@
 -- Namespace after namespace.
 use Rattle.hir_glob_imports.specs.Waves.{brought_of}
-use Rattle.hir_def_map.proofs.Modules.{OnOk-map}
+use Rattle.hir_def_map_rules.proofs.Modules.{OnOk-map}
 use Rattle.hir_import_resolution.proofs.Bound.{forgotten_thrice, kept_thrice}
 use Rattle.hir_import_resolution.proofs.resolver.bind.forget.Goals as goal
 

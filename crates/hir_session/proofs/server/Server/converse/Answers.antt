@@ -3,9 +3,9 @@ use Rattle.std.specs.Io.KnownBytes.{Consumes, IsAtEnd}
 use Rattle.std.proofs.KnownBytes.{Consumes-nil, Appends-nil, Consumes-trans, Consumes-kept}
 use Rattle.hir_session.specs.Runs.{Ends}
 use Rattle.hir_session.proofs.RunLemmas.{so_far, ends_at, breaks_at, Fed-append}
-use Rattle.hir_session.proofs.Headline.{headline}
-use Rattle.hir_session.proofs.LowerLaws.{paths_answer, paths_lead, runs_bind}
-use Rattle.hir_session.specs.Headline.{RepliesHoldTheHeadline}
+use Rattle.hir_session_machine.proofs.Headline.{headline}
+use Rattle.hir_session_answers.proofs.LowerLaws.{paths_answer, paths_lead, runs_bind}
+use Rattle.hir_session_machine.specs.Headline.{RepliesHoldTheHeadline}
 use Rattle.hir_session.proofs.server.Server.converse.Goals as goal
 
 holds : RepliesHoldTheHeadline

@@ -1,6 +1,7 @@
 use Rattle.std.proofs.Common.{ℕ, List, []}
 use Rattle.std.specs.Io.KnownBytes.{Consumes}
-use Rattle.hir_session.specs.Serving.{Fed, Holds}
+use Rattle.hir_session.specs.Serving.{Fed}
+use Rattle.hir_lines.specs.OpenLines.{Holds}
 use Rattle.hir_session.proofs.server.Server.converse.Given as goal
 
 abbrev pub invariant-loop-turn : goal.invariant-loop-turn

@@ -1,9 +1,9 @@
 -- What has been found, and what is further out, give the whole answer.
 use Rattle.std.proofs.Common.{◌≡◌, length}
-use Rattle.hir_def_map.specs.Ancestors.{holders_in}
+use Rattle.hir_def_map_rules.specs.Ancestors.{holders_in}
 use Rattle.hir_def_map.specs.DefMaps.{maps_of}
 use Rattle.hir_def_map.specs.Scoping.Query.{asking_of}
-use Rattle.hir_def_map.specs.Scoping.Blocks.{from_blocks, inherited}
+use Rattle.hir_def_map_rules.specs.Scoping.Blocks.{from_blocks, inherited}
 use Rattle.hir_def_map.proofs.nameres.path_resolution.query.Query.resolve.Given as goal
 
 abbrev pub invariant-out : goal.invariant-out

@@ -1,0 +1,330 @@
+-- Steps by which what waits is expanded, dropped, derived or given up, and by which imports rest.
+use Rattle.std.specs.Prelude.{IsSome}
+use Rattle.std.proofs.Common.{◌≡◌, ◌∙◌, ℕ, ◌<◌, ◌≤◌, List, [], ◌∷◌, ◌++◌, length, slice_get, slice_set, Option, None, Some, inl, inr, refl, sym, ap, subst, arith, append-nil}
+use Rattle.hir_base.specs.Locations.{KeepsNumbers, max_locations}
+use Rattle.either.specs.declared.Either.TheVariants as either
+use Rattle.hir_base.specs.declared.ast_id.AstId.{AstId}
+use Rattle.hir_base.specs.declared.ast_id.MacroCallId.{MacroCallId}
+use Rattle.hir_base.specs.declared.ids.MapId.{MapId}
+use Rattle.hir_base.specs.declared.ids.ModuleId.{ModuleId}
+use Rattle.hir_base.specs.declared.macro_kind.BuiltinDeriveImplId.{BuiltinDeriveImplId}
+use Rattle.hir_base.specs.declared.macro_kind.MacroId.{MacroId}
+use Rattle.hir_item_tree.specs.KeptForest.{KeptForest, KeptItem, all_items}
+use Rattle.hir_item_tree.specs.Rows.{items_at, numbers_of}
+use Rattle.hir_item_tree.specs.SourceTree.{SourceTreeValue}
+use Rattle.hir_item_tree.specs.declared.rows.ModItemId.{ModItemId}
+use Rattle.hir_tables.specs.Tables.{KeepsTables, TablesValue}
+use Rattle.hir_tables.proofs.Growth.{KeepsTables-trans}
+use Rattle.hir_def_map_rules.specs.Macros.{with_diagnostic}
+use Rattle.hir_def_map_rules.specs.Overlay.{Maps}
+use Rattle.hir_def_map_rules.specs.State.{Map, numbered}
+use Rattle.hir_def_map_rules.specs.declared.derive_helpers.DeriveHelper.{DeriveHelper}
+use Rattle.hir_import_resolution.specs.Rest.{IsAtRest}
+use Rattle.hir_collector_rules.specs.declared.start.TheConstants.{STEP_LIMIT}
+use Rattle.hir_collector_rules.specs.declared.macro_directive.Fate.{Fate}
+use Rattle.hir_collector_rules.specs.declared.macro_directive.Fate.TheVariants.{GivenUp, Handled, Waits}
+use Rattle.hir_collector_rules.specs.declared.macro_directive.MacroDirective.{MacroDirective}
+use Rattle.hir_collector_rules.specs.declared.macro_directive.WaitingItem.{WaitingItem}
+use Rattle.hir_collector_rules.specs.declared.site.Site.{Site}
+use Rattle.hir_collector_rules.specs.CallMoves.{NoneWaitsBefore, SeesCall}
+use Rattle.hir_collector_rules.specs.Calls.{Expanding, IsMeantAt, IsWaiting, LeadsNowhere, call_site, error_of, helpers_brought, item_kept, waiting_item}
+use Rattle.hir_collector_rules.specs.Changes.{Change, act, helps, perform, with_derived}
+use Rattle.hir_collector_rules.specs.Derivation.{IsNumberedOut, IsSpent, counted_out, numbered_out}
+use Rattle.hir_collector_rules.specs.ItemIds.{module_id}
+use Rattle.hir_collector_rules.specs.Keys.{Environment, environment}
+use Rattle.hir_collector_rules.specs.Moves.{Makes, OnceGrown, Walks, WalksTooFar}
+use Rattle.hir_collector_rules.specs.State.{Core, State, Task, at_rest, behind, counted, import_state, joined, ticked, visit, visits, visits_over, with_fate, with_map, with_settled}
+use Rattle.hir_collector_rules.specs.Steps.{CallsMacro, DerivesBuiltin, Expands, FallsBack, IsDeep, IsQuiet, IsReachedDeep, May, Numbered, Rule, Sees, Skips, Step, Steps, bringing, derives_builtin, drops_call, drops_reached, expands_call, failing, falls_back, none, reads, rests, site_behind, skips_attribute, visit_behind}
+use Rattle.hir_collector_rules.specs.TreeReads.{visits_at, visits_behind, visits_found}
+use Rattle.hir_collector_rules.specs.Workspace.{TreeLook, Workspace}
+use Rattle.hir_collector_rules.specs.Reports.{call_report}
+use Rattle.hir_collector_rules.proofs.Changes.{Keeps-perform, perform-append}
+use Rattle.hir_collector_rules.proofs.Grows.{Grows-Step}
+use Rattle.hir_collector_rules.proofs.Lists.{get_inside, get_set_same, get_there}
+use Rattle.hir_collector_state.proofs.Made.{Goes, count_kept, goes, made}
+use Rattle.hir_collector_rules.proofs.Moves.{Steps-first, Steps-one, spent_after}
+use Rattle.hir_collector_rules.proofs.Numbers.{tables_stay}
+use Rattle.hir_collector_rules.proofs.Tried.{handled_stays}
+
+-- ---- numbers
+
+-- where there are as many values as have numbers, there are as many later
+more_numbers : {A : Type 0} (old new : List A) → KeepsNumbers old new → max_locations ≤ length old → max_locations ≤ length new
+more_numbers old new kept full =
+    let last = get_there old 2147483646 (omega arith) in
+    let inside : 2147483646 < length new = get_inside new 2147483646 last.0 (kept 2147483646 last.0 last.1) in
+    omega arith
+
+pub numbered_out_grown : (tables grown : TablesValue) → KeepsTables tables grown → IsNumberedOut tables → IsNumberedOut grown
+numbered_out_grown tables grown kept (inl files) = inl (more_numbers tables.files grown.files kept.files files)
+numbered_out_grown tables grown kept (inr (inl entries)) = inr (inl (more_numbers tables.entries grown.entries kept.entries entries))
+numbered_out_grown tables grown kept (inr (inr calls)) = inr (inr (more_numbers tables.calls grown.calls kept.calls calls))
+
+pub spent_by_numbers : (tables : TablesValue) (w : Workspace) (finished : Maps) (s : State) → IsNumberedOut tables → OnceGrown tables w (λ env. IsSpent env finished s)
+spent_by_numbers tables w finished s out = λ grown kept. record { at = s; steps = none; stuck = numbered_out (numbered_out_grown tables grown kept out) }
+
+-- ---- changes of helpers and diagnostics
+
+-- changes that are made one after another
+pub makes_append : (cs ds : List Change) (c d e : Core) → Makes cs c d → Makes ds d e → Makes (cs ++ ds) c e
+makes_append cs ds c d e first then_ = record {
+  is = λ rest. then_.is rest ∙ ap (λ (s : State). perform s ds) (first.is rest) ∙ sym (perform-append cs ds (joined c rest));
+}
+
+-- helpers and a report leave what becomes of what waits
+fates_bringing : (node : AstId) (helpers : List DeriveHelper) (s : State) → (perform s (bringing node helpers)).core.fates ≡ s.core.fates
+fates_bringing node [] s = refl
+fates_bringing node (helper ∷ helpers) s = fates_bringing node helpers (act s (helps node helper))
+
+-- where helpers are brought alone, the fate that was set is there
+pub fate_helped : (c ended helped new : Core) (i : ℕ) (node : AstId) (helpers : List DeriveHelper) → slice_get c.fates i ≡ Some Waits → ended.fates ≡ slice_set c.fates i Handled
+    → Makes (bringing node helpers) ended helped → new ≡ counted helped → slice_get new.fates i ≡ Some Handled
+fate_helped c ended helped new i node helpers waits set brings ticks =
+    ap (λ (n : Core). slice_get n.fates i) ticks
+    ∙ ap (λ (fs : List Fate). slice_get fs i) (ap (λ (s : State). s.core.fates) (brings.is []) ∙ fates_bringing node helpers (joined ended []) ∙ set)
+    ∙ get_set_same c.fates i Handled (get_inside c.fates i Waits waits)
+
+fates_failing : (at : ModuleId) (d : MacroDirective) (error : Option (List ℕ)) (s : State) → (perform s (failing at d error)).core.fates ≡ s.core.fates
+fates_failing at d None s = refl
+fates_failing at d (Some error) s = refl
+
+-- ---- a call, a path of a derive or an attribute is expanded
+
+module _ (tables : TablesValue) (w : Workspace) (finished : Maps) (c asked : Core) (i : ℕ) (d : MacroDirective) (makro : MacroId) (x : Expanding) (source : SourceTreeValue)
+    (sees : SeesCall tables w finished d makro c asked x source) (called : CallsMacro finished (at_rest c) i d makro) (shallow : d.site.level < c.map.crate_data.recursion_limit) where
+  may : Expands finished (at_rest c) i d makro x
+  may = record { called = called; shallow = shallow; text = sees.text }
+
+  abbrev items : List Task
+  items = visits_over (call_site d x.id) x.tree.tree.items
+
+  -- the helpers that it brings, and what is told of it
+  abbrev helped : List Change
+  helped = bringing d.ast_id (helpers_brought finished c.map d makro (Some (either.Left x.id)))
+
+  abbrev told : List Change
+  told = failing (module_id c.map d.site.home) d (error_of x.there)
+
+  -- one step comes to where the items of the expansion are to be visited
+  pub expanded : (ended reported new : Core) → ended ≡ with_fate asked i Handled → Makes (helped ++ told) ended reported → new ≡ counted reported
+      → OnceGrown tables w (λ env. Step env finished (at_rest c) (joined new (visits_over (call_site d x.id) source.tree.items)))
+  expanded ended reported new handled tells ticks = λ grown kept.
+      subst (λ (look : TreeLook). Step (environment grown w) finished (at_rest c) (joined new (visits_over (call_site d x.id) look.tree.items))) sees.tree
+      (made (expands_call i d makro x) may (sees.sees grown kept finished) (sees.numbered grown kept)
+      (ap (λ (n : Core). joined n items) ticks ∙ ap ticked (tells.is items) ∙ ap (λ (e : Core). ticked (perform (joined e items) (helped ++ told))) (handled ∙ ap (λ (a : Core). with_fate a i Handled) sees.asked)))
+
+  -- as many as are counted were taken already, and the call might be expanded
+  pub expanded_past : STEP_LIMIT ≤ c.count → OnceGrown tables w (λ env. IsSpent env finished (at_rest c))
+  expanded_past full = λ grown kept.
+      let next : Goes (environment grown w) finished (at_rest c) = goes (expands_call i d makro x) may (sees.sees grown kept finished) (sees.numbered grown kept) in
+      record { at = at_rest c; steps = none; stuck = counted_out next.next next.step (inl full) }
+
+  -- what becomes of what waits is what it was
+  fates_told : (ended reported : Core) → Makes (helped ++ told) ended reported → reported.fates ≡ ended.fates
+  fates_told ended reported tells =
+      ap (λ (s : State). s.core.fates) (tells.is [] ∙ perform-append helped told (joined ended []))
+      ∙ fates_failing (module_id c.map d.site.home) d (error_of x.there) (perform (joined ended []) helped)
+      ∙ fates_bringing d.ast_id (helpers_brought finished c.map d makro (Some (either.Left x.id))) (joined ended [])
+
+-- it is expanded as the program does it: it is handled, its helpers are brought, its failure reported, and its items are visited
+module _ (tables : TablesValue) (w : Workspace) (finished : Maps) (c asked : Core) (i : ℕ) (d : MacroDirective) (makro : MacroId) (x : Expanding) (source : SourceTreeValue)
+    (sees : SeesCall tables w finished d makro c asked x source) (called : CallsMacro finished (at_rest c) i d makro) (shallow : d.site.level < c.map.crate_data.recursion_limit)
+    (ended brought reported : Core) (id : MacroCallId) (error : Option (List ℕ)) (ends : ended ≡ with_fate asked i Handled) (is_id : id ≡ x.id) (is_error : error ≡ error_of x.there)
+    (brings : Makes (bringing d.ast_id (helpers_brought finished ended.map d makro (Some (either.Left id)))) ended brought)
+    (tells : Makes (failing (module_id brought.map d.site.home) d error) brought reported) where
+  -- it was handled
+  from_start : ended ≡ with_fate (record c { asked = asked.asked }) i Handled
+  from_start = ends ∙ ap (λ (a : Core). with_fate a i Handled) (sees.asked ∙ sym (ap (λ (a : Core). record c { asked = a.asked }) sees.asked))
+
+  same_map : ended.map ≡ c.map
+  same_map = ap (λ (e : Core). e.map) from_start
+
+  -- its helpers are those that the rule brings
+  brings_helped : Makes (helped tables w finished c asked i d makro x source sees called shallow) ended brought
+  brings_helped =
+      subst (λ (m : Map). Makes (bringing d.ast_id (helpers_brought finished m d makro (Some (either.Left x.id)))) ended brought) same_map
+      (subst (λ (n : MacroCallId). Makes (bringing d.ast_id (helpers_brought finished ended.map d makro (Some (either.Left n)))) ended brought) is_id brings)
+
+  same_own : brought.map.id ≡ c.map.id
+  same_own =
+      ap (λ (s : State). s.core.map.id) (brings_helped.is [])
+      ∙ (Keeps-perform (helped tables w finished c asked i d makro x source sees called shallow) (joined ended [])).id ∙ ap (λ (m : Map). m.id) same_map
+
+  -- and so is what is told
+  tells_told : Makes (told tables w finished c asked i d makro x source sees called shallow) brought reported
+  tells_told =
+      subst (λ (own : MapId). Makes (failing (numbered own d.site.home) d (error_of x.there)) brought reported) same_own
+      (subst (λ (e : Option (List ℕ)). Makes (failing (module_id brought.map d.site.home) d e) brought reported) is_error tells)
+
+  both : Makes (helped tables w finished c asked i d makro x source sees called shallow ++ told tables w finished c asked i d makro x source sees called shallow) ended reported
+  both = makes_append _ _ ended brought reported brings_helped tells_told
+
+  -- as many as are counted were taken already
+  pub past_reported : STEP_LIMIT ≤ reported.count → OnceGrown tables w (λ env. IsSpent env finished (at_rest c))
+  past_reported full =
+      let same : reported.count ≡ c.count = count_kept _ ended reported both ∙ ap (λ (e : Core). e.count) from_start in
+      expanded_past tables w finished c asked i d makro x source sees called shallow (subst (λ (n : ℕ). STEP_LIMIT ≤ n) same full)
+
+  module _ (new : Core) (ticks : new ≡ counted reported) where
+    one_step : OnceGrown tables w (λ env. Step env finished (at_rest c) (joined new (visits_over (call_site d x.id) source.tree.items)))
+    one_step = expanded tables w finished c asked i d makro x source sees called shallow ended reported new ends both ticks
+
+    longer : length c.map.modules ≤ length new.map.modules
+    longer = (Grows-Step (one_step tables (tables_stay tables))).longer
+
+    fate_now : slice_get new.fates i ≡ Some Handled
+    fate_now =
+        ap (λ (n : Core). slice_get n.fates i) ticks ∙ ap (λ (fs : List Fate). slice_get fs i) (fates_told tables w finished c asked i d makro x source sees called shallow ended reported both)
+        ∙ ap (λ (e : Core). slice_get e.fates i) from_start ∙ get_set_same c.fates i Handled (get_inside c.fates i Waits called.due.waiting.waits)
+
+    module _ (site : Site) (ids : List ModItemId) (is_site : site ≡ call_site d id) (all : items_at (all_items source.tree.items) (numbers_of ids) ≡ source.tree.items) where
+      at_call : site ≡ call_site d x.id
+      at_call = is_site ∙ ap (call_site d) is_id
+
+      -- the items are visited in the module of the call, and their site means something
+      pub site_inside : d.site.home < length c.map.modules → site.home < length new.map.modules
+      site_inside inside = subst (λ (s : Site). s.home < length new.map.modules) (sym at_call) (omega (arith, inside, longer))
+
+      pub site_meant : IsMeantAt tables site
+      site_meant = subst (IsMeantAt tables) (sym at_call) sees.written
+
+      visits_same : visits_at source.tree site (numbers_of ids) ++ [] ≡ visits_over (call_site d x.id) source.tree.items
+      visits_same =
+          append-nil (visits_at source.tree site (numbers_of ids)) ∙ ap (λ (items : KeptForest). visits_over site items) all
+          ∙ ap (λ (s : Site). visits_over s source.tree.items) at_call
+
+      module _ (later : TablesValue) (kept : KeepsTables tables later) (v : Workspace) (same : v ≡ w) where
+        -- then they are
+        pub expanded_and_walked : (last : Core) → OnceGrown later v (λ env. Walks env finished new last (visits_at source.tree site (numbers_of ids)))
+            → OnceGrown later w (λ env. Steps env finished (at_rest c) (at_rest last))
+        expanded_and_walked last walks = λ grown k.
+            let on : Walks (environment grown w) finished new last (visits_at source.tree site (numbers_of ids)) =
+            subst (λ (u : Workspace). Walks (environment grown u) finished new last (visits_at source.tree site (numbers_of ids))) same (walks grown k) in
+            Steps-first (one_step grown (KeepsTables-trans tables later grown kept k))
+            (subst (λ (ts : List Task). Steps (environment grown w) finished (joined new ts) (at_rest last)) visits_same (on.steps []))
+
+        pub expanded_too_far : OnceGrown later v (λ env. WalksTooFar env finished new (visits_at source.tree site (numbers_of ids)))
+            → OnceGrown later w (λ env. IsSpent env finished (at_rest c))
+        expanded_too_far far = λ grown k.
+            let on : WalksTooFar (environment grown w) finished new (visits_at source.tree site (numbers_of ids)) =
+            subst (λ (u : Workspace). WalksTooFar (environment grown u) finished new (visits_at source.tree site (numbers_of ids))) same (far grown k) in
+            spent_after (Steps-one (one_step grown (KeepsTables-trans tables later grown kept k)))
+            (subst (λ (ts : List Task). IsSpent (environment grown w) finished (joined new ts)) visits_same (on.spent []))
+
+        -- the call stays handled
+        pub handled_at_last : (last : Core) → OnceGrown later v (λ env. Walks env finished new last (visits_at source.tree site (numbers_of ids))) → slice_get last.fates i ≡ Some Handled
+        handled_at_last last walks =
+            let on : Walks (environment later v) finished new last (visits_at source.tree site (numbers_of ids)) = walks later (tables_stay later) in
+            handled_stays (on.steps []) i fate_now
+
+-- ---- what waits is dropped, or stands for an impl, and imports rest
+
+module _ (env : Environment) (finished : Maps) (c : Core) where
+  -- as many as are counted were taken already, and a rule might be applied
+  pub past_rule : (r : Rule) → May finished (at_rest c) r → Sees env finished (reads (at_rest c) r) → Numbered env.tables (at_rest c) r → STEP_LIMIT ≤ c.count → IsSpent env finished (at_rest c)
+  past_rule r may sees numbers full =
+      let next : Goes env finished (at_rest c) = goes r may sees numbers in
+      record { at = at_rest c; steps = none; stuck = counted_out next.next next.step (inl full) }
+
+  pub dropped : (i : ℕ) (d : MacroDirective) (new : Core) → IsDeep (at_rest c) i d → new ≡ counted (with_fate c i Handled) → Steps env finished (at_rest c) (at_rest new)
+  dropped i d new may is = Steps-one (made (drops_call i d) may tt tt (ap at_rest is))
+
+  -- one that reaches a macro brings its helpers
+  pub dropped_reached : (i : ℕ) (d : MacroDirective) (makro : MacroId) (ended helped new : Core) → IsReachedDeep finished (at_rest c) i d makro → ended ≡ with_fate c i Handled
+      → Makes (bringing d.ast_id (helpers_brought finished ended.map d makro None)) ended helped → new ≡ counted helped → Steps env finished (at_rest c) (at_rest new)
+  dropped_reached i d makro ended helped new may handled brings ticks =
+      let same : Makes (bringing d.ast_id (helpers_brought finished c.map d makro None)) ended helped =
+      subst (λ (m : Map). Makes (bringing d.ast_id (helpers_brought finished m d makro None)) ended helped) (ap (λ (e : Core). e.map) handled) brings in
+      Steps-one (made (drops_reached i d makro) may tt tt
+      (ap at_rest ticks ∙ ap ticked (same.is []) ∙ ap (λ (e : Core). ticked (perform (at_rest e) (bringing d.ast_id (helpers_brought finished c.map d makro None)))) handled))
+
+  -- a path of a derive that reaches a builtin macro stands for an impl
+  pub derived : (i : ℕ) (d : MacroDirective) (makro : MacroId) (imp : BuiltinDeriveImplId) (ended listed helped new : Core) → DerivesBuiltin finished (at_rest c) i d makro imp
+      → ended ≡ with_fate c i Handled → listed ≡ with_map ended (with_derived ended.map d.site.home imp)
+      → Makes (bringing d.ast_id (helpers_brought finished c.map d makro (Some (either.Right imp)))) listed helped → new ≡ counted helped → Steps env finished (at_rest c) (at_rest new)
+  derived i d makro imp ended listed helped new may handled is_listed is_helped ticks =
+      Steps-one (made (derives_builtin i d makro imp) may tt tt
+      (ap at_rest ticks ∙ ap ticked (is_helped.is [])
+      ∙ ap (λ (l : Core). ticked (perform (at_rest l) (bringing d.ast_id (helpers_brought finished c.map d makro (Some (either.Right imp))))))
+      (is_listed ∙ ap (λ (e : Core). with_map e (with_derived e.map d.site.home imp)) handled)))
+
+  quiet : IsAtRest finished (import_state (at_rest c)) → IsQuiet finished (at_rest c)
+  quiet rest = record { visited = refl; settled = rest.settled; closed = rest.closed }
+
+  pub rested : (new : Core) → IsAtRest finished (import_state (at_rest c)) → new ≡ counted (with_settled c) → Steps env finished (at_rest c) (at_rest new)
+  rested new rest ticks = Steps-one (made rests (quiet rest) tt tt (ap at_rest ticks))
+
+  pub rested_past : IsAtRest finished (import_state (at_rest c)) → STEP_LIMIT ≤ c.count → IsSpent env finished (at_rest c)
+  rested_past rest full = past_rule rests (quiet rest) tt tt full
+
+  -- ---- the item of an attribute goes on
+
+  pub skipped : (i : ℕ) (d : MacroDirective) (k : WaitingItem) (item : KeptItem) (ended new : Core) → Skips finished (at_rest c) i d k item → ended ≡ with_fate c i Handled → new ≡ counted ended
+      → Step env finished (at_rest c) (joined new (visits (visit_behind d k item) ∷ []))
+  skipped i d k item ended new may handled ticks =
+      made (skips_attribute i d k item) may tt tt (ap (λ (n : Core). joined n (visits (visit_behind d k item) ∷ [])) (ticks ∙ ap counted handled))
+
+  pub given_up : (i : ℕ) (d : MacroDirective) (k : WaitingItem) (item : KeptItem) (ended told new : Core) → FallsBack finished (at_rest c) i d k item → ended ≡ with_fate c i GivenUp
+      → told ≡ with_map ended (with_diagnostic ended.map (call_report c.map.id d)) → new ≡ counted told → Step env finished (at_rest c) (joined new (visits (visit_behind d k item) ∷ []))
+  given_up i d k item ended told new may handled is_told ticks =
+      made (falls_back i d k item) may tt tt
+      (ap (λ (n : Core). joined n (visits (visit_behind d k item) ∷ []))
+      (ticks ∙ ap counted (is_told ∙ ap (λ (e : Core). with_map e (with_diagnostic e.map (call_report c.map.id d))) handled)))
+
+  -- it may be where imports rest, nothing that waits reaches anything, and no attribute waits before it
+  pub falls_back_at : (i : ℕ) (d : MacroDirective) (k : WaitingItem) (item : KeptItem) → IsAtRest finished (import_state (at_rest c)) → ((j : ℕ) → LeadsNowhere finished (at_rest c) j)
+      → NoneWaitsBefore c i → IsWaiting (at_rest c) i d → waiting_item d ≡ Some k → item_kept k ≡ Some item → FallsBack finished (at_rest c) i d k item
+  falls_back_at i d k item rest nowhere first waits of_item kept = record {
+    waiting = waits;
+    of = record { waits = of_item; kept = kept };
+    quiet = quiet rest;
+    nowhere = nowhere;
+    first = λ j e other there is. first.none j (record { call = e; waits = there; item = other; is_item = is });
+  }
+
+-- the item is visited as the program does it
+module _ (k : WaitingItem) (i : KeptItem) (site : Site) (d : MacroDirective) (is_site : site ≡ site_behind d.site) (kept : item_kept k ≡ Some i) where
+  pub visits_it : visits_behind k.source.tree site k.id.0 k.done ++ [] ≡ visits (visit_behind d k i) ∷ []
+  visits_it =
+      append-nil (visits_found site k.done (item_kept k)) ∙ ap (λ (o : Option KeptItem). visits_found site k.done o) kept
+      ∙ ap (λ (s : Site). visits (behind (visit s i) k.done) ∷ []) is_site
+
+  -- steps that begin with one to where it is visited
+  pub went_on : {env : Environment} {finished : Maps} {c new last : Core} → Step env finished (at_rest c) (joined new (visits (visit_behind d k i) ∷ []))
+      → Walks env finished new last (visits_behind k.source.tree site k.id.0 k.done) → Steps env finished (at_rest c) (at_rest last)
+  went_on {env = env} {finished = finished} {new = new} {last = last} step walks =
+      Steps-first step (subst (λ (ts : List Task). Steps env finished (joined new ts) (at_rest last)) visits_it (walks.steps []))
+
+  pub went_too_far : {env : Environment} {finished : Maps} {c new : Core} → Step env finished (at_rest c) (joined new (visits (visit_behind d k i) ∷ []))
+      → WalksTooFar env finished new (visits_behind k.source.tree site k.id.0 k.done) → IsSpent env finished (at_rest c)
+  went_too_far {env = env} {finished = finished} {new = new} step far =
+      spent_after (Steps-one step) (subst (λ (ts : List Task). IsSpent env finished (joined new ts)) visits_it (far.spent []))
+
+-- an item that is kept lies in the tree that is kept with it
+pub kept_inside : (k : WaitingItem) → IsSome (item_kept k) → k.id.0 < length (all_items k.source.tree.items)
+kept_inside k there = go (item_kept k) refl there
+  where
+    go : (o : Option KeptItem) → item_kept k ≡ o → IsSome o → k.id.0 < length (all_items k.source.tree.items)
+    go None e h = absurd (let no : ⊥ = cc in no)
+    go (Some item) e h = get_inside (all_items k.source.tree.items) k.id.0 item e
+
+-- and is the item of a number there
+pub kept_item : (k : WaitingItem) → IsSome (item_kept k) → (item : KeptItem) × (item_kept k ≡ Some item)
+kept_item k there = go (item_kept k) refl there
+  where
+    go : (o : Option KeptItem) → item_kept k ≡ o → IsSome o → (item : KeptItem) × (item_kept k ≡ Some item)
+    go None e h = absurd (let no : ⊥ = cc in no)
+    go (Some item) e h = (item, e)
+
+-- imports that rest do so where a step was counted
+pub rest_counted : (finished : Maps) (c : Core) → IsAtRest finished (import_state (at_rest c)) → IsAtRest finished (import_state (at_rest (counted (with_settled c))))
+rest_counted finished c rest = record {
+  settled = λ i. record { among = (rest.settled i).among; linked = (rest.settled i).linked };
+  recorded = λ i. record {
+    each = λ r t target at before taken.
+        let source = (rest.recorded i).each r t target at before taken in
+        record { number = source.number; edge = source.edge; recorded = source.recorded; source = source.source; into = source.into };
+  };
+  closed = rest.closed;
+  stands = rest.stands;
+}

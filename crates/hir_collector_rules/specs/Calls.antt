@@ -1,0 +1,308 @@
+-- Which macro does a call, a path of a derive or an attribute reach, and what does it expand to?
+use Rattle.std.specs.Prelude.{◌≡◌, ◌<◌, IsSome, ℕ, ◌+◌, Bool, true, false, List, [], ◌∷◌, codes, Option, None, Some, cond, map, not, option_map, unwrap_or, slice_get}
+use Rattle.std.specs.Option.{option_and_then}
+use Rattle.either.specs.declared.Either.{Either}
+use Rattle.hir_base.specs.Ids.{macro_module}
+use Rattle.hir_base.specs.MacroKind.{contains_styles, derive_alone, styles_of}
+use Rattle.hir_base.specs.ModPath.{Path}
+use Rattle.hir_base.specs.declared.ast_id.AstId.{AstId}
+use Rattle.hir_base.specs.declared.ast_id.EntryId.{EntryId}
+use Rattle.hir_base.specs.declared.ast_id.HirFileId.TheVariants.{Macro}
+use Rattle.hir_base.specs.declared.ast_id.MacroCallId.{MacroCallId}
+use Rattle.hir_base.specs.declared.ids.Crate.{Crate}
+use Rattle.hir_base.specs.declared.macro_kind.BuiltinDeriveImplId.{BuiltinDeriveImplId}
+use Rattle.hir_base.specs.declared.macro_kind.CallStyle.{CallStyle}
+use Rattle.hir_base.specs.declared.macro_kind.CallStyle.TheVariants as styles
+use Rattle.hir_base.specs.declared.macro_kind.MacroExpander.{MacroExpander}
+use Rattle.hir_base.specs.declared.macro_kind.MacroExpander.TheVariants as expanders
+use Rattle.hir_base.specs.declared.macro_kind.MacroCallKind.{MacroCallKind}
+use Rattle.hir_base.specs.declared.macro_kind.MacroCallKind.TheVariants as call_kinds
+use Rattle.hir_base.specs.declared.macro_kind.MacroCallLoc.{MacroCallLoc}
+use Rattle.hir_base.specs.declared.macro_kind.MacroId.{MacroId}
+use Rattle.hir_base.specs.declared.macro_kind.MacroId.TheVariants.{Macro2Id, MacroRulesId, ProcMacroId}
+use Rattle.hir_base.specs.declared.resolve_mode.BuiltinShadowMode.TheVariants as shadow_modes
+use Rattle.hir_base.specs.declared.resolve_mode.MacroSubNs.{MacroSubNs}
+use Rattle.hir_base.specs.declared.resolve_mode.MacroSubNs.TheVariants as sub_namespaces
+use Rattle.hir_def_map_rules.specs.declared.path_result.ResolveMode.TheVariants as modes
+use Rattle.hir_item_tree.specs.declared.tree_id.TreeId.{TreeId}
+use Rattle.hir_item_tree.specs.declared.tree_id.TreeKey.{TreeKey}
+use Rattle.hir_scope.specs.PerNs.{Item}
+use Rattle.hir_scope.specs.declared.imports.ImportOrExternCrate.{ImportOrExternCrate}
+use Rattle.hir_scope.specs.declared.per_ns.PerNs.{PerNs}
+use Rattle.hir_tables.specs.SourcePlaces.{ExpansionValue}
+use Rattle.hir_tables.specs.Tables.{TablesValue, call_at, entry_at, source_of}
+use Rattle.hir_def_map_rules.specs.Diagnostics.{call_node}
+use Rattle.hir_def_map_rules.specs.Macros.{macro_data_at}
+use Rattle.hir_def_map_rules.specs.Overlay.{Maps, map_in, overlay}
+use Rattle.hir_def_map_rules.specs.Scoping.{resolution_of}
+use Rattle.hir_def_map_rules.specs.Scoping.Asking.{Asking}
+use Rattle.hir_def_map_rules.specs.State.{Local, MacroDataValue, Map, numbered}
+use Rattle.hir_def_map_rules.specs.declared.derive_helpers.DeriveHelper.{DeriveHelper}
+use Rattle.hir_item_tree.specs.KeptForest.{KeptItem, all_items}
+use Rattle.hir_collector_rules.specs.declared.macro_directive.Fate.TheVariants as fates
+use Rattle.hir_collector_rules.specs.declared.macro_directive.MacroDirective.{MacroDirective}
+use Rattle.hir_collector_rules.specs.declared.macro_directive.MacroDirectiveKind.{MacroDirectiveKind}
+use Rattle.hir_collector_rules.specs.declared.macro_directive.MacroDirectiveKind.TheVariants.{Attr, Derive, FnLike}
+use Rattle.hir_collector_rules.specs.declared.macro_directive.WaitingItem.{WaitingItem}
+use Rattle.hir_collector_rules.specs.declared.site.Site.{Site}
+use Rattle.hir_collector_rules.specs.declared.source_database.Key.TheVariants as keys
+use Rattle.hir_collector_rules.specs.Attributes.{is_helper}
+use Rattle.hir_collector_rules.specs.Keys.{IsMeant, node_tree, of_entry, of_input, of_text, of_tree}
+use Rattle.hir_collector_rules.specs.ModuleFiles.{IsFileMeant, Reading}
+use Rattle.hir_collector_rules.specs.State.{State}
+use Rattle.hir_collector_rules.specs.Workspace.{EntryLook, TreeLook}
+
+-- ---- which macro
+
+-- the path of what names a macro
+abbrev pub path_by : MacroDirectiveKind → Path
+path_by (FnLike path) = path
+path_by (Derive path attr index adt) = path
+path_by (Attr path attr item) = path
+
+abbrev pub path_of_call : MacroDirective → Path
+path_of_call d = path_by d.kind
+
+-- how a path asks for a macro: that of a call for one that can be called, those of derives and attributes for one of theirs
+abbrev pub style_of : MacroDirectiveKind → MacroSubNs
+style_of (FnLike path) = sub_namespaces.Bang
+style_of (Derive path attr index adt) = sub_namespaces.Attr
+style_of (Attr path attr item) = sub_namespaces.Attr
+
+abbrev pub by_style : MacroSubNs → Local → Asking
+by_style style local = record { local = local; mode = modes.Other; shadow = shadow_modes.Module; sub_ns = Some style }
+
+-- whether a macro that a path reaches will do: a path of a derive wants one that can be derived with
+abbrev pub suits : MacroDirectiveKind → MacroId → Bool
+suits (FnLike path) makro = true
+suits (Derive path attr index adt) makro = contains_styles (styles_of makro) derive_alone
+suits (Attr path attr item) makro = true
+
+-- the macro among what a path reaches
+abbrev pub macro_among : PerNs → Option MacroId
+macro_among items = option_map (λ (i : Item MacroId ImportOrExternCrate). i.def) items.macros
+
+abbrev pub suited : MacroDirectiveKind → Option MacroId → Option MacroId
+suited kind found = option_and_then (λ makro. cond (suits kind makro) (Some makro) None) found
+
+-- the macro that a call, a path of a derive or an attribute reaches, if it reaches one
+abbrev pub called_macro : Maps → Local → Map → MacroDirective → Option MacroId
+called_macro finished local m d =
+    suited d.kind (macro_among (resolution_of (overlay finished m) (by_style (style_of d.kind) local) (numbered m.id d.site.home) (path_of_call d)).resolved_def)
+
+-- whether it is an attribute, and is inert by now: a derive brought a helper of its name into scope on its item
+abbrev pub is_inert_by : Map → AstId → MacroDirectiveKind → Bool
+is_inert_by m node (FnLike path) = false
+is_inert_by m node (Derive path attr index adt) = false
+is_inert_by m node (Attr path attr item) = is_helper m node path
+
+abbrev pub is_inert_now : Map → MacroDirective → Bool
+is_inert_now m d = is_inert_by m d.ast_id d.kind
+
+-- whether it is a call
+abbrev pub is_call_kind : MacroDirectiveKind → Bool
+is_call_kind (FnLike path) = true
+is_call_kind (Derive path attr index adt) = false
+is_call_kind (Attr path attr item) = false
+
+abbrev pub is_call : MacroDirective → Bool
+is_call d = is_call_kind d.kind
+
+-- the item that waits, if it is an attribute
+abbrev pub item_in : MacroDirectiveKind → Option WaitingItem
+item_in (FnLike path) = None
+item_in (Derive path attr index adt) = None
+item_in (Attr path attr item) = Some item
+
+abbrev pub waiting_item : MacroDirective → Option WaitingItem
+waiting_item d = item_in d.kind
+
+-- the item of a number in the tree that is kept with it
+abbrev pub item_kept : WaitingItem → Option KeptItem
+item_kept k = slice_get (all_items k.source.tree.items) k.id.0
+
+-- ---- what a macro does
+
+-- the builtin macros that are no calls: of a derive one that stands for an impl, of an attribute one that leaves the item
+abbrev pub is_builtin_for : MacroDirectiveKind → MacroExpander → Bool
+is_builtin_for (Derive path attr index adt) expanders.BuiltinDerive = true
+is_builtin_for (Attr path attr item) expanders.BuiltinAttr = true
+is_builtin_for _ _ = false
+
+-- whether a macro has an expansion
+abbrev pub expands_by : MacroDirectiveKind → MacroId → Bool
+expands_by kind (Macro2Id id) = not (is_builtin_for kind id.loc.expander)
+expands_by kind (MacroRulesId id) = not (is_builtin_for kind id.loc.expander)
+expands_by kind (ProcMacroId id) = true
+
+abbrev pub has_expansion : MacroDirective → MacroId → Bool
+has_expansion d makro = expands_by d.kind makro
+
+-- what is kept of a macro in its map, beside finished maps
+abbrev pub kept_of : Maps → Map → MacroId → Option MacroDataValue
+kept_of finished m makro = option_and_then (λ (own : Map). macro_data_at own makro) (map_in (overlay finished m) (macro_module makro).map)
+
+-- the attributes that deriving with a macro brings
+abbrev pub helpers_of : Option MacroDataValue → List (List ℕ)
+helpers_of None = []
+helpers_of (Some what) = what.helpers
+
+-- what a path of a derive became: a call, or the impl of a builtin macro; nothing where it is too deep
+abbrev pub DerivedCall : Type 0
+DerivedCall = Option (Either MacroCallId BuiltinDeriveImplId)
+
+abbrev pub helper_by : MacroId → DerivedCall → List ℕ → DeriveHelper
+helper_by makro call name = record { name = name; makro = makro; call = call }
+
+-- the helpers that come into scope with a macro that does what was asked: none but those of a derive
+abbrev pub helpers_by : MacroDirectiveKind → List (List ℕ) → MacroId → DerivedCall → List DeriveHelper
+helpers_by (FnLike path) names makro call = []
+helpers_by (Derive path attr index adt) names makro call = map (helper_by makro call) names
+helpers_by (Attr path attr item) names makro call = []
+
+abbrev pub helpers_brought : Maps → Map → MacroDirective → MacroId → DerivedCall → List DeriveHelper
+helpers_brought finished m d makro call = helpers_by d.kind (helpers_of (kept_of finished m makro)) makro call
+
+-- the impl that a builtin derive macro stands for
+abbrev pub builtin_impl : MacroId → MacroDirectiveKind → Option BuiltinDeriveImplId
+builtin_impl makro (FnLike path) = None
+builtin_impl makro (Derive path attr index adt) = Some (record { adt = adt; derive = makro; derive_attr_id = attr; derive_index = index })
+builtin_impl makro (Attr path attr item) = None
+
+-- the crate of a macro
+abbrev pub macro_crate : MacroId → Crate
+macro_crate makro = (macro_module makro).map.krate
+
+-- ---- its number
+
+-- what a call is
+abbrev pub kind_by : AstId → MacroDirectiveKind → MacroCallKind
+kind_by node (FnLike path) = call_kinds.FnLike node
+kind_by node (Derive path attr index adt) = call_kinds.Derive node attr index
+kind_by node (Attr path attr item) = call_kinds.Attr node attr
+
+abbrev pub call_kind : MacroDirective → MacroCallKind
+call_kind d = kind_by d.ast_id d.kind
+
+-- how its expansion is asked for
+abbrev pub style_by : MacroDirectiveKind → CallStyle
+style_by (FnLike path) = styles.Bang
+style_by (Derive path attr index adt) = styles.Derive
+style_by (Attr path attr item) = styles.Attribute attr
+
+abbrev pub call_style : MacroDirective → CallStyle
+call_style d = style_by d.kind
+
+-- what its expansion depends on, if these are the macro's text and the call's input
+abbrev pub expansion_of_call : Crate → CallStyle → MacroId → Option (List ℕ) → Option (List ℕ) → ExpansionValue
+expansion_of_call own style makro text input = record {
+  caller = own;
+  called = record { krate = macro_crate makro; text = unwrap_or text [] };
+  call = style;
+  input = unwrap_or input [];
+  reached = [];
+}
+
+-- the call as the value of its number
+abbrev pub call_loc : MacroDirective → EntryId → MacroCallLoc
+call_loc d entry = record { kind = call_kind d; entry = entry }
+
+-- the tree of what a call expands to, and its key under a crate
+abbrev pub call_tree : MacroCallId → TreeId
+call_tree id = record { file = Macro id; block = None }
+
+abbrev pub call_key : Crate → MacroCallId → TreeKey
+call_key krate id = record { krate = krate; id = call_tree id }
+
+-- where the items are written to which a call expands
+abbrev pub call_site : MacroDirective → MacroCallId → Site
+call_site d id = record {
+  home = d.site.home;
+  tree = call_tree id;
+  file = d.site.file;
+  extern_block = d.site.extern_block;
+  dir = d.site.dir;
+  level = d.site.level + 1;
+}
+
+-- ---- what it expands to
+
+-- what is seen of a call that reaches a macro: the macro's text, the input, and the expansion under its number
+pub record Expanding : Type 0 where
+  pub text : Option (List ℕ)
+  pub input : Option (List ℕ)
+  pub entry : EntryId
+  pub id : MacroCallId
+  pub there : EntryLook
+  pub tree : TreeLook
+
+-- the numbers of the macro mean something, and those of the expansion and of the call what they are taken for
+pub record IsNumberedCall (tables : TablesValue) (own : Crate) (d : MacroDirective) (makro : MacroId) (x : Expanding) : Type 0 where
+  pub meant : IsMeant tables makro
+  pub entry : entry_at tables x.entry ≡ Some (expansion_of_call own (call_style d) makro x.text x.input)
+  pub call : call_at tables x.id ≡ Some (call_loc d x.entry)
+
+-- the text of a macro is read where a source writes it
+abbrev pub text_readings : MacroId → Option (List ℕ) → List Reading
+text_readings (Macro2Id id) text = record { key = keys.Text (Macro2Id id); there = of_text text } ∷ []
+text_readings (MacroRulesId id) text = record { key = keys.Text (MacroRulesId id); there = of_text text } ∷ []
+text_readings (ProcMacroId id) text = []
+
+-- that of a procedural one is the name under which it is exported
+abbrev pub IsTextOf : Maps → Map → MacroId → Option (List ℕ) → Type 0
+IsTextOf finished m (Macro2Id id) text = Unit {0}
+IsTextOf finished m (MacroRulesId id) text = Unit {0}
+IsTextOf finished m (ProcMacroId id) text = text ≡ option_map (λ (what : MacroDataValue). what.name) (kept_of finished m (ProcMacroId id))
+
+abbrev pub called_text : Maps → Map → MacroId → Option (List ℕ) → Option (List ℕ)
+called_text finished m (Macro2Id id) found = found
+called_text finished m (MacroRulesId id) found = found
+called_text finished m (ProcMacroId id) found = option_map (λ (what : MacroDataValue). what.name) (kept_of finished m (ProcMacroId id))
+
+-- the input, whether the expansion is there, and its items
+abbrev pub expansion_readings : Crate → MacroDirective → Expanding → List Reading
+expansion_readings own d x =
+    record { key = keys.Input own d.ast_id; there = of_input x.input }
+    ∷ record { key = keys.Expansion x.entry; there = of_entry x.there }
+    ∷ record { key = keys.Tree (call_key own x.id); there = of_tree x.tree } ∷ []
+
+-- why a call didn't expand, or not well: its expansion is absent, or has an error beside it
+abbrev pub error_of : EntryLook → Option (List ℕ)
+error_of e = cond e.present e.error (Some (codes "absent"))
+
+-- ---- what waits
+
+-- the call at the place waits
+pub record IsWaiting (s : State) (i : ℕ) (d : MacroDirective) : Type 0 where
+  pub call : slice_get s.core.calls i ≡ Some d
+  pub waits : slice_get s.core.fates i ≡ Some fates.Waits
+
+-- where it waits, it is no call that is deeper than calls may be, reaches no macro, and isn't inert
+pub record LeadsNowhere (finished : Maps) (s : State) (i : ℕ) : Type 0 where
+  pub shallow : (d : MacroDirective) → IsWaiting s i d → is_call d ≡ true → d.site.level < s.core.map.crate_data.recursion_limit
+  pub nowhere : (d : MacroDirective) → IsWaiting s i d → called_macro finished s.core.local s.core.map d ≡ None
+  pub active : (d : MacroDirective) → IsWaiting s i d → is_inert_now s.core.map d ≡ false
+
+-- ---- where calls are written
+
+-- a node is written in a source that has a number, and where that is what a call expands to, the call has a smaller number
+pub record IsPlacedBelow (tables : TablesValue) (n : ℕ) (node : AstId) : Type 0 where
+  pub source : IsSome (source_of tables (node_tree node))
+  pub earlier : (c : MacroCallId) → node.file_id ≡ Macro c → node.block ≡ None → c.0 < n
+
+-- so is each call that has a number, and no block has one
+pub record AreCallsPlaced (tables : TablesValue) : Type 0 where
+  pub calls : (n : ℕ) (loc : MacroCallLoc) → slice_get tables.calls n ≡ Some loc → IsPlacedBelow tables n (call_node loc.kind)
+  pub blocks : tables.blocks ≡ []
+
+-- the numbers of a site mean something
+pub record IsMeantAt (tables : TablesValue) (site : Site) : Type 0 where
+  pub tree : IsSome (source_of tables site.tree)
+  pub file : IsFileMeant tables site.file
+
+-- so do those of a call, and of the node on which it stands
+pub record IsMeantCall (tables : TablesValue) (d : MacroDirective) : Type 0 where
+  pub site : IsMeantAt tables d.site
+  pub node : IsSome (source_of tables (node_tree d.ast_id))
+  -- an item that waits is kept with it
+  pub item : (k : WaitingItem) → waiting_item d ≡ Some k → IsSome (item_kept k)

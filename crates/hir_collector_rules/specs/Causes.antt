@@ -1,0 +1,87 @@
+-- Why a run asked for a key.
+use Rattle.std.specs.Prelude.{◌≡◌, ◌<◌, true, false, ℕ, List, [], ◌∷◌, Option, None, Some, Contains, slice_get}
+use Rattle.std.specs.Option.{option_map_or}
+use Rattle.hir_base.specs.declared.ast_id.FileId.{FileId}
+use Rattle.hir_base.specs.declared.ids.AdtId.TheVariants as adts
+use Rattle.hir_base.specs.declared.ids.Crate.{Crate}
+use Rattle.hir_base.specs.declared.ids.EnumId.{EnumId}
+use Rattle.hir_base.specs.declared.ids.ModuleDefId.{ModuleDefId}
+use Rattle.hir_base.specs.declared.ids.ModuleDefId.TheVariants as definitions
+use Rattle.hir_base.specs.declared.macro_kind.MacroId.{MacroId}
+use Rattle.hir_item_tree.specs.Collected.{is_enabled}
+use Rattle.hir_item_tree.specs.KeptForest.{Head, leaf, outline_module}
+use Rattle.hir_mod_dir.specs.ModuleFiles.{candidates_of}
+use Rattle.hir_mod_dir.specs.declared.candidate.Candidate.{Candidate}
+use Rattle.hir_tables.specs.SourcePlaces.{file}
+use Rattle.hir_tables.specs.Tables.{TablesValue}
+use Rattle.hir_def_map_rules.specs.Overlay.{Maps}
+use Rattle.hir_def_map_rules.specs.State.{ModuleValue, module_at}
+use Rattle.hir_collector_rules.specs.declared.macro_directive.MacroDirective.{MacroDirective}
+use Rattle.hir_collector_rules.specs.declared.site.Site.{Site}
+use Rattle.hir_collector_rules.specs.declared.source_database.Key.{Key}
+use Rattle.hir_collector_rules.specs.declared.source_database.Key.TheVariants.{Tree, Variants}
+use Rattle.hir_collector_rules.specs.Workspace.{Workspace, transitive_dependencies_in}
+use Rattle.hir_collector_rules.specs.Keys.{environment, map_key}
+use Rattle.hir_collector_rules.specs.ModuleFiles.{IsNumberOf, file_key, named_by}
+use Rattle.hir_collector_rules.specs.State.{State, Task, visits}
+use Rattle.hir_collector_rules.specs.Start.{Beginning, begin_of, krate_of, read_by, root_key}
+use Rattle.hir_collector_rules.specs.Calls.{Expanding, IsNumberedCall}
+use Rattle.hir_collector_rules.specs.Steps.{Expands, Sees, Steps, behind, expands_call, keys_read, path_of, reads, visit}
+
+-- the definitions that a module lists, if it is there
+abbrev pub declarations_of : Option ModuleValue → List ModuleDefId
+declarations_of None = []
+declarations_of (Some m) = m.scope.declarations
+
+-- a state on the way of a run from its start to this one
+pub record IsPassed (tables : TablesValue) (w : Workspace) (finished : Maps) (from : Beginning) (last at : State) : Type 0 where
+  pub before : Steps (environment tables w) (read_by w finished from.start) (begin_of tables w finished from) at
+  pub after : Steps (environment tables w) (read_by w finished from.start) at last
+
+-- the next item of a state is a `mod` item of which this is the candidate of a number, and its file has this number
+pub record IsCandidate (tables : TablesValue) (w : Workspace) (at : State) (key : Key) : Type 0 where
+  pub site : Site
+  pub head : Head
+  pub name : List ℕ
+  pub rest : List Task
+  pub done : ℕ
+  pub next : at.agenda ≡ visits (behind (visit site (leaf head (outline_module name))) done) ∷ rest
+  pub enabled : is_enabled head.attributes ≡ true
+  -- the file in which the item, or the outermost call around it, is written
+  pub declaring : Option (List ℕ)
+  pub written : IsNumberOf tables site.file declaring
+  pub place : ℕ
+  pub candidate : Candidate
+  pub is_candidate : slice_get (candidates_of site.dir name (path_of head)) place ≡ Some candidate
+  pub id : FileId
+  pub is_file : IsNumberOf tables (Some id) (named_by declaring candidate)
+  pub is : key ≡ Tree (file_key at.core.map.id.krate at.core.map.crate_data.edition id)
+  -- no candidate before it is there
+  pub earlier : (m : ℕ) (c : Candidate) → m < place → slice_get (candidates_of site.dir name (path_of head)) m ≡ Some c
+      → option_map_or (λ path. (w.tree at.core.map.id.krate (file path)).present) (named_by declaring c) false ≡ false
+
+-- a call, a path of a derive or an attribute of a state reaches a macro, and this is the key of the macro's text, of the input, of the expansion or of the
+-- expansion's items
+pub record IsOfCall (tables : TablesValue) (w : Workspace) (finished : Maps) (at : State) (key : Key) : Type 0 where
+  pub place : ℕ
+  pub call : MacroDirective
+  pub makro : MacroId
+  pub seen : Expanding
+  pub expands : Expands finished at place call makro seen
+  pub numbered : IsNumberedCall tables at.core.map.id.krate call makro seen
+  pub sees : Sees (environment tables w) finished (reads at (expands_call place call makro seen))
+  pub among : Contains (keys_read (reads at (expands_call place call makro seen))) key
+
+-- the reasons for which a run that ends in this state may have asked for a key
+pub data HasCause (tables : TablesValue) (w : Workspace) (finished : Maps) (from : Beginning) (last : State) (key : Key) : Type 0 where
+  -- it is the tree with which the run begins
+  root_tree : key ≡ root_key from.start from.tree → HasCause tables w finished from last key
+  -- it is the variants of an enum that a module lists
+  declared_enum : (home : ℕ) (id : EnumId) → Contains (declarations_of (module_at last.core.map home)) (definitions.AdtId (adts.EnumId id)) → key ≡ Variants id
+      → HasCause tables w finished from last key
+  -- it is the tree of a candidate of a `mod` item, of which no earlier candidate is there
+  candidate : (at : State) → IsPassed tables w finished from last at → IsCandidate tables w at key → HasCause tables w finished from last key
+  -- it is one of the keys of a call that reaches a macro
+  of_call : (at : State) → IsPassed tables w finished from last at → IsOfCall tables w (read_by w finished from.start) at key → HasCause tables w finished from last key
+  -- it is the map of a crate on which the run's crate depends
+  dependency : (krate : Crate) → Contains (transitive_dependencies_in w (krate_of from.start)) krate → key ≡ map_key krate → HasCause tables w finished from last key

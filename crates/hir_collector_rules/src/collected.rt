@@ -1,0 +1,110 @@
+//! What a run answers.
+ghost use Rattle.std.specs.Prelude.{◌≡◌, ◌++◌, List};
+ghost use Rattle.std.specs.Iterator.{YieldsFirst, item_count};
+ghost use Rattle.hir_collector_rules.specs.Asked.{IsOwnPart};
+ghost use Rattle.hir_collector_rules.specs.Keys.{map_keys};
+
+use crate::source_database::Key;
+use hir_base::ids::MapId;
+use hir_crate_graph::crate_set::CrateSet;
+use hir_crate_graph::crates::Crates;
+use hir_def_map::nameres::DefMap;
+use hir_def_map::nameres::local_def_map::LocalDefMap;
+use hir_scope::imports::ImportOrExternCrate;
+use std::marker::Model;
+use std::rc::Rc;
+
+/// What the names of a map's modules stand for.
+#[derive(Drop)]
+pub struct Collected {
+    /// The modules, and what each binds.
+    pub map: DefMap,
+    /// The crates that paths may begin with.
+    pub local: LocalDefMap,
+    /// The imports that reached nothing, in the order in which they were come upon.
+    pub leftover: Vec<ImportOrExternCrate>,
+    /// Whether rounds of calls were cut off: more than `ROUND_LIMIT` of them handled a call.
+    pub round_limit_met: bool,
+    /// What was asked for.
+    pub asked: Asked,
+}
+
+/// The keys that a run asked for: those of its steps, and the map of each crate on which its crate depends. The latter
+/// are shared with the crate's data, so that a chain of crates doesn't keep a key for each pair.
+#[derive(Drop)]
+pub struct Asked {
+    own: Vec<Key>,
+    dependencies: Rc<CrateSet>,
+}
+
+impl Model for Asked {
+    ghost use Rattle.std.specs.Prelude.{List, ◌++◌};
+    ghost use Rattle.hir_collector_rules.specs.declared.source_database.Key.{Key};
+    ghost use Rattle.hir_collector_rules.specs.Keys.{map_keys};
+
+    ghost Value = { List Key };
+
+    ghost view = { λ a. a.own.items ++ map_keys a.dependencies.value };
+}
+
+impl Asked {
+    /// The keys of steps, and the maps of these crates.
+    pub fn new(own: Vec<Key>, dependencies: Rc<CrateSet>) -> Asked
+        ensures value { result ≡ own.items ++ map_keys dependencies.value }
+    {
+        Asked { own, dependencies }
+    }
+
+    /// The keys of the steps: all but those maps.
+    pub fn own(&self) -> &[Key]
+        ensures value { IsOwnPart result.now self.now }
+    {
+        self.own.as_slice()
+    }
+
+    /// The keys, those of steps first.
+    pub fn iter(&self) -> AskedKeys<'_>
+        ensures value { result ≡ self.now }
+    {
+        AskedKeys {
+            own: self.own.as_slice(),
+            dependencies: self.dependencies.iter(),
+        }
+    }
+}
+
+/// The keys that a run asked for, one after another; see `Asked::iter`.
+#[derive(Drop)]
+pub struct AskedKeys<'a> {
+    own: &'a [Key],
+    dependencies: Crates<'a>,
+}
+
+impl<'a> Model for AskedKeys<'a> {
+    ghost use Rattle.std.specs.Prelude.{List, ◌++◌};
+    ghost use Rattle.hir_collector_rules.specs.declared.source_database.Key.{Key};
+    ghost use Rattle.hir_collector_rules.specs.Keys.{map_keys};
+
+    ghost Value = { List Key };
+
+    ghost view = { λ k. k.own.now ++ map_keys k.dependencies };
+}
+
+impl<'a> Iterator for AskedKeys<'a> {
+    type Item = Key;
+
+    ghost next_gives = { YieldsFirst (λ (left : List _). left) };
+
+    ghost remaining = { item_count (λ (left : List _). left) };
+
+    fn next(&mut self) -> Option<Key> {
+        if let [key, others @ ..] = self.own {
+            self.own = others;
+            return Some(*key);
+        }
+        match self.dependencies.next() {
+            Some(krate) => Some(Key::Map(MapId::of_crate(krate))),
+            None => None,
+        }
+    }
+}

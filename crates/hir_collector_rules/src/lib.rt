@@ -1,0 +1,12 @@
+//! The rules by which the names of a crate come about: what a run is handed, where it stands, which steps it may take, and what it comes to.
+#![tactic(auto)]
+
+pub mod collected;
+pub mod crate_attrs;
+pub mod declaration;
+pub mod exported;
+pub mod macro_directive;
+pub mod shared_tree;
+pub mod site;
+pub mod source_database;
+pub mod start;

@@ -1,0 +1,36 @@
+-- No glob was recorded, and nothing was come upon.
+use Rattle.std.proofs.Common.{◌≡◌, [], ◌∷◌, refl, ap}
+use Rattle.hir_glob_imports.specs.Waves.{brought_of}
+use Rattle.hir_import_resolution.specs.State.{nothing_brought}
+use Rattle.hir_def_map.specs.WorldParts.{part_of}
+use Rattle.hir_collector_rules.specs.Preludes.{with_preludes}
+use Rattle.hir_collector_rules.specs.Start.{root_key, root_map}
+use Rattle.hir_collector_rules.specs.State.{core_in}
+use Rattle.hir_collector_state.proofs.def_collector.DefCollector.start.Goals as goal
+
+pub returns : goal.returns
+unfolding core_in
+returns c =
+    let map : c.use_prelude_macros.new.map ≡ with_preludes (part_of c.args.world) (root_map c.args.crate_data c.args.start) c.args.local =
+    rw (c.in_ok-use_prelude_macros.ensures.ok, c.set_prelude.ensures.value, c.in_ok-found.ensures.value, c.in_ok-map.ensures.value, c.new-root.ensures.value, c.origin.ensures.value, c.krate-krate.ensures.value) refl in
+    let asked : c.push.new.self.items ≡ root_key c.args.start c.args.tree ∷ [] = rw (c.in_ok-push.ensures.items, c.new-asked.ensures.items, c.krate-krate.ensures.value) refl in
+    let brought : brought_of c.new-2.result ≡ nothing_brought = ap (λ b. brought_of (record c.new-2.result { brought = b })) c.new-2.ensures.brought in
+    record {
+      value =
+          λ i. record {
+            map = map i;
+            local = c.args.local;
+            dependencies = c.args.dependencies.items;
+            options = c.args.options;
+            globs = record { names = c.new.ensures.value i; edges = c.new-2.ensures.edges i; brought = brought i };
+            reached = c.new-3.ensures.items i;
+            taken = c.new-4.ensures.items i;
+            calls = c.new-5.ensures.items i;
+            fates = c.new-6.ensures.items i;
+            settled = 0;
+            is_proc_macro = c.args.is_proc_macro;
+            exported = c.new-7.ensures.items i;
+            asked = asked i;
+            count = 0;
+          };
+    }

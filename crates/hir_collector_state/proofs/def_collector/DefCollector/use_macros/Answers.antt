@@ -1,0 +1,26 @@
+-- All slots are noted, where there are macros to use.
+use Rattle.std.proofs.Common.{◌≡◌, ap, false, rules, subst, sym}
+use Rattle.std.specs.Prelude.{ℕ, List, codes, Some}
+use Rattle.hir_base.specs.declared.macro_kind.MacroId.{MacroId}
+use Rattle.hir_def_map.specs.WorldParts.{part_of}
+use Rattle.hir_collector_rules.specs.CrateTop.{says}
+use Rattle.hir_collector_rules.specs.Macros.{with_macros_used}
+use Rattle.hir_collector_rules.specs.TreeReads.{head_of}
+use Rattle.hir_collector_state.proofs.MacroUses.{none_brought}
+use Rattle.hir_collector_state.specs.contracts.def_collector.DefCollector.{the_view}
+use Rattle.hir_collector_rules.specs.State.{Core, Run, core_in, with_map}
+use Rattle.hir_collector_rules.specs.Waiting.{IsNoted}
+use Rattle.hir_collector_state.proofs.Noted.{noted_everything}
+use Rattle.hir_collector_state.proofs.def_collector.DefCollector.use_macros.Goals as goal
+
+pub returns-clause-noted : goal.returns-clause-noted
+returns-clause-noted c =
+    let before : Run = the_view c.self.inside in
+    let after : Run = record before { map = c.use_wanted.new.map; changed = c.add_everything.new.self } in
+    subst (λ (r : Run). IsNoted r after) c.self.view_is (noted_everything before after c.add_everything.ensures.value)
+
+pub returns-then-not-says-clause-ok : goal.returns-then-not-says-clause-ok
+returns-then-not-says-clause-ok c =
+    let now : Core = core_in c.args.self.now in
+    let none : says (codes "macro_use") (head_of c.args.head).attributes.attributes ≡ false = search (rules, c.says.ensures.value, c.as_slice-attrs.ensures.value) in
+    sym (ap (λ (macros : List (List ℕ × MacroId)). with_map now (with_macros_used now.map macros (Some c.args.by))) (none_brought (part_of c.args.world) now.map now.dependencies (head_of c.args.head) c.args.name.now none))

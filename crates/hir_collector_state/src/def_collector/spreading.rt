@@ -1,0 +1,119 @@
+//! Names that go along globs as soon as they are bound.
+#![tactic(auto, unfolding(hir_collector_rules::specs::State::core_in))]
+
+ghost use Rattle.std.specs.Prelude.{◌≡◌, [], IsOkAnd, List, OnOk, length, option_copied};
+ghost use Rattle.hir_def_map.specs.WorldParts.{part_of};
+ghost use Rattle.hir_collector_rules.specs.Derivation.{IsSpent};
+ghost use Rattle.hir_collector_rules.specs.Keys.{Environment};
+ghost use Rattle.hir_collector_rules.specs.State.{Task, core_in, joined};
+ghost use Rattle.hir_collector_rules.specs.Steps.{Steps};
+ghost use Rattle.hir_collector_rules.specs.Waiting.{IsNotedBeside, noted_along, noted_name};
+
+use crate::def_collector::DefCollector;
+use core::mem::replace_with;
+use hir_base::name::Name;
+use hir_call_queue::Changed;
+use hir_collector_rules::start::CollectError;
+use hir_def_map::world::part::WorldPart;
+use hir_glob_imports::Slot;
+use hir_import_resolution::{ImportError, Imports, spread_changes};
+use std::alloc::AllocError;
+
+/// Notes the slot of a name in a module. A trait without a name has no slot of paths, so then all count as changed.
+fn note(changed: &mut Changed, at: u32, name: Option<&Name>) -> Result<(), AllocError>
+    ensures ok { OnOk result (changed.new ≡ noted_name at (option_copied name.entry) changed.old) }
+{
+    let Some(name) = name else {
+        changed.add_everything();
+        return Ok(());
+    };
+    changed.add(at, name)
+}
+
+/// Notes the slots that globs have changed.
+fn note_each(changed: &mut Changed, slots: &[Slot]) -> Result<(), AllocError>
+    ensures ok { OnOk result (changed.new ≡ noted_along slots.now changed.old) }
+{
+    let mut left = slots;
+    'next: while let [slot, others @ ..] = left {
+        note(changed, slot.at, slot.key.name())?;
+        left = others;
+    }
+    Ok(())
+}
+
+/// Notes what globs have changed, where they didn't fail.
+fn note_changes(
+    changed: &mut Changed,
+    slots: Result<Vec<Slot>, ImportError>,
+) -> Result<(), CollectError>
+    ensures ok { OnOk result (IsOkAnd slots (λ s. changed.new ≡ noted_along s.items changed.old)) }
+    ensures many { result ≡ Err CollectError.TooMany → slots ≡ Err ImportError.TooMany }
+{
+    let slots = slots?;
+    note_each(changed, slots.as_slice())?;
+    Ok(())
+}
+
+impl DefCollector {
+    /// Lets what was bound go along globs; the run is given back in any case.
+    fn with_changes_spread(self, world: WorldPart<'_>) -> (DefCollector, Result<(), CollectError>)
+        ensures ok { OnOk result.1 ((env : Environment) (rest : List Task) → Steps env (part_of world.entry) (joined (core_in self) rest) (joined (core_in result.0) rest)) }
+        ensures noted { OnOk result.1 (IsNotedBeside (part_of world.entry) self result.0) }
+        ensures settled { OnOk result.1 (result.0.globs.pending ≡ []) }
+        ensures modules { OnOk result.1 (length (core_in result.0).map.modules ≡ length (core_in self).map.modules) }
+        ensures many { result.1 ≡ Err CollectError.TooMany → (env : Environment) (rest : List Task) → IsSpent env (part_of world.entry) (joined (core_in self) rest) }
+    {
+        let alloc = self.allocator();
+        let (imports, slots) = spread_changes(
+            alloc,
+            world,
+            Imports {
+                map: self.map,
+                local: self.local,
+                from_glob_import: self.from_glob_import,
+                imports: self.reached,
+                taken: self.taken,
+                globs: self.globs,
+                count: self.count,
+            },
+        );
+        let mut changed = self.changed;
+        let noted = note_changes(&mut changed, slots);
+        let run = DefCollector {
+            map: imports.map,
+            local: imports.local,
+            dependencies: self.dependencies,
+            options: self.options,
+            from_glob_import: imports.from_glob_import,
+            globs: imports.globs,
+            reached: imports.imports,
+            taken: imports.taken,
+            calls: self.calls,
+            fates: self.fates,
+            settled: self.settled,
+            is_proc_macro: self.is_proc_macro,
+            exported: self.exported,
+            asked: self.asked,
+            count: imports.count,
+            changed,
+        };
+        (run, noted)
+    }
+
+    /// Lets what was bound go along globs, until nothing is left to go.
+    ///
+    /// After rust-analyzer's `DefCollector::update_recursive`.
+    pub fn spread_changes(&mut self, world: WorldPart<'_>) -> Result<(), CollectError>
+        ensures ok { OnOk result ((env : Environment) (rest : List Task) → Steps env (part_of world.entry) (joined (core_in self.old) rest) (joined (core_in self.new) rest)) }
+        ensures noted { OnOk result (IsNotedBeside (part_of world.entry) self.old self.new) }
+        ensures settled { OnOk result (self.new.globs.pending ≡ []) }
+        ensures modules { OnOk result (length (core_in self.new).map.modules ≡ length (core_in self.old).map.modules) }
+        ensures many { result ≡ Err CollectError.TooMany → (env : Environment) (rest : List Task) → IsSpent env (part_of world.entry) (joined (core_in self.old) rest) }
+    {
+        if self.globs.is_settled() {
+            return Ok(());
+        }
+        replace_with(self, world, DefCollector::with_changes_spread)
+    }
+}

@@ -1,0 +1,171 @@
+//! What waits for a macro, and what derives and exported macros leave.
+#![tactic(auto, unfolding(hir_collector_rules::specs::State::core_in))]
+
+ghost use Rattle.std.specs.Prelude.{◌≡◌, ◌<◌, true, false, length, option_map, OnOk};
+ghost use Rattle.hir_def_map.specs.WorldParts.{part_of};
+ghost use Rattle.hir_def_map_rules.specs.Macros.{with_derive_helper, with_exported, with_macro_data};
+ghost use Rattle.hir_collector_rules.specs.State.{core_in, with_exported_function, with_map};
+ghost use Rattle.hir_collector_rules.specs.Attributes.{exports_from};
+ghost use Rattle.hir_collector_rules.specs.Calls.{called_macro, is_inert_now, kept_of, macro_among, suited};
+ghost use Rattle.hir_collector_rules.specs.CallMoves.{IsAttributeWaiting};
+ghost use Rattle.hir_collector_rules.specs.Changes.{with_derived};
+ghost use Rattle.hir_collector_rules.specs.Waiting.{IsNoted, call_reads};
+
+use crate::def_collector::DefCollector;
+use crate::helpers::is_helper;
+use hir_base::ast_id::AstId;
+use hir_base::ids::HasModule;
+use hir_base::macro_kind::{BuiltinDeriveImplId, MacroId, ProcMacroId};
+use hir_collector_rules::exported::ExportedFunction;
+use hir_collector_rules::macro_directive::{MacroDirective, MacroDirectiveKind};
+use hir_def_map::def_maps::DefMaps;
+use hir_def_map::nameres::DefMap;
+use hir_def_map::nameres::derive_helpers::DeriveHelper;
+use hir_def_map::nameres::macro_data::MacroData;
+use hir_def_map::nameres::path_resolution::query::Query;
+use hir_def_map::nameres::path_resolution::slots::PathSlots;
+use hir_def_map::nameres::path_resolution::{BuiltinShadowMode, ResolveMode};
+use hir_def_map::world::part::WorldPart;
+use hir_scope::per_ns::PerNs;
+use std::alloc::AllocError;
+
+/// The macro among what a path reaches.
+fn macro_among(items: PerNs) -> Option<MacroId>
+    ensures value { result ≡ macro_among items }
+{
+    match items.macros {
+        Some(item) => Some(item.def),
+        None => None,
+    }
+}
+
+/// A macro, if it will do for what asks for one.
+fn suited(call: &MacroDirective, found: Option<MacroId>) -> Option<MacroId>
+    ensures value { result ≡ suited call.now.kind found }
+{
+    let makro = found?;
+    if call.suits(makro) { Some(makro) } else { None }
+}
+
+/// Lists the impl that a builtin derive macro stands for in a module of a map.
+fn list_in_scope(map: &mut DefMap, home: u32, imp: BuiltinDeriveImplId) -> Result<(), AllocError>
+    requires in_range { home < length map.old.modules }
+    ensures ok { OnOk result (map.new ≡ with_derived map.old home imp) }
+{
+    map.scope_mut(home).define_builtin_derive_impl(imp)
+}
+
+impl DefCollector {
+    /// Keeps the name of a macro, and the attributes that deriving with it brings into scope.
+    pub fn describe_macro(&mut self, makro: MacroId, what: MacroData) -> Result<(), AllocError>
+        ensures ok { OnOk result (core_in self.new ≡ with_map (core_in self.old) (with_macro_data (core_in self.old).map makro what)) }
+        ensures noted { OnOk result (IsNoted self.old self.new) }
+    {
+        self.map.add_macro_data(makro, what)?;
+        Ok(())
+    }
+
+    /// Whether functions of a module export macros: those of the root of a procedural-macro crate.
+    pub fn exports_from(&self, home: u32) -> bool
+        ensures value { result ≡ exports_from (core_in self.now).is_proc_macro (core_in self.now).map home }
+    {
+        self.is_proc_macro && self.map.id().block.is_none() && home == 0
+    }
+
+    /// Notes a function that exports a macro.
+    pub fn export(
+        &mut self,
+        function: ExportedFunction,
+        makro: ProcMacroId,
+    ) -> Result<(), AllocError>
+        ensures ok { OnOk result (core_in self.new ≡ with_exported_function (with_map (core_in self.old) (with_exported (core_in self.old).map function.id makro)) function) }
+        ensures noted { OnOk result (IsNoted self.old self.new) }
+    {
+        self.map.export_proc_macro(function.id, makro)?;
+        self.exported.push(function)?;
+        Ok(())
+    }
+
+    /// Brings a helper of a derive into scope on an item. An attribute that waits and may be it has read its name in the
+    /// preludes, so that is noted.
+    pub fn help(&mut self, node: AstId, helper: DeriveHelper) -> Result<(), AllocError>
+        ensures ok { OnOk result (core_in self.new ≡ with_map (core_in self.old) (with_derive_helper (core_in self.old).map node helper)) }
+        ensures noted { OnOk result (IsNoted self.old self.new) }
+    {
+        self.changed.add_prelude(&helper.name)?;
+        self.map.add_derive_helper(node, helper)?;
+        Ok(())
+    }
+
+    /// Lists the impl that a builtin derive macro stands for in a module.
+    pub fn list_derived(&mut self, home: u32, imp: BuiltinDeriveImplId) -> Result<(), AllocError>
+        requires in_range { home < length (core_in self.old).map.modules }
+        ensures ok { OnOk result (core_in self.new ≡ with_map (core_in self.old) (with_derived (core_in self.old).map home imp)) }
+        ensures noted { OnOk result (IsNoted self.old self.new) }
+    {
+        list_in_scope(&mut self.map, home, imp)?;
+        Ok(())
+    }
+
+    /// Whether what waits at the place is an attribute.
+    pub fn is_attribute_waiting(&self, i: usize) -> bool
+        ensures waits { result ≡ true → IsAttributeWaiting (core_in self.now) i }
+        ensures none { result ≡ false → ¬ IsAttributeWaiting (core_in self.now) i }
+    {
+        match self.waiting(i) {
+            Some(call) => call.waiting_item().is_some(),
+            None => false,
+        }
+    }
+
+    /// The macro that a call, a path of a derive or an attribute reaches.
+    pub fn called_macro(&self, world: WorldPart<'_>, call: &MacroDirective) -> Option<MacroId>
+        ensures value { result ≡ called_macro (part_of world.entry) (core_in self.now).local (core_in self.now).map call.now }
+    {
+        let query = Query {
+            maps: DefMaps::new(world, &self.map),
+            local: Some(&self.local),
+            mode: ResolveMode::Other,
+            shadow: BuiltinShadowMode::Module,
+            sub_ns: Some(call.sub_ns()),
+        };
+        let path = call.path();
+        let answer = query.resolve(self.module_id(call.site.home), path.kind(), path.segments());
+        suited(call, macro_among(answer.resolved_def))
+    }
+
+    /// Whether what waits is an attribute, and inert by now: a helper.
+    pub fn is_inert_now(&self, call: &MacroDirective) -> bool
+        ensures value { result ≡ is_inert_now (core_in self.now).map call.now }
+    {
+        match &call.kind {
+            MacroDirectiveKind::Attr { path, .. } => is_helper(&self.map, call.ast_id, path),
+            MacroDirectiveKind::FnLike { .. } | MacroDirectiveKind::Derive { .. } => false,
+        }
+    }
+
+    /// What is kept of a macro in its map.
+    pub fn kept_of<'a>(&'a self, world: WorldPart<'a>, makro: MacroId) -> Option<&'a MacroData>
+        ensures value { option_map (λ what. what.now) result ≡ kept_of (part_of world.entry) (core_in self.now).map makro }
+    {
+        let maps = DefMaps::new(world, &self.map);
+        match maps.map(makro.module().map) {
+            Some(map) => map.macro_data(makro),
+            None => None,
+        }
+    }
+
+    /// The slots that the path of a call reads.
+    pub fn call_slots<'a>(&'a self, world: WorldPart<'a>, call: &'a MacroDirective) -> PathSlots<'a>
+        ensures value { result ≡ call_reads (part_of world.entry) (core_in self.now).local (core_in self.now).map call.now }
+    {
+        DefMaps::new(world, &self.map).path_slots(
+            Some(&self.local),
+            ResolveMode::Other,
+            self.module_id(call.site.home),
+            call.path(),
+            BuiltinShadowMode::Module,
+            Some(call.sub_ns()),
+        )
+    }
+}

@@ -1,0 +1,29 @@
+-- Where is written what a run binds?
+use Rattle.std.specs.Prelude.{◌≡◌, false, List, Contains}
+use Rattle.hir_base.specs.declared.ids.ModuleId.{ModuleId}
+use Rattle.hir_def_map_rules.specs.Closed.{ModuleIsThere}
+use Rattle.hir_def_map_rules.specs.WellFormed.{AreWellFormed}
+use Rattle.hir_def_map_rules.specs.Sources.{HoldsNowhere, HoldsNowhereIn, HoldsOfNoExtern, SourceTest}
+use Rattle.hir_def_map_rules.specs.State.{Map}
+use Rattle.hir_def_map_rules.specs.Overlay.{Maps, overlay}
+use Rattle.hir_item_tree.specs.declared.tree_id.TreeKey.{TreeKey}
+use Rattle.hir_tables.specs.Tables.{TablesValue}
+use Rattle.hir_collector_rules.specs.declared.source_database.Key.{Key}
+use Rattle.hir_collector_rules.specs.declared.source_database.Key.TheVariants.{Tree}
+use Rattle.hir_collector_rules.specs.Derivation.{CollectedValue, Ends}
+use Rattle.hir_collector_rules.specs.Start.{Beginning, read_by}
+use Rattle.hir_def_collector_laws.specs.Whole.{StandsOnWhole}
+use Rattle.hir_collector_rules.specs.Workspace.{Workspace}
+
+-- a test of sources holds neither of what a source writes that was asked for, nor of a module that is there, nor of anything in the finished maps
+pub record IsClearOf (t : SourceTest) (finished : Maps) (asked : List Key) (map : Map) : Type 0 where
+  pub written : (key : TreeKey) → Contains asked (Tree key) → t.holder key.id.file key.id.block ≡ false
+  pub shown : (m : ModuleId) → ModuleIsThere (overlay finished map) m → t.shown m ≡ false
+  pub read : HoldsNowhere t finished
+
+-- a run binds only what the sources write that it asked for, and what the finished maps bind, seen from modules that are there
+abbrev pub RunsBindFromSources : Type 0
+RunsBindFromSources = (t : SourceTest) (tables : TablesValue) (w : Workspace) (finished : Maps) (from : Beginning) (answer : CollectedValue)
+    → AreWellFormed (read_by w finished from.start) → StandsOnWhole w (read_by w finished from.start) from.start → Ends tables w finished from answer
+    → IsClearOf t (read_by w finished from.start) answer.asked answer.map
+    → HoldsNowhereIn t answer.map × HoldsOfNoExtern t answer.local

@@ -1,0 +1,32 @@
+-- ---- what a def map is, and what each building call makes of it
+pub mod State
+pub mod Declaration
+pub mod Origins
+pub mod Building
+pub mod Macros
+pub mod Diagnostics
+-- what is read of a map
+pub mod Reads
+-- what a module keeps once it declares one thing more
+pub mod Listed
+-- ---- the finished maps with the current one on top
+pub mod Overlay
+pub mod Ancestors
+-- ---- what a path stands for
+pub mod Scoping
+pub mod Reaches
+pub mod Visibilities
+-- ---- what a map refers to, and what is well-formed
+pub mod References
+pub mod WellFormed
+pub mod Closed
+-- a part of them, and that with the current map on top
+pub mod AskMaps
+-- ---- what is written out
+pub mod Dump
+-- ---- equal maps
+pub mod Equality
+-- ---- where what is bound is written
+pub mod Sources
+-- ---- words of private code
+pub mod Inner

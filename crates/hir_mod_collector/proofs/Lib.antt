@@ -1,0 +1,7 @@
+pub mod Outline
+pub mod Rootless
+pub mod CallPlaces
+pub mod Finding
+pub mod Walked
+pub mod Deriving
+pub mod Passing

@@ -1,0 +1,736 @@
+//! The walk over the items of a tree.
+ghost use Rattle.std.specs.Prelude.{◌≡◌, ◌<◌, ◌≤◌, true, [], List, length, map, slice_get, OnOk, IfOk, IfSome};
+ghost use Rattle.std.specs.List.{All};
+ghost use Rattle.hir_base.specs.Cfg.{cfg_view};
+ghost use Rattle.hir_item_tree.specs.Collected.{is_enabled};
+ghost use Rattle.hir_item_tree.specs.KeptForest.{KeptItem, all_items, leaf, holder, constant, implementation, extern_block, inline_module, macro_call, outline_module};
+ghost use Rattle.hir_item_tree.specs.Kinds.{item_head, kind_content, kind_of};
+ghost use Rattle.hir_item_tree.specs.Rows.{held_numbers, item_of, items_at, numbers_of};
+ghost use Rattle.hir_tables.specs.Tables.{KeepsTables, TablesValue};
+ghost use Rattle.hir_def_map_rules.specs.Overlay.{Maps};
+ghost use Rattle.hir_def_map_rules.specs.declared.diagnostics.DefDiagnostic.{DefDiagnostic};
+ghost use Rattle.hir_def_map.specs.WorldParts.{part_of};
+ghost use Rattle.hir_collector_rules.specs.Keys.{Environment};
+ghost use Rattle.hir_collector_rules.specs.ItemIds.{module_id, node_of};
+ghost use Rattle.hir_collector_rules.specs.Calls.{AreCallsPlaced, IsMeantAt};
+ghost use Rattle.hir_collector_rules.specs.ModuleFiles.{IsFileMeant};
+ghost use Rattle.hir_collector_rules.specs.Items.{file_origin, inline_origin};
+ghost use Rattle.hir_collector_rules.specs.Reports.{IsUnconfigured, IsUnresolvedModule};
+ghost use Rattle.hir_collector_rules.specs.State.{core_in};
+ghost use Rattle.hir_collector_rules.specs.Steps.{inside_file, visit};
+ghost use Rattle.hir_collector_rules.specs.TreeReads.{head_of, visits_at, visits_behind};
+ghost use Rattle.hir_collector_rules.specs.Derivation.{IsFull};
+ghost use Rattle.hir_collector_rules.specs.Moves.{Drops, Handles, HandlesAndSpreads, HandlesTooFar, MayTake, OnceGrown, Passes, PassesTooFar, Tells, Walks, WalksTooFar, is_single, opened};
+ghost use Rattle.hir_mod_collector.specs.Walking.{GoesInside, TakesFile, found_view, tasks_of};
+ghost use Rattle.hir_collector_rules.specs.Waiting.{IsNoted, IsNotedBeside};
+
+use crate::attributes::{Visited, adt_of, pass_attributes};
+use crate::mod_resolution::{FoundFile, find_file, path_attr, path_of};
+use hir_base::ast_id::{AstId, AstKind, EditionedFileId, HirFileId, SyntaxId};
+use hir_base::cfg::CfgExpr;
+use hir_base::ids::{ConstId, ExternBlockId, ImplId, ItemLoc, ModuleDefId};
+use hir_base::mod_path::ModPath;
+use hir_base::name::Name;
+use hir_collector_items::declare::{
+    declare, declare_const, declare_function, declare_static, declare_struct, declare_trait,
+    declare_type_alias, declare_union,
+};
+use hir_collector_items::enums::declare_enum;
+use hir_collector_items::imports::{reach_extern_crate, reach_use};
+use hir_collector_items::macros::{close, define_macro, define_rules, is_macro_use};
+use hir_collector_rules::declaration::Declaration;
+use hir_collector_rules::macro_directive::{MacroDirective, MacroDirectiveKind};
+use hir_collector_rules::site::{ItemHead, Site, head_at};
+use hir_collector_rules::source_database::SourceDatabase;
+use hir_collector_rules::start::{CollectError, STEP_LIMIT};
+use hir_collector_state::def_collector::DefCollector;
+use hir_collector_state::diagnostics::{unconfigured, unresolved_module};
+use hir_def_map::nameres::origin::ModuleOrigin;
+use hir_def_map::world::part::WorldPart;
+use hir_item_tree::kinds::{ModItemKind, ModKind};
+use hir_item_tree::rows::ModItemId;
+use hir_item_tree::source_tree::SourceTree;
+use hir_item_tree::tree_id::TreeId;
+use hir_mod_dir::Candidate;
+use hir_scope::per_ns::PerNs;
+use hir_tables::Tables;
+use std::rc::Rc;
+
+/// Items that are visited next, and where they are written.
+#[derive(Drop)]
+pub enum Inside<'a> {
+    Nothing,
+    /// Those that an item holds, and whether that is a module marked `macro_use`.
+    Held {
+        site: Site,
+        ids: &'a [ModItemId],
+        macro_use: bool,
+    },
+    /// Those of a module's file, and whether the module is marked `macro_use`.
+    File {
+        site: Site,
+        source: Rc<SourceTree>,
+        macro_use: bool,
+    },
+}
+
+/// Lists a constant that has no name.
+fn list_const(run: &mut DefCollector, site: &Site, head: ItemHead<'_>) -> Result<(), CollectError>
+    requires enabled { is_enabled (head_of head).attributes ≡ true }
+    ensures ok { OnOk result ((env : Environment) (finished : Maps) → Handles env finished (core_in run.old) (core_in run.new) (visit site.now (leaf (head_of head.entry) (constant None))) []) }
+    ensures noted { OnOk result (IsNoted run.old run.new) }
+    ensures many { result ≡ Err CollectError.TooMany → STEP_LIMIT ≤ (core_in run.old).count }
+{
+    let id = ConstId {
+        loc: ItemLoc {
+            container: run.container(site),
+            file_id: site.tree.file,
+            block: site.tree.block,
+            id: head.id,
+        },
+    };
+    run.list_unnamed_const(site.home, id)?;
+    run.tick()?;
+    Ok(())
+}
+
+/// Handles a constant.
+fn visit_const(
+    run: &mut DefCollector,
+    world: WorldPart<'_>,
+    site: &Site,
+    head: ItemHead<'_>,
+    name: &Option<Name>,
+) -> Result<(), CollectError>
+    requires enabled { is_enabled (head_of head).attributes ≡ true }
+    ensures ok { OnOk result ((env : Environment) → Handles env (part_of world.entry) (core_in run.old) (core_in run.new) (visit site.now (leaf (head_of head.entry) (constant name.now))) []) }
+    ensures noted { OnOk result (IsNoted run.old run.new) }
+    ensures many { result ≡ Err CollectError.TooMany → STEP_LIMIT ≤ (core_in run.old).count }
+{
+    match name {
+        Some(name) => declare_const(run, world, site, head, name)?,
+        None => list_const(run, site, head)?,
+    }
+    Ok(())
+}
+
+/// Lists an impl.
+fn list_impl(
+    run: &mut DefCollector,
+    site: &Site,
+    head: ItemHead<'_>,
+    of_trait: bool,
+) -> Result<(), CollectError>
+    requires enabled { is_enabled (head_of head).attributes ≡ true }
+    ensures ok { OnOk result ((env : Environment) (finished : Maps) → Handles env finished (core_in run.old) (core_in run.new) (visit site.now (leaf (head_of head.entry) (implementation of_trait))) []) }
+    ensures noted { OnOk result (IsNoted run.old run.new) }
+    ensures many { result ≡ Err CollectError.TooMany → STEP_LIMIT ≤ (core_in run.old).count }
+{
+    let id = ImplId {
+        loc: ItemLoc {
+            container: run.module_id(site.home),
+            file_id: site.tree.file,
+            block: site.tree.block,
+            id: head.id,
+        },
+    };
+    run.list_impl(site.home, id, of_trait)?;
+    run.tick()?;
+    Ok(())
+}
+
+/// The node of a `mod` item.
+fn mod_node(tree: TreeId, id: SyntaxId) -> AstId
+    ensures value { result ≡ node_of tree AstKind.Module id }
+{
+    AstId {
+        file_id: tree.file,
+        block: tree.block,
+        kind: AstKind::Module,
+        id,
+    }
+}
+
+/// Makes a module, lists it and binds it; its number.
+fn open(
+    run: &mut DefCollector,
+    world: WorldPart<'_>,
+    site: &Site,
+    head: ItemHead<'_>,
+    name: &Name,
+    origin: ModuleOrigin,
+) -> Result<u32, CollectError>
+    requires in_range { site.now.home < length (core_in run.old).map.modules }
+    ensures made { IfOk result (λ home. home ≡ length (core_in run.old).map.modules) }
+    ensures ok { OnOk result (core_in run.new ≡ opened (part_of world.entry) (core_in run.old) site.now (head_of head.entry) name.now origin) }
+    ensures noted { OnOk result (IsNoted run.old run.new) }
+    ensures many { result ≡ Err CollectError.TooMany → IsFull (core_in run.old).count (core_in run.old).map }
+{
+    let vis = run.visibility(world, site, head);
+    let made = run.open(site.home, name.clone()?, origin, vis)?;
+    let def = ModuleDefId::ModuleId(made);
+    let declaration = Declaration {
+        name: name.clone()?,
+        def,
+        items: PerNs::types(def, vis, None),
+    };
+    declare(run, site.home, declaration)?;
+    Ok(made.index)
+}
+
+/// Handles a module that is written where it is declared; its items are visited next, unless it is too deep.
+fn visit_inline<'a>(
+    run: &mut DefCollector,
+    world: WorldPart<'_>,
+    site: &Site,
+    head: ItemHead<'_>,
+    name: &Name,
+    ids: &'a [ModItemId],
+) -> Result<Inside<'a>, CollectError>
+    requires in_range { site.now.home < length (core_in run.old).map.modules }
+    requires enabled { is_enabled (head_of head).attributes ≡ true }
+    ensures ok { IfOk result (λ inside. (env : Environment) (items : List KeptItem) → Handles env (part_of world.entry) (core_in run.old) (core_in run.new)
+        (visit site.now (holder (head_of head.entry) (inline_module name.now) (items_at items (numbers_of ids.entry.now)))) (tasks_of site.now.home items inside)) }
+    ensures noted { OnOk result (IsNoted run.old run.new) }
+    ensures within { IfOk result (λ inside. (tables : TablesValue) → GoesInside tables (length (core_in run.new).map.modules) site.now (numbers_of ids.entry.now) inside) }
+    ensures many { result ≡ Err CollectError.TooMany → IsFull (core_in run.old).count (core_in run.old).map }
+{
+    let path = path_attr(head.attrs.attrs.as_slice());
+    let dir = site
+        .dir
+        .descend_into_definition(run.allocator(), name, path)?;
+    let node = mod_node(site.tree, head.id);
+    let origin = ModuleOrigin::Inline {
+        definition_tree_id: site.tree,
+        definition: node,
+    };
+    let home = open(run, world, site, head, name, origin)?;
+    let Some(dir) = dir else {
+        return Ok(Inside::Nothing);
+    };
+    Ok(Inside::Held {
+        site: Site {
+            home,
+            tree: site.tree,
+            file: site.file,
+            extern_block: None,
+            dir,
+            level: site.level,
+        },
+        ids,
+        macro_use: is_macro_use(head.attrs),
+    })
+}
+
+/// Makes a module whose items are in a file of its own; where they are written.
+fn open_file(
+    run: &mut DefCollector,
+    world: WorldPart<'_>,
+    site: &Site,
+    head: ItemHead<'_>,
+    name: &Name,
+    file: &FoundFile,
+) -> Result<Site, CollectError>
+    requires in_range { site.now.home < length (core_in run.old).map.modules }
+    ensures inside { IfOk result (λ inside. inside ≡ inside_file (core_in run.old).map (found_view file.now)) }
+    ensures ok { OnOk result (core_in run.new ≡ opened (part_of world.entry) (core_in run.old) site.now (head_of head.entry) name.now
+        (file_origin site.now.tree head.entry.id (core_in run.old).map.crate_data.edition (found_view file.now))) }
+    ensures noted { OnOk result (IsNoted run.old run.new) }
+    ensures many { result ≡ Err CollectError.TooMany → IsFull (core_in run.old).count (core_in run.old).map }
+{
+    let definition = EditionedFileId {
+        file_id: file.id,
+        edition: run.map().edition(),
+    };
+    let dir = file.dir.clone()?;
+    let origin = ModuleOrigin::File {
+        is_mod_rs: file.is_mod_rs,
+        declaration: mod_node(site.tree, head.id),
+        declaration_tree_id: site.tree,
+        definition,
+    };
+    let home = open(run, world, site, head, name, origin)?;
+    Ok(Site {
+        home,
+        tree: TreeId {
+            file: HirFileId::File(definition),
+            block: None,
+        },
+        file: Some(file.id),
+        extern_block: None,
+        dir,
+        level: 0,
+    })
+}
+
+/// Drops a `mod` item whose file is disabled at its top.
+fn drop_file(
+    run: &mut DefCollector,
+    site: &Site,
+    head: ItemHead<'_>,
+    cfg: &CfgExpr,
+) -> Result<(), CollectError>
+    ensures ok { OnOk result (Drops (IsUnconfigured (module_id (core_in run.old).map site.now.home) (node_of site.now.tree AstKind.Module head.entry.id) (cfg_view cfg.now) (core_in run.old).options) (core_in run.old) (core_in run.new)) }
+    ensures noted { OnOk result (IsNoted run.old run.new) }
+    ensures many { result ≡ Err CollectError.TooMany → STEP_LIMIT ≤ (core_in run.old).count }
+{
+    let at = run.module_id(site.home);
+    let node = mod_node(site.tree, head.id);
+    let told = unconfigured(run.allocator(), at, node, cfg, run.options())?;
+    run.tell(told)?;
+    run.tick()?;
+    Ok(())
+}
+
+/// Makes a module whose file isn't found: it has no items.
+fn miss_file(
+    run: &mut DefCollector,
+    world: WorldPart<'_>,
+    site: &Site,
+    head: ItemHead<'_>,
+    name: &Name,
+    candidates: &[Candidate],
+) -> Result<(), CollectError>
+    requires in_range { site.now.home < length (core_in run.old).map.modules }
+    ensures ok { OnOk result (Tells (IsUnresolvedModule (module_id (core_in run.old).map site.now.home) (node_of site.now.tree AstKind.Module head.entry.id) (map (λ c. c.text) candidates.now))
+        (opened (part_of world.entry) (core_in run.old) site.now (head_of head.entry) name.now (inline_origin site.now.tree head.entry.id)) (core_in run.new)) }
+    ensures noted { OnOk result (IsNoted run.old run.new) }
+    ensures many { result ≡ Err CollectError.TooMany → IsFull (core_in run.old).count (core_in run.old).map
+        × ((d : DefDiagnostic) × IsUnresolvedModule (module_id (core_in run.old).map site.now.home) (node_of site.now.tree AstKind.Module head.entry.id) (map (λ c. c.text) candidates.now) d) }
+{
+    let node = mod_node(site.tree, head.id);
+    let at = run.module_id(site.home);
+    let told = unresolved_module(run.allocator(), at, node, candidates)?;
+    let origin = ModuleOrigin::Inline {
+        definition_tree_id: site.tree,
+        definition: node,
+    };
+    open(run, world, site, head, name, origin)?;
+    run.tell(told)?;
+    Ok(())
+}
+
+/// Handles a module whose items are in a file of its own, which was found; its items are visited next, unless the file
+/// is disabled at its top.
+fn take_file<'a>(
+    run: &mut DefCollector,
+    world: WorldPart<'_>,
+    site: &Site,
+    head: ItemHead<'_>,
+    name: &Name,
+    file: FoundFile,
+) -> Result<Inside<'a>, CollectError>
+    requires in_range { site.now.home < length (core_in run.old).map.modules }
+    ensures ok { IfOk result (λ inside. TakesFile (part_of world.entry) site.now (head_of head.entry) name.now (found_view file) file.source.value (core_in run.old) (core_in run.new) inside) }
+    ensures noted { OnOk result (IsNoted run.old run.new) }
+    ensures many { result ≡ Err CollectError.TooMany → IsFull (core_in run.old).count (core_in run.old).map × MayTake site.now (head_of head.entry) (found_view file) (core_in run.old) }
+{
+    if let Some(cfg) = &file.source.tree().top_level_attrs().disabled {
+        drop_file(run, site, head, cfg)?;
+        return Ok(Inside::Nothing);
+    }
+    let site = open_file(run, world, site, head, name, &file)?;
+    let macro_use = is_macro_use(head.attrs) || is_macro_use(file.source.tree().top_level_attrs());
+    Ok(Inside::File {
+        site,
+        source: file.source,
+        macro_use,
+    })
+}
+
+/// Handles a module whose items are in a file of its own.
+fn visit_outline<'a, D: SourceDatabase>(
+    run: &mut DefCollector,
+    db: &mut D,
+    world: WorldPart<'_>,
+    locations: &mut Tables,
+    site: &Site,
+    head: ItemHead<'_>,
+    name: &Name,
+) -> Result<Inside<'a>, CollectError>
+    requires in_range { site.now.home < length (core_in run.old).map.modules }
+    requires enabled { is_enabled (head_of head).attributes ≡ true }
+    requires meant { IsFileMeant locations.old site.now.file }
+    ensures kept { KeepsTables locations.old locations.new }
+    ensures placed { AreCallsPlaced locations.old → AreCallsPlaced locations.new }
+    ensures same { D.workspace db.new ≡ D.workspace db.old }
+    ensures ok { IfOk result (λ inside. OnceGrown locations.new (D.workspace db.old) (λ env. (items : List KeptItem) → Handles env (part_of world.entry) (core_in run.old) (core_in run.new)
+        (visit site.now (leaf (head_of head.entry) (outline_module name.now))) (tasks_of site.now.home items inside))) }
+    ensures noted { OnOk result (IsNoted run.old run.new) }
+    ensures within { IfOk result (λ inside. GoesInside locations.new (length (core_in run.new).map.modules) site.now [] inside) }
+    ensures many { result ≡ Err CollectError.TooMany → OnceGrown locations.new (D.workspace db.old)
+        (λ env. HandlesTooFar env (part_of world.entry) (core_in run.old) (visit site.now (leaf (head_of head.entry) (outline_module name.now)))) }
+{
+    let path = path_attr(head.attrs.attrs.as_slice());
+    let candidates = site.dir.candidates(run.allocator(), name, path)?;
+    let declaring = path_of(locations, site.file)?;
+    let found = find_file(
+        run,
+        db,
+        locations,
+        declaring.as_ref(),
+        candidates.as_slice(),
+    )?;
+    let Some(file) = found else {
+        miss_file(run, world, site, head, name, candidates.as_slice())?;
+        return Ok(Inside::Nothing);
+    };
+    let inside = take_file(run, world, site, head, name, file)?;
+    Ok(inside)
+}
+
+/// Lists an extern block; its items are visited next.
+fn enter<'a>(
+    run: &mut DefCollector,
+    site: &Site,
+    head: ItemHead<'_>,
+    ids: &'a [ModItemId],
+) -> Result<Inside<'a>, CollectError>
+    requires in_range { site.now.home < length (core_in run.old).map.modules }
+    requires enabled { is_enabled (head_of head).attributes ≡ true }
+    ensures ok { IfOk result (λ inside. (env : Environment) (finished : Maps) (items : List KeptItem) → Handles env finished (core_in run.old) (core_in run.new)
+        (visit site.now (holder (head_of head.entry) extern_block (items_at items (numbers_of ids.entry.now)))) (tasks_of site.now.home items inside)) }
+    ensures noted { OnOk result (IsNoted run.old run.new) }
+    ensures within { IfOk result (λ inside. (tables : TablesValue) → GoesInside tables (length (core_in run.new).map.modules) site.now (numbers_of ids.entry.now) inside) }
+    ensures many { result ≡ Err CollectError.TooMany → STEP_LIMIT ≤ (core_in run.old).count }
+{
+    let id = ExternBlockId {
+        loc: ItemLoc {
+            container: run.module_id(site.home),
+            file_id: site.tree.file,
+            block: site.tree.block,
+            id: head.id,
+        },
+    };
+    let dir = site.dir.clone()?;
+    run.list_extern_block(site.home, id)?;
+    run.tick()?;
+    Ok(Inside::Held {
+        site: Site {
+            home: site.home,
+            tree: site.tree,
+            file: site.file,
+            extern_block: Some(id),
+            dir,
+            level: site.level,
+        },
+        ids,
+        macro_use: false,
+    })
+}
+
+/// Notes a macro call, which waits.
+fn reach_call(
+    run: &mut DefCollector,
+    site: &Site,
+    head: ItemHead<'_>,
+    path: &ModPath,
+) -> Result<(), CollectError>
+    requires enabled { is_enabled (head_of head).attributes ≡ true }
+    ensures ok { OnOk result ((env : Environment) (finished : Maps) → Handles env finished (core_in run.old) (core_in run.new) (visit site.now (leaf (head_of head.entry) (macro_call path.now))) []) }
+    ensures noted { OnOk result (IsNoted run.old run.new) }
+    ensures many { result ≡ Err CollectError.TooMany → STEP_LIMIT ≤ (core_in run.old).count }
+{
+    let call = MacroDirective {
+        site: site.clone()?,
+        ast_id: AstId {
+            file_id: site.tree.file,
+            block: site.tree.block,
+            kind: AstKind::MacroCall,
+            id: head.id,
+        },
+        kind: MacroDirectiveKind::FnLike {
+            path: path.clone()?,
+        },
+    };
+    run.await_call(call)?;
+    run.tick()?;
+    Ok(())
+}
+
+/// Handles an item that isn't disabled and holds no others, modules aside.
+fn visit_leaf<D: SourceDatabase>(
+    run: &mut DefCollector,
+    db: &mut D,
+    world: WorldPart<'_>,
+    locations: &Tables,
+    site: &Site,
+    head: ItemHead<'_>,
+    item: ModItemKind<'_>,
+) -> Result<(), CollectError>
+    requires in_range { site.now.home < length (core_in run.old).map.modules }
+    requires enabled { is_enabled (head_of head).attributes ≡ true }
+    requires meant { IsMeantAt locations.now site.now }
+    requires single { is_single item ≡ true }
+    ensures same { D.workspace db.new ≡ D.workspace db.old }
+    ensures ok { OnOk result (OnceGrown locations.now (D.workspace db.old) (λ env. (items : List KeptItem)
+        → Handles env (part_of world.entry) (core_in run.old) (core_in run.new) (visit site.now (item_of items (head_of head.entry) (kind_content item.entry))) [])) }
+    ensures noted { OnOk result (IsNoted run.old run.new) }
+    ensures many { result ≡ Err CollectError.TooMany → STEP_LIMIT ≤ (core_in run.old).count }
+{
+    match item {
+        ModItemKind::Use(item) => reach_use(run, site, head, item.use_tree),
+        ModItemKind::Function(item) => declare_function(run, world, site, head, item.name),
+        ModItemKind::Struct(item) => declare_struct(run, world, site, head, item),
+        ModItemKind::Union(item) => declare_union(run, world, site, head, item.name),
+        ModItemKind::Enum(item) => declare_enum(run, db, world, locations, site, head, item.name),
+        ModItemKind::Const(item) => visit_const(run, world, site, head, item.name),
+        ModItemKind::Static(item) => declare_static(run, world, site, head, item.name),
+        ModItemKind::Trait(item) => declare_trait(run, world, site, head, item.name),
+        ModItemKind::Impl(item) => list_impl(run, site, head, item.of_trait),
+        ModItemKind::TypeAlias(item) => declare_type_alias(run, world, site, head, item.name),
+        ModItemKind::ExternCrate(item) => {
+            reach_extern_crate(run, world, site, head, item.name, item.alias)
+        }
+        ModItemKind::MacroRules(item) => define_rules(run, site, head, item),
+        ModItemKind::Macro2(item) => define_macro(run, world, site, head, item),
+        ModItemKind::MacroCall(item) => reach_call(run, site, head, item.path),
+        ModItemKind::Mod(_) | ModItemKind::ExternBlock(_) => Ok(()),
+    }
+}
+
+/// The kind of the node of an item.
+fn kind_of(item: ModItemKind<'_>) -> AstKind
+    ensures value { result ≡ kind_of item.entry }
+{
+    match item {
+        ModItemKind::Use(_) => AstKind::Use,
+        ModItemKind::ExternCrate(_) => AstKind::ExternCrate,
+        ModItemKind::ExternBlock(_) => AstKind::ExternBlock,
+        ModItemKind::Function(_) => AstKind::Fn,
+        ModItemKind::Struct(_) => AstKind::Struct,
+        ModItemKind::Union(_) => AstKind::Union,
+        ModItemKind::Enum(_) => AstKind::Enum,
+        ModItemKind::Const(_) => AstKind::Const,
+        ModItemKind::Static(_) => AstKind::Static,
+        ModItemKind::Trait(_) => AstKind::Trait,
+        ModItemKind::Impl(_) => AstKind::Impl,
+        ModItemKind::TypeAlias(_) => AstKind::TypeAlias,
+        ModItemKind::Mod(_) => AstKind::Module,
+        ModItemKind::MacroCall(_) => AstKind::MacroCall,
+        ModItemKind::MacroRules(_) => AstKind::MacroRules,
+        ModItemKind::Macro2(_) => AstKind::MacroDef,
+    }
+}
+
+/// Handles an item that isn't disabled; which items are visited next: those that it holds, or those of its file.
+fn handle_item<'a, D: SourceDatabase>(
+    run: &mut DefCollector,
+    db: &mut D,
+    world: WorldPart<'_>,
+    locations: &mut Tables,
+    site: &Site,
+    head: ItemHead<'_>,
+    item: ModItemKind<'a>,
+) -> Result<Inside<'a>, CollectError>
+    requires in_range { site.now.home < length (core_in run.old).map.modules }
+    requires enabled { is_enabled (head_of head).attributes ≡ true }
+    requires meant { IsMeantAt locations.old site.now }
+    ensures kept { KeepsTables locations.old locations.new }
+    ensures placed { AreCallsPlaced locations.old → AreCallsPlaced locations.new }
+    ensures same { D.workspace db.new ≡ D.workspace db.old }
+    ensures ok { IfOk result (λ inside. OnceGrown locations.new (D.workspace db.old) (λ env. (items : List KeptItem) → Handles env (part_of world.entry) (core_in run.old) (core_in run.new)
+        (visit site.now (item_of items (head_of head.entry) (kind_content item.entry))) (tasks_of site.now.home items inside))) }
+    ensures noted { OnOk result (IsNoted run.old run.new) }
+    ensures within { IfOk result (λ inside. GoesInside locations.new (length (core_in run.new).map.modules) site.now (held_numbers (kind_content item.entry)) inside) }
+    ensures many { result ≡ Err CollectError.TooMany → OnceGrown locations.new (D.workspace db.old) (λ env. (items : List KeptItem) →
+        HandlesTooFar env (part_of world.entry) (core_in run.old) (visit site.now (item_of items (head_of head.entry) (kind_content item.entry)))) }
+{
+    match item {
+        ModItemKind::Mod(item) => match item.kind {
+            ModKind::Inline { items } => visit_inline(run, world, site, head, item.name, items),
+            ModKind::Outline => visit_outline(run, db, world, locations, site, head, item.name),
+        },
+        ModItemKind::ExternBlock(item) => enter(run, site, head, item.children),
+        other => {
+            visit_leaf(run, db, world, locations, site, head, other)?;
+            Ok(Inside::Nothing)
+        }
+    }
+}
+
+/// Handles an item that isn't disabled, and lets what it binds go along globs at once; which items are visited next: those
+/// that it holds, or those of its file.
+fn visit_item<'a, D: SourceDatabase>(
+    run: &mut DefCollector,
+    db: &mut D,
+    world: WorldPart<'_>,
+    locations: &mut Tables,
+    site: &Site,
+    head: ItemHead<'_>,
+    item: ModItemKind<'a>,
+) -> Result<Inside<'a>, CollectError>
+    requires in_range { site.now.home < length (core_in run.old).map.modules }
+    requires enabled { is_enabled (head_of head).attributes ≡ true }
+    requires meant { IsMeantAt locations.old site.now }
+    ensures kept { KeepsTables locations.old locations.new }
+    ensures placed { AreCallsPlaced locations.old → AreCallsPlaced locations.new }
+    ensures same { D.workspace db.new ≡ D.workspace db.old }
+    ensures ok { IfOk result (λ inside. OnceGrown locations.new (D.workspace db.old) (λ env. (items : List KeptItem) → HandlesAndSpreads env (part_of world.entry) (core_in run.old) (core_in run.new)
+        (visit site.now (item_of items (head_of head.entry) (kind_content item.entry))) (tasks_of site.now.home items inside))) }
+    ensures noted { OnOk result (IsNotedBeside (part_of world.entry) run.old run.new) }
+    ensures spread { OnOk result (run.new.globs.pending ≡ []) }
+    ensures within { IfOk result (λ inside. GoesInside locations.new (length (core_in run.new).map.modules) site.now (held_numbers (kind_content item.entry)) inside) }
+    ensures many { result ≡ Err CollectError.TooMany → OnceGrown locations.new (D.workspace db.old) (λ env. (items : List KeptItem) →
+        HandlesTooFar env (part_of world.entry) (core_in run.old) (visit site.now (item_of items (head_of head.entry) (kind_content item.entry)))) }
+{
+    let inside = handle_item(run, db, world, locations, site, head, item)?;
+    run.spread_changes(world)?;
+    Ok(inside)
+}
+
+/// Drops an item that a condition leaves out, with all in it.
+fn drop_item(
+    run: &mut DefCollector,
+    site: &Site,
+    id: SyntaxId,
+    item: ModItemKind<'_>,
+    cfg: &CfgExpr,
+) -> Result<(), CollectError>
+    ensures ok { OnOk result (Drops (IsUnconfigured (module_id (core_in run.old).map site.now.home) (node_of site.now.tree (kind_of item.entry) id) (cfg_view cfg.now) (core_in run.old).options) (core_in run.old) (core_in run.new)) }
+    ensures noted { OnOk result (IsNoted run.old run.new) }
+    ensures many { result ≡ Err CollectError.TooMany → STEP_LIMIT ≤ (core_in run.old).count }
+{
+    let node = AstId {
+        file_id: site.tree.file,
+        block: site.tree.block,
+        kind: kind_of(item),
+        id,
+    };
+    let at = run.module_id(site.home);
+    let told = unconfigured(run.allocator(), at, node, cfg, run.options())?;
+    run.tell(told)?;
+    run.tick()?;
+    Ok(())
+}
+
+/// A number; it is one of 64 bits.
+fn counted(number: usize) -> usize
+    ensures value { result ≡ number }
+    ensures below { number < 18446744073709551616 }
+{
+    number
+}
+
+/// Goes through the attributes of an item that isn't disabled, behind the first so many: how many are done with where the
+/// item is next.
+fn pass(
+    run: &mut DefCollector,
+    source: &Rc<SourceTree>,
+    site: &Site,
+    id: ModItemId,
+    done: usize,
+) -> Result<Option<usize>, CollectError>
+    requires there { id.0 < length (all_items source.now.value.tree.items) }
+    requires enabled { IfSome (slice_get (all_items source.now.value.tree.items) id.0) (λ i. is_enabled (item_head i).attributes ≡ true) }
+    ensures ok { IfOk result (λ passed. (env : Environment) (finished : Maps) → IfSome (slice_get (all_items source.now.value.tree.items) id.0)
+        (λ i. Passes env finished (core_in run.old) (core_in run.new) (visit site.now i) done passed)) }
+    ensures noted { OnOk result (IsNoted run.old run.new) }
+    ensures many { result ≡ Err CollectError.TooMany → (env : Environment) (finished : Maps) → IfSome (slice_get (all_items source.now.value.tree.items) id.0)
+        (λ i. PassesTooFar env finished (core_in run.old) (visit site.now i) done) }
+{
+    let head = head_at(source.tree(), id);
+    let item = source.tree().index(id);
+    let visited = Visited {
+        site,
+        source,
+        id,
+        node: AstId {
+            file_id: site.tree.file,
+            block: site.tree.block,
+            kind: kind_of(item),
+            id: head.id,
+        },
+        attrs: head.attrs.attrs.as_slice(),
+        adt: adt_of(run, site, head, item),
+    };
+    pass_attributes(run, visited, done)
+}
+
+/// Handles an item of which so many attributes are done with, and all that is in it.
+#[cycle(walk)]
+pub fn walk_item<D: SourceDatabase>(
+    run: &mut DefCollector,
+    db: &mut D,
+    world: WorldPart<'_>,
+    locations: &mut Tables,
+    source: &Rc<SourceTree>,
+    site: &Site,
+    id: ModItemId,
+    done: usize,
+) -> Result<(), CollectError>
+    requires in_range { site.now.home < length (core_in run.old).map.modules }
+    requires meant { IsMeantAt locations.old site.now }
+    requires there { id.0 < length (all_items source.now.value.tree.items) }
+    ensures kept { KeepsTables locations.old locations.new }
+    ensures placed { AreCallsPlaced locations.old → AreCallsPlaced locations.new }
+    ensures same { D.workspace db.new ≡ D.workspace db.old }
+    ensures ok { OnOk result (OnceGrown locations.new (D.workspace db.old)
+        (λ env. Walks env (part_of world.entry) (core_in run.old) (core_in run.new) (visits_behind source.now.value.tree site.now id.0 done))) }
+    ensures noted { OnOk result (IsNotedBeside (part_of world.entry) run.old run.new) }
+    ensures many { result ≡ Err CollectError.TooMany → OnceGrown locations.new (D.workspace db.old)
+        (λ env. WalksTooFar env (part_of world.entry) (core_in run.old) (visits_behind source.now.value.tree site.now id.0 done)) }
+{
+    let head = head_at(source.tree(), id);
+    let item = source.tree().index(id);
+    if let Some(cfg) = &head.attrs.disabled {
+        drop_item(run, site, head.id, item, cfg)?;
+        return Ok(());
+    }
+    if pass(run, source, site, id, done)?.is_none() {
+        return Ok(());
+    }
+    let inside = visit_item(run, db, world, locations, site, head, item)?;
+    match inside {
+        Inside::Nothing => Ok(()),
+        Inside::Held {
+            site: inner,
+            ids,
+            macro_use,
+        } => {
+            walk_all(run, db, world, locations, source, &inner, ids)?;
+            close(run, macro_use, site.home, inner.home)?;
+            Ok(())
+        }
+        Inside::File {
+            site: inner,
+            source,
+            macro_use,
+        } => {
+            let ids = source.tree().top_level_items();
+            walk_all(run, db, world, locations, &source, &inner, ids)?;
+            close(run, macro_use, site.home, inner.home)?;
+            Ok(())
+        }
+    }
+}
+
+/// Handles items of a tree that are written at a site, one after another, each with all that is in it.
+#[cycle(walk)]
+pub fn walk_all<D: SourceDatabase>(
+    run: &mut DefCollector,
+    db: &mut D,
+    world: WorldPart<'_>,
+    locations: &mut Tables,
+    source: &Rc<SourceTree>,
+    site: &Site,
+    ids: &[ModItemId],
+) -> Result<(), CollectError>
+    requires in_range { site.now.home < length (core_in run.old).map.modules }
+    requires meant { IsMeantAt locations.old site.now }
+    requires there { All (λ n. n < length (all_items source.now.value.tree.items)) (numbers_of ids.now) }
+    ensures kept { KeepsTables locations.old locations.new }
+    ensures placed { AreCallsPlaced locations.old → AreCallsPlaced locations.new }
+    ensures same { D.workspace db.new ≡ D.workspace db.old }
+    ensures ok { OnOk result (OnceGrown locations.new (D.workspace db.old)
+        (λ env. Walks env (part_of world.entry) (core_in run.old) (core_in run.new) (visits_at source.now.value.tree site.now (numbers_of ids.now)))) }
+    ensures noted { OnOk result (IsNotedBeside (part_of world.entry) run.old run.new) }
+    ensures many { result ≡ Err CollectError.TooMany → OnceGrown locations.new (D.workspace db.old)
+        (λ env. WalksTooFar env (part_of world.entry) (core_in run.old) (visits_at source.now.value.tree site.now (numbers_of ids.now))) }
+{
+    for id in ids {
+        let id = ModItemId(counted(id.0));
+        walk_item(run, db, world, locations, source, site, id, 0)?;
+    }
+    Ok(())
+}

@@ -1,5 +1,0 @@
-use Rattle.hir_session.proofs.Due.{IsRefreshing}
-use Rattle.hir_session.proofs.session.Session.refresh.Given as goal
-
-abbrev pub invariant-loop-k : goal.invariant-loop-k
-invariant-loop-k l = IsRefreshing l.initial.self l.self l.done.items l.k

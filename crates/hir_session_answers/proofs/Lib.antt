@@ -1,0 +1,9 @@
+pub mod LowerLaws
+pub mod CallLemmas
+pub mod LeftOut
+pub mod Reported
+pub mod Told
+pub mod Growing
+pub mod Differ
+pub mod Stand
+pub mod Diagnosing

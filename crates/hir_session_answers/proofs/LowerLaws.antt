@@ -1,0 +1,41 @@
+-- The laws of the crates below, as their own proofs have them.
+use Rattle.std.proofs.Common.{refl}
+use Rattle.hir_item_tree.specs.BodyTexts.{BodyTextsLeaveTheTree}
+use Rattle.hir_item_tree.proofs.Bodies.{body_texts_leave_the_tree}
+use Rattle.hir_def_map_rules.specs.Closed.{PathsLeadToWhatIsThere}
+use Rattle.hir_def_map_rules.specs.Sources.{PathsAnswerFromSources}
+use Rattle.hir_def_map_rules.proofs.Reached.{paths_lead_there}
+use Rattle.hir_def_map_rules.proofs.Sourced.{paths_from_sources}
+use Rattle.hir_collector_rules.specs.Growth as growth
+use Rattle.hir_collector_rules.specs.Start.{read_by}
+use Rattle.hir_def_collector_laws.specs.Sources.{RunsBindFromSources}
+use Rattle.hir_def_collector_laws.specs.Whole.{RunsNameWhatIsThere}
+use Rattle.hir_collector_rules.proofs.Meaning as meaning
+use Rattle.hir_def_collector_laws.proofs.Sourced.{ends_sourced}
+use Rattle.hir_def_collector_laws.proofs.Whole.{ends_whole}
+
+pub bodies_leave_the_tree : BodyTextsLeaveTheTree
+bodies_leave_the_tree = body_texts_leave_the_tree
+
+pub paths_lead : PathsLeadToWhatIsThere
+paths_lead maps asking from path closed local e = paths_lead_there maps closed asking local from e path.kind path.segments
+
+pub paths_answer : PathsAnswerFromSources
+paths_answer t maps asking from path nowhere externs = paths_from_sources t maps nowhere asking externs from path.kind path.segments
+
+pub runs_bind : RunsBindFromSources
+runs_bind t tables w finished from answer whole stands e clear =
+    ends_sourced t paths_answer paths_lead (read_by w finished from.start) whole tables w finished from answer refl stands e clear
+
+pub runs_name : RunsNameWhatIsThere
+runs_name tables w finished from answer whole stands e =
+    ends_whole paths_lead (read_by w finished from.start) whole tables w finished from answer refl stands e
+
+pub looks_stand : growth.LooksStand
+looks_stand = meaning.looks_stand
+
+pub asked_keys_have_meaning : growth.AskedKeysHaveMeaning
+asked_keys_have_meaning = meaning.asked_keys_have_meaning
+
+pub answers_stand : growth.AnswersStand
+answers_stand = meaning.answers_stand

@@ -1,0 +1,10 @@
+pub mod Status
+pub mod SourceCalls
+pub mod SourceItems
+pub mod Answers
+pub mod LeavesOut
+pub mod AnswersStand
+pub mod TreeText
+pub mod Diagnostics
+pub mod DiagnosticsStand
+pub mod Histories

@@ -1,0 +1,4 @@
+pub mod Naming
+pub mod Sound
+pub mod Due
+pub mod Verdicts

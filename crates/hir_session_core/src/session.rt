@@ -1,0 +1,335 @@
+//! The session: what is handed in, and what is kept of each crate that was resolved.
+//!
+//! A run of the import rules for a crate notes each key that it asks for: what a file or an expansion has under the crate, the
+//! variants of an enum, the text of a macro and the input of a call, the map of a crate on which it depends. What it comes to
+//! is kept, with these keys.
+//!
+//! An edit of a source compares what the source has with what it gets, at the keys of those runs that asked for it. Where one
+//! is altered the place is marked, and so is each place that depends on it: what is kept of them is dropped, and that is all
+//! that a mark is. A refresh runs the import rules for the marked places, in the order of the crates' numbers, so that a run finds
+//! what it depends on.
+//!
+//! The one difficulty: no query looks at a source. What is kept of a place is right because it is what the import rules could
+//! have given just now, over the present sources: the invariant of a session says so of each place, and an edit or a refresh that ends
+//! early leaves it true.
+ghost use Rattle.std.specs.Prelude.{◌≡◌, ℕ, ◌<◌, ◌++◌, ◌∷◌, [], map, true, false, length, None, Some, IfOk, OnOk, OnErr, IfErr, ◌≤◌, ◌⊎◌, Ok, Err};
+ghost use Rattle.hir_base.specs.Refusal.{Gives};
+ghost use Rattle.hir_collector_rules.specs.Derivation.{IsOverlong, collected_view};
+ghost use Rattle.hir_wire.specs.CommandValue.{crate_input_view};
+ghost use Rattle.hir_tables.specs.SourcePlaces.{expansion_value};
+ghost use Rattle.hir_wire.specs.Edits.{edit_view, entry_view};
+ghost use Rattle.hir_session_state.specs.Beginning.{Begins};
+ghost use Rattle.hir_item_tree.specs.Source.{source_view};
+ghost use Rattle.hir_session_state.specs.SourceEdits.{edited, of_expansion, of_file};
+ghost use Rattle.hir_session_state.specs.Crates.{id_of};
+ghost use Rattle.hir_session_state.specs.SessionState.{SessionState, Resolution, workspace_of, finished_of, beginning_of, is_marked, IsResolutionOf, IsSound};
+ghost use Rattle.hir_session_state.specs.Due.{root_place, Grows, Resolved, HasOverlongRun};
+ghost use Rattle.hir_session_state.specs.Refusals.{first_out_of_order, verdict_of_new, IsNewMemory, verdict_of_apply, verdict_of_expansion, verdict_of_source, IsEditMemory};
+ghost use Rattle.hir_session_state.specs.Changes.{Becomes, Applies, Refreshes, RefreshesPartly};
+
+mod queries;
+
+use hir_base::file_path::FilePath;
+use hir_base::ids::{Crate, MapId};
+use hir_base::limit::Limit;
+use hir_base::macro_kind::ExpansionKey;
+use hir_base::place::Place;
+use hir_collector_rules::collected::Collected;
+use hir_item_tree::check::check;
+use hir_item_tree::source::Source;
+use hir_session_invalidation::inputs::Inputs;
+use hir_session_invalidation::invalidate::{Invalidation, invalidated};
+use hir_session_sources::beginning::{crates_of, first_late};
+use hir_session_sources::source_edit::SourceEdit;
+use hir_session_state::askers::Askers;
+use hir_session_state::error::{EditError, NewSessionError, RefreshError};
+use hir_session_state::front::{has_deep_condition, has_long_path};
+use hir_session_state::kept::Kept;
+use hir_session_state::known_crates::names_known;
+use hir_session_state::nesting::nests_too_deep;
+use hir_tables::Tables;
+use hir_wire::command::CrateInput;
+use hir_wire::edit::{Edit, ExpansionEntry};
+use std::alloc::{AllocError, Global};
+use std::marker::Model;
+
+/// The most crates that a session has.
+pub const MAX_CRATES: usize = 10000;
+
+/// Crates and sources as they were handed in, and for each place that was resolved what its names stand for.
+#[derive(Drop)]
+pub struct Session {
+    inputs: Inputs,
+    tables: Tables,
+    kept: Kept,
+    askers: Askers,
+}
+
+impl Model for Session {
+    ghost use Rattle.hir_session_state.specs.Askers.{AreNoted};
+    ghost use Rattle.hir_session_state.specs.SessionState.{SessionState, IsSound, state_of};
+    ghost use Rattle.hir_session_state.specs.Codes.{coded_session};
+
+    ghost Value = { SessionState };
+
+    ghost coded = { coded_session };
+
+    ghost view = { λ s. state_of s.inputs s.tables s.kept };
+
+    ghost invariant = { λ s. IsSound (state_of s.inputs s.tables s.kept) × AreNoted s.tables s.kept s.askers };
+}
+
+/// Puts the place of a crate's root at the end.
+fn note(alloc: Global, done: &mut Vec<Place>, k: u32) -> Result<(), AllocError>
+    ensures ok { OnOk result (done.new.items ≡ done.old.items ++ root_place (id_of k) ∷ []) }
+{
+    done.push(Place::new(Crate(k), Vec::new(alloc)))?;
+    Ok(())
+}
+
+/// Whether a source is within the limits, and has each id once. How deep its items nest is looked at first,
+/// since what goes down the items needs stack for it.
+fn check_source(alloc: Global, source: &Source) -> Result<(), EditError>
+    ensures accepted { OnOk result (verdict_of_source (source_view source.now) ≡ Ok tt) }
+    ensures refused { IfErr result (λ e. IsEditMemory e ⊎ (verdict_of_source (source_view source.now) ≡ Err e)) }
+{
+    if nests_too_deep(source) {
+        return Err(EditError::TooLarge(Limit::Modules));
+    }
+    check(alloc, source)?;
+    Ok(())
+}
+
+impl Session {
+    /// A session over these crates, numbered in this order, without sources.
+    pub fn new(alloc: Global, inputs: Vec<CrateInput>) -> Result<Session, NewSessionError>
+        ensures begins { IfOk result (λ s. Begins (map crate_input_view inputs.items) s) }
+        ensures accepted { OnOk result (verdict_of_new (map crate_input_view inputs.items) ≡ Ok tt) }
+        ensures refused { IfErr result (λ e. IsNewMemory e ⊎ (verdict_of_new (map crate_input_view inputs.items) ≡ Err e)) }
+    {
+        let count = inputs.as_slice().len();
+        if let Some(k) = first_late(&inputs) {
+            return Err(NewSessionError::DependencyOrder(Crate(k)));
+        }
+        if has_long_path(&inputs) {
+            return Err(NewSessionError::TooLarge(Limit::Path));
+        }
+        if has_deep_condition(&inputs) {
+            return Err(NewSessionError::TooLarge(Limit::Cfg));
+        }
+        if count > MAX_CRATES {
+            return Err(NewSessionError::TooLarge(Limit::Crates));
+        }
+        let session = begin(alloc, &inputs)?;
+        Ok(session)
+    }
+
+    /// Sets a checked file, and drops what is kept of what that touches.
+    fn keep_file(&mut self, alloc: Global, file: FilePath, source: Source) -> Result<(), AllocError>
+        ensures ok { OnOk result (Becomes self.old (edited self.old.sources (of_file file (Some (source_view source)))) self.new) }
+        ensures err { OnErr result (self.new ≡ self.old) }
+    {
+        let edit = SourceEdit::File {
+            path: &file,
+            new: Some(&source),
+        };
+        let Invalidation { hits, trees } = invalidated(
+            alloc,
+            &self.inputs,
+            &self.tables,
+            &self.kept,
+            &self.askers,
+            edit,
+        )?;
+        self.inputs.set_file(file, source, trees)?;
+        self.kept.forget(&hits);
+        Ok(())
+    }
+
+    /// Removes a file, and drops what is kept of what that touches.
+    fn remove_file(&mut self, alloc: Global, file: &FilePath) -> Result<(), AllocError>
+        ensures ok { OnOk result (Becomes self.old (edited self.old.sources (of_file file.now None)) self.new) }
+        ensures err { OnErr result (self.new ≡ self.old) }
+    {
+        let edit = SourceEdit::File {
+            path: file,
+            new: None,
+        };
+        let Invalidation { hits, trees } = invalidated(
+            alloc,
+            &self.inputs,
+            &self.tables,
+            &self.kept,
+            &self.askers,
+            edit,
+        )?;
+        self.inputs.remove_file(file, trees);
+        self.kept.forget(&hits);
+        Ok(())
+    }
+
+    /// Sets a checked expansion, and drops what is kept of what that touches.
+    fn keep_expansion(
+        &mut self,
+        alloc: Global,
+        key: ExpansionKey,
+        entry: ExpansionEntry,
+    ) -> Result<(), AllocError>
+        ensures ok { OnOk result (Becomes self.old (edited self.old.sources (of_expansion (expansion_value key) (Some (entry_view entry)))) self.new) }
+        ensures err { OnErr result (self.new ≡ self.old) }
+    {
+        let edit = SourceEdit::Expansion {
+            key: &key,
+            new: Some(&entry),
+        };
+        let Invalidation { hits, trees: _ } = invalidated(
+            alloc,
+            &self.inputs,
+            &self.tables,
+            &self.kept,
+            &self.askers,
+            edit,
+        )?;
+        self.inputs.set_expansion(key, entry)?;
+        self.kept.forget(&hits);
+        Ok(())
+    }
+
+    /// Removes an expansion, and drops what is kept of what that touches.
+    fn remove_expansion(&mut self, alloc: Global, key: &ExpansionKey) -> Result<(), AllocError>
+        ensures ok { OnOk result (Becomes self.old (edited self.old.sources (of_expansion (expansion_value key.now) None)) self.new) }
+        ensures err { OnErr result (self.new ≡ self.old) }
+    {
+        let edit = SourceEdit::Expansion { key, new: None };
+        let Invalidation { hits, trees: _ } = invalidated(
+            alloc,
+            &self.inputs,
+            &self.tables,
+            &self.kept,
+            &self.askers,
+            edit,
+        )?;
+        self.inputs.remove_expansion(key);
+        self.kept.forget(&hits);
+        Ok(())
+    }
+
+    /// Sets a file, as the edit of that name does. A refused source is dropped.
+    pub fn set_file(
+        &mut self,
+        alloc: Global,
+        file: FilePath,
+        source: Source,
+    ) -> Result<(), EditError>
+        ensures answer { Gives IsEditMemory result (verdict_of_source (source_view source)) }
+        ensures ok { OnOk result (Becomes self.old (edited self.old.sources (of_file file (Some (source_view source)))) self.new) }
+        ensures err { OnErr result (self.new ≡ self.old) }
+    {
+        check_source(alloc, &source)?;
+        self.keep_file(alloc, file, source)?;
+        Ok(())
+    }
+
+    /// Sets an expansion, as the edit of that name does. A refused expansion is dropped.
+    pub fn set_expansion(
+        &mut self,
+        alloc: Global,
+        key: ExpansionKey,
+        entry: ExpansionEntry,
+    ) -> Result<(), EditError>
+        ensures answer { Gives IsEditMemory result (verdict_of_expansion (length self.old.crates) (expansion_value key) (source_view entry.source)) }
+        ensures ok { OnOk result (Becomes self.old (edited self.old.sources (of_expansion (expansion_value key) (Some (entry_view entry)))) self.new) }
+        ensures err { OnErr result (self.new ≡ self.old) }
+    {
+        if !names_known(self.inputs.crates().len(), &key) {
+            return Err(EditError::UnknownCrate);
+        }
+        check_source(alloc, &entry.source)?;
+        self.keep_expansion(alloc, key, entry)?;
+        Ok(())
+    }
+
+    /// Changes what is handed in, and marks what that touches. A refused edit is dropped.
+    pub fn apply(&mut self, alloc: Global, edit: Edit) -> Result<(), EditError>
+        ensures answer { Gives IsEditMemory result (verdict_of_apply (length self.old.crates) (edit_view edit)) }
+        ensures ok { OnOk result (Applies self.old (edit_view edit) self.new) }
+        ensures err { OnErr result (self.new ≡ self.old) }
+    {
+        match edit {
+            Edit::SetFile { file, source } => self.set_file(alloc, file, source)?,
+            Edit::RemoveFile { file } => self.remove_file(alloc, &file)?,
+            Edit::SetExpansion { key, entry } => self.set_expansion(alloc, key, entry)?,
+            Edit::RemoveExpansion { key } => self.remove_expansion(alloc, &key)?,
+        }
+        Ok(())
+    }
+
+    /// Whether nothing is kept of a crate.
+    fn is_marked_at(&self, k: u32) -> bool
+        ensures value { result ≡ is_marked self.now (id_of k) }
+    {
+        self.kept.get(MapId::of_crate(Crate(k))).is_none()
+    }
+
+    /// What a run gives for a crate, beside the maps of those before it.
+    fn found_at(&mut self, alloc: Global, k: u32) -> Result<Collected, RefreshError>
+        requires within { k < length self.old.crates }
+        requires first { (j : ℕ) → j < k → is_marked self.old (id_of j) ≡ false }
+        ensures grown { Grows self.old self.new }
+        ensures found { IfOk result (λ r. IsResolutionOf self.new (id_of k) (collected_view r)) }
+        ensures many { result ≡ Err RefreshError.TooMany → IsOverlong self.new.tables (workspace_of self.new) (finished_of self.new) (beginning_of self.new (id_of k)) }
+    {
+        self.inputs
+            .resolve(alloc, &mut self.tables, self.kept.world(), k)
+    }
+
+    /// Resolves the first marked crate.
+    fn resolve_at(&mut self, alloc: Global, k: u32) -> Result<(), RefreshError>
+        requires within { k < length self.old.crates }
+        requires first { (j : ℕ) → j < k → is_marked self.old (id_of j) ≡ false }
+        requires marked { is_marked self.old (id_of k) ≡ true }
+        ensures ok { OnOk result ((r : Resolution) × Resolved self.old (id_of k) r self.new) }
+        ensures sound { IsSound self.new }
+        ensures many { result ≡ Err RefreshError.TooMany → IsOverlong self.new.tables (workspace_of self.new) (finished_of self.new) (beginning_of self.new (id_of k)) }
+        ensures err { OnErr result (Grows self.old self.new) }
+    {
+        let found = self.found_at(alloc, k)?;
+        self.askers
+            .note(&self.tables, &found.asked, MapId::of_crate(Crate(k)))?;
+        self.kept.keep(found)?;
+        Ok(())
+    }
+
+    /// Resolves what is marked, in order, and lists it.
+    pub fn refresh(&mut self, alloc: Global) -> Result<Vec<Place>, RefreshError>
+        ensures refreshes { IfOk result (λ done. Refreshes self.old done.items self.new) }
+        ensures none_stale { OnOk result ((k : ℕ) → k < length self.new.crates → is_marked self.new (id_of k) ≡ false) }
+        ensures err { OnErr result (RefreshesPartly self.old self.new) }
+        ensures many { result ≡ Err RefreshError.TooMany → HasOverlongRun self.new }
+    {
+        let mut done = Vec::new(alloc);
+        for k in 0..self.inputs.crates().len() as u32 {
+            if self.is_marked_at(k) {
+                note(alloc, &mut done, k)?;
+                self.resolve_at(alloc, k)?;
+            }
+        }
+        Ok(done)
+    }
+}
+
+/// A session over crates that can be taken, in order, and few enough.
+fn begin(alloc: Global, inputs: &Vec<CrateInput>) -> Result<Session, AllocError>
+    requires few { length inputs.now.items ≤ 10000 }
+    requires ordered { first_out_of_order 0 (map crate_input_view inputs.now.items) ≡ None }
+    ensures begins { IfOk result (λ s. Begins (map crate_input_view inputs.now.items) s) }
+{
+    let mut tables = Tables::new(alloc);
+    let crates = crates_of(alloc, inputs, &mut tables)?;
+    Ok(Session {
+        inputs: Inputs::new(alloc, crates),
+        tables,
+        kept: Kept::new(alloc),
+        askers: Askers::new(alloc),
+    })
+}

@@ -1,0 +1,183 @@
+//! What a session is asked.
+ghost use Rattle.std.specs.Prelude.{◌≡◌, ◌⊎◌, IfOk, IfErr, Ok, Err, option_map, string_bytes};
+ghost use Rattle.hir_base.specs.Refusal.{Gives};
+ghost use Rattle.hir_item_tree.specs.Source.{source_view};
+ghost use Rattle.hir_session_state.specs.Files.{file_at};
+ghost use Rattle.hir_session_state.specs.SessionState.{kept_of};
+ghost use Rattle.hir_session_answers.specs.Diagnostics.{diagnostics_of};
+ghost use Rattle.hir_session_answers.specs.DiagnosticsStand.{DiagnosticsStand};
+ghost use Rattle.hir_session_state.specs.Refusals.{IsDiagnosticsMemory, IsQueryMemory, IsTreeTextMemory};
+ghost use Rattle.hir_session_answers.specs.Status.{status_of};
+ghost use Rattle.hir_wire.specs.declared.reply.Status.TheVariants as status;
+ghost use Rattle.hir_session_state.specs.Crates.{id_of};
+ghost use Rattle.hir_session_answers.specs.Answers.{answer_kept, answer_of};
+ghost use Rattle.hir_session_answers.specs.AnswersStand.{AnswersStand};
+ghost use Rattle.hir_session_answers.specs.TreeText.{tree_text_of};
+
+use super::Session;
+use hir_base::file_path::FilePath;
+use hir_base::ids::{Crate, MapId};
+use hir_base::mod_path::ModPath;
+use hir_base::place::Place;
+use hir_def_map::def_maps::DefMaps;
+use hir_def_map::nameres::DefMap;
+use hir_def_map::world::part::WorldPart;
+use hir_item_tree::source::Source;
+use hir_session_answers::answers::{answer_at, module_below_root};
+use hir_session_answers::diagnostics::diagnostics_at;
+use hir_session_sources::crate_info::CrateInfo;
+use hir_session_sources::files::Files;
+use hir_session_state::error::{DiagnosticsError, QueryError, TreeTextError};
+use hir_tables::SourcePlace;
+use hir_wire::answer::Answer;
+use hir_wire::command::{MacroStyle, Shadow};
+use hir_wire::diagnostic::Diagnostics;
+use hir_wire::reply::Status;
+use std::alloc::Global;
+
+impl Session {
+    /// The map of a crate, unless the crate is stale or unknown.
+    pub fn def_map(&self, krate: Crate) -> Option<&DefMap>
+        ensures value { option_map (λ m. m.now) result ≡ option_map (λ r. r.map) (kept_of self.now (id_of krate.0)) }
+    {
+        match self.kept.get(MapId::of_crate(krate)) {
+            Some(found) => Some(found.map),
+            None => None,
+        }
+    }
+
+    /// The source of a file, as it was handed in; None where the file isn't there.
+    pub fn source(&self, file: &FilePath) -> Option<&Source>
+        ensures value { option_map (λ s. source_view s.now) result ≡ file_at self.now.sources.files file.now }
+    {
+        self.inputs.sources().files().get(file)
+    }
+
+    /// How the answers at a place stand.
+    pub fn status(&self, place: &Place) -> Status
+        ensures value { result ≡ status_of self.now place.now }
+    {
+        let krate = place.krate();
+        if krate.0 as usize >= self.inputs.crates().len() {
+            return Status::Unknown;
+        }
+        let Some(found) = self.kept.get(MapId::of_crate(krate)) else {
+            return Status::Stale;
+        };
+        match module_below_root(found.map, place.elements()) {
+            Some(_) => Status::Current,
+            None => Status::Unknown,
+        }
+    }
+
+    /// The crates in the order of their numbers.
+    pub fn crates(&self) -> &[CrateInfo]
+        ensures value { result.now ≡ self.now.crates }
+    {
+        self.inputs.crates().as_slice()
+    }
+
+    /// The files that are there, in the order of their paths.
+    pub fn files(&self) -> &Files
+        ensures value { result.now ≡ self.now.sources.files }
+    {
+        self.inputs.sources().files()
+    }
+
+    /// What a path means over what is kept.
+    fn answer_kept(
+        &self,
+        alloc: Global,
+        place: &Place,
+        path: &ModPath,
+        shadow: Shadow,
+        style: Option<MacroStyle>,
+    ) -> Result<Answer, QueryError>
+        ensures answer { Gives IsQueryMemory result (answer_kept self.now place.now path.now shadow style) }
+        ensures stands { status.Current ≡ status_of self.now place.now → IfOk result (λ answer. AnswersStand self.now place.now path.now shadow style answer) }
+    {
+        let krate = place.krate();
+        let Some(found) = self.kept.get(MapId::of_crate(krate)) else {
+            return Err(QueryError::UnknownPlace);
+        };
+        let Some(transitive) = self.inputs.crates().transitive_dependencies(krate) else {
+            return Err(QueryError::UnknownPlace);
+        };
+        let Some(at) = module_below_root(found.map, place.elements()) else {
+            return Err(QueryError::UnknownPlace);
+        };
+        let read = WorldPart::among(self.kept.world(), transitive, &[]);
+        let maps = DefMaps::new(read, found.map);
+        let answer = answer_at(
+            alloc,
+            &self.tables,
+            &maps,
+            found.local,
+            at,
+            path,
+            shadow,
+            style,
+        )?;
+        Ok(answer)
+    }
+
+    /// What a path means, asked from the module that a place names.
+    pub fn resolve_path(
+        &self,
+        alloc: Global,
+        place: &Place,
+        path: &ModPath,
+        shadow: Shadow,
+        style: Option<MacroStyle>,
+    ) -> Result<Answer, QueryError>
+        ensures answer { Gives IsQueryMemory result (answer_of self.now place.now path.now shadow style) }
+        ensures stands { IfOk result (λ answer. AnswersStand self.now place.now path.now shadow style answer) }
+    {
+        match self.status(place) {
+            Status::Current => self.answer_kept(alloc, place, path, shadow, style),
+            Status::Stale => Err(QueryError::StalePlace),
+            Status::Unknown => Err(QueryError::UnknownPlace),
+        }
+    }
+
+    /// The page of a file's tree, with names as the crate's edition writes them.
+    pub fn tree_text(
+        &self,
+        alloc: Global,
+        krate: Crate,
+        file: &FilePath,
+    ) -> Result<String, TreeTextError>
+        ensures page { IfOk result (λ text. tree_text_of self.now krate file.now ≡ Ok (string_bytes text)) }
+        ensures refused { IfErr result (λ e. IsTreeTextMemory e ⊎ (tree_text_of self.now krate file.now ≡ Err e)) }
+    {
+        let Some(info) = self.inputs.crates().get(krate) else {
+            return Err(TreeTextError::UnknownCrate);
+        };
+        let edition = info.config().edition;
+        let tree = self.inputs.tree(alloc, krate, SourcePlace::File(file))?;
+        let text = tree.tree().pretty_print(edition)?;
+        Ok(text)
+    }
+
+    /// What couldn't be resolved in a crate, in the order in which it was come upon.
+    pub fn diagnostics(&self, alloc: Global, krate: Crate) -> Result<Diagnostics, DiagnosticsError>
+        ensures told { Gives IsDiagnosticsMemory result (diagnostics_of self.now krate) }
+        ensures stand { IfOk result (λ told. DiagnosticsStand self.now krate told) }
+    {
+        let Some(transitive) = self.inputs.crates().transitive_dependencies(krate) else {
+            return Err(DiagnosticsError::UnknownCrate);
+        };
+        let Some(found) = self.kept.get(MapId::of_crate(krate)) else {
+            return Err(DiagnosticsError::StalePlace);
+        };
+        let read = WorldPart::among(self.kept.world(), transitive, &[]);
+        let maps = DefMaps::new(read, found.map);
+        let told = diagnostics_at(
+            alloc,
+            &self.tables,
+            &maps,
+            found.map.diagnostics().as_slice(),
+        )?;
+        Ok(Diagnostics::new(told))
+    }
+}

@@ -1,0 +1,104 @@
+-- What is kept of sources stays what they have.
+use Rattle.std.proofs.Common.{◌≡◌, ◌∙◌, ap, sym, subst, refl, nat_eq, Bool, true, false, ◌&&◌, if◌then◌else◌, List, Option, Some, None}
+use Rattle.std.specs.BTreeMap.{is_at}
+use Rattle.std.specs.Cmp.Lexicographic.{slice_cmp}
+use Rattle.std.specs.Cmp.{first_so, second_so}
+use Rattle.std.specs.Ordering.{nat_cmp}
+use Rattle.hir_base.specs.contracts.ids.CrateOrd.TheImpl as crate_order
+use Rattle.hir_base.specs.declared.ids.Crate.{Crate}
+use Rattle.hir_item_tree.specs.Source.{SourceValue}
+use Rattle.hir_item_tree.specs.SourceTree.{SourceTreeValue}
+use Rattle.hir_tables.specs.SourcePlaces.{ExpansionValue, SourcePlaceValue, expansion, file}
+use Rattle.hir_collector_rules.specs.Workspace.{Workspace}
+use Rattle.hir_session_sources.specs.declared.source_trees.SourceTrees.{SourceTrees}
+use Rattle.hir_session_state.specs.Crates.{CrateValue}
+use Rattle.hir_session_state.specs.Entries.{expansion_cmp}
+use Rattle.hir_session_state.specs.SourceEdits.{SourceEditValue, edited, place_of, source_by}
+use Rattle.hir_session_state.specs.SourceTable.{SourceTable, tree_under, workspace_in}
+use Rattle.hir_session_sources.specs.SourceTrees.{CrateTrees, AreCurrent, AreTreesOf, is_kept_at, is_place, tree_by, tree_in}
+use Rattle.hir_session_sources.proofs.Changing.{equal_crate, same_crate}
+use Rattle.hir_session_sources.proofs.Expansions.{exact_expansions}
+use Rattle.hir_session_sources.proofs.SourceLemmas.{exact_paths, place_same, source-other, source-there}
+use Rattle.hir_session_state.proofs.Truth.{clash, on_bool}
+
+none_some : {A B : Type 0} (o : Option A) (x : A) → o ≡ None → o ≡ Some x → B
+none_some o x none some = let both : None ≡ Some x = sym none ∙ some in absurd (let wrong : ⊥ = cc in wrong)
+
+one_value : {A : Type 0} {x y : A} → Some x ≡ Some y → x ≡ y
+one_value e = cc
+
+-- where nothing is kept
+pub none_current : (w : Workspace) (trees : SourceTrees) → ((place : SourcePlaceValue) (krate : Crate) → tree_in trees place krate ≡ None) → AreCurrent w trees
+none_current w trees none = record { each = λ place krate t is. none_some (tree_in trees place krate) t (none place krate) is }
+
+-- where the same is kept
+pub same_current : (w : Workspace) (old new : SourceTrees) → AreCurrent w old → ((place : SourcePlaceValue) (krate : Crate) → tree_in new place krate ≡ tree_in old place krate) → AreCurrent w new
+same_current w old new are same = record { each = λ place krate t is. are.each place krate t (sym (same place krate) ∙ is) }
+
+-- where the workspace is the same
+pub current_over : (v w : Workspace) (trees : SourceTrees) → v ≡ w → AreCurrent v trees → AreCurrent w trees
+current_over v w trees same are = subst (λ (x : Workspace). AreCurrent x trees) same are
+
+-- what is found at a place under a crate is kept of it under the crate
+kept_here : (place : SourcePlaceValue) (krate : Crate) (p : SourcePlaceValue) (c : Crate) → is_kept_at place krate p c ≡ true → (place ≡ p) × (krate ≡ c)
+kept_here (file path) krate (file at) c on =
+    let here = is_at (slice_cmp nat_cmp path) at in
+    let under = is_at (crate_order.ghosts.cmp krate) c in
+    (ap file (exact_paths.same path at (first_so here under on)), equal_crate krate c (second_so here under on))
+kept_here (expansion key) krate (expansion at) c on =
+    let here = is_at (expansion_cmp key) at in
+    let under = nat_eq krate.0 c.0 in
+    let both = second_so (nat_eq key.caller.0 krate.0) (here && under) on in
+    (ap expansion (exact_expansions.same key at (first_so here under both)), same_crate krate c (second_so here under both))
+kept_here place krate p c on = clash on refl
+
+-- one more that is what the source has
+pub set_current : (w : Workspace) (old new : SourceTrees) (place : SourcePlaceValue) (krate : Crate) (tree : SourceTreeValue) → tree ≡ w.tree krate place → AreCurrent w old
+    → ((p : SourcePlaceValue) (c : Crate) → tree_in new p c ≡ (if is_kept_at place krate p c then Some tree else tree_in old p c)) → AreCurrent w new
+set_current w old new place krate tree right are becomes = record { each = λ p c t is. go p c t (is_kept_at place krate p c) refl (sym (becomes p c) ∙ is) }
+  where
+    go : (p : SourcePlaceValue) (c : Crate) (t : SourceTreeValue) (b : Bool) → is_kept_at place krate p c ≡ b
+        → (if is_kept_at place krate p c then Some tree else tree_in old p c) ≡ Some t → t ≡ w.tree c p
+    go p c t true on is =
+        let now : Some tree ≡ Some t = rw on at is in
+        let here = kept_here place krate p c on in
+        sym (one_value now) ∙ right ∙ ap (λ (k : Crate). w.tree k place) here.1 ∙ ap (λ (q : SourcePlaceValue). w.tree c q) here.0
+    go p c t false off is = are.each p c t (rw off at is)
+
+-- those of an edited source, which are what it has after the edit
+pub replaced_current : (crates : List CrateValue) (table : SourceTable) (edit : SourceEditValue) (old new : SourceTrees) (trees : CrateTrees)
+    → AreCurrent (workspace_in crates table) old → AreTreesOf crates (place_of edit) (source_by edit) trees
+    → ((c : Crate) (t : SourceTreeValue) → tree_in new (place_of edit) c ≡ Some t → tree_by trees c ≡ Some t)
+    → ((p : SourcePlaceValue) (c : Crate) → is_place (place_of edit) p ≡ false → tree_in new p c ≡ tree_in old p c)
+    → AreCurrent (workspace_in crates (edited table edit)) new
+replaced_current crates table edit old new trees are fresh here others = record {
+  each = λ p c t is. on_bool (is_place (place_of edit) p)
+      (λ on.
+      let same : place_of edit ≡ p = place_same (place_of edit) p on in
+      fresh.each c t (here c t (ap (λ (q : SourcePlaceValue). tree_in new q c) same ∙ is))
+      ∙ ap (λ (q : SourcePlaceValue). tree_under crates c.0 q (source_by edit)) same
+      ∙ ap (λ (o : Option SourceValue). tree_under crates c.0 p o) (sym (source-there table edit p same)))
+      (λ off. are.each p c t (sym (others p c off) ∙ is) ∙ ap (λ (o : Option SourceValue). tree_under crates c.0 p o) (sym (source-other table edit p off)));
+}
+
+-- nothing is kept of it
+pub dropped_current : (crates : List CrateValue) (table : SourceTable) (edit : SourceEditValue) (old new : SourceTrees)
+    → AreCurrent (workspace_in crates table) old
+    → ((c : Crate) → tree_in new (place_of edit) c ≡ None)
+    → ((p : SourcePlaceValue) (c : Crate) → is_place (place_of edit) p ≡ false → tree_in new p c ≡ tree_in old p c)
+    → AreCurrent (workspace_in crates (edited table edit)) new
+dropped_current crates table edit old new are gone others = record {
+  each = λ p c t is. on_bool (is_place (place_of edit) p)
+      (λ on. none_some (tree_in new p c) t (ap (λ (q : SourcePlaceValue). tree_in new q c) (sym (place_same (place_of edit) p on)) ∙ gone c) is)
+      (λ off. are.each p c t (sym (others p c off) ∙ is) ∙ ap (λ (o : Option SourceValue). tree_under crates c.0 p o) (sym (source-other table edit p off)));
+}
+
+-- and all else is as it was
+pub dropped_same : (w : Workspace) (key : ExpansionValue) (old new : SourceTrees) → AreCurrent w old
+    → ((c : Crate) → tree_in new (expansion key) c ≡ None)
+    → ((p : SourcePlaceValue) (c : Crate) → is_place (expansion key) p ≡ false → tree_in new p c ≡ tree_in old p c) → AreCurrent w new
+dropped_same w key old new are gone others = record {
+  each = λ p c t is. on_bool (is_place (expansion key) p)
+      (λ on. none_some (tree_in new p c) t (ap (λ (q : SourcePlaceValue). tree_in new q c) (sym (place_same (expansion key) p on)) ∙ gone c) is)
+      (λ off. are.each p c t (sym (others p c off) ∙ is));
+}

@@ -1,0 +1,186 @@
+//! What was handed in, and what sources have under the crates that asked for them.
+ghost use Rattle.std.specs.Prelude.{◌≡◌, ◌<◌, [], length, Err, IfOk, OnOk, OnErr, Some, None, option_map};
+ghost use Rattle.hir_item_tree.specs.Source.{source_view};
+ghost use Rattle.hir_tables.specs.SourcePlaces.{expansion_value, file, source_value};
+ghost use Rattle.hir_tables.specs.Tables.{KeepsTables};
+ghost use Rattle.hir_wire.specs.Edits.{entry_view};
+ghost use Rattle.hir_def_map.specs.World.{finished_in};
+ghost use Rattle.hir_collector_rules.specs.Calls.{AreCallsPlaced};
+ghost use Rattle.hir_collector_rules.specs.Derivation.{IsOverlong, collected_view};
+ghost use Rattle.hir_session_state.specs.Crates.{beginning_in};
+ghost use Rattle.hir_session_state.specs.Entries.{with_entry, without_entry};
+ghost use Rattle.hir_session_state.specs.Files.{with_file, without_file};
+ghost use Rattle.hir_session_state.specs.Inputs.{workspace_by};
+ghost use Rattle.hir_session_state.specs.SessionState.{IsResolved};
+ghost use Rattle.hir_session_state.specs.SourceTable.{source_at, tree_under};
+ghost use Rattle.hir_session_sources.specs.SourceTrees.{AreTreesOf};
+
+use crate::sources::{Sources, collect};
+use hir_base::file_path::FilePath;
+use hir_base::ids::Crate;
+use hir_base::macro_kind::ExpansionKey;
+use hir_collector_rules::collected::Collected;
+use hir_def_map::world::World;
+use hir_item_tree::source::Source;
+use hir_item_tree::source_tree::SourceTree;
+use hir_session_sources::crates::Crates;
+use hir_session_sources::source_table::SourceTable;
+use hir_session_sources::source_trees::{CrateTrees, SourceTrees, source_tree};
+use hir_session_state::error::RefreshError;
+use hir_tables::{SourcePlace, Tables};
+use hir_wire::edit::ExpansionEntry;
+use std::alloc::{AllocError, Global};
+use std::marker::Model;
+use std::mem::replace;
+use std::rc::Rc;
+
+/// The crates and the sources, and what the sources have under the crates that asked for them.
+#[derive(Drop)]
+pub struct Inputs {
+    crates: Crates,
+    sources: SourceTable,
+    trees: SourceTrees,
+}
+
+impl Model for Inputs {
+    ghost use Rattle.hir_session_state.specs.SourceTable.{workspace_in};
+    ghost use Rattle.hir_session_state.specs.InputCodes.{coded_inputs};
+    ghost use Rattle.hir_session_state.specs.Inputs.{InputsValue};
+    ghost use Rattle.hir_session_sources.specs.SourceTrees.{AreCurrent};
+
+    ghost Value = { InputsValue };
+
+    ghost coded = { coded_inputs };
+
+    ghost view = { λ i. record { crates = i.crates; sources = i.sources } };
+
+    ghost invariant = { λ i. AreCurrent (workspace_in i.crates i.sources) i.trees };
+}
+
+impl Inputs {
+    /// These crates without sources.
+    pub fn new(alloc: Global, crates: Crates) -> Inputs
+        ensures value { result ≡ record { crates = crates; sources = record { files = []; entries = [] } } }
+    {
+        Inputs {
+            crates,
+            sources: SourceTable::new(alloc),
+            trees: SourceTrees::new(alloc),
+        }
+    }
+
+    pub fn crates(&self) -> &Crates
+        ensures value { result.now ≡ self.now.crates }
+    {
+        &self.crates
+    }
+
+    pub fn sources(&self) -> &SourceTable
+        ensures value { result.now ≡ self.now.sources }
+    {
+        &self.sources
+    }
+
+    /// What a source has under a crate: as it is kept, or made anew.
+    pub fn tree(
+        &self,
+        alloc: Global,
+        krate: Crate,
+        place: SourcePlace<'_>,
+    ) -> Result<Rc<SourceTree>, AllocError>
+        ensures value { IfOk result (λ t. t.value ≡ tree_under self.now.crates krate.0 (source_value place.entry) (source_at self.now.sources (source_value place.entry))) }
+    {
+        match self.trees.get(place, krate) {
+            Some(tree) => Ok(tree.clone()?),
+            None => source_tree(alloc, &self.crates, krate, place, self.sources.get(place)),
+        }
+    }
+
+    /// What a source has under a crate where its place gets this one, or none.
+    pub fn tree_with(
+        &self,
+        alloc: Global,
+        krate: Crate,
+        place: SourcePlace<'_>,
+        source: Option<&Source>,
+    ) -> Result<Rc<SourceTree>, AllocError>
+        ensures value { IfOk result (λ t. t.value ≡ tree_under self.now.crates krate.0 (source_value place.entry) (option_map (λ s. source_view s.now) source.entry)) }
+    {
+        source_tree(alloc, &self.crates, krate, place, source)
+    }
+
+    /// Sets a file, which then has these under crates.
+    pub fn set_file(
+        &mut self,
+        path: FilePath,
+        source: Source,
+        trees: CrateTrees,
+    ) -> Result<(), AllocError>
+        requires trees { AreTreesOf self.old.crates (file path) (Some (source_view source)) trees }
+        ensures ok { OnOk result (self.new ≡ record self.old { sources = record self.old.sources { files = with_file self.old.sources.files path (source_view source) } }) }
+        ensures err { OnErr result (self.new ≡ self.old) }
+    {
+        let at = path.clone()?;
+        self.sources.set_file(path, source)?;
+        self.trees.replace(&at, trees);
+        Ok(())
+    }
+
+    /// Removes a file; an absent one has these under crates.
+    pub fn remove_file(&mut self, path: &FilePath, trees: CrateTrees)
+        requires trees { AreTreesOf self.old.crates (file path.now) None trees }
+        ensures value { self.new ≡ record self.old { sources = record self.old.sources { files = without_file self.old.sources.files path.now } } }
+    {
+        self.sources.remove_file(path);
+        self.trees.replace(path, trees);
+    }
+
+    /// Sets an expansion. What it had under the crate that calls isn't kept.
+    pub fn set_expansion(
+        &mut self,
+        key: ExpansionKey,
+        entry: ExpansionEntry,
+    ) -> Result<(), AllocError>
+        ensures ok { OnOk result (self.new ≡ record self.old { sources = record self.old.sources { entries = with_entry self.old.sources.entries (expansion_value key) (entry_view entry) } }) }
+        ensures err { OnErr result (self.new ≡ self.old) }
+    {
+        self.trees.remove(&key);
+        self.sources.set_expansion(key, entry)
+    }
+
+    /// Removes an expansion. What it had under the crate that calls isn't kept.
+    pub fn remove_expansion(&mut self, key: &ExpansionKey)
+        ensures value { self.new ≡ record self.old { sources = record self.old.sources { entries = without_entry self.old.sources.entries (expansion_value key.now) } } }
+    {
+        self.trees.remove(key);
+        self.sources.remove_expansion(key);
+    }
+
+    /// Resolves a crate over the present sources, beside finished maps. What the sources have under the crate is kept.
+    pub fn resolve(
+        &mut self,
+        alloc: Global,
+        tables: &mut Tables,
+        world: &World,
+        k: u32,
+    ) -> Result<Collected, RefreshError>
+        requires within { k < length self.old.crates }
+        ensures same { self.new ≡ self.old }
+        ensures kept { KeepsTables tables.old tables.new }
+        ensures placed { AreCallsPlaced tables.old → AreCallsPlaced tables.new }
+        ensures resolved { IfOk result (λ found. IsResolved tables.new (workspace_by self.old) (finished_in world.now.maps)
+            (beginning_in self.old.crates k) (collected_view found)) }
+        ensures many { result ≡ Err RefreshError.TooMany
+            → IsOverlong tables.new (workspace_by self.old) (finished_in world.now.maps) (beginning_in self.old.crates k) }
+    {
+        let trees = replace(&mut self.trees, SourceTrees::new(alloc));
+        let mut sources = Sources {
+            crates: &self.crates,
+            table: &self.sources,
+            trees,
+        };
+        let found = collect(alloc, &mut sources, tables, world, k);
+        self.trees = sources.trees;
+        found
+    }
+}

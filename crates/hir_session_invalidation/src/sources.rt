@@ -1,0 +1,148 @@
+//! What a run of the import rules reads of a session.
+ghost use Rattle.std.specs.Prelude.{◌≡◌, ◌<◌, length, Err, IfOk};
+ghost use Rattle.hir_tables.specs.SourcePlaces.{source_value};
+ghost use Rattle.hir_tables.specs.Tables.{KeepsTables};
+ghost use Rattle.hir_def_map.specs.World.{finished_in};
+ghost use Rattle.hir_collector_rules.specs.Calls.{AreCallsPlaced};
+ghost use Rattle.hir_collector_rules.specs.Derivation.{IsOverlong, collected_view};
+ghost use Rattle.hir_session_state.specs.Crates.{begins_at, beginning_in};
+ghost use Rattle.hir_session_state.specs.SessionState.{IsResolved};
+ghost use Rattle.hir_session_state.specs.SourceTable.{source_at, tree_under, workspace_in};
+ghost use Rattle.hir_session_sources.specs.SourceTrees.{AreCurrent, current_prop};
+
+use hir_base::ast_id::{EditionedFileId, HirFileId};
+use hir_base::ids::Crate;
+use hir_base::macro_kind::ExpansionKey;
+use hir_collector_rules::collected::Collected;
+use hir_collector_rules::source_database::{Config, CrateRoot, ExpansionLook, SourceDatabase};
+use hir_collector_rules::start::Start;
+use hir_crate_graph::CrateSet;
+use hir_def_collector::collector::collect_defs;
+use hir_def_map::world::World;
+use hir_item_tree::source_tree::SourceTree;
+use hir_item_tree::tree_id::TreeId;
+use hir_session_sources::crates::Crates;
+use hir_session_sources::seen_entry::look_at;
+use hir_session_sources::source_table::SourceTable;
+use hir_session_sources::source_trees::{SourceTrees, source_tree};
+use hir_session_state::error::RefreshError;
+use hir_tables::{SourcePlace, Tables};
+use std::alloc::{AllocError, Global};
+use std::rc::Rc;
+
+/// The crates and sources of a session, with what the sources have under crates, to which a run adds.
+#[derive(Drop)]
+pub struct Sources<'a> {
+    pub crates: &'a Crates,
+    pub table: &'a SourceTable,
+    pub trees: SourceTrees,
+    ghost current: { AreCurrent (workspace_in crates.now table.now) trees } by { current_prop _ _ },
+}
+
+impl<'a> Sources<'a> {
+    /// What a source has under a crate: as it is kept, or made and kept.
+    fn tree_at(
+        &mut self,
+        alloc: Global,
+        krate: Crate,
+        place: SourcePlace<'_>,
+    ) -> Result<Rc<SourceTree>, AllocError>
+        ensures value { IfOk result (λ t. t.value ≡ tree_under self.old.crates.now krate.0 (source_value place.entry) (source_at self.old.table.now (source_value place.entry))) }
+        ensures same { workspace_in self.new.crates.now self.new.table.now ≡ workspace_in self.old.crates.now self.old.table.now }
+    {
+        if let Some(tree) = self.trees.get(place, krate) {
+            return Ok(tree.clone()?);
+        }
+        let tree = source_tree(alloc, self.crates, krate, place, self.table.get(place))?;
+        self.trees.set(alloc, place, krate, tree.clone()?)?;
+        Ok(tree)
+    }
+}
+
+impl<'a> SourceDatabase for Sources<'a> {
+    ghost use Rattle.hir_session_state.specs.SourceTable.{workspace_in};
+
+    ghost workspace = { λ s. workspace_in s.crates.now s.table.now };
+
+    fn krate(&self, krate: Crate) -> Option<&CrateRoot> {
+        match self.crates.get(krate) {
+            Some(info) => Some(info.own()),
+            None => None,
+        }
+    }
+
+    fn config(&self, krate: Crate) -> Option<&Config> {
+        match self.crates.get(krate) {
+            Some(info) => Some(info.config()),
+            None => None,
+        }
+    }
+
+    fn transitive_dependencies(&self, krate: Crate) -> Option<&Rc<CrateSet>> {
+        self.crates.transitive_dependencies(krate)
+    }
+
+    fn tree(
+        &mut self,
+        alloc: Global,
+        krate: Crate,
+        source: SourcePlace<'_>,
+    ) -> Result<Rc<SourceTree>, AllocError> {
+        self.tree_at(alloc, krate, source)
+    }
+
+    fn present(&self, _krate: Crate, source: SourcePlace<'_>) -> bool {
+        self.table.get(source).is_some()
+    }
+
+    fn expansion(&self, key: &ExpansionKey) -> ExpansionLook<'_> {
+        look_at(self.table.entry(key))
+    }
+}
+
+/// Runs the import rules for a crate from its root file.
+fn run(
+    alloc: Global,
+    sources: &mut Sources<'_>,
+    tables: &mut Tables,
+    world: &World,
+    krate: Crate,
+    root: EditionedFileId,
+) -> Result<Collected, RefreshError>
+    ensures same { workspace_in sources.new.crates.now sources.new.table.now ≡ workspace_in sources.old.crates.now sources.old.table.now }
+    ensures kept { KeepsTables tables.old tables.new }
+    ensures placed { AreCallsPlaced tables.old → AreCallsPlaced tables.new }
+    ensures resolved { IfOk result (λ found. IsResolved tables.new (workspace_in sources.old.crates.now sources.old.table.now)
+        (finished_in world.now.maps) (begins_at krate root) (collected_view found)) }
+    ensures many { result ≡ Err RefreshError.TooMany
+        → IsOverlong tables.new (workspace_in sources.old.crates.now sources.old.table.now) (finished_in world.now.maps) (begins_at krate root) }
+{
+    let start = Start::Crate { krate, root };
+    let tree = TreeId {
+        file: HirFileId::File(root),
+        block: None,
+    };
+    let found = collect_defs(alloc, sources, world, tables, start, tree, None)?;
+    Ok(found)
+}
+
+/// Runs the import rules for the crate of a number, beside finished maps.
+pub fn collect(
+    alloc: Global,
+    sources: &mut Sources<'_>,
+    tables: &mut Tables,
+    world: &World,
+    k: u32,
+) -> Result<Collected, RefreshError>
+    requires within { k < length sources.old.crates.now }
+    ensures same { workspace_in sources.new.crates.now sources.new.table.now ≡ workspace_in sources.old.crates.now sources.old.table.now }
+    ensures kept { KeepsTables tables.old tables.new }
+    ensures placed { AreCallsPlaced tables.old → AreCallsPlaced tables.new }
+    ensures resolved { IfOk result (λ found. IsResolved tables.new (workspace_in sources.old.crates.now sources.old.table.now)
+        (finished_in world.now.maps) (beginning_in sources.old.crates.now k) (collected_view found)) }
+    ensures many { result ≡ Err RefreshError.TooMany
+        → IsOverlong tables.new (workspace_in sources.old.crates.now sources.old.table.now) (finished_in world.now.maps) (beginning_in sources.old.crates.now k) }
+{
+    let root = sources.crates.as_slice()[k as usize].root();
+    run(alloc, sources, tables, world, Crate(k), root)
+}

@@ -1,0 +1,319 @@
+-- What holds of all replies.
+use Rattle.std.proofs.Common.{◌≡◌, ◌⊎◌, inl, inr, ℕ, zero, suc, ◌<◌, arith, ap, slice_get, Bool, true, false, nat_le, nat_lt, List, [], ◌∷◌, length, Option, Some, None, Result, Ok, Err, refl, sym, subst, ◌∙◌}
+use Rattle.hir_base.specs.ModPath.{Path}
+use Rattle.hir_base.specs.Place.{PlaceValue}
+use Rattle.hir_base.specs.declared.ids.Crate.{Crate}
+use Rattle.hir_base.specs.declared.ids.MapId.{MapId}
+use Rattle.hir_collector_rules.specs.declared.source_database.Key.{Key}
+use Rattle.hir_wire.specs.CommandValue.{CommandValue, diagnostics, resolve}
+use Rattle.hir_wire.specs.Commands.{reading_of}
+use Rattle.hir_wire.specs.declared.answer.Answer.{Answer}
+use Rattle.hir_wire.specs.declared.command.Shadow.{Shadow}
+use Rattle.hir_wire.specs.declared.command.MacroStyle.{MacroStyle}
+use Rattle.hir_wire.specs.declared.diagnostic.Diagnostic.{Diagnostic}
+use Rattle.hir_wire.specs.declared.reply.Reply.{Reply}
+use Rattle.hir_wire.specs.declared.reply.Reply.TheVariants as reply
+use Rattle.hir_session_state.specs.declared.error.QueryError.{QueryError}
+use Rattle.hir_session_state.specs.declared.error.QueryError.TheVariants as query_error
+use Rattle.hir_lines.specs.declared.open_line.TheConstants.{LINE_LIMIT}
+use Rattle.hir_session_state.specs.SessionState.{SessionState, is_marked, IsSound}
+use Rattle.hir_session_answers.specs.Status.{map_of}
+use Rattle.hir_session_answers.specs.Answers.{answer_of}
+use Rattle.hir_def_collector_laws.specs.Sources.{RunsBindFromSources}
+use Rattle.hir_def_map_rules.specs.Closed.{PathsLeadToWhatIsThere}
+use Rattle.hir_def_map_rules.specs.Sources.{PathsAnswerFromSources}
+use Rattle.hir_session_state.specs.Due.{IsAskedBehind}
+use Rattle.hir_session_machine.specs.Machine.{MachineState, first_state, query_reply, Moves, AnswersCommand, AnswersLine}
+use Rattle.hir_session_machine.specs.Machine.Moves.{applies, refuses, refreshes, refreshes_partly, resolves, tells, shows, shows_none, lists}
+use Rattle.hir_session_machine.specs.Machine.AnswersCommand.{finds_no_memory, begins, refuses_session, comes_too_soon, comes_too_late, calls}
+use Rattle.hir_session_machine.specs.Machine.AnswersLine.{finds_no_memory_for_line, reads_no_command, carries_out}
+use Rattle.hir_session_machine.specs.AnsweredLines.{AnswersWithin, AnswersInput, AnswersLines}
+use Rattle.hir_session_machine.specs.Headline.{Query, Asks, AsksDiagnostics, Alters, IsAlteredBetween, Stands, AreAllTold, RepliesHoldTheHeadline, state_at}
+use Rattle.hir_session_state.proofs.Truth.{on_bool}
+use Rattle.hir_session_answers.proofs.Differ.{IsSame, same_after_edit, same_after_refresh, same_at_first, same_answer}
+use Rattle.hir_session_machine.proofs.Histories.{after_input, begun_input, history_sound, one_value}
+use Rattle.hir_session_answers.proofs.Stand.{stands}
+use Rattle.hir_session_machine.proofs.Telling.{told_within}
+use Rattle.hir_session_answers.proofs.Told.{tell}
+use Rattle.hir_session_answers.specs.Histories.History.{none as nothing_yet}
+
+-- ---- what a reply with an answer says
+
+-- the query was answered so, and nothing changed
+record IsAnswered (old : MachineState) (place : PlaceValue) (path : Path) (shadow : Shadow) (style : Option MacroStyle) (a : Answer) (new : MachineState) : Type 0 where
+  at : SessionState
+  before : old ≡ Some at
+  after : new ≡ Some at
+  is : answer_of at place path shadow style ≡ Ok a
+
+answered_ok : (r : Result Answer QueryError) (a : Answer) → reply.Answer a ≡ query_reply r → r ≡ Ok a
+answered_ok (Ok b) a told = let same : b ≡ a = cc told in cc
+answered_ok (Err query_error.StalePlace) a told = absurd (let wrong : ⊥ = cc told in wrong)
+answered_ok (Err query_error.UnknownPlace) a told = absurd (let wrong : ⊥ = cc told in wrong)
+answered_ok (Err query_error.Memory) a told = absurd (let wrong : ⊥ = cc told in wrong)
+
+-- which call answered it
+answered_by_call : {s t : SessionState} {c : CommandValue} {a : Answer} {place : PlaceValue} {path : Path} {shadow : Shadow} {style : Option MacroStyle}
+    → c ≡ resolve place path shadow style → Moves s c (reply.Answer a) t → (t ≡ s) × (answer_of s place path shadow style ≡ Ok a)
+answered_by_call asks (applies e is_edit accepted is told) = absurd (let wrong : ⊥ = cc in wrong)
+answered_by_call asks (refuses e why is_edit refused same told) = absurd (let wrong : ⊥ = cc in wrong)
+answered_by_call asks (refreshes done is_refresh is told) = absurd (let wrong : ⊥ = cc in wrong)
+answered_by_call asks (refreshes_partly why is_refresh is many told) = absurd (let wrong : ⊥ = cc in wrong)
+answered_by_call {s} {a = a} {place = place} {path = path} {shadow = shadow} {style = style} asks (resolves at query how sub is_resolve same told) =
+    let is_place : at ≡ place = cc in
+    let is_path : query ≡ path = cc in
+    let is_shadow : how ≡ shadow = cc in
+    let is_style : sub ≡ style = cc in
+    (same, answered_ok (answer_of s place path shadow style) a (rw (is_place, is_path, is_shadow, is_style) at told))
+answered_by_call asks (tells at is_status same told) = absurd (let wrong : ⊥ = cc in wrong)
+answered_by_call asks (shows krate page text is_tree same found told) = absurd (let wrong : ⊥ = cc in wrong)
+answered_by_call asks (shows_none krate page why is_tree same refused told) = absurd (let wrong : ⊥ = cc in wrong)
+answered_by_call asks (lists krate is_list same told) = absurd (let wrong : ⊥ = cc in wrong)
+
+answered_by_command : {old new : MachineState} {c : CommandValue} {a : Answer} {place : PlaceValue} {path : Path} {shadow : Shadow} {style : Option MacroStyle}
+    → c ≡ resolve place path shadow style → AnswersCommand old c (reply.Answer a) new → IsAnswered old place path shadow style a new
+answered_by_command asks (finds_no_memory told same) = absurd (let wrong : ⊥ = cc in wrong)
+answered_by_command asks (begins inputs s is_crates before accepted made told same) = absurd (let wrong : ⊥ = cc in wrong)
+answered_by_command asks (refuses_session inputs why is_crates before refused told same) = absurd (let wrong : ⊥ = cc in wrong)
+answered_by_command asks (comes_too_soon other before told same) = absurd (let wrong : ⊥ = cc in wrong)
+answered_by_command asks (comes_too_late s makes before told same) = absurd (let wrong : ⊥ = cc in wrong)
+answered_by_command asks (calls s t before moves same) =
+    let call = answered_by_call asks moves in
+    record { at = s; before = before; after = let there : (Some t) ≡ (Some s) = cc call.0 in same ∙ there; is = call.1 }
+
+-- a line that asks a query, and that is answered by an answer
+answered_by_line : {old new : MachineState} {line : List ℕ} {a : Answer} {place : PlaceValue} {path : Path} {shadow : Shadow} {style : Option MacroStyle}
+    → reading_of line ≡ Ok (resolve place path shadow style) → AnswersLine old line (reply.Answer a) new → IsAnswered old place path shadow style a new
+answered_by_line asks (finds_no_memory_for_line told same) = absurd (let wrong : ⊥ = cc in wrong)
+answered_by_line asks (reads_no_command why read told same) = absurd (let wrong : ⊥ = cc in wrong)
+answered_by_line asks (carries_out c read done) = answered_by_command (cc) done
+
+answered_within : {old new : MachineState} {a : Answer} {place : PlaceValue} {path : Path} {shadow : Shadow} {style : Option MacroStyle} (fits : Bool) (line : List ℕ)
+    → reading_of line ≡ Ok (resolve place path shadow style) → AnswersWithin fits old line (reply.Answer a) new → IsAnswered old place path shadow style a new
+answered_within true line asks (inl done) = answered_by_line asks done
+answered_within true line asks (inr lost) = let told = lost.0 in absurd (let wrong : ⊥ = cc in wrong)
+answered_within false line asks skipped = let told = skipped.0 in absurd (let wrong : ⊥ = cc in wrong)
+
+-- where there is an answer, the crate isn't marked
+unmarked_where_answered : (s : SessionState) (place : PlaceValue) (path : Path) (shadow : Shadow) (style : Option MacroStyle) (a : Answer)
+    → answer_of s place path shadow style ≡ Ok a → is_marked s (map_of place) ≡ false
+unmarked_where_answered s place path shadow style a is = on_bool (is_marked s (map_of place))
+    (λ stale. on_bool (nat_lt place.krate.0 (length s.crates))
+    (λ within. absurd (let wrong : ⊥ = cc (rw (within, stale) at is) in wrong))
+    (λ past. absurd (let wrong : ⊥ = cc (rw past at is) in wrong)))
+    (λ off. off)
+
+-- ---- what lies between two replies
+
+-- a session is there again, and what is behind the crate is as it was, or the line altered a key that was asked for
+abbrev KeepsOrAlters : SessionState → MapId → MachineState → List ℕ → MachineState → Type 0
+KeepsOrAlters from k old line new = (to : SessionState) × (new ≡ Some to)
+    × (IsSame from to k ⊎ ((key : Key) × IsAskedBehind from k key × Alters old line new key))
+
+kept_by_call : {from s t : SessionState} {k : MapId} {line : List ℕ} {c : CommandValue} {answer : Reply} → reading_of line ≡ Ok c → IsSame from s k
+    → Moves s c answer t → IsSame from t k ⊎ ((key : Key) × IsAskedBehind from k key × Alters (Some s) line (Some t) key)
+kept_by_call {s = s} {t} {line = line} read same (applies e is_edit accepted is told) = elim (same_after_edit e same is) [
+  | inl still ↦ inl still
+  | inr hit ↦ inr (hit.0, hit.1, record { from = s; to = t; is_from = refl; is_to = refl; made = e; read = cc; applied = is; altered = hit.2 })
+]
+kept_by_call {from} {k = k} read same (refuses e why is_edit refused still told) = inl (subst (λ (x : SessionState). IsSame from x k) (sym still) same)
+kept_by_call read same (refreshes done is_refresh is told) = inl (same_after_refresh same is.resolves)
+kept_by_call read same (refreshes_partly why is_refresh is many told) = inl (same_after_refresh same is.resolves)
+kept_by_call {from} {k = k} read same (resolves at path shadow style is_resolve still told) = inl (subst (λ (x : SessionState). IsSame from x k) (sym still) same)
+kept_by_call {from} {k = k} read same (tells at is_status still told) = inl (subst (λ (x : SessionState). IsSame from x k) (sym still) same)
+kept_by_call {from} {k = k} read same (shows krate path text is_tree still found told) = inl (subst (λ (x : SessionState). IsSame from x k) (sym still) same)
+kept_by_call {from} {k = k} read same (shows_none krate path why is_tree still refused told) = inl (subst (λ (x : SessionState). IsSame from x k) (sym still) same)
+kept_by_call {from} {k = k} read same (lists krate is_list still told) = inl (subst (λ (x : SessionState). IsSame from x k) (sym still) same)
+
+-- nothing changed
+kept_so : {from s : SessionState} {k : MapId} {old new : MachineState} {line : List ℕ} → old ≡ Some s → IsSame from s k → new ≡ old → KeepsOrAlters from k old line new
+kept_so {s = s} is same still = (s, still ∙ is, inl same)
+
+kept_by_command : {from s : SessionState} {k : MapId} {old new : MachineState} {line : List ℕ} {c : CommandValue} {answer : Reply} → old ≡ Some s → IsSame from s k
+    → reading_of line ≡ Ok c → AnswersCommand old c answer new → KeepsOrAlters from k old line new
+kept_by_command is same read (finds_no_memory told still) = kept_so is same still
+kept_by_command is same read (begins inputs t is_crates before accepted made told still) = absurd (let wrong : ⊥ = cc in wrong)
+kept_by_command is same read (refuses_session inputs why is_crates before refused told still) = absurd (let wrong : ⊥ = cc in wrong)
+kept_by_command is same read (comes_too_soon other before told still) = absurd (let wrong : ⊥ = cc in wrong)
+kept_by_command is same read (comes_too_late t makes before told still) = kept_so is same (still ∙ sym before)
+kept_by_command {from} {s = s} {k} {old} {new} {line} {c} {answer} is same read (calls u t before moves still) =
+    let one : u ≡ s = one_value (sym before ∙ is) in
+    let moved : Moves s c answer t = subst (λ (x : SessionState). Moves x c answer t) one moves in (
+      t,
+      still,
+      elim (kept_by_call read same moved) [
+        | inl kept ↦ inl kept
+        | inr hit ↦ inr (
+          hit.0,
+          hit.1,
+          subst (λ (m : MachineState). Alters m line new hit.0) (sym is)
+              (subst (λ (m : MachineState). Alters (Some s) line m hit.0) (sym still) hit.2),
+        )
+      ],
+    )
+
+kept_by_line : {from s : SessionState} {k : MapId} {old new : MachineState} {line : List ℕ} {answer : Reply} → old ≡ Some s → IsSame from s k
+    → AnswersLine old line answer new → KeepsOrAlters from k old line new
+kept_by_line is same (finds_no_memory_for_line told still) = kept_so is same still
+kept_by_line is same (reads_no_command why read told still) = kept_so is same still
+kept_by_line is same (carries_out c read done) = kept_by_command is same read done
+
+kept_within : {from s : SessionState} {k : MapId} {old new : MachineState} {line : List ℕ} (fits : Bool) (answer : Reply) → old ≡ Some s → IsSame from s k
+    → AnswersWithin fits old line answer new → KeepsOrAlters from k old line new
+kept_within true answer is same (inl done) = kept_by_line is same done
+kept_within true answer is same (inr lost) = kept_so is same lost.1
+kept_within false answer is same skipped = kept_so is same skipped.1
+
+-- a session that is there is sound
+abbrev IsGood : MachineState → Type 0
+IsGood m = (s : SessionState) → m ≡ Some s → IsSound s
+
+good_first : IsGood first_state
+good_first s is = absurd (let wrong : ⊥ = cc in wrong)
+
+good_next : {old new : MachineState} (line : List ℕ) (answer : Reply) → IsGood old → AnswersInput old line answer new → IsGood new
+good_next {old} {new} line answer good done = go old refl
+  where
+    go : (m : MachineState) → old ≡ m → IsGood new
+    go None is = λ s there. elim (begun_input line answer (subst (λ (m : MachineState). AnswersInput m line answer new) is done)) [
+      | inl none ↦ absurd (let wrong : None ≡ Some s = sym none ∙ there in let both : ⊥ = cc in both)
+      | inr begun ↦ subst IsSound (one_value (sym begun.is ∙ there)) begun.sound
+    ]
+    go (Some t) is = λ s there.
+        let next = after_input line answer nothing_yet (subst (λ (m : MachineState). AnswersInput m line answer new) is done) in
+        subst IsSound (one_value (sym next.1 ∙ there)) (history_sound (good t is) next.2)
+
+-- ---- positions
+
+-- what stands first in a list
+first_of : {A : Type 0} {x y : A} → Some x ≡ Some y → x ≡ y
+first_of e = cc
+
+module _ (runs : RunsBindFromSources) (paths : PathsAnswerFromSources) (leads : PathsLeadToWhatIsThere) where
+  stands_at : (n : ℕ) (q : Query) (a : Answer) (old : MachineState) (lines : List (List ℕ)) (answers : List Reply) (new : MachineState) (done : AnswersLines old lines answers new)
+      → IsGood old → Asks lines n q → slice_get answers n ≡ Some (reply.Answer a) → Stands old lines answers new done n q a
+  stands_at n q a old [] [] new done good asks told = absurd (let wrong = told in cc)
+  stands_at n q a old [] (answer ∷ answers) new done good asks told = absurd done
+  stands_at n q a old (line ∷ lines) [] new done good asks told = absurd done
+  stands_at zero q a old (line ∷ lines) (answer ∷ answers) new done good asks told =
+      let read : reading_of line ≡ Ok (resolve q.place q.path q.shadow q.style) = ap reading_of (first_of asks.is) ∙ asks.read in
+      let here = answered_within (nat_le (length line) LINE_LIMIT) line read (subst (λ (r : Reply). AnswersInput old line r done.0) (first_of told) done.1) in
+      record { session = here.at; is = here.before; stands = stands runs paths leads here.at q.place q.path q.shadow q.style a (good here.at here.before) here.is }
+  stands_at (suc n) q a old (line ∷ lines) (answer ∷ answers) new done good asks told =
+      let rest = stands_at n q a done.0 lines answers new done.2 (good_next line answer good done.1) (record { line = asks.line; is = asks.is; read = asks.read }) told in
+      record { session = rest.session; is = rest.is; stands = rest.stands }
+
+  told_at : (n : ℕ) (krate : Crate) (list : List Diagnostic) (old : MachineState) (lines : List (List ℕ)) (answers : List Reply) (new : MachineState) (done : AnswersLines old lines answers new)
+      → IsGood old → AsksDiagnostics lines n krate → slice_get answers n ≡ Some (reply.Diagnostics list) → AreAllTold old lines answers new done n krate list
+  told_at n krate list old [] [] new done good asks told = absurd (let wrong = told in cc)
+  told_at n krate list old [] (answer ∷ answers) new done good asks told = absurd done
+  told_at n krate list old (line ∷ lines) [] new done good asks told = absurd done
+  told_at zero krate list old (line ∷ lines) (answer ∷ answers) new done good asks told =
+      let read : reading_of line ≡ Ok (diagnostics krate) = ap reading_of (first_of asks.is) ∙ asks.read in
+      let here = told_within done.0 (nat_le (length line) LINE_LIMIT) line read (subst (λ (r : Reply). AnswersInput old line r done.0) (first_of told) done.1) in
+      record { session = here.at; is = here.before; stands = tell runs here.at krate list (good here.at here.before) here.is }
+  told_at (suc n) krate list old (line ∷ lines) (answer ∷ answers) new done good asks told =
+      let rest = told_at n krate list done.0 lines answers new done.2 (good_next line answer good done.1) (record { line = asks.line; is = asks.is; read = asks.read }) told in
+      record { session = rest.session; is = rest.is; stands = rest.stands }
+
+-- where what is behind a place was as it is in a session, it is so up to a number, or a line before altered a key that was asked for
+record IsKeptUpTo (from : SessionState) (id : MapId) (old : MachineState) (lines : List (List ℕ)) (answers : List Reply) (new : MachineState) (done : AnswersLines old lines answers new) (n : ℕ) : Type 0 where
+  session : SessionState
+  is : state_at n old lines answers new done ≡ Some session
+  same : IsSame from session id
+
+record IsAlteredBefore (from : SessionState) (id : MapId) (old : MachineState) (lines : List (List ℕ)) (answers : List Reply) (new : MachineState) (done : AnswersLines old lines answers new) (n : ℕ) : Type 0 where
+  key : Key
+  asked : IsAskedBehind from id key
+  at : ℕ
+  before : at < n
+  line : List ℕ
+  is : slice_get lines at ≡ Some line
+  alters : Alters (state_at at old lines answers new done) line (state_at (suc at) old lines answers new done) key
+
+kept_up_to : (from : SessionState) (id : MapId) (n : ℕ) (old : MachineState) (lines : List (List ℕ)) (answers : List Reply) (new : MachineState) (done : AnswersLines old lines answers new)
+    (s : SessionState) → old ≡ Some s → IsSame from s id → n < length lines
+    → IsKeptUpTo from id old lines answers new done n ⊎ IsAlteredBefore from id old lines answers new done n
+kept_up_to from id n old [] [] new done s is same within = absurd (omega arith)
+kept_up_to from id n old [] (answer ∷ answers) new done s is same within = absurd done
+kept_up_to from id n old (line ∷ lines) [] new done s is same within = absurd done
+kept_up_to from id zero old (line ∷ lines) (answer ∷ answers) new done s is same within = inl (record { session = s; is = is; same = same })
+kept_up_to from id (suc n) old (line ∷ lines) (answer ∷ answers) new done s is same within =
+    let next = kept_within (nat_le (length line) LINE_LIMIT) answer is same done.1 in
+    elim next.2 [
+      | inl still ↦ elim (kept_up_to from id n done.0 lines answers new done.2 next.0 next.1 still (omega arith)) [
+        | inl kept ↦ inl (record { session = kept.session; is = kept.is; same = kept.same })
+        | inr hit ↦ inr (record { key = hit.key; asked = hit.asked; at = suc hit.at; before = (let low : hit.at < n = hit.before in omega arith); line = hit.line; is = hit.is; alters = hit.alters })
+      ]
+      | inr hit ↦ inr (record { key = hit.0; asked = hit.1; at = 0; before = omega arith; line = line; is = refl; alters = hit.2 })
+    ]
+
+within_list : {A : Type 0} {x : A} (xs : List A) (n : ℕ) → slice_get xs n ≡ Some x → n < length xs
+within_list {x = x} [] n is = absurd (let wrong : ⊥ = cc is in wrong)
+within_list (y ∷ xs) zero is = omega arith
+within_list (y ∷ xs) (suc n) is = let low : n < length xs = within_list xs n is in omega arith
+
+-- the answer of a number, from the session in which it was given
+answered_at : (n : ℕ) (q : Query) (a : Answer) (old : MachineState) (lines : List (List ℕ)) (answers : List Reply) (new : MachineState) (done : AnswersLines old lines answers new)
+    → Asks lines n q → slice_get answers n ≡ Some (reply.Answer a) → (s : SessionState) × (state_at n old lines answers new done ≡ Some s) × (answer_of s q.place q.path q.shadow q.style ≡ Ok a)
+answered_at n q a old [] [] new done asks told = absurd (let wrong = told in cc)
+answered_at n q a old [] (answer ∷ answers) new done asks told = absurd done
+answered_at n q a old (line ∷ lines) [] new done asks told = absurd done
+answered_at zero q a old (line ∷ lines) (answer ∷ answers) new done asks told =
+    let read : reading_of line ≡ Ok (resolve q.place q.path q.shadow q.style) = ap reading_of (first_of asks.is) ∙ asks.read in
+    let here = answered_within (nat_le (length line) LINE_LIMIT) line read (subst (λ (r : Reply). AnswersInput old line r done.0) (first_of told) done.1) in
+    (here.at, here.before, here.is)
+answered_at (suc n) q a old (line ∷ lines) (answer ∷ answers) new done asks told =
+    answered_at n q a done.0 lines answers new done.2 (record { line = asks.line; is = asks.is; read = asks.read }) told
+
+differ_at : RunsBindFromSources → PathsAnswerFromSources → PathsLeadToWhatIsThere → (m n : ℕ) (q : Query) (one other : Answer) (old : MachineState) (lines : List (List ℕ)) (answers : List Reply) (new : MachineState) (done : AnswersLines old lines answers new)
+    → IsGood old → m < n → Asks lines m q → Asks lines n q → slice_get answers m ≡ Some (reply.Answer one) → slice_get answers n ≡ Some (reply.Answer other)
+    → (other ≡ one) ⊎ IsAlteredBetween old lines answers new done m n q.place
+differ_at runs paths leads m n q one other old [] [] new done good low first second told again = absurd (let wrong = told in cc)
+differ_at runs paths leads m n q one other old [] (answer ∷ answers) new done good low first second told again = absurd done
+differ_at runs paths leads m n q one other old (line ∷ lines) [] new done good low first second told again = absurd done
+differ_at runs paths leads m zero q one other old (line ∷ lines) (answer ∷ answers) new done good low first second told again = absurd (omega arith)
+differ_at runs paths leads (suc m) (suc n) q one other old (line ∷ lines) (answer ∷ answers) new done good low first second told again =
+    elim (differ_at runs paths leads m n q one other done.0 lines answers new done.2 (good_next line answer good done.1) (omega arith)
+    (record { line = first.line; is = first.is; read = first.read }) (record { line = second.line; is = second.is; read = second.read }) told again) [
+      | inl same ↦ inl same
+      | inr hit ↦ inr (record {
+        key = hit.key;
+        asked = hit.asked;
+        at = suc hit.at;
+        after = (let low : m < hit.at = hit.after in omega arith);
+        before = (let high : hit.at < n = hit.before in omega arith);
+        line = hit.line;
+        is = hit.is;
+        alters = hit.alters;
+      })
+    ]
+differ_at runs paths leads zero (suc n) q one other old (line ∷ lines) (answer ∷ answers) new done good low first second told again =
+    let read : reading_of line ≡ Ok (resolve q.place q.path q.shadow q.style) = ap reading_of (first_of first.is) ∙ first.read in
+    let was = answered_within (nat_le (length line) LINE_LIMIT) line read (subst (λ (r : Reply). AnswersInput old line r done.0) (first_of told) done.1) in
+    let sound = good was.at was.before in
+    let off = unmarked_where_answered was.at q.place q.path q.shadow q.style one was.is in
+    let now = answered_at n q other done.0 lines answers new done.2 (record { line = second.line; is = second.is; read = second.read }) again in
+    elim (kept_up_to was.at (map_of q.place) n done.0 lines answers new done.2 was.at was.after (same_at_first sound off) (within_list lines n second.is)) [
+      | inl kept ↦
+          let there : kept.session ≡ now.0 = one_value (sym kept.is ∙ now.1) in
+          let alike = same_answer q.place q.path q.shadow q.style sound (subst (λ (x : SessionState). IsSame was.at x (map_of q.place)) there kept.same) runs paths leads off in
+          inl (let given : (Ok other) ≡ (Ok one) = sym now.2 ∙ alike ∙ was.is in cc)
+      | inr hit ↦ inr (record {
+        key = hit.key;
+        asked = (was.at, was.before, hit.asked);
+        at = suc hit.at;
+        after = omega arith;
+        before = (let high : hit.at < n = hit.before in omega arith);
+        line = hit.line;
+        is = hit.is;
+        alters = hit.alters;
+      })
+    ]
+
+pub headline : RunsBindFromSources → PathsAnswerFromSources → PathsLeadToWhatIsThere → RepliesHoldTheHeadline
+headline runs paths leads lines answers last done = record {
+  stands = λ n query answer asks told. stands_at runs paths leads n query answer first_state lines answers last done good_first asks told;
+  tells = λ n krate told asks is. told_at runs paths leads n krate told first_state lines answers last done good_first asks is;
+  differ = λ m n query one other low first second told again. differ_at runs paths leads m n query one other first_state lines answers last done good_first low first second told again;
+}

@@ -1,0 +1,31 @@
+-- Each command is its call; a second session is none.
+use Rattle.std.proofs.Common.{ap, refl}
+use Rattle.hir_wire.specs.declared.reply.Status.{Status}
+use Rattle.hir_wire.specs.declared.reply.Reply.TheVariants as reply
+use Rattle.hir_session_machine.specs.Machine.Moves.{tells}
+use Rattle.hir_session_machine.specs.Machine.AnswersCommand.{calls, comes_too_late}
+use Rattle.hir_session_machine.proofs.server_state.called.Goals as goal
+
+pub returns-in-Crates-clause-step : goal.returns-in-Crates-clause-step
+returns-in-Crates-clause-step c = rw c.in-Crates.is (comes_too_late _ refl refl refl refl)
+
+pub returns-in-Edit-clause-step : goal.returns-in-Edit-clause-step
+returns-in-Edit-clause-step c = rw c.in-Edit.is c.edited.ensures.step
+
+pub returns-in-Refresh-clause-step : goal.returns-in-Refresh-clause-step
+returns-in-Refresh-clause-step c = rw c.in-Refresh.is c.refreshed.ensures.step
+
+pub returns-in-Refresh-clause-or_memory : goal.returns-in-Refresh-clause-or_memory
+returns-in-Refresh-clause-or_memory c = rw c.in-Refresh.is c.refreshed.ensures.or_memory
+
+pub returns-in-Resolve-clause-step : goal.returns-in-Resolve-clause-step
+returns-in-Resolve-clause-step c = rw c.in-Resolve.is c.answered.ensures.step
+
+pub returns-in-Tree-clause-step : goal.returns-in-Tree-clause-step
+returns-in-Tree-clause-step c = rw c.in-Tree.is c.shown.ensures.step
+
+pub returns-in-Diagnostics-clause-step : goal.returns-in-Diagnostics-clause-step
+returns-in-Diagnostics-clause-step c = rw c.in-Diagnostics.is c.listed.ensures.step
+
+pub returns-clause-step : goal.returns-clause-step
+returns-clause-step c = rw c.in-Status.is (calls _ _ refl (tells _ refl refl (ap (λ (s : Status). reply.Status s) c.status.ensures.value)) refl)

@@ -1,0 +1,111 @@
+-- What holds of all replies?
+use Rattle.std.specs.Prelude.{◌≡◌, ◌⊎◌, ℕ, zero, suc, ◌<◌, List, [], ◌∷◌, Option, Some, Ok, slice_get}
+use Rattle.hir_base.specs.ModPath.{Path}
+use Rattle.hir_base.specs.Place.{PlaceValue}
+use Rattle.hir_base.specs.declared.ids.Crate.{Crate}
+use Rattle.hir_base.specs.declared.ids.MapId.{MapId}
+use Rattle.hir_collector_rules.specs.declared.source_database.Key.{Key}
+use Rattle.hir_wire.specs.CommandValue.{diagnostics, edit, resolve}
+use Rattle.hir_wire.specs.Commands.{reading_of}
+use Rattle.hir_wire.specs.Edits.{EditValue}
+use Rattle.hir_wire.specs.declared.answer.Answer.{Answer}
+use Rattle.hir_wire.specs.declared.command.Shadow.{Shadow}
+use Rattle.hir_wire.specs.declared.command.MacroStyle.{MacroStyle}
+use Rattle.hir_wire.specs.declared.diagnostic.Diagnostic.{Diagnostic}
+use Rattle.hir_wire.specs.declared.reply.Reply.{Reply}
+use Rattle.hir_wire.specs.declared.reply.Reply.TheVariants as reply
+use Rattle.hir_session_state.specs.SessionState.{SessionState, workspace_of}
+use Rattle.hir_session_state.specs.Marks.{IsAltered}
+use Rattle.hir_session_state.specs.Due.{IsAskedBehind}
+use Rattle.hir_session_state.specs.Changes.{Applies}
+use Rattle.hir_session_answers.specs.Status.{map_of}
+use Rattle.hir_session_answers.specs.AnswersStand.{AnswersStand}
+use Rattle.hir_session_answers.specs.DiagnosticsStand.{DiagnosticsStand}
+use Rattle.hir_session_machine.specs.Machine.{MachineState, first_state}
+use Rattle.hir_session_machine.specs.AnsweredLines.{AnswersLines}
+
+-- what a line asks that resolves a path
+pub record Query : Type 0 where
+  pub place : PlaceValue
+  pub path : Path
+  pub shadow : Shadow
+  pub style : Option MacroStyle
+
+-- the line of this number asks the query
+pub record Asks (lines : List (List ℕ)) (n : ℕ) (query : Query) : Type 0 where
+  pub line : List ℕ
+  pub is : slice_get lines n ≡ Some line
+  pub read : reading_of line ≡ Ok (resolve query.place query.path query.shadow query.style)
+
+-- the line of this number asks for the diagnostics of the crate
+pub record AsksDiagnostics (lines : List (List ℕ)) (n : ℕ) (krate : Crate) : Type 0 where
+  pub line : List ℕ
+  pub is : slice_get lines n ≡ Some line
+  pub read : reading_of line ≡ Ok (diagnostics krate)
+
+-- the state in which the line of a number is answered
+abbrev pub state_at : ℕ → (old : MachineState) (lines : List (List ℕ)) (answers : List Reply) (new : MachineState) → AnswersLines old lines answers new → MachineState
+state_at zero old lines answers new done = old
+state_at (suc n) old [] [] new done = new
+state_at (suc n) old (line ∷ lines) (answer ∷ answers) new done = state_at n done.0 lines answers new done.2
+state_at (suc n) old [] (answer ∷ answers) new done = new
+state_at (suc n) old (line ∷ lines) [] new done = new
+
+-- the line is an edit that was accepted, and that altered the key
+pub record Alters (old : MachineState) (line : List ℕ) (new : MachineState) (key : Key) : Type 0 where
+  pub from : SessionState
+  pub to : SessionState
+  pub is_from : old ≡ Some from
+  pub is_to : new ≡ Some to
+  pub made : EditValue
+  pub read : reading_of line ≡ Ok (edit made)
+  pub applied : Applies from made to
+  pub altered : IsAltered from.tables (workspace_of from) (workspace_of to) key
+
+-- a run behind the place asked for the key, in the session that there is
+abbrev pub IsAskedIn : MachineState → MapId → Key → Type 0
+IsAskedIn m id key = (s : SessionState) × (m ≡ Some s) × IsAskedBehind s id key
+
+module _ (old : MachineState) (lines : List (List ℕ)) (answers : List Reply) (new : MachineState) (done : AnswersLines old lines answers new) where
+  abbrev pub state_before : ℕ → MachineState
+  state_before n = state_at n old lines answers new done
+
+  -- the answer of this number stands in the session in which it was given
+  pub record Stands (n : ℕ) (query : Query) (answer : Answer) : Type 0 where
+    pub session : SessionState
+    pub is : state_before n ≡ Some session
+    pub stands : AnswersStand session query.place query.path query.shadow query.style answer
+
+  -- the diagnostics of this number are all that were to be told in the session in which they were
+  pub record AreAllTold (n : ℕ) (krate : Crate) (told : List Diagnostic) : Type 0 where
+    pub session : SessionState
+    pub is : state_before n ≡ Some session
+    pub stands : DiagnosticsStand session krate told
+
+  -- a line between the two numbers is an edit that altered a key which was asked for behind the first answer
+  pub record IsAlteredBetween (m n : ℕ) (place : PlaceValue) : Type 0 where
+    pub key : Key
+    pub asked : IsAskedIn (state_before m) (map_of place) key
+    pub at : ℕ
+    pub after : m < at
+    pub before : at < n
+    pub line : List ℕ
+    pub is : slice_get lines at ≡ Some line
+    pub alters : Alters (state_before at) line (state_before (suc at)) key
+
+-- lines are answered from the first state on
+pub record Headline (lines : List (List ℕ)) (answers : List Reply) (last : MachineState) (done : AnswersLines first_state lines answers last) : Type 0 where
+  -- each answer is what its path means by the present sources
+  pub stands : (n : ℕ) (query : Query) (answer : Answer) → Asks lines n query → slice_get answers n ≡ Some (reply.Answer answer)
+      → Stands first_state lines answers last done n query answer
+  -- so are all diagnostics that are told of a crate: none of what its run reports is left out
+  pub tells : (n : ℕ) (krate : Crate) (told : List Diagnostic) → AsksDiagnostics lines n krate → slice_get answers n ≡ Some (reply.Diagnostics told)
+      → AreAllTold first_state lines answers last done n krate told
+  -- two answers to one query differ only where an edit between them altered something that was asked for behind the first
+  pub differ : (m n : ℕ) (query : Query) (one other : Answer) → m < n → Asks lines m query → Asks lines n query
+      → slice_get answers m ≡ Some (reply.Answer one) → slice_get answers n ≡ Some (reply.Answer other)
+      → (other ≡ one) ⊎ IsAlteredBetween first_state lines answers last done m n query.place
+
+-- so it is whatever the lines are
+abbrev pub RepliesHoldTheHeadline : Type 0
+RepliesHoldTheHeadline = (lines : List (List ℕ)) (answers : List Reply) (last : MachineState) (done : AnswersLines first_state lines answers last) → Headline lines answers last done

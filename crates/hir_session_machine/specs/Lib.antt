@@ -1,0 +1,5 @@
+pub mod Machine
+pub mod MachineHistories
+pub mod MachineCodes
+pub mod AnsweredLines
+pub mod Headline

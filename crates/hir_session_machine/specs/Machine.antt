@@ -1,0 +1,165 @@
+-- How does a session answer commands and lines?
+use Rattle.std.specs.Prelude.{◌≡◌, ℕ, Bool, true, false, List, length, Option, None, Some, Result, Ok, Err, String, string_bytes}
+use Rattle.std.specs.declared.alloc.Global.{Global}
+use Rattle.hir_base.specs.ModPath.{Path}
+use Rattle.hir_base.specs.Place.{PlaceValue}
+use Rattle.hir_base.specs.declared.ids.Crate.{Crate}
+use Rattle.hir_wire.specs.Edits.{EditValue}
+use Rattle.hir_wire.specs.CommandValue.{CommandValue, CrateInputValue, crates, diagnostics, edit, refresh, resolve, status, tree}
+use Rattle.hir_wire.specs.Commands.{reading_of}
+use Rattle.hir_wire.specs.declared.answer.Answer.{Answer}
+use Rattle.hir_wire.specs.declared.diagnostic.Diagnostic.{Diagnostic}
+use Rattle.hir_wire.specs.declared.command.Shadow.{Shadow}
+use Rattle.hir_wire.specs.declared.command.MacroStyle.{MacroStyle}
+use Rattle.hir_wire.specs.declared.read_error.ReadError.{ReadError}
+use Rattle.hir_wire.specs.declared.read_error.ReadError.TheVariants as read_error
+use Rattle.hir_wire.specs.declared.reply.Reply.{Reply}
+use Rattle.hir_wire.specs.declared.reply.Reply.TheVariants as reply
+use Rattle.hir_session_state.specs.declared.error.NewSessionError.{NewSessionError}
+use Rattle.hir_session_state.specs.declared.error.NewSessionError.TheVariants as new_error
+use Rattle.hir_session_state.specs.declared.error.EditError.{EditError}
+use Rattle.hir_session_state.specs.declared.error.EditError.TheVariants as edit_error
+use Rattle.hir_session_state.specs.declared.error.RefreshError.{RefreshError}
+use Rattle.hir_session_state.specs.declared.error.RefreshError.TheVariants as refresh_error
+use Rattle.hir_session_state.specs.declared.error.QueryError.{QueryError}
+use Rattle.hir_session_state.specs.declared.error.QueryError.TheVariants as query_error
+use Rattle.hir_session_state.specs.declared.error.TreeTextError.{TreeTextError}
+use Rattle.hir_session_state.specs.declared.error.TreeTextError.TheVariants as tree_text_error
+use Rattle.hir_session_state.specs.declared.error.DiagnosticsError.{DiagnosticsError}
+use Rattle.hir_session_state.specs.declared.error.DiagnosticsError.TheVariants as diagnostics_error
+use Rattle.hir_session_state.specs.SessionState.{SessionState}
+use Rattle.hir_session_state.specs.Refusals.{verdict_of_new, verdict_of_apply}
+use Rattle.hir_session_state.specs.Beginning.{Begins}
+use Rattle.hir_session_state.specs.Due.{HasOverlongRun}
+use Rattle.hir_session_state.specs.Changes.{Applies, Refreshes, RefreshesPartly}
+use Rattle.hir_session_answers.specs.Status.{status_of}
+use Rattle.hir_session_answers.specs.Answers.{answer_of}
+use Rattle.hir_session_answers.specs.TreeText.{tree_text_of}
+use Rattle.hir_session_answers.specs.Diagnostics.{diagnostics_of}
+
+-- ---- replies
+
+-- what is told where no session is made
+abbrev pub new_reply : NewSessionError → Reply
+new_reply (new_error.DependencyOrder krate) = reply.DependencyOrder krate
+new_reply (new_error.TooLarge limit) = reply.TooLarge limit
+new_reply new_error.Memory = reply.Memory
+
+-- what is told where an edit is refused
+abbrev pub edit_reply : EditError → Reply
+edit_reply edit_error.UnknownCrate = reply.UnknownCrate
+edit_reply (edit_error.TooLarge limit) = reply.TooLarge limit
+edit_reply (edit_error.DuplicateId kind id) = reply.DuplicateId kind id
+edit_reply edit_error.Memory = reply.Memory
+
+-- what is told where a refresh ended early
+abbrev pub refresh_reply : RefreshError → Reply
+refresh_reply refresh_error.TooMany = reply.TooMany
+refresh_reply refresh_error.Memory = reply.Memory
+
+-- what is told where a query has no answer
+abbrev pub query_error_reply : QueryError → Reply
+query_error_reply query_error.StalePlace = reply.StalePlace
+query_error_reply query_error.UnknownPlace = reply.UnknownPlace
+query_error_reply query_error.Memory = reply.Memory
+
+-- what a query is answered
+abbrev pub query_reply : Result Answer QueryError → Reply
+query_reply (Ok a) = reply.Answer a
+query_reply (Err why) = query_error_reply why
+
+-- what is told where there is no page
+abbrev pub tree_text_reply : TreeTextError → Reply
+tree_text_reply tree_text_error.UnknownCrate = reply.UnknownCrate
+tree_text_reply tree_text_error.Memory = reply.Memory
+
+-- what is told where diagnostics aren't
+abbrev pub diagnostics_error_reply : DiagnosticsError → Reply
+diagnostics_error_reply diagnostics_error.UnknownCrate = reply.UnknownCrate
+diagnostics_error_reply diagnostics_error.StalePlace = reply.StalePlace
+diagnostics_error_reply diagnostics_error.Memory = reply.Memory
+
+-- what a query for diagnostics is answered
+abbrev pub diagnostics_reply : Result (List Diagnostic) DiagnosticsError → Reply
+diagnostics_reply (Ok list) = reply.Diagnostics list
+diagnostics_reply (Err why) = diagnostics_error_reply why
+
+-- what is told of a line that is no command
+abbrev pub read_reply : ReadError → Reply
+read_reply read_error.Json = reply.Json
+read_reply read_error.Command = reply.Command
+read_reply (read_error.TooLarge limit) = reply.TooLarge limit
+read_reply read_error.Memory = reply.Memory
+
+-- ---- one call
+
+-- what a command does to a session, and what is told of it
+pub data Moves (s : SessionState) (c : CommandValue) (answer : Reply) (t : SessionState) : Type 0 where
+  -- the edit is accepted
+  applies : (e : EditValue) → c ≡ edit e → verdict_of_apply (length s.crates) e ≡ Ok tt → Applies s e t → answer ≡ reply.Done → Moves s c answer t
+  -- the edit is refused, and nothing changes
+  refuses : (e : EditValue) (why : EditError) → c ≡ edit e → verdict_of_apply (length s.crates) e ≡ Err why → t ≡ s → answer ≡ edit_reply why → Moves s c answer t
+  -- all that was due is resolved, and listed
+  refreshes : (done : List PlaceValue) → c ≡ refresh → Refreshes s done t → answer ≡ reply.Places done → Moves s c answer t
+  -- some of it is, and the rest is still marked; it is too many only where the next run goes on for too long
+  refreshes_partly : (why : RefreshError) → c ≡ refresh → RefreshesPartly s t → (why ≡ refresh_error.TooMany → HasOverlongRun t)
+      → answer ≡ refresh_reply why → Moves s c answer t
+  -- the path is answered
+  resolves : (at : PlaceValue) (path : Path) (shadow : Shadow) (style : Option MacroStyle) → c ≡ resolve at path shadow style → t ≡ s
+      → answer ≡ query_reply (answer_of s at path shadow style) → Moves s c answer t
+  -- the status is told
+  tells : (at : PlaceValue) → c ≡ status at → t ≡ s → answer ≡ reply.Status (status_of s at) → Moves s c answer t
+  -- the page of a file's tree is shown
+  shows : (krate : Crate) (path : List ℕ) (text : String Global) → c ≡ tree krate path → t ≡ s
+      → tree_text_of s krate path ≡ Ok (string_bytes text) → answer ≡ reply.Text text → Moves s c answer t
+  -- or there is none
+  shows_none : (krate : Crate) (path : List ℕ) (why : TreeTextError) → c ≡ tree krate path → t ≡ s
+      → tree_text_of s krate path ≡ Err why → answer ≡ tree_text_reply why → Moves s c answer t
+  -- what couldn't be resolved in a crate is told
+  lists : (krate : Crate) → c ≡ diagnostics krate → t ≡ s → answer ≡ diagnostics_reply (diagnostics_of s krate) → Moves s c answer t
+
+-- ---- commands, and lines
+
+-- a session, or none before the first `crates` that went well
+abbrev pub MachineState : Type 0
+MachineState = Option SessionState
+
+-- before the first line
+abbrev pub first_state : MachineState
+first_state = None
+
+-- whether the command makes a session
+abbrev pub makes_session : CommandValue → Bool
+makes_session (crates inputs) = true
+makes_session (edit e) = false
+makes_session refresh = false
+makes_session (resolve at path shadow style) = false
+makes_session (status at) = false
+makes_session (tree krate path) = false
+makes_session (diagnostics krate) = false
+
+-- what a command does to the machine, and what is told of it
+pub data AnswersCommand (old : MachineState) (c : CommandValue) (answer : Reply) (new : MachineState) : Type 0 where
+  -- memory ran out, and nothing changes
+  finds_no_memory : answer ≡ reply.Memory → new ≡ old → AnswersCommand old c answer new
+  -- a session begins
+  begins : (inputs : List CrateInputValue) (s : SessionState) → c ≡ crates inputs → old ≡ None → verdict_of_new inputs ≡ Ok tt
+      → Begins inputs s → answer ≡ reply.Done → new ≡ Some s → AnswersCommand old c answer new
+  -- or it is refused
+  refuses_session : (inputs : List CrateInputValue) (why : NewSessionError) → c ≡ crates inputs → old ≡ None → verdict_of_new inputs ≡ Err why
+      → answer ≡ new_reply why → new ≡ None → AnswersCommand old c answer new
+  -- a command before there is a session is none
+  comes_too_soon : makes_session c ≡ false → old ≡ None → answer ≡ reply.Command → new ≡ None → AnswersCommand old c answer new
+  -- nor is a second session
+  comes_too_late : (s : SessionState) → makes_session c ≡ true → old ≡ Some s → answer ≡ reply.Command → new ≡ Some s → AnswersCommand old c answer new
+  -- a call of the session
+  calls : (s t : SessionState) → old ≡ Some s → Moves s c answer t → new ≡ Some t → AnswersCommand old c answer new
+
+-- what a line does to the machine, and what is told of it
+pub data AnswersLine (old : MachineState) (line : List ℕ) (answer : Reply) (new : MachineState) : Type 0 where
+  -- memory ran out while the line was read
+  finds_no_memory_for_line : answer ≡ reply.Memory → new ≡ old → AnswersLine old line answer new
+  -- the line is no command, and nothing changes
+  reads_no_command : (why : ReadError) → reading_of line ≡ Err why → answer ≡ read_reply why → new ≡ old → AnswersLine old line answer new
+  -- the line is a command
+  carries_out : (c : CommandValue) → reading_of line ≡ Ok c → AnswersCommand old c answer new → AnswersLine old line answer new

@@ -1,0 +1,249 @@
+//! What answers lines: a session, or none before the first that is made.
+ghost use Rattle.std.specs.Prelude.{◌≡◌, map, false, None, Some, Option};
+ghost use Rattle.hir_wire.specs.CommandValue.{command_view, crate_input_view, crates as makes, edit as edits, refresh as refreshes, resolve as resolves, tree as asks_for_tree, diagnostics as asks_for_diagnostics};
+ghost use Rattle.hir_wire.specs.Edits.{edit_view};
+ghost use Rattle.hir_wire.specs.Replies.{is_fixed};
+ghost use Rattle.hir_wire.specs.declared.reply.Reply.TheVariants as reply;
+ghost use Rattle.hir_session_machine.specs.Machine.{MachineState, first_state, new_reply, edit_reply, refresh_reply, query_error_reply, tree_text_reply, diagnostics_error_reply, read_reply, AnswersCommand, AnswersLine};
+
+use hir_base::file_path::FilePath;
+use hir_base::ids::Crate;
+use hir_base::mod_path::ModPath;
+use hir_base::place::Place;
+use hir_session_core::session::Session;
+use hir_session_state::error::{
+    DiagnosticsError, EditError, NewSessionError, QueryError, RefreshError, TreeTextError,
+};
+use hir_wire::command::{Command, CrateInput, MacroStyle, Shadow};
+use hir_wire::edit::Edit;
+use hir_wire::read_command;
+use hir_wire::read_error::ReadError;
+use hir_wire::reply::{Places, Reply};
+use std::alloc::Global;
+use std::marker::Model;
+
+/// A session, or none before the first that is made.
+#[derive(Drop)]
+pub struct Machine {
+    session: Option<Session>,
+}
+
+impl Model for Machine {
+    ghost use Rattle.hir_session_machine.specs.Machine.{MachineState};
+    ghost use Rattle.hir_session_machine.specs.MachineCodes.{coded_machine};
+
+    ghost Value = { MachineState };
+
+    ghost coded = { coded_machine };
+
+    ghost view = { λ m. m.session };
+}
+
+fn new_error_reply(error: NewSessionError) -> Reply
+    ensures value { result ≡ new_reply error }
+{
+    match error {
+        NewSessionError::DependencyOrder(krate) => Reply::DependencyOrder(krate),
+        NewSessionError::TooLarge(limit) => Reply::TooLarge(limit),
+        NewSessionError::Memory => Reply::Memory,
+    }
+}
+
+fn edit_error_reply(error: EditError) -> Reply
+    ensures value { result ≡ edit_reply error }
+{
+    match error {
+        EditError::UnknownCrate => Reply::UnknownCrate,
+        EditError::TooLarge(limit) => Reply::TooLarge(limit),
+        EditError::DuplicateId { kind, id } => Reply::DuplicateId { kind, id },
+        EditError::Memory => Reply::Memory,
+    }
+}
+
+fn refresh_error_reply(error: RefreshError) -> Reply
+    ensures value { result ≡ refresh_reply error }
+{
+    match error {
+        RefreshError::TooMany => Reply::TooMany,
+        RefreshError::Memory => Reply::Memory,
+    }
+}
+
+fn reply_to_query(error: QueryError) -> Reply
+    ensures value { result ≡ query_error_reply error }
+{
+    match error {
+        QueryError::StalePlace => Reply::StalePlace,
+        QueryError::UnknownPlace => Reply::UnknownPlace,
+        QueryError::Memory => Reply::Memory,
+    }
+}
+
+fn reply_to_tree(error: TreeTextError) -> Reply
+    ensures value { result ≡ tree_text_reply error }
+{
+    match error {
+        TreeTextError::UnknownCrate => Reply::UnknownCrate,
+        TreeTextError::Memory => Reply::Memory,
+    }
+}
+
+fn reply_to_diagnostics(error: DiagnosticsError) -> Reply
+    ensures value { result ≡ diagnostics_error_reply error }
+{
+    match error {
+        DiagnosticsError::UnknownCrate => Reply::UnknownCrate,
+        DiagnosticsError::StalePlace => Reply::StalePlace,
+        DiagnosticsError::Memory => Reply::Memory,
+    }
+}
+
+fn reply_to_line(error: ReadError) -> Reply
+    ensures value { result ≡ read_reply error }
+{
+    match error {
+        ReadError::Json => Reply::Json,
+        ReadError::Command => Reply::Command,
+        ReadError::TooLarge(limit) => Reply::TooLarge(limit),
+        ReadError::Memory => Reply::Memory,
+    }
+}
+
+/// An edit of a session.
+fn edited(alloc: Global, session: &mut Session, edit: Edit) -> Reply
+    ensures step { AnswersCommand (Some session.old) (edits (edit_view edit)) result (Some session.new) }
+    ensures or_memory { is_fixed result ≡ false
+        → AnswersCommand (Some session.old) (edits (edit_view edit)) reply.Memory (Some session.new) }
+{
+    match session.apply(alloc, edit) {
+        Ok(()) => Reply::Done,
+        Err(error) => edit_error_reply(error),
+    }
+}
+
+/// A refresh of a session.
+fn refreshed(alloc: Global, session: &mut Session) -> Reply
+    ensures step { AnswersCommand (Some session.old) refreshes result (Some session.new) }
+    ensures or_memory { is_fixed result ≡ false
+        → AnswersCommand (Some session.old) refreshes reply.Memory (Some session.new) }
+{
+    match session.refresh(alloc) {
+        Ok(places) => Reply::Places(Places::new(places)),
+        Err(error) => refresh_error_reply(error),
+    }
+}
+
+/// A query of a session.
+fn answered(
+    alloc: Global,
+    session: &Session,
+    at: &Place,
+    path: &ModPath,
+    shadow: Shadow,
+    style: Option<MacroStyle>,
+) -> Reply
+    ensures step { AnswersCommand (Some session.now) (resolves at.now path.now shadow style) result (Some session.now) }
+{
+    match session.resolve_path(alloc, at, path, shadow, style) {
+        Ok(answer) => Reply::Answer(answer),
+        Err(error) => reply_to_query(error),
+    }
+}
+
+/// The page of a file's tree.
+fn shown(alloc: Global, session: &Session, krate: Crate, file: &FilePath) -> Reply
+    ensures step { AnswersCommand (Some session.now) (asks_for_tree krate file.now) result (Some session.now) }
+{
+    match session.tree_text(alloc, krate, file) {
+        Ok(text) => Reply::Text(text),
+        Err(error) => reply_to_tree(error),
+    }
+}
+
+/// What couldn't be resolved in a crate.
+fn listed(alloc: Global, session: &Session, krate: Crate) -> Reply
+    ensures step { AnswersCommand (Some session.now) (asks_for_diagnostics krate) result (Some session.now) }
+{
+    match session.diagnostics(alloc, krate) {
+        Ok(list) => Reply::Diagnostics(list),
+        Err(error) => reply_to_diagnostics(error),
+    }
+}
+
+/// What a command does to a session, and what is told of it.
+fn called(alloc: Global, session: &mut Session, command: Command) -> Reply
+    ensures step { AnswersCommand (Some session.old) (command_view command) result (Some session.new) }
+    ensures or_memory { is_fixed result ≡ false
+        → AnswersCommand (Some session.old) (command_view command) reply.Memory (Some session.new) }
+{
+    match command {
+        Command::Crates(_) => Reply::Command,
+        Command::Edit(edit) => edited(alloc, session, edit),
+        Command::Refresh => refreshed(alloc, session),
+        Command::Resolve {
+            at,
+            path,
+            shadow,
+            sub,
+        } => answered(alloc, session, &at, &path, shadow, sub),
+        Command::Tree { krate, file } => shown(alloc, session, krate, &file),
+        Command::Diagnostics { krate } => listed(alloc, session, krate),
+        Command::Status { at } => Reply::Status(session.status(&at)),
+    }
+}
+
+impl Machine {
+    /// Before the first line.
+    pub fn new(_alloc: Global) -> Machine
+        ensures first { result ≡ first_state }
+    {
+        Machine { session: None }
+    }
+
+    /// Begins a session.
+    fn begin(&mut self, alloc: Global, inputs: Vec<CrateInput>) -> Reply
+        requires before { self.old ≡ None }
+        ensures step { AnswersCommand self.old (makes (map crate_input_view inputs.items)) result self.new }
+    {
+        match Session::new(alloc, inputs) {
+            Ok(session) => {
+                self.session = Some(session);
+                Reply::Done
+            }
+            Err(error) => new_error_reply(error),
+        }
+    }
+
+    /// Carries out a command.
+    fn carry_out(&mut self, alloc: Global, command: Command) -> Reply
+        ensures step { AnswersCommand self.old (command_view command) result self.new }
+        ensures or_memory { is_fixed result ≡ false
+            → AnswersCommand self.old (command_view command) reply.Memory self.new }
+    {
+        match self.session.take() {
+            Some(mut session) => {
+                let told = called(alloc, &mut session, command);
+                self.session = Some(session);
+                told
+            }
+            None => match command {
+                Command::Crates(inputs) => self.begin(alloc, inputs),
+                _ => Reply::Command,
+            },
+        }
+    }
+
+    /// Answers one line.
+    ///
+    /// A reply whose text takes memory may be told as want of memory.
+    pub fn answer(&mut self, alloc: Global, line: &[u8]) -> Reply
+        ensures step { AnswersLine self.old line.now result self.new }
+        ensures or_memory { is_fixed result ≡ false
+            → AnswersLine self.old line.now reply.Memory self.new }
+    {
+        match read_command(alloc, line) {
+            Ok(command) => self.carry_out(alloc, command),
+            Err(error) => reply_to_line(error),
+        }
+    }
+}

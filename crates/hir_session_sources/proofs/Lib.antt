@@ -1,0 +1,9 @@
+pub mod Transitive
+pub mod Start
+pub mod EntryLemmas
+pub mod OptionLemmas
+pub mod Lookups
+pub mod Expansions
+pub mod SourceLemmas
+pub mod TreeLemmas
+pub mod Changing

@@ -1,0 +1,92 @@
+-- What is found in lists of entries by exact keys, before a change and after it.
+use Rattle.std.proofs.Common.{◌≡◌, true, false, cond, not, filter, map, Ordering, Less, Equal, Greater, List, [], ◌∷◌, Option, Some, None, refl, sym, ap, ◌∙◌}
+use Rattle.std.specs.Ordering.{match_ordering, is_eq}
+use Rattle.std.specs.BTreeMap.{insert_entry, is_at}
+use Rattle.std.specs.Map.{lookup}
+use Rattle.hir_session_state.proofs.Truth.{clash, on_bool}
+
+-- two keys are tied exactly where they are the same
+pub record IsExact {K : Type 0} (cmp : K → K → Ordering) : Type 0 where
+  pub same : (p q : K) → is_at (cmp p) q ≡ true → p ≡ q
+  pub own : (p : K) → is_at (cmp p) p ≡ true
+
+module _ {K : Type 0} (cmp : K → K → Ordering) (exact : IsExact cmp) where
+  pub at_same : (p q : K) → p ≡ q → is_at (cmp p) q ≡ true
+  at_same p q same = ap (λ (k : K). is_at (cmp p) k) (sym same) ∙ exact.own p
+
+  -- which of two keys is named first is one to the test
+  test-flip : (p q : K) → is_at (cmp p) q ≡ is_at (cmp q) p
+  test-flip p q = on_bool (is_at (cmp p) q)
+      (λ on. on ∙ sym (at_same q p (sym (exact.same p q on))))
+      (λ off. on_bool (is_at (cmp q) p)
+      (λ on. clash (at_same p q (sym (exact.same q p on))) off)
+      (λ too. off ∙ sym too))
+
+module _ {K X : Type 0} (cmp : K → K → Ordering) (exact : IsExact cmp) where
+  -- what is set is there, and all else is as it was
+  pub lookup-insert_entry : (es : List (K × X)) (k : K) (x : X) (q : K) → lookup (is_at (cmp q)) (insert_entry cmp es k x) ≡ cond (is_at (cmp k) q) (Some x) (lookup (is_at (cmp q)) es)
+  lookup-insert_entry [] k x q = rw (test-flip cmp exact q k) refl
+  lookup-insert_entry (e ∷ es) k x q = by (cmp k e.0) refl (lookup-insert_entry es k x q)
+    where
+      by : (r : Ordering) → cmp k e.0 ≡ r → lookup (is_at (cmp q)) (insert_entry cmp es k x) ≡ cond (is_at (cmp k) q) (Some x) (lookup (is_at (cmp q)) es)
+          → lookup (is_at (cmp q)) (match_ordering r ((k, x) ∷ e ∷ es) ((e.0, x) ∷ es) (e ∷ insert_entry cmp es k x)) ≡ cond (is_at (cmp k) q) (Some x) (lookup (is_at (cmp q)) (e ∷ es))
+      by Less p more = rw (test-flip cmp exact q k) refl
+      by Equal p more =
+          let same : k ≡ e.0 = exact.same k e.0 (ap is_eq p) in
+          on_bool (is_at (cmp k) q)
+          (λ on. let there : is_at (cmp q) e.0 ≡ true = at_same cmp exact q e.0 (sym (exact.same k q on) ∙ same) in rw (there, on) refl)
+          (λ off. on_bool (is_at (cmp q) e.0)
+          (λ there. clash (at_same cmp exact k q (same ∙ sym (exact.same q e.0 there))) off)
+          (λ other. rw (other, off) refl))
+      by Greater p more = on_bool (is_at (cmp k) q)
+          (λ on. on_bool (is_at (cmp q) e.0)
+          (λ there. clash (at_same cmp exact k e.0 (exact.same k q on ∙ exact.same q e.0 there)) (ap is_eq p))
+          (λ other. rw (other, more, on) refl))
+          (λ off. rw (more, off) refl)
+
+  -- what is removed isn't there, and all else is as it was
+  pub lookup-without : (es : List (K × X)) (k q : K) → lookup (is_at (cmp q)) (filter (λ (e : K × X). not (is_at (cmp k) e.0)) es) ≡ cond (is_at (cmp k) q) None (lookup (is_at (cmp q)) es)
+  lookup-without [] k q = on_bool (is_at (cmp k) q) (λ on. rw on refl) (λ off. rw off refl)
+  lookup-without (e ∷ es) k q = on_bool (is_at (cmp k) e.0)
+      (λ gone. on_bool (is_at (cmp k) q)
+      (λ on. rw (gone, lookup-without es k q, on) refl)
+      (λ off. on_bool (is_at (cmp q) e.0)
+      (λ there. clash (at_same cmp exact k q (exact.same k e.0 gone ∙ sym (exact.same q e.0 there))) off)
+      (λ other. rw (gone, lookup-without es k q, off, other) refl)))
+      (λ stays. on_bool (is_at (cmp q) e.0)
+      (λ there. on_bool (is_at (cmp k) q)
+      (λ on. clash (at_same cmp exact k e.0 (exact.same k q on ∙ exact.same q e.0 there)) stays)
+      (λ off. rw (stays, there, off) refl))
+      (λ other. rw (stays, other, lookup-without es k q) refl))
+
+-- ---- entries under other keys that are compared alike
+
+module _ {K L X : Type 0} (f : K → L) (cmp : K → K → Ordering) (other : L → L → Ordering) (alike : (a b : K) → cmp a b ≡ other (f a) (f b)) where
+  abbrev pub renamed : List (K × X) → List (L × X)
+  renamed es = map (λ e. (f e.0, e.1)) es
+
+  pub lookup-renamed : (k : K) (es : List (K × X)) → lookup (is_at (cmp k)) es ≡ lookup (is_at (other (f k))) (renamed es)
+  lookup-renamed k [] = refl
+  lookup-renamed k (e ∷ es) =
+      ap (λ (r : Ordering). cond (is_eq r) (Some e.1) (lookup (is_at (cmp k)) es)) (alike k e.0)
+      ∙ ap (λ (rest : Option X). cond (is_at (other (f k)) (f e.0)) (Some e.1) rest) (lookup-renamed k es)
+
+  pub renamed-insert_entry : (es : List (K × X)) (k : K) (x : X) → renamed (insert_entry cmp es k x) ≡ insert_entry other (renamed es) (f k) x
+  renamed-insert_entry [] k x = refl
+  renamed-insert_entry (e ∷ es) k x =
+      by (cmp k e.0) (renamed-insert_entry es k x)
+      ∙ ap (λ (r : Ordering). match_ordering r ((f k, x) ∷ (f e.0, e.1) ∷ renamed es) ((f e.0, x) ∷ renamed es) ((f e.0, e.1) ∷ insert_entry other (renamed es) (f k) x)) (alike k e.0)
+    where
+      by : (r : Ordering) → renamed (insert_entry cmp es k x) ≡ insert_entry other (renamed es) (f k) x
+          → renamed (match_ordering r ((k, x) ∷ e ∷ es) ((e.0, x) ∷ es) (e ∷ insert_entry cmp es k x))
+          ≡ match_ordering r ((f k, x) ∷ (f e.0, e.1) ∷ renamed es) ((f e.0, x) ∷ renamed es) ((f e.0, e.1) ∷ insert_entry other (renamed es) (f k) x)
+      by Less more = refl
+      by Equal more = refl
+      by Greater more = ap (λ (rest : List (L × X)). (f e.0, e.1) ∷ rest) more
+
+  pub renamed-without : (k : K) (es : List (K × X)) → renamed (filter (λ (e : K × X). not (is_at (cmp k) e.0)) es) ≡ filter (λ (e : L × X). not (is_at (other (f k)) e.0)) (renamed es)
+  renamed-without k [] = refl
+  renamed-without k (e ∷ es) = on_bool (is_at (cmp k) e.0)
+      (λ on. let too : is_at (other (f k)) (f e.0) ≡ true = ap is_eq (sym (alike k e.0)) ∙ on in rw (on, too) (renamed-without k es))
+      (λ off. let too : is_at (other (f k)) (f e.0) ≡ false = ap is_eq (sym (alike k e.0)) ∙ off in
+      rw (off, too) (ap (λ (rest : List (L × X)). (f e.0, e.1) ∷ rest) (renamed-without k es)))

@@ -1,0 +1,2 @@
+pub mod EditValues
+pub mod SourceTrees

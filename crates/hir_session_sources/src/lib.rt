@@ -1,0 +1,13 @@
+//! The crates, files and expansions that were handed in, and what sources have under crates.
+#![tactic(auto)]
+
+pub mod beginning;
+mod copied_key;
+pub mod crate_info;
+pub mod crates;
+mod entries;
+pub mod files;
+pub mod seen_entry;
+pub mod source_edit;
+pub mod source_table;
+pub mod source_trees;

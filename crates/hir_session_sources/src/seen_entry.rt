@@ -1,0 +1,61 @@
+//! What is read of an expansion, as it was handed in.
+ghost use Rattle.std.specs.Prelude.{◌≡◌, ◌↔◌, IsTrue, option_map};
+ghost use Rattle.hir_item_tree.specs.Source.{source_view};
+ghost use Rattle.hir_collector_rules.specs.Workspace.{entry_look};
+ghost use Rattle.hir_wire.specs.Edits.{entry_view};
+ghost use Rattle.hir_session_state.specs.Entries.{look_of, source_of};
+
+use hir_base::text::Text;
+use hir_collector_rules::source_database::ExpansionLook;
+use hir_item_tree::source::Source;
+use hir_wire::edit::ExpansionEntry;
+
+/// The source of an expansion, where it is there.
+pub fn source_in(entry: Option<&ExpansionEntry>) -> Option<&Source>
+    ensures value { option_map (λ s. source_view s.now) result ≡ source_of (option_map (λ e. entry_view e.now) entry.entry) }
+{
+    match entry {
+        Some(entry) => Some(&entry.source),
+        None => None,
+    }
+}
+
+/// What is seen of an expansion beside its items.
+pub fn look_at(entry: Option<&ExpansionEntry>) -> ExpansionLook<'_>
+    ensures value { entry_look result ≡ look_of (option_map (λ e. entry_view e.now) entry.entry) }
+{
+    match entry {
+        Some(entry) => ExpansionLook {
+            present: true,
+            error: entry.error.as_ref(),
+            inner: &[],
+        },
+        None => ExpansionLook {
+            present: false,
+            error: None,
+            inner: &[],
+        },
+    }
+}
+
+fn is_same_error(one: &Option<Text>, other: &Option<Text>) -> bool
+    ensures exact { IsTrue result ↔ (one.now ≡ other.now) }
+{
+    match (one, other) {
+        (Some(one), Some(other)) => one == other,
+        (None, None) => true,
+        (Some(_), None) | (None, Some(_)) => false,
+    }
+}
+
+/// Whether the same is seen of an expansion beside its items.
+pub fn is_same_look(one: Option<&ExpansionEntry>, other: Option<&ExpansionEntry>) -> bool
+    ensures exact { IsTrue result
+        ↔ (look_of (option_map (λ e. entry_view e.now) one.entry) ≡ look_of (option_map (λ e. entry_view e.now) other.entry)) }
+{
+    match (one, other) {
+        (Some(one), Some(other)) => is_same_error(&one.error, &other.error),
+        (None, None) => true,
+        (Some(_), None) | (None, Some(_)) => false,
+    }
+}

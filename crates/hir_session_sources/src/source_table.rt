@@ -1,0 +1,107 @@
+//! The sources of a session.
+ghost use Rattle.std.specs.Prelude.{◌≡◌, [], OnOk, OnErr, option_map};
+ghost use Rattle.hir_item_tree.specs.Source.{source_view};
+ghost use Rattle.hir_tables.specs.SourcePlaces.{expansion_value, source_value};
+ghost use Rattle.hir_wire.specs.Edits.{entry_view};
+ghost use Rattle.hir_session_state.specs.Entries.{entry_at, with_entry, without_entry};
+ghost use Rattle.hir_session_state.specs.Files.{with_file, without_file};
+ghost use Rattle.hir_session_state.specs.SourceTable.{source_at};
+
+use crate::entries::Entries;
+use crate::files::Files;
+use crate::seen_entry::source_in;
+use hir_base::file_path::FilePath;
+use hir_base::macro_kind::ExpansionKey;
+use hir_item_tree::source::Source;
+use hir_tables::SourcePlace;
+use hir_wire::edit::ExpansionEntry;
+use std::alloc::{AllocError, Global};
+use std::marker::Model;
+
+/// The files and the expansions that are there.
+#[derive(Drop)]
+pub struct SourceTable {
+    files: Files,
+    entries: Entries,
+}
+
+impl Model for SourceTable {
+    ghost use Rattle.hir_session_state.specs.SourceTable.{SourceTable as Table};
+    ghost use Rattle.hir_session_state.specs.TableCodes.{coded_table};
+
+    ghost Value = { Table };
+
+    ghost coded = { coded_table };
+
+    ghost view = { λ t. record { files = t.files; entries = t.entries } };
+}
+
+impl SourceTable {
+    pub fn new(alloc: Global) -> SourceTable
+        ensures value { result ≡ record { files = []; entries = [] } }
+    {
+        SourceTable {
+            files: Files::new(alloc),
+            entries: Entries::new(alloc),
+        }
+    }
+
+    pub fn files(&self) -> &Files
+        ensures value { result.now ≡ self.now.files }
+    {
+        &self.files
+    }
+
+    /// The source at a place, if it is there.
+    pub fn get(&self, place: SourcePlace<'_>) -> Option<&Source>
+        ensures value { option_map (λ s. source_view s.now) result ≡ source_at self.now (source_value place.entry) }
+    {
+        match place {
+            SourcePlace::File(path) => self.files.get(path),
+            SourcePlace::Block(_) => None,
+            SourcePlace::Expansion(key) => source_in(self.entries.get(key)),
+        }
+    }
+
+    /// An expansion, if it is there.
+    pub fn entry(&self, key: &ExpansionKey) -> Option<&ExpansionEntry>
+        ensures value { option_map (λ e. entry_view e.now) result ≡ entry_at self.now.entries (expansion_value key.now) }
+    {
+        self.entries.get(key)
+    }
+
+    /// Sets a file.
+    pub fn set_file(&mut self, path: FilePath, source: Source) -> Result<(), AllocError>
+        ensures ok { OnOk result (self.new ≡ record self.old { files = with_file self.old.files path (source_view source) }) }
+        ensures err { OnErr result (self.new ≡ self.old) }
+    {
+        self.files.set(path, source)
+    }
+
+    /// Removes a file.
+    pub fn remove_file(&mut self, path: &FilePath)
+        ensures value { self.new ≡ record self.old { files = without_file self.old.files path.now } }
+    {
+        self.files.remove(path);
+    }
+
+    /// Sets an expansion.
+    pub fn set_expansion(
+        &mut self,
+        key: ExpansionKey,
+        entry: ExpansionEntry,
+    ) -> Result<(), AllocError>
+        ensures ok { OnOk result (self.new
+            ≡ record self.old { entries = with_entry self.old.entries (expansion_value key) (entry_view entry) }) }
+        ensures err { OnErr result (self.new ≡ self.old) }
+    {
+        self.entries.set(key, entry)
+    }
+
+    /// Removes an expansion.
+    pub fn remove_expansion(&mut self, key: &ExpansionKey)
+        ensures value { self.new ≡ record self.old { entries = without_entry self.old.entries (expansion_value key.now) } }
+    {
+        self.entries.remove(key);
+    }
+}

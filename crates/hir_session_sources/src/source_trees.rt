@@ -1,0 +1,191 @@
+//! What sources have under the crates that asked for them.
+//!
+//! It is kept by the place of a source, and then by crate. A run hands in the place and has the tables for itself, so no
+//! number is at hand by which `Trees` would find it. An expansion is asked for under the crate that calls; what it has under
+//! others is made anew.
+ghost use Rattle.std.specs.Prelude.{◌≡◌, None, Some, IfOk, OnOk, OnErr, option_map, if◌then◌else◌, false};
+ghost use Rattle.hir_base.specs.declared.ids.Crate.{Crate};
+ghost use Rattle.hir_base.specs.CfgOptions.{is_set};
+ghost use Rattle.hir_item_tree.specs.Source.{source_view};
+ghost use Rattle.hir_item_tree.specs.SourceTree.{SourceTreeValue, source_tree_of};
+ghost use Rattle.hir_tables.specs.SourcePlaces.{SourcePlaceValue, expansion, expansion_value, file, source_value};
+ghost use Rattle.hir_session_state.specs.SourceTable.{front_in, tree_under};
+ghost use Rattle.hir_session_sources.specs.SourceTrees.{is_kept_at, is_place, tree_by, tree_in};
+
+use crate::copied_key::copied_key;
+use crate::crate_info::CrateInfo;
+use crate::crates::Crates;
+use hir_base::cfg_options::CfgOptions;
+use hir_base::file_path::FilePath;
+use hir_base::ids::Crate;
+use hir_base::macro_kind::ExpansionKey;
+use hir_item_tree::source::Source;
+use hir_item_tree::source_tree::SourceTree;
+use hir_tables::SourcePlace;
+use std::alloc::{AllocError, Global};
+use std::collections::BTreeMap;
+use std::rc::Rc;
+
+/// What one source has under crates.
+pub type CrateTrees = BTreeMap<Crate, Rc<SourceTree>>;
+
+/// What each file has under each crate that asked for it, and each expansion under the crate that calls.
+#[derive(Drop)]
+pub struct SourceTrees {
+    by_path: BTreeMap<FilePath, BTreeMap<Crate, Rc<SourceTree>>>,
+    by_key: BTreeMap<ExpansionKey, Rc<SourceTree>>,
+}
+
+impl SourceTrees {
+    pub fn new(alloc: Global) -> SourceTrees
+        ensures value { (place : SourcePlaceValue) (krate : Crate) → tree_in result place krate ≡ None }
+    {
+        SourceTrees {
+            by_path: BTreeMap::new(alloc),
+            by_key: BTreeMap::new(alloc),
+        }
+    }
+
+    fn of_file(&self, path: &FilePath, krate: Crate) -> Option<&Rc<SourceTree>>
+        ensures value { option_map (λ t. t.now.value) result ≡ tree_in self.now (file path.now) krate }
+    {
+        match self.by_path.get(path) {
+            Some(kept) => kept.get(&krate),
+            None => None,
+        }
+    }
+
+    fn of_expansion(&self, key: &ExpansionKey, krate: Crate) -> Option<&Rc<SourceTree>>
+        ensures value { option_map (λ t. t.now.value) result ≡ tree_in self.now (expansion (expansion_value key.now)) krate }
+    {
+        if key.caller == krate {
+            self.by_key.get(key)
+        } else {
+            None
+        }
+    }
+
+    /// What a source has under a crate, where that is kept.
+    pub fn get(&self, place: SourcePlace<'_>, krate: Crate) -> Option<&Rc<SourceTree>>
+        ensures value { option_map (λ t. t.now.value) result ≡ tree_in self.now (source_value place.entry) krate }
+    {
+        match place {
+            SourcePlace::File(path) => self.of_file(path, krate),
+            SourcePlace::Block(_) => None,
+            SourcePlace::Expansion(key) => self.of_expansion(key, krate),
+        }
+    }
+
+    fn set_of_file(
+        &mut self,
+        alloc: Global,
+        path: &FilePath,
+        krate: Crate,
+        tree: Rc<SourceTree>,
+    ) -> Result<(), AllocError>
+        ensures ok { OnOk result ((p : SourcePlaceValue) (c : Crate) → tree_in self.new p c
+            ≡ (if is_kept_at (file path.now) krate p c then Some tree.value else tree_in self.old p c)) }
+        ensures err { OnErr result ((p : SourcePlaceValue) (c : Crate) → tree_in self.new p c ≡ tree_in self.old p c) }
+    {
+        match self.by_path.get_mut(path) {
+            Some(kept) => {
+                kept.insert(krate, tree)?;
+                Ok(())
+            }
+            None => {
+                let mut kept = BTreeMap::new(alloc);
+                kept.insert(krate, tree)?;
+                self.by_path.insert(path.clone()?, kept)?;
+                Ok(())
+            }
+        }
+    }
+
+    fn set_of_expansion(
+        &mut self,
+        alloc: Global,
+        key: &ExpansionKey,
+        krate: Crate,
+        tree: Rc<SourceTree>,
+    ) -> Result<(), AllocError>
+        ensures ok { OnOk result ((p : SourcePlaceValue) (c : Crate) → tree_in self.new p c
+            ≡ (if is_kept_at (expansion (expansion_value key.now)) krate p c then Some tree.value else tree_in self.old p c)) }
+        ensures err { OnErr result ((p : SourcePlaceValue) (c : Crate) → tree_in self.new p c ≡ tree_in self.old p c) }
+    {
+        if key.caller == krate {
+            let key = copied_key(alloc, key)?;
+            self.by_key.insert(key, tree)?;
+        }
+        Ok(())
+    }
+
+    /// Keeps what a source has under a crate, where that is kept.
+    pub fn set(
+        &mut self,
+        alloc: Global,
+        place: SourcePlace<'_>,
+        krate: Crate,
+        tree: Rc<SourceTree>,
+    ) -> Result<(), AllocError>
+        ensures ok { OnOk result ((p : SourcePlaceValue) (c : Crate) → tree_in self.new p c
+            ≡ (if is_kept_at (source_value place.entry) krate p c then Some tree.value else tree_in self.old p c)) }
+        ensures err { OnErr result ((p : SourcePlaceValue) (c : Crate) → tree_in self.new p c ≡ tree_in self.old p c) }
+    {
+        match place {
+            SourcePlace::File(path) => self.set_of_file(alloc, path, krate, tree),
+            SourcePlace::Block(_) => Ok(()),
+            SourcePlace::Expansion(key) => self.set_of_expansion(alloc, key, krate, tree),
+        }
+    }
+
+    /// Puts these in place of what is kept of a file, where something is. It takes no memory.
+    pub fn replace(&mut self, path: &FilePath, trees: CrateTrees)
+        ensures here { (c : Crate) (t : SourceTreeValue) → tree_in self.new (file path.now) c ≡ Some t → tree_by trees c ≡ Some t }
+        ensures others { (p : SourcePlaceValue) (c : Crate) → is_place (file path.now) p ≡ false → tree_in self.new p c ≡ tree_in self.old p c }
+    {
+        match self.by_path.get_mut(path) {
+            Some(kept) => *kept = trees,
+            None => {}
+        }
+    }
+
+    /// Drops what is kept of an expansion.
+    pub fn remove(&mut self, key: &ExpansionKey)
+        ensures gone { (c : Crate) → tree_in self.new (expansion (expansion_value key.now)) c ≡ None }
+        ensures others { (p : SourcePlaceValue) (c : Crate) → is_place (expansion (expansion_value key.now)) p ≡ false → tree_in self.new p c ≡ tree_in self.old p c }
+    {
+        self.by_key.remove(key);
+    }
+}
+
+/// What a source has under a crate, behind what the crate puts in front of the one at a place.
+fn tree_behind(
+    alloc: Global,
+    info: &CrateInfo,
+    place: SourcePlace<'_>,
+    source: Option<&Source>,
+) -> Result<SourceTree, AllocError>
+    ensures value { IfOk result (λ t. t ≡ source_tree_of (is_set info.now.config.options) (front_in info.now (source_value place.entry)) (option_map (λ s. source_view s.now) source.entry)) }
+{
+    match info.front(place) {
+        Some(front) => SourceTree::new(alloc, source, front, info.options()),
+        None => SourceTree::new(alloc, source, &Vec::new(alloc), info.options()),
+    }
+}
+
+/// What a source has under a crate, at its place; under a crate that isn't there no option is set.
+pub fn source_tree(
+    alloc: Global,
+    crates: &Crates,
+    krate: Crate,
+    place: SourcePlace<'_>,
+    source: Option<&Source>,
+) -> Result<Rc<SourceTree>, AllocError>
+    ensures value { IfOk result (λ t. t.value ≡ tree_under crates.now krate.0 (source_value place.entry) (option_map (λ s. source_view s.now) source.entry)) }
+{
+    let tree = match crates.get(krate) {
+        Some(info) => tree_behind(alloc, info, place, source)?,
+        None => SourceTree::new(alloc, source, &Vec::new(alloc), &CfgOptions::new(alloc))?,
+    };
+    Ok(Rc::new(alloc, tree)?)
+}

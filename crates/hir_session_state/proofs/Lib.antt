@@ -1,0 +1,10 @@
+pub mod Truth
+pub mod Depending
+pub mod Ids
+pub mod KeptLemmas
+pub mod Names
+pub mod Worlds
+pub mod Following
+pub mod Resolving
+pub mod NumberLemmas
+pub mod Asking

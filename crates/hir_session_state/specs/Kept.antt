@@ -1,0 +1,94 @@
+-- What is kept of the places that were resolved?
+use Rattle.std.specs.Prelude.{◌≡◌, ◌⊎◌, Bool, true, false, is_some, List, [], map, Option, None, Some, option_map, Contains}
+use Rattle.std.specs.BTreeMap.{BTreeMap, get, is_at}
+use Rattle.std.specs.Map.{lookup}
+use Rattle.hir_base.specs.declared.ids.MapId.{MapId}
+use Rattle.hir_base.specs.contracts.ids.MapIdOrd.TheImpl as map_order
+use Rattle.hir_scope.specs.declared.imports.ImportOrExternCrate.{ImportOrExternCrate}
+use Rattle.hir_def_map.specs.declared.world.finished.Finished.{Finished}
+use Rattle.hir_def_map.specs.WorldParts.{unheld}
+use Rattle.hir_def_map_rules.specs.References.{refers_to}
+use Rattle.hir_def_map.specs.Removal.{Depends}
+use Rattle.hir_def_map_rules.specs.State.{Local, Map}
+use Rattle.hir_def_map_rules.specs.Overlay.{Maps}
+use Rattle.hir_collector_rules.specs.Derivation.{CollectedValue}
+use Rattle.hir_collector_rules.specs.declared.source_database.Key.{Key}
+use Rattle.hir_session_state.specs.declared.kept.KeptResolution.{KeptResolution}
+use Rattle.hir_session_state.specs.declared.runs.KeptRun.{KeptRun}
+
+-- what is kept of each place that was resolved, by the id of its map
+abbrev pub Resolutions : Type 0
+Resolutions = List (MapId × CollectedValue)
+
+-- what is kept of a place
+abbrev pub kept_in : Resolutions → MapId → Option CollectedValue
+kept_in kept id = lookup (is_at (map_order.ghosts.cmp id)) kept
+
+-- the finished maps of which they tell; nothing holds a crate's map
+abbrev pub finished_by : Resolutions → Maps
+finished_by kept id = option_map (λ (r : CollectedValue). unheld r.map r.local) (kept_in kept id)
+
+-- ---- how some of them go; no public clause speaks of this
+
+abbrev pub names_of : Option CollectedValue → MapId → Bool
+names_of None id = false
+names_of (Some r) id = refers_to r.map r.local id
+
+-- whether what is kept of a place names the map of another
+abbrev pub names_in : Resolutions → MapId → MapId → Bool
+names_in kept id other = names_of (kept_in kept id) other
+
+-- nothing is kept of these places, nor of those that name one that is gone; of each that depends on none of them what was
+pub record AreForgotten (old : Resolutions) (ids : List MapId) (new : Resolutions) : Type 0 where
+  pub gone : (id : MapId) → Contains ids id → kept_in new id ≡ None
+  pub named : (id other : MapId) → names_in old id other ≡ true → is_some (kept_in old other) ≡ true → kept_in new other ≡ None → kept_in new id ≡ None
+  pub fewer : (id : MapId) → (kept_in new id ≡ kept_in old id) ⊎ (kept_in new id ≡ None)
+  pub stay : (id : MapId) → ((on : MapId) → Contains ids on → ¬ Depends (names_in old) on id) → kept_in new id ≡ kept_in old id
+
+-- ---- maps in a world, and beside them what else is kept of each run
+
+abbrev pub keys_of : Option (List Key) → List Key
+keys_of None = []
+keys_of (Some keys) = keys
+
+-- what is kept of a place that was resolved
+abbrev pub resolution_of : KeptResolution → CollectedValue
+resolution_of found = record {
+  map = found.map.now;
+  local = found.local.now;
+  leftover = found.leftover.now;
+  round_limit_met = found.round_limit_met;
+  asked = keys_of (option_map (λ a. a.now) found.asked);
+}
+
+abbrev pub leftover_of : Option KeptRun → List ImportOrExternCrate
+leftover_of None = []
+leftover_of (Some run) = run.leftover.items
+
+abbrev pub was_limited : Option KeptRun → Bool
+was_limited None = false
+was_limited (Some run) = run.round_limit_met
+
+abbrev pub asked_of : Option KeptRun → List Key
+asked_of None = []
+asked_of (Some run) = run.asked
+
+-- a map and what its paths may begin with, with what is kept of the run
+abbrev pub resolution_from : Option Map → Option Local → Option KeptRun → Option CollectedValue
+resolution_from None local run = None
+resolution_from (Some map) None run = None
+resolution_from (Some map) (Some local) run = Some (record { map = map; local = local; leftover = leftover_of run; round_limit_met = was_limited run; asked = asked_of run })
+
+abbrev pub resolution_at : Finished → Option KeptRun → CollectedValue
+resolution_at finished run = record { map = finished.map; local = finished.local; leftover = leftover_of run; round_limit_met = was_limited run; asked = asked_of run }
+
+abbrev pub entry_with : BTreeMap MapId KeptRun → (MapId × Finished) → MapId × CollectedValue
+entry_with runs entry = (entry.0, resolution_at entry.1 (get map_order.ghosts.cmp runs entry.0))
+
+-- those of which the maps stand in a world
+unfoldable pub resolutions_in : BTreeMap MapId Finished → BTreeMap MapId KeptRun → Resolutions
+resolutions_in maps runs = map (entry_with runs) maps.entries
+
+-- nothing holds one of the maps
+pub record AreUnheld (maps : BTreeMap MapId Finished) : Type 0 where
+  pub each : (id : MapId) (finished : Finished) → get map_order.ghosts.cmp maps id ≡ Some finished → finished.holders.items ≡ []

@@ -1,0 +1,127 @@
+-- What are a session and an edit refused for?
+use Rattle.std.specs.Prelude.{◌≡◌, ℕ, ◌+◌, ◌^◌, Bool, ◌&&◌, not, nat_le, nat_lt, List, [], ◌∷◌, length, map, Option, Some, None, Result, Ok, Err, if◌then◌else◌}
+use Rattle.std.specs.List.{list_all, list_any}
+use Rattle.hir_base.specs.declared.ids.Crate.{Crate}
+use Rattle.hir_base.specs.declared.limit.Limit.TheVariants as limit
+use Rattle.hir_base.specs.declared.macro_kind.MacroText.{MacroText}
+use Rattle.hir_tables.specs.SourcePlaces.{ExpansionValue}
+use Rattle.hir_item_tree.specs.Source.{SourceValue}
+use Rattle.hir_item_tree.specs.Check.{verdict_of_check}
+use Rattle.hir_item_tree.specs.Limits.{are_deep, have_long_attribute}
+use Rattle.hir_item_tree.specs.declared.check.CheckError.{CheckError}
+use Rattle.hir_item_tree.specs.declared.check.CheckError.TheVariants as check_error
+use Rattle.hir_collector_rules.specs.declared.start.CollectError.{CollectError}
+use Rattle.hir_collector_rules.specs.declared.start.CollectError.TheVariants as collect_error
+use Rattle.hir_wire.specs.CommandValue.{CrateInputValue}
+use Rattle.hir_wire.specs.declared.command.Dependency.{Dependency}
+use Rattle.hir_wire.specs.Edits.{EditValue, set_file, remove_file, set_expansion, remove_expansion}
+use Rattle.hir_session_state.specs.declared.error.NewSessionError.{NewSessionError}
+use Rattle.hir_session_state.specs.declared.error.NewSessionError.TheVariants as new_error
+use Rattle.hir_session_state.specs.declared.error.EditError.{EditError}
+use Rattle.hir_session_state.specs.declared.error.EditError.TheVariants as edit_error
+use Rattle.hir_session_state.specs.declared.error.RefreshError.{RefreshError}
+use Rattle.hir_session_state.specs.declared.error.RefreshError.TheVariants as refresh_error
+use Rattle.hir_session_state.specs.declared.error.QueryError.{QueryError}
+use Rattle.hir_session_state.specs.declared.error.QueryError.TheVariants as query_error
+use Rattle.hir_session_state.specs.declared.error.TreeTextError.{TreeTextError}
+use Rattle.hir_session_state.specs.declared.error.TreeTextError.TheVariants as tree_text_error
+use Rattle.hir_session_state.specs.declared.error.DiagnosticsError.{DiagnosticsError}
+use Rattle.hir_session_state.specs.declared.error.DiagnosticsError.TheVariants as diagnostics_error
+use Rattle.hir_session_state.specs.SessionState.{max_crates}
+use Rattle.hir_session_state.specs.Nesting.{is_nested_too_deep}
+
+-- memory ran out
+abbrev pub IsNewMemory : NewSessionError → Type 0
+IsNewMemory e = e ≡ new_error.Memory
+
+-- memory ran out
+abbrev pub IsEditMemory : EditError → Type 0
+IsEditMemory e = e ≡ edit_error.Memory
+
+-- memory ran out
+abbrev pub IsQueryMemory : QueryError → Type 0
+IsQueryMemory e = e ≡ query_error.Memory
+
+-- memory ran out
+abbrev pub IsTreeTextMemory : TreeTextError → Type 0
+IsTreeTextMemory e = e ≡ tree_text_error.Memory
+
+-- memory ran out for diagnostics
+abbrev pub IsDiagnosticsMemory : DiagnosticsError → Type 0
+IsDiagnosticsMemory e = e ≡ diagnostics_error.Memory
+
+-- why a refresh ends early where a run was given up
+abbrev pub refresh_error_of : CollectError → RefreshError
+refresh_error_of collect_error.TooMany = refresh_error.TooMany
+refresh_error_of collect_error.UnknownSource = refresh_error.Memory
+refresh_error_of collect_error.Memory = refresh_error.Memory
+
+-- the crates that a list names as dependencies
+abbrev pub dependency_crates : List Dependency → List Crate
+dependency_crates dependencies = map (λ d. d.krate) dependencies
+
+-- whether one of the crates doesn't come before this one
+abbrev pub has_late : ℕ → List Crate → Bool
+has_late k crates = list_any (λ d. nat_le k d.0) crates
+
+-- the first crate, from this number on, that has a dependency that doesn't come before it
+abbrev pub first_out_of_order : ℕ → List CrateInputValue → Option Crate
+first_out_of_order k [] = None
+first_out_of_order k (c ∷ cs) =
+    if has_late k (dependency_crates c.deps) then Some (record { 0 = k }) else first_out_of_order (k + 1) cs
+
+-- whether a path in the attributes that are handed in for a crate has too many segments
+abbrev pub is_too_long : CrateInputValue → Bool
+is_too_long c = have_long_attribute c.attributes
+
+-- whether conditions in them nest too deep, where their paths have no more segments than they may
+abbrev pub is_too_deep : CrateInputValue → Bool
+is_too_deep c = not (have_long_attribute c.attributes) && are_deep c.attributes
+
+-- that the crates are within the limits, or the first limit that is passed
+abbrev pub verdict_of_limits : List CrateInputValue → Result (Unit {0}) NewSessionError
+verdict_of_limits inputs =
+    if list_any is_too_long inputs then Err (new_error.TooLarge limit.Path) else
+    (if list_any is_too_deep inputs then Err (new_error.TooLarge limit.Cfg) else
+    (if nat_lt max_crates (length inputs) then Err (new_error.TooLarge limit.Crates) else Ok tt))
+
+-- what is said of the order of the crates, and then of the limits
+abbrev pub verdict_of_order : List CrateInputValue → Option Crate → Result (Unit {0}) NewSessionError
+verdict_of_order inputs (Some krate) = Err (new_error.DependencyOrder krate)
+verdict_of_order inputs None = verdict_of_limits inputs
+
+-- that a session over the crates is made, or the first thing for which it is refused
+abbrev pub verdict_of_new : List CrateInputValue → Result (Unit {0}) NewSessionError
+verdict_of_new inputs = verdict_of_order inputs (first_out_of_order 0 inputs)
+
+-- what an edit is refused for where its source is
+abbrev pub edit_error_of : CheckError → EditError
+edit_error_of (check_error.TooLarge limit) = edit_error.TooLarge limit
+edit_error_of (check_error.DuplicateId kind id) = edit_error.DuplicateId kind id
+edit_error_of check_error.Memory = edit_error.Memory
+
+-- the same of an answer
+abbrev pub edit_result_of : Result (Unit {0}) CheckError → Result (Unit {0}) EditError
+edit_result_of (Ok u) = Ok tt
+edit_result_of (Err e) = Err (edit_error_of e)
+
+-- what a source is refused for
+abbrev pub verdict_of_source : SourceValue → Result (Unit {0}) EditError
+verdict_of_source source =
+    if is_nested_too_deep source then Err (edit_error.TooLarge limit.Modules) else edit_result_of (verdict_of_check source)
+
+-- whether there are the crates that an expansion names, where there are so many
+abbrev pub are_known : ℕ → ExpansionValue → Bool
+are_known count key = nat_lt key.caller.0 count && (nat_lt key.called.krate.0 count && list_all (λ (m : MacroText). nat_lt m.krate.0 count) key.reached)
+
+-- what an expansion that is set is refused for: crates that aren't there first
+abbrev pub verdict_of_expansion : ℕ → ExpansionValue → SourceValue → Result (Unit {0}) EditError
+verdict_of_expansion count key source =
+    if are_known count key then verdict_of_source source else Err edit_error.UnknownCrate
+
+-- that the edit of a session over so many crates is accepted, or the first thing for which it is refused
+abbrev pub verdict_of_apply : ℕ → EditValue → Result (Unit {0}) EditError
+verdict_of_apply count (set_file path source) = verdict_of_source source
+verdict_of_apply count (remove_file path) = Ok tt
+verdict_of_apply count (set_expansion key entry) = verdict_of_expansion count key entry.source
+verdict_of_apply count (remove_expansion key) = Ok tt

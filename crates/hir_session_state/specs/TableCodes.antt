@@ -1,0 +1,18 @@
+-- How are sources stored?
+use Rattle.std.specs.Coded.{Coded, codes}
+use Rattle.hir_wire.specs.Edits.{EntryValue}
+use Rattle.hir_session_state.specs.SourceCodes.{coded_source}
+use Rattle.hir_session_state.specs.Entries.{Entries}
+use Rattle.hir_session_state.specs.SourceTable.{SourceTable}
+
+-- an expansion is stored as its source and its error
+pub coded_entry : Coded EntryValue
+coded_entry = hlevel (codes, coded_source)
+
+-- expansions are stored as the list of what they depend on, and of themselves
+pub coded_entries : Coded Entries
+coded_entries = hlevel (codes, coded_source)
+
+-- sources are stored as files and expansions
+pub coded_table : Coded SourceTable
+coded_table = hlevel (codes, coded_source)

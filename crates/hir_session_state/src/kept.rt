@@ -1,0 +1,187 @@
+//! What is kept of the places that were resolved.
+ghost use Rattle.std.specs.Prelude.{◌≡◌, ◌≢◌, ◌⊎◌, true, false, is_some, cond, None, Some, Contains, IfOk, OnOk, OnErr, option_map};
+ghost use Rattle.std.specs.BTreeMap.{is_at, IsUnchanged};
+ghost use Rattle.hir_base.specs.declared.ids.MapId.{MapId};
+ghost use Rattle.hir_base.specs.contracts.ids.MapIdOrd.TheImpl as map_order;
+ghost use Rattle.hir_def_map.specs.Insertion.{may_join};
+ghost use Rattle.hir_def_map_rules.specs.References.{is_well_formed};
+ghost use Rattle.hir_def_map.specs.Removal.{Depends};
+ghost use Rattle.hir_def_map_rules.specs.Overlay.{with_map};
+ghost use Rattle.hir_collector_rules.specs.Derivation.{collected_view};
+ghost use Rattle.hir_def_map.specs.World.{finished_in, local_in};
+ghost use Rattle.hir_session_state.specs.Kept.{finished_by, kept_in, names_in, leftover_of, was_limited, asked_of, keys_of, resolution_from, resolution_of, AreForgotten};
+
+use crate::runs::{KeptRun, Runs};
+use hir_base::ids::MapId;
+use hir_collector_rules::collected::{Asked, Collected};
+use hir_def_map::nameres::DefMap;
+use hir_def_map::nameres::local_def_map::LocalDefMap;
+use hir_def_map::world::World;
+use hir_def_map::world::insert::InsertError;
+use hir_scope::imports::ImportOrExternCrate;
+use std::alloc::{AllocError, Global};
+use std::marker::Model;
+
+/// What is kept of a place, as `Collected` has it.
+#[derive(Clone, Copy)]
+pub struct KeptResolution<'a> {
+    pub map: &'a DefMap,
+    pub local: &'a LocalDefMap,
+    pub leftover: &'a [ImportOrExternCrate],
+    pub round_limit_met: bool,
+    pub asked: Option<&'a Asked>,
+}
+
+/// What is kept of each place that was resolved. Their maps stand in a world.
+///
+/// The run of a place whose map has fallen stays until the place is resolved again.
+#[derive(Drop)]
+pub struct Kept {
+    world: World,
+    runs: Runs,
+}
+
+impl Model for Kept {
+    ghost use Rattle.hir_session_state.specs.Kept.{Resolutions};
+    ghost use Rattle.hir_session_state.specs.KeptCodes.{coded_kept};
+
+    ghost Value = { Resolutions };
+
+    ghost coded = { coded_kept };
+
+    ghost use Rattle.hir_session_state.specs.Kept.{resolutions_in, AreUnheld};
+
+    ghost view = { λ k. resolutions_in k.world.maps k.runs.by_place };
+
+    ghost invariant = { λ k. AreUnheld k.world.maps };
+}
+
+fn leftover_in(run: Option<&KeptRun>) -> &[ImportOrExternCrate]
+    ensures value { result.now ≡ leftover_of (option_map (λ r. r.now) run.entry) }
+{
+    match run {
+        Some(run) => run.leftover.as_slice(),
+        None => &[],
+    }
+}
+
+fn was_limited_in(run: Option<&KeptRun>) -> bool
+    ensures value { result ≡ was_limited (option_map (λ r. r.now) run.entry) }
+{
+    match run {
+        Some(run) => run.round_limit_met,
+        None => false,
+    }
+}
+
+fn asked_in(run: Option<&KeptRun>) -> Option<&Asked>
+    ensures value { keys_of (option_map (λ a. a.now) result) ≡ asked_of (option_map (λ r. r.now) run.entry) }
+{
+    match run {
+        Some(run) => Some(&run.asked),
+        None => None,
+    }
+}
+
+/// The parts of a resolution, where its map is there.
+fn joined<'a>(
+    map: Option<&'a DefMap>,
+    local: Option<&'a LocalDefMap>,
+    run: Option<&'a KeptRun>,
+) -> Option<KeptResolution<'a>>
+    ensures value { option_map resolution_of result ≡ resolution_from (option_map (λ m. m.now) map.entry)
+        (option_map (λ l. l.now) local.entry) (option_map (λ r. r.now) run.entry) }
+{
+    let map = map?;
+    let local = local?;
+    Some(KeptResolution {
+        map,
+        local,
+        leftover: leftover_in(run),
+        round_limit_met: was_limited_in(run),
+        asked: asked_in(run),
+    })
+}
+
+/// Adds a map that is complete beside the others.
+fn join(world: &mut World, map: DefMap, local: LocalDefMap) -> Result<(), AllocError>
+    requires may { may_join (finished_in world.old.maps) map local ≡ true }
+    ensures maps { OnOk result ((id : MapId) → finished_in world.new.maps id ≡ with_map (finished_in world.old.maps) map local id) }
+    ensures locals { OnOk result ((id : MapId) → local_in world.new.maps id
+        ≡ cond (is_at (map_order.ghosts.cmp map.id) id) (Some local) (local_in world.old.maps id)) }
+    ensures err { OnErr result (IsUnchanged world.old.maps world.new.maps) }
+{
+    match world.insert(map, local) {
+        Ok(()) => Ok(()),
+        Err(refused) => {
+            let for_memory = matches!(refused.why, InsertError::Memory);
+            prove!(for_memory);
+            Err(AllocError)
+        }
+    }
+}
+
+impl Kept {
+    /// Nothing kept of any place.
+    pub fn new(alloc: Global) -> Kept
+        ensures none { (id : MapId) → kept_in result id ≡ None }
+    {
+        Kept {
+            world: World::new(alloc),
+            runs: Runs::new(alloc),
+        }
+    }
+
+    /// The maps of what is kept.
+    pub fn world(&self) -> &World
+        ensures value { finished_in result.now.maps ≡ finished_by self.now }
+    {
+        &self.world
+    }
+
+    /// What is kept of a place.
+    pub fn get(&self, id: MapId) -> Option<KeptResolution<'_>>
+        ensures value { option_map resolution_of result ≡ kept_in self.now id }
+    {
+        joined(self.world.map(id), self.world.local(id), self.runs.get(id))
+    }
+
+    /// Keeps what was found of a place. Its map names only what is kept of others.
+    pub fn keep(&mut self, found: Collected) -> Result<(), AllocError>
+        requires free { kept_in self.old found.map.id ≡ None }
+        requires unheld { found.map.holder ≡ None }
+        requires complete { is_well_formed (finished_by self.old) found.map found.local ≡ true }
+        ensures here { OnOk result (kept_in self.new found.map.id ≡ Some (collected_view found)) }
+        ensures others { OnOk result ((id : MapId) → id ≢ found.map.id → kept_in self.new id ≡ kept_in self.old id) }
+        ensures err { OnErr result (self.new ≡ self.old) }
+    {
+        let id = found.map.id();
+        let run = KeptRun {
+            leftover: found.leftover,
+            round_limit_met: found.round_limit_met,
+            asked: found.asked,
+        };
+        self.runs.put(id, run)?;
+        join(&mut self.world, found.map, found.local)?;
+        Ok(())
+    }
+
+    /// Drops what is kept of a place, and of each that depends on it.
+    fn forget_one(&mut self, id: MapId)
+        ensures gone { (j : MapId) → Depends (names_in self.old) id j → kept_in self.new j ≡ None }
+        ensures stay { (j : MapId) → ¬ Depends (names_in self.old) id j → kept_in self.new j ≡ kept_in self.old j }
+    {
+        let _ = self.world.remove_with_dependents(id);
+    }
+
+    /// Drops what is kept of some places, and of each that depends on one of them.
+    ///
+    /// Its cost grows with the maps that go and what these name, and hardly with those that stay.
+    pub fn forget(&mut self, ids: &Vec<MapId>)
+        ensures forgotten { AreForgotten self.old ids.now.items self.new }
+    {
+        for id in ids {
+            self.forget_one(*id);
+        }
+    }
+}

@@ -1,0 +1,11 @@
+//! Where a session stands: what was handed in, what is kept of each crate that was resolved, and who asked for each source.
+#![tactic(auto)]
+
+pub mod askers;
+pub mod error;
+pub mod front;
+pub mod kept;
+pub mod known_crates;
+pub mod nesting;
+pub mod runs;
+pub mod source_number;

@@ -1,0 +1,51 @@
+//! What is kept of runs beside the maps.
+ghost use Rattle.std.specs.Prelude.{◌≡◌, false, Some, OnOk, OnErr, option_map};
+ghost use Rattle.std.specs.BTreeMap.{get, is_at, IsUnchanged};
+ghost use Rattle.hir_base.specs.declared.ids.MapId.{MapId};
+ghost use Rattle.hir_base.specs.contracts.ids.MapIdOrd.TheImpl as map_order;
+
+use hir_base::ids::MapId;
+use hir_collector_rules::collected::Asked;
+use hir_scope::imports::ImportOrExternCrate;
+use std::alloc::{AllocError, Global};
+use std::collections::BTreeMap;
+
+/// What is kept of a run beside the map and the crates that its paths may begin with.
+#[derive(Drop)]
+pub struct KeptRun {
+    pub leftover: Vec<ImportOrExternCrate>,
+    pub round_limit_met: bool,
+    pub asked: Asked,
+}
+
+/// The last run of each place.
+#[derive(Drop)]
+pub struct Runs {
+    by_place: BTreeMap<MapId, KeptRun>,
+}
+
+impl Runs {
+    pub fn new(alloc: Global) -> Runs {
+        Runs {
+            by_place: BTreeMap::new(alloc),
+        }
+    }
+
+    /// The last run of a place.
+    pub fn get(&self, id: MapId) -> Option<&KeptRun>
+        ensures value { option_map (λ r. r.now) result ≡ get map_order.ghosts.cmp self.now.by_place id }
+    {
+        self.by_place.get(&id)
+    }
+
+    /// Keeps the run of a place in place of its last.
+    pub fn put(&mut self, id: MapId, run: KeptRun) -> Result<(), AllocError>
+        ensures here { OnOk result (get map_order.ghosts.cmp self.new.by_place id ≡ Some run) }
+        ensures others { OnOk result ((j : MapId) → is_at (map_order.ghosts.cmp id) j ≡ false
+            → get map_order.ghosts.cmp self.new.by_place j ≡ get map_order.ghosts.cmp self.old.by_place j) }
+        ensures err { OnErr result (IsUnchanged self.old.by_place self.new.by_place) }
+    {
+        self.by_place.insert(id, run)?;
+        Ok(())
+    }
+}
