@@ -24,7 +24,7 @@ ghost use Rattle.hir_session_state.specs.SourceEdits.{edited, of_expansion, of_f
 ghost use Rattle.hir_session_state.specs.Crates.{id_of};
 ghost use Rattle.hir_session_state.specs.SessionState.{SessionState, Resolution, workspace_of, finished_of, beginning_of, is_marked, IsResolutionOf, IsSound};
 ghost use Rattle.hir_session_state.specs.Due.{root_place, Grows, Resolved, HasOverlongRun};
-ghost use Rattle.hir_session_state.specs.Refusals.{first_out_of_order, verdict_of_new, IsNewMemory, verdict_of_apply, verdict_of_expansion, verdict_of_source, IsEditMemory};
+ghost use Rattle.hir_session_state.specs.Refusals.{first_out_of_order, verdict_of_new, IsNewMemory, verdict_of_apply, verdict_of_expansion, verdict_of_removal, verdict_of_source, IsEditMemory};
 ghost use Rattle.hir_session_state.specs.Changes.{Becomes, Applies, Refreshes, RefreshesPartly};
 
 mod queries;
@@ -195,8 +195,8 @@ impl Session {
         Ok(())
     }
 
-    /// Removes an expansion, and drops what is kept of what that touches.
-    fn remove_expansion(&mut self, alloc: Global, key: &ExpansionKey) -> Result<(), AllocError>
+    /// Drops an expansion, and what is kept of what that touches.
+    fn drop_expansion(&mut self, alloc: Global, key: &ExpansionKey) -> Result<(), AllocError>
         ensures ok { OnOk result (Becomes self.old (edited self.old.sources (of_expansion (expansion_value key.now) None)) self.new) }
         ensures err { OnErr result (self.new ≡ self.old) }
     {
@@ -246,6 +246,19 @@ impl Session {
         }
         check_source(alloc, &entry.source)?;
         self.keep_expansion(alloc, key, entry)?;
+        Ok(())
+    }
+
+    /// Removes an expansion, as the edit of that name does.
+    fn remove_expansion(&mut self, alloc: Global, key: &ExpansionKey) -> Result<(), EditError>
+        ensures answer { Gives IsEditMemory result (verdict_of_removal (length self.old.crates) (expansion_value key.now)) }
+        ensures ok { OnOk result (Becomes self.old (edited self.old.sources (of_expansion (expansion_value key.now) None)) self.new) }
+        ensures err { OnErr result (self.new ≡ self.old) }
+    {
+        if !names_known(self.inputs.crates().len(), key) {
+            return Err(EditError::UnknownCrate);
+        }
+        self.drop_expansion(alloc, key)?;
         Ok(())
     }
 

@@ -119,9 +119,13 @@ abbrev pub verdict_of_expansion : ℕ → ExpansionValue → SourceValue → Res
 verdict_of_expansion count key source =
     if are_known count key then verdict_of_source source else Err edit_error.UnknownCrate
 
+-- what an expansion that is removed is refused for
+abbrev pub verdict_of_removal : ℕ → ExpansionValue → Result (Unit {0}) EditError
+verdict_of_removal count key = if are_known count key then Ok tt else Err edit_error.UnknownCrate
+
 -- that the edit of a session over so many crates is accepted, or the first thing for which it is refused
 abbrev pub verdict_of_apply : ℕ → EditValue → Result (Unit {0}) EditError
 verdict_of_apply count (set_file path source) = verdict_of_source source
 verdict_of_apply count (remove_file path) = Ok tt
 verdict_of_apply count (set_expansion key entry) = verdict_of_expansion count key entry.source
-verdict_of_apply count (remove_expansion key) = Ok tt
+verdict_of_apply count (remove_expansion key) = verdict_of_removal count key

@@ -4,7 +4,7 @@ use Rattle.hir_tables.specs.SourcePlaces.{expansion_value}
 use Rattle.hir_session_state.specs.SourceEdits.{of_expansion}
 use Rattle.hir_session_state.proofs.Asking.{noted_fewer}
 use Rattle.hir_session_core.proofs.Sound.{edited_sound, edited_becomes}
-use Rattle.hir_session_core.proofs.session.Session.remove_expansion.Goals as goal
+use Rattle.hir_session_core.proofs.session.Session.drop_expansion.Goals as goal
 
 pub invariant_of-self : goal.invariant_of-self
 invariant_of-self c = (
