@@ -591,23 +591,23 @@ fn contains(span: Span, at: Position) -> bool {
     span.start <= at && at <= span.end
 }
 
-/// The tokens from the outermost list to the one that the place is in, and the place of the word in that.
-fn lists_at(tokens: &[Token], at: Position, context: Context) -> Option<(Vec<&[Token]>, usize, Context)> {
+/// A list of tokens, and which of them the place is in.
+type Level<'a> = (&'a [Token], usize);
+
+/// The lists of tokens around a word, the outermost first.
+fn lists_at(tokens: &[Token], at: Position, context: Context) -> Option<(Vec<Level<'_>>, Context)> {
     for (number, it) in tokens.iter().enumerate().filter(|it| contains(it.1.span, at)) {
         match &it.kind {
-            Kind::Ident(_) => return Some((vec![tokens], number, context)),
+            Kind::Ident(_) => return Some((vec![(tokens, number)], context)),
             Kind::Group(delimiter, inner) => {
+                let before = |by: usize| number.checked_sub(by).map(|it| &tokens[it]);
                 let is_attribute = *delimiter == Delimiter::Bracket
-                    && number > 0
-                    && (tokens[number - 1].is("#")
-                        || (tokens[number - 1].is("!") && number > 1 && tokens[number - 2].is("#")));
-                let is_derive = context == Context::Attribute && number > 0 && tokens[number - 1].is_word("derive");
-                let inside = match (is_attribute, is_derive) {
-                    (false, false) => Context::Plain,
-                    _ => Context::Attribute,
-                };
+                    && (before(1).is_some_and(|it| it.is("#"))
+                        || before(1).is_some_and(|it| it.is("!")) && before(2).is_some_and(|it| it.is("#")));
+                let is_derive = context == Context::Attribute && before(1).is_some_and(|it| it.is_word("derive"));
+                let inside = if is_attribute || is_derive { Context::Attribute } else { Context::Plain };
                 if let Some(mut found) = lists_at(inner, at, inside) {
-                    found.0.insert(0, tokens);
+                    found.0.insert(0, (tokens, number));
                     return Some(found);
                 }
             }
@@ -615,6 +615,16 @@ fn lists_at(tokens: &[Token], at: Position, context: Context) -> Option<(Vec<&[T
         }
     }
     None
+}
+
+/// Whether the group there is the body of a function, or the value of a constant.
+fn is_body(list: &[Token], number: usize) -> bool {
+    if list[number].group(Delimiter::Brace).is_none() {
+        return false;
+    }
+    let goes_on = |it: &&Token| !it.is(";") && it.group(Delimiter::Brace).is_none();
+    let mut before = list[..number].iter().rev().take_while(goes_on).filter_map(Token::word);
+    before.any(|it| matches!(it, "fn" | "const" | "static"))
 }
 
 /// Where the `<` is that the `>` at `end` closes.
@@ -716,8 +726,33 @@ fn around<'a>(items: &'a [Item], at: Position, modules: &mut Vec<String>) -> Opt
             modules.push(item.name_text().to_owned());
             around(inner, at, modules)
         }
+        ItemKind::Call(call) => {
+            modules_in(&call.input, at, modules);
+            Some(item)
+        }
         _ => Some(item),
     }
+}
+
+/// The modules around a place in what a macro is called with.
+fn modules_in(tokens: &[Token], at: Position, modules: &mut Vec<String>) {
+    for (number, it) in tokens.iter().enumerate().filter(|it| contains(it.1.span, at)) {
+        if let Kind::Group(delimiter, inner) = &it.kind {
+            if let ([.., word, name], Delimiter::Brace) = (&tokens[..number], delimiter) {
+                if let (true, Some(name)) = (word.is_word("mod"), name.word()) {
+                    modules.push(plain(name).to_owned());
+                }
+            }
+            return modules_in(inner, at, modules);
+        }
+    }
+}
+
+/// The names of the inline modules around a place.
+pub fn modules_at(items: &[Item], at: Position) -> Vec<String> {
+    let mut modules = Vec::new();
+    around(items, at, &mut modules);
+    modules
 }
 
 /// The path at a place of a text, and the inline modules around it.
@@ -726,8 +761,8 @@ pub fn path_at(text: &str, items: &[Item], at: Position) -> Option<(FoundPath, V
     let item = around(items, at, &mut modules);
     let found = on_a_thread(|| {
         let tokens = tokens_of(text).ok()?;
-        let (lists, number, context) = lists_at(&tokens, at, Context::Plain)?;
-        let list = lists.last()?;
+        let (lists, context) = lists_at(&tokens, at, Context::Plain)?;
+        let (list, number) = *lists.last()?;
         let mut path = path_before(list, number)?;
         let is_call = list.get(number + 1).is_some_and(|it| it.is("!"))
             && matches!(list.get(number + 2), Some(Token { kind: Kind::Group(..), .. }));
@@ -742,22 +777,11 @@ pub fn path_at(text: &str, items: &[Item], at: Position) -> Option<(FoundPath, V
                 };
             }
         }
-        let is_body =
-            item.is_some_and(|it| matches!(it.kind, ItemKind::Function | ItemKind::Impl { .. } | ItemKind::Trait(_)));
-        let in_block = is_body && lists.iter().skip(1 + modules.len()).any(|it| has_items(it) && !is_list_of(item, it));
+        let body = lists.iter().position(|(list, number)| is_body(list, *number));
+        let in_block = body.is_some_and(|it| lists[it + 1..].iter().any(|it| has_items(it.0)));
         Some(FoundPath { path, context, in_block })
     })?;
     Some((found, modules))
-}
-
-/// Whether these tokens are the items of the trait or impl itself.
-fn is_list_of(item: Option<&Item>, list: &[Token]) -> bool {
-    let inner = match item.map(|it| &it.kind) {
-        Some(ItemKind::Impl { items, .. } | ItemKind::Trait(items)) => items,
-        _ => return false,
-    };
-    let first = inner.first().map(|it| it.span.start);
-    list.iter().any(|it| Some(it.span.start) == first)
 }
 
 impl Workspace {

@@ -6,7 +6,7 @@ use std::sync::Arc;
 use proc_macro2::{TokenStream, TokenTree};
 
 /// A place in a text: the line from 1, and the column from 1 in characters.
-#[derive(Clone, Copy, PartialEq, Eq, PartialOrd, Ord, Debug, Default)]
+#[derive(Clone, Copy, PartialEq, Eq, PartialOrd, Ord, Hash, Debug, Default)]
 pub struct Position {
     pub line: u32,
     pub column: u32,

@@ -80,6 +80,8 @@ struct CrateState {
     missing: HashSet<Key>,
     /// The macros that paths reach, by the module and the path.
     reached: HashMap<(Vec<String>, String), Option<Target>>,
+    /// The macros with `macro_export`.
+    exported: HashMap<Arc<str>, Target>,
     /// The key of the expansion that a call took.
     taken: HashMap<Hash, String>,
     /// The calls whose expansions end nowhere, and why.
@@ -363,6 +365,10 @@ impl Walk<'_> {
             match &item.kind {
                 ItemKind::Macro(definition) if definition.is_rules => {
                     let target = target_of(self.krate, item.name_text(), Some(definition), item);
+                    if numbered(&item.attributes, self.options()).iter().any(|it| it.1.path.text == "macro_export") {
+                        let state = &mut self.space.states[self.krate as usize];
+                        state.exported.insert(definition.name.clone(), target.clone());
+                    }
                     self.define(definition.name.clone(), target);
                 }
                 ItemKind::Module(inner) => {
@@ -418,10 +424,11 @@ impl Walk<'_> {
         let target = match &textual {
             Some(it) => it.clone(),
             None => {
-                let state = &self.space.states[self.krate as usize];
-                match state.reached.get(&(place.to_vec(), call.path.text.clone())) {
-                    Some(Some(it)) => it.clone(),
-                    _ => return,
+                let question = (place.to_vec(), call.path.text.clone());
+                let known = self.space.states[self.krate as usize].reached.get(&question).cloned();
+                match known.unwrap_or_else(|| self.space.likely(self.krate, question)) {
+                    Some(it) => it,
+                    None => return,
                 }
             }
         };
@@ -771,6 +778,25 @@ impl Workspace {
 
     fn refuse(&mut self, key: &Key, why: &str) {
         self.refused.push((key.clone(), why.to_owned()));
+    }
+
+    /// The exported macro that a path most likely reaches, which is asked later on: an expansion that is there at once
+    /// saves a round.
+    fn likely(&mut self, krate: u32, question: (Vec<String>, String)) -> Option<Target> {
+        let own = &self.crates.all[krate as usize];
+        let named = |name: &str| own.dependencies.iter().find(|it| it.1 == name).map(|it| it.0);
+        let (crates, name) = match question.1.split_once("::") {
+            None => (vec![Some(krate), named("std"), named("core"), named("alloc")], &*question.1),
+            Some(("crate", name)) => (vec![Some(krate)], name),
+            Some((first, name)) => match first.strip_prefix('$') {
+                Some(number) => (vec![number.parse().ok()], name),
+                None => (vec![named(first)], name),
+            },
+        };
+        let states = crates.into_iter().flatten().filter_map(|it| self.states.get(it as usize));
+        let found = states.filter_map(|it| it.exported.get(name)).next().cloned()?;
+        self.states[krate as usize].reached.insert(question, Some(found.clone()));
+        Some(found)
     }
 
     fn expansion_key(&self, caller: u32, call: &Call, target: &Target) -> String {
