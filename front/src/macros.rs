@@ -149,12 +149,7 @@ fn repetition(behind: &[Token]) -> Option<(Option<Token>, &'static str, usize)> 
         ["*", "+", "?"].into_iter().find(|it| token.is(it))
     }
     match behind {
-        [it, next, ..] if operator(it).is_some() && operator(next).is_some() && !it.is("?") => {
-            // `$(..)+*` is separated by `+`.
-            Some((Some(it.clone()), operator(next)?, 2))
-        }
         [it, ..] if operator(it).is_some() => Some((None, operator(it)?, 1)),
-        [Token { kind: Kind::Punct("+="), .. }, ..] => None,
         [separator, it, ..] => Some((Some(separator.clone()), operator(it)?, 2)),
         _ => None,
     }

@@ -62,7 +62,7 @@ fn toolchain(words: &[&str], unstable: bool) -> Result<String> {
     let rustc = std::env::var_os("RUSTC").unwrap_or_else(|| "rustc".into());
     let mut command = Command::new(&rustc);
     if unstable {
-        // The standard library is compiled with the options that rustc else keeps to itself.
+        // The standard library is compiled with conditions that rustc else keeps to itself.
         command.env("RUSTC_BOOTSTRAP", "1");
     }
     let ran = command.args(words).output();
@@ -71,6 +71,13 @@ fn toolchain(words: &[&str], unstable: bool) -> Result<String> {
         bail!("rustc {} fails: {}", words.join(" "), String::from_utf8_lossy(&ran.stderr).trim());
     }
     Ok(String::from_utf8_lossy(&ran.stdout).into_owned())
+}
+
+/// The conditions that are set for each crate, or for one that is compiled as the standard library is.
+fn options_of_rustc(unstable: bool) -> Result<Options> {
+    let mut options = Options::default();
+    toolchain(&["--print", "cfg"], unstable)?.lines().for_each(|it| options.set(it));
+    Ok(options)
 }
 
 /// The folder of the stub.
@@ -105,18 +112,25 @@ impl Crates {
             words.extend(["--config".to_owned(), it.clone()]);
         }
         command.other_options(words);
-        let metadata = command.exec().map_err(|error| {
+        // rustc is asked while Cargo works.
+        let (metadata, base, unstable) = std::thread::scope(|scope| {
+            let base = scope.spawn(|| options_of_rustc(false));
+            let unstable = scope.spawn(|| options_of_rustc(true));
+            let joined = |it: std::thread::ScopedJoinHandle<Result<Options>>| match it.join() {
+                Ok(it) => it,
+                Err(panic) => std::panic::resume_unwind(panic),
+            };
+            (command.exec(), joined(base), joined(unstable))
+        });
+        let (base, unstable) = (base?, unstable?);
+        let metadata = metadata.map_err(|error| {
             let hint = if wanted.online { "" } else { "\n--online lets Cargo fetch what isn't there" };
             let text = error.to_string();
             let text = text.replace("`cargo metadata` exited with an error: ", "");
             anyhow::anyhow!("Cargo can't resolve {}:\n{}{hint}", manifest.display(), text.trim())
         })?;
-        let mut base = Options::default();
-        for line in toolchain(&["--print", "cfg"], false)?.lines() {
-            base.set(line);
-        }
         let mut crates = Crates { folder: metadata.workspace_root.clone().into_std_path_buf(), ..Crates::default() };
-        let sysroot = crates.sysroot(wanted)?;
+        let sysroot = crates.sysroot(wanted, unstable)?;
         crates.packages(wanted, &manifest, &metadata, &base, &sysroot)?;
         Ok(crates)
     }
@@ -127,11 +141,7 @@ impl Crates {
     }
 
     /// Adds the standard library's crates; answers their numbers by name.
-    fn sysroot(&mut self, wanted: &Wanted) -> Result<HashMap<String, u32>> {
-        let mut base = Options::default();
-        for line in toolchain(&["--print", "cfg"], true)?.lines() {
-            base.set(line);
-        }
+    fn sysroot(&mut self, wanted: &Wanted, mut base: Options) -> Result<HashMap<String, u32>> {
         base.set("feature=\"panic-unwind\"");
         base.set("feature=\"backtrace\"");
         let mut sources = None;

@@ -1062,6 +1062,9 @@ impl Workspace {
                 if self.parsed.get(&key).is_some_and(|it| it.text == parsed.text && it.error == parsed.error) {
                     continue;
                 }
+                if self.take_same(&key, &parsed) {
+                    continue;
+                }
                 self.parsed.insert(key.clone(), Arc::new(parsed));
             } else if self.parsed.remove(&key).is_none() {
                 continue;
@@ -1084,11 +1087,31 @@ impl Workspace {
         self.settle(&crates)
     }
 
+    /// Takes what stands in a file now where its unit is the one that was handed in: only places are others then.
+    fn take_same(&mut self, key: &Key, parsed: &Parsed) -> bool {
+        let Some(krate) = self.crates_of(key).first().copied().filter(|_| parsed.error.is_none()) else {
+            return false;
+        };
+        let Some(sent) = self.sent.get(key).filter(|_| self.refused.iter().all(|it| it.0 != *key)) else {
+            return false;
+        };
+        let replaced = |call: &Call| self.replaced.get(&call.identity).cloned();
+        let built = build(&parsed.unit, &self.crates.all[krate as usize].options, &replaced);
+        if built.json != sent.built.json {
+            return false;
+        }
+        let (path, unit, text) = (parsed.path.clone(), parsed.unit.clone(), parsed.text);
+        let sent = Sent { unit: unit.clone(), replaced: sent.replaced.clone(), built: Arc::new(built) };
+        self.sent.insert(key.clone(), sent);
+        self.parsed.insert(key.clone(), Arc::new(Parsed { path, unit, error: None, text }));
+        true
+    }
+
     /// Takes a text in place of what the file holds, as an editor has it.
     pub fn update_text(&mut self, path: &Path, text: &str) -> Result<Vec<u32>> {
         let key = key_of(path)?;
         let parsed = parse_text(path, &key, text);
-        if self.parsed.get(&key).is_some_and(|it| it.text == parsed.text) {
+        if self.parsed.get(&key).is_some_and(|it| it.text == parsed.text) || self.take_same(&key, &parsed) {
             return Ok(Vec::new());
         }
         self.parsed.insert(key.clone(), Arc::new(parsed));

@@ -208,8 +208,11 @@ fn repetitions() {
         ("($($x:ident),*) => { $($x);* }", "a, b, c", Some("a; b; c")),
         ("($($x:ident),*) => { $($x);* }", "a, b,", None),
         ("($($x:ident),* $(,)?) => { $($x);* }", "a, b,", Some("a; b")),
-        ("($($x:ident),+) => { $($x)+* }", "", None),
-        ("($($x:ident),+) => { $($x)+* }", "a, b", Some("a + b")),
+        ("($($x:ident),+) => { $($x)=* }", "", None),
+        ("($($x:ident),+) => { $($x)=* }", "a, b", Some("a = b")),
+        // An operator of repetitions is no separator.
+        ("($($x:ident)* + $y:ident) => { $($x)+ * $y }", "a b + c", Some("a b * c")),
+        ("($($x:ident)+* $y:ident) => { [$y] }", "a b * c", Some("[c]")),
         ("($(a)? b) => { [] }", "b", Some("[]")),
         ("($(a)? b) => { [] }", "a a b", None),
         ("($($x:ident = $y:expr),*) => { $($y, $x)* }", "a = 1 + 2, b = f(3, 4)", Some("1 + 2, a f(3, 4), b")),
