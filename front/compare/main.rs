@@ -66,7 +66,8 @@ fn plain(definition: &str) -> Option<String> {
         if name.starts_with("{extern#") || name.starts_with("{constructor#") {
             continue;
         }
-        let name = name.strip_prefix("r#").unwrap_or(name);
+        // What sets two definitions of one name apart.
+        let name = name.split('#').next().filter(|it| *it != "r").unwrap_or(name.trim_start_matches("r#"));
         names.push(name.to_owned());
     }
     Some(names.join("::"))

@@ -11,7 +11,7 @@ use serde_json::Value;
 use crate::syntax::{plain, Item, ItemKind, UseTree};
 use crate::token::{on_a_thread, tokens_of, Delimiter, Kind, Position, Span, Token};
 use crate::unit::{quoted, Detail};
-use crate::workspace::{key_of, path_of_key, place_json, Located, NotRun, Workspace};
+use crate::workspace::{key_of, path_of_key, place_json, Located, NotRun, PastItem, Workspace};
 
 /// A place in a file.
 #[derive(Clone, PartialEq, Eq, PartialOrd, Ord, Hash, Debug, Serialize)]
@@ -160,6 +160,9 @@ impl Workspace {
                 report.diagnostics.push(self.import_diagnostic(it));
             }
         }
+        for krate in judged.iter().copied().filter(|it| self.crates.all[*it as usize].is_asked).collect::<Vec<_>>() {
+            self.imports_past_items(krate, &mut report)?;
+        }
         for (krate, it) in calls {
             if self.crates.all[krate as usize].is_asked {
                 self.call_diagnostic(krate, &it, &bound, &mut report)?;
@@ -225,6 +228,59 @@ impl Workspace {
             }
         }
         Ok(bound)
+    }
+
+    /// Tells the imports that name what an enum or another item doesn't hold, as a variant that isn't there. The program
+    /// takes them as the item itself, so each path is asked.
+    fn imports_past_items(&mut self, krate: u32, report: &mut Report) -> Result<()> {
+        let times = self.times_resolved(krate);
+        if self.past_items.get(&krate).map(|it| it.0) != Some(times) {
+            let is_old = self.crates.all[krate as usize].edition == "2015";
+            let mut asks = Vec::new();
+            let mut leaves_of = Vec::new();
+            for (key, module) in self.files(krate) {
+                for node in self.built(key).map_or(&[][..], |it| &it.nodes) {
+                    let Detail::Use(leaves) = &node.detail else {
+                        continue;
+                    };
+                    for (at, leaf) in leaves.iter().enumerate() {
+                        let is_single = leaf.path.contains("::") && !leaf.path.ends_with("::*");
+                        if !is_single || leaf.binds.is_none() && !leaf.path.contains(char::is_uppercase) {
+                            continue;
+                        }
+                        let mut place = module.clone();
+                        place.extend(node.modules.iter().map(|it| it.to_string()));
+                        let before = if is_old && prefixes(&leaf.path, true)[0].starts_with("::") { "::" } else { "" };
+                        let path = format!("{before}{}", leaf.path.trim_start_matches(before));
+                        asks.push(question(krate, &place, &path));
+                        leaves_of.push(PastItem { file: key.clone(), node: node.id, leaf: at });
+                    }
+                }
+            }
+            let replies = self.ask_all(&asks)?;
+            let found = leaves_of.into_iter().zip(replies).filter(|it| !it.1["ok"]["stop"].is_null());
+            let found = found.map(|it| it.0).collect();
+            self.past_items.insert(krate, (times, found));
+        }
+        for PastItem { file: key, node, leaf: at } in &self.past_items[&krate].1 {
+            let Some(node) = self.built(key).and_then(|it| it.find("Use", *node)) else {
+                continue;
+            };
+            if let Detail::Use(leaves) = &node.detail {
+                let leaf = &leaves[*at];
+                let (holder, name) = leaf.path.rsplit_once("::").unwrap_or(("", &leaf.path));
+                report.diagnostics.push(Diagnostic {
+                    place: place_at(key, leaf.span),
+                    kind: "unresolved import".to_owned(),
+                    code: Some("E0432"),
+                    message: format!("unresolved import `{}`", leaf.path),
+                    label: format!("no `{name}` in `{holder}`"),
+                    krate: self.crates.all[krate as usize].title.clone(),
+                    notes: Vec::new(),
+                });
+            }
+        }
+        Ok(())
     }
 
     fn import(&self, krate: u32, it: &Value) -> Option<Import> {

@@ -86,6 +86,15 @@ struct CrateState {
     taken: HashMap<Hash, String>,
     /// The calls whose expansions end nowhere, and why.
     endless: Vec<Endless>,
+    /// How often the program resolved it.
+    resolved: usize,
+}
+
+/// A leaf of a `use`, by its file, its node and its place in the tree.
+pub(crate) struct PastItem {
+    pub file: Key,
+    pub node: crate::unit::Id,
+    pub leaf: usize,
 }
 
 /// A call that isn't expanded since it ends nowhere.
@@ -127,6 +136,9 @@ pub struct Workspace {
     elsewhere: HashMap<(String, &'static str, Hash), Arc<Unit>>,
     crates_line: String,
     refused: Vec<(Key, String)>,
+    /// Of a crate, when it had been resolved so often, the imports that name what an item doesn't
+    /// hold.
+    pub(crate) past_items: HashMap<u32, (usize, Vec<PastItem>)>,
     progress: Progress,
 }
 
@@ -509,6 +521,7 @@ impl Workspace {
             elsewhere: HashMap::new(),
             crates_line: String::new(),
             refused: Vec::new(),
+            past_items: HashMap::new(),
             progress: Box::new(progress),
         };
         if let Some(it) = elsewhere {
@@ -610,6 +623,7 @@ impl Workspace {
             }
             (self.progress)("resolving", round, round);
             resolved.extend(&due);
+            due.iter().for_each(|it| self.states[*it as usize].resolved += 1);
             let mut changed = HashSet::new();
             let mut lines = Vec::new();
             let asks: Vec<String> = due.iter().map(|it| format!("{{\"do\":\"diagnostics\",\"crate\":{it}}}")).collect();
@@ -1158,6 +1172,11 @@ impl Workspace {
 
     pub fn built(&self, key: &str) -> Option<&Arc<Built>> {
         self.sent.get(key).map(|it| &it.built)
+    }
+
+    /// How often the program resolved a crate.
+    pub fn times_resolved(&self, krate: u32) -> usize {
+        self.states[krate as usize].resolved
     }
 
     /// The calls of a crate that end nowhere.

@@ -295,6 +295,16 @@ fn bad_files() {
     compare_run("bad-files", folder.path(), &["check", "--no-std"]);
 }
 
+/// What isn't a fault for the program, but is one of rustc's: a name that an item before it doesn't hold.
+#[test]
+fn imports_of_what_an_item_lacks() {
+    let folder = package(&[(
+        "src/lib.rs",
+        "pub enum E { A }\npub struct S;\npub use E::{A, B as C};\npub use self::S::nope;\npub use crate::E::{self as F, *};\n",
+    )]);
+    compare_run("past-items", folder.path(), &["check", "--no-std"]);
+}
+
 /// A program that dies in the middle of a session.
 #[cfg(unix)]
 #[test]
