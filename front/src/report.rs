@@ -746,14 +746,21 @@ fn path_before(tokens: &[Token], at: usize) -> Option<String> {
     Some(names.join("::"))
 }
 
+/// Whether a statement of a block is an item, or a macro call that holds one.
 fn has_items(list: &[Token]) -> bool {
-    const WORDS: [&str; 11] =
-        ["use", "fn", "struct", "enum", "mod", "static", "trait", "impl", "type", "const", "macro_rules"];
+    const WORDS: [&str; 12] =
+        ["use", "fn", "struct", "enum", "mod", "static", "trait", "impl", "type", "const", "extern", "macro_rules"];
     list.iter().enumerate().any(|(at, it)| {
         let is_first = at == 0
             || list[at - 1].is(";")
             || matches!(list[at - 1].kind, Kind::Group(Delimiter::Brace | Delimiter::Bracket, _));
-        is_first && it.word().is_some_and(|it| WORDS.contains(&it))
+        let holds = match (list.get(at + 1), list.get(at + 2).map(|it| &it.kind)) {
+            (Some(bang), Some(Kind::Group(Delimiter::Brace, inner))) if bang.is("!") => {
+                inner.iter().filter_map(|it| it.group(Delimiter::Brace)).any(|it| has_items(it))
+            }
+            _ => false,
+        };
+        is_first && it.word().is_some_and(|it| WORDS.contains(&it) || holds)
     })
 }
 
