@@ -45,6 +45,8 @@ pub struct Krate {
     pub is_proc_macro: bool,
     /// Whether its diagnostics are told.
     pub is_asked: bool,
+    /// Whether its package has a build script.
+    pub has_build_script: bool,
     /// Whether it is the stub of a crate of the standard library.
     pub is_stub: bool,
 }
@@ -204,6 +206,7 @@ impl Crates {
                 dependencies: dependencies.iter().filter_map(named).collect(),
                 is_proc_macro: false,
                 is_asked: false,
+                has_build_script: false,
                 is_stub,
             };
             numbers.insert(name.to_owned(), self.add(krate));
@@ -328,6 +331,7 @@ impl Crates {
                     dependencies,
                     is_proc_macro,
                     is_asked,
+                    has_build_script: package.targets.iter().any(|it| is(it, &["custom-build"])),
                     is_stub: false,
                 });
                 if is_library {

@@ -116,9 +116,24 @@ impl Workspace {
         let replies = self.ask_all(&asks)?;
         let mut imports = Vec::new();
         let mut calls = Vec::new();
+        let mut absent = Bound::new();
         for (krate, reply) in judged.iter().copied().zip(replies) {
             for it in reply["ok"].as_array().into_iter().flatten() {
+                let is_given_back = |it: &Value| {
+                    let source = it["in"].as_array().into_iter().flatten();
+                    source.into_iter().any(|it| !it["attr"].is_null())
+                };
+                if it["kind"] == "unresolved module" {
+                    let located = self.locate(krate, &it["item"]);
+                    absent.extend(located.map(|it| {
+                        let module = it.module.into_iter().chain([it.node.name.to_string()]).collect();
+                        (krate, module, "*".to_owned())
+                    }));
+                }
                 match it["kind"].as_str().unwrap_or_default() {
+                    // What the attribute of a procedural macro takes for its own.
+                    "invalid derive target" | "malformed derive" if is_given_back(&it["item"]) => {}
+                    "unresolved macro call" if is_given_back(&it["call"]) => {}
                     "unresolved import" => imports.extend(self.import(krate, it)),
                     "unresolved macro call" => calls.push((krate, it.clone())),
                     _ if self.crates.all[krate as usize].is_asked => self.other(krate, it, &mut report),
@@ -132,6 +147,7 @@ impl Workspace {
             false => Bound::new(),
         };
         self.unread_modules(&judged, &mut bound);
+        bound.extend(absent);
         // What can't be judged since a stub stands in its way, and what stands on that.
         loop {
             let before = imports.len();
@@ -174,7 +190,7 @@ impl Workspace {
         Ok(report)
     }
 
-    /// Adds the modules whose files couldn't be read, each with the name `*`.
+    /// Adds the modules whose files couldn't be read, and those with calls whose items aren't known, each with the name `*`.
     fn unread_modules(&self, crates: &[u32], bound: &mut Bound) {
         for krate in crates.iter().copied() {
             for (key, module) in self.files(krate) {
@@ -182,6 +198,9 @@ impl Workspace {
                 if is_refused || self.parsed(key).is_some_and(|it| it.error.is_some()) {
                     bound.insert((krate, module.clone(), "*".to_owned()));
                 }
+            }
+            for module in self.open_modules(krate) {
+                bound.insert((krate, module.clone(), "*".to_owned()));
             }
         }
     }

@@ -54,6 +54,14 @@ struct Expansion {
     error: Option<String>,
     tokens: usize,
     is_endless: bool,
+    /// Whether what it includes isn't known, as what a build script writes.
+    is_unknown: bool,
+}
+
+impl Expansion {
+    fn of(unit: Arc<Unit>, error: Option<String>, tokens: usize) -> Expansion {
+        Expansion { unit, error, tokens, is_endless: false, is_unknown: false }
+    }
 }
 
 struct SentExpansion {
@@ -86,6 +94,8 @@ struct CrateState {
     taken: HashMap<Hash, String>,
     /// The calls whose expansions end nowhere, and why.
     endless: Vec<Endless>,
+    /// The modules in which a call stands whose items aren't known.
+    open: HashSet<Vec<String>>,
     /// How often the program resolved it.
     resolved: usize,
 }
@@ -296,6 +306,7 @@ struct Walk<'a> {
     tokens: usize,
     is_too_deep: bool,
     endless: Vec<Endless>,
+    open: HashSet<Vec<String>>,
     not_run: NotRun,
 }
 
@@ -450,6 +461,14 @@ impl Walk<'_> {
             (self.tokens, self.is_too_deep) = (0, false);
         }
         let expansion = self.space.expand(self.krate, call, &target, folder, &mut self.not_run);
+        let is_unknown = match target.how {
+            How::Procedural => expansion.unit.items.is_empty(),
+            How::Builtin => target.name == "include" && expansion.is_unknown,
+            How::Rules(_) => false,
+        };
+        if is_unknown {
+            self.open.insert(place.to_vec());
+        }
         self.tokens += expansion.tokens + 1;
         let expansion_key = self.space.expansion_key(self.krate, call, &target);
         self.taken.insert(call.identity, expansion_key.clone());
@@ -477,7 +496,7 @@ impl Walk<'_> {
                 ),
             };
             self.endless.push(Endless { file: key.clone(), span: call.path.span, message });
-            let none = Arc::new(Expansion { unit: Arc::default(), error: None, tokens: 0, is_endless: true });
+            let none = Arc::new(Expansion { is_endless: true, ..Expansion::of(Arc::default(), None, 0) });
             for it in &mut self.pending[first..] {
                 it.2 = none.clone();
                 self.replaced.remove(&it.0);
@@ -672,12 +691,13 @@ impl Workspace {
             tokens: 0,
             is_too_deep: false,
             endless: Vec::new(),
+            open: HashSet::new(),
             not_run: NotRun::new(),
         };
         walk.file(&key, &Folder::of(&root, true), &[]);
         let calls = std::mem::take(&mut walk.calls);
         walk.settle(calls);
-        let Walk { files, missing, pending, replaced, taken, endless, not_run, .. } = walk;
+        let Walk { files, missing, pending, replaced, taken, endless, open, not_run, .. } = walk;
         for (identity, key, expansion) in pending {
             if !replaced.contains_key(&identity) {
                 self.set_expansion(krate, key, &expansion, lines);
@@ -695,7 +715,8 @@ impl Workspace {
         for (at, (key, _)) in files.iter().enumerate() {
             state.places.entry(key.clone()).or_insert(at);
         }
-        (state.files, state.missing, state.taken, state.endless) = (files, missing, taken, endless);
+        (state.files, state.missing, state.taken) = (files, missing, taken);
+        (state.endless, state.open) = (endless, open);
         let kept = self.not_run.entry(krate).or_default();
         kept.retain(|it, _| it.0 != "macro");
         kept.extend(not_run);
@@ -852,13 +873,13 @@ impl Workspace {
         }
         let elsewhere = (target.name.clone(), "bang", Hash::default().with_tokens(&call.input));
         let made = match (&target.how, self.elsewhere.get(&elsewhere)) {
-            (_, Some(unit)) => Expansion { unit: unit.clone(), error: None, tokens: 0, is_endless: false },
+            (_, Some(unit)) => Expansion::of(unit.clone(), None, 0),
             (How::Rules(definition), None) => {
                 let rules = self.rules.entry(definition.hash).or_insert_with(|| Arc::new(Rules::read(definition)));
                 expand_rules(rules, call, target.krate)
             }
             (How::Builtin, None) if target.name == "include" => included(call, &folder.of_file),
-            _ => Expansion { unit: Arc::default(), error: None, tokens: 0, is_endless: false },
+            _ => Expansion::of(Arc::default(), None, 0),
         };
         let made = Arc::new(made);
         self.cache.insert(cached, (text, made.clone()));
@@ -947,7 +968,7 @@ impl Workspace {
         if is_derived && asked.insert(format!("{krate} {text} {key}")) {
             *self.not_run.entry(krate).or_default().entry(("derive", target.name.clone())).or_default() += 1;
             let unit = self.elsewhere.get(&(target.name.clone(), "derive", input)).cloned().unwrap_or_default();
-            let expansion = Expansion { unit, error: None, tokens: 0, is_endless: false };
+            let expansion = Expansion::of(unit, None, 0);
             self.set_expansion(krate, key, &expansion, lines);
             return;
         }
@@ -969,7 +990,7 @@ impl Workspace {
                     Arc::new(Unit { attributes: Vec::new(), items: vec![given] })
                 }
             };
-            let expansion = Expansion { unit, error: None, tokens: 0, is_endless: false };
+            let expansion = Expansion::of(unit, None, 0);
             let built = self.set_expansion(krate, key, &expansion, lines);
             self.given_back.insert((input, *number), built);
             return;
@@ -1174,6 +1195,12 @@ impl Workspace {
         self.sent.get(key).map(|it| &it.built)
     }
 
+    /// The modules of a crate in which a call stands whose items aren't known: of a procedural macro, or an `include!` of
+    /// what a build script writes.
+    pub fn open_modules(&self, krate: u32) -> impl Iterator<Item = &Vec<String>> {
+        self.states[krate as usize].open.iter()
+    }
+
     /// How often the program resolved a crate.
     pub fn times_resolved(&self, krate: u32) -> usize {
         self.states[krate as usize].resolved
@@ -1297,20 +1324,20 @@ fn expand_rules(rules: &Result<Rules, String>, call: &Call, krate: u32) -> Expan
     let around = Hash::default().with("expansion").with(&call.identity.text());
     let unit = made.and_then(|it: Vec<Token>| unit_of(&it, around).map_err(|it| it.message));
     match unit {
-        Ok(unit) => Expansion { unit: Arc::new(unit), error: None, tokens, is_endless: false },
-        Err(error) => Expansion { unit: Arc::default(), error: Some(error), tokens, is_endless: false },
+        Ok(unit) => Expansion::of(Arc::new(unit), None, tokens),
+        Err(error) => Expansion::of(Arc::default(), Some(error), tokens),
     }
 }
 
 /// What stands in the file that `include!` names by a literal.
 fn included(call: &Call, folder: &Path) -> Expansion {
-    let none = Expansion { unit: Arc::default(), error: None, tokens: 0, is_endless: false };
+    let none = Expansion::of(Arc::default(), None, 0);
     let name = match &call.input[..] {
         [Token { kind: crate::token::Kind::Literal(it), .. }, ..] => crate::cfg::string_of(it),
         _ => None,
     };
     let Some(name) = name else {
-        return none;
+        return Expansion { is_unknown: true, ..none };
     };
     let path = folder.join(name);
     let around: Key = call.identity.text().into();
@@ -1318,7 +1345,7 @@ fn included(call: &Call, folder: &Path) -> Expansion {
         Ok(text) => {
             let parsed = parse_text(&path, &around, &text);
             let error = parsed.error.map(|it| format!("{}: {}", path.display(), it.message));
-            Expansion { unit: parsed.unit, error, tokens: text.len() / 4, is_endless: false }
+            Expansion::of(parsed.unit, error, text.len() / 4)
         }
         Err(error) => Expansion { error: Some(format!("{} can't be read: {error}", path.display())), ..none },
     }
