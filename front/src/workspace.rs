@@ -697,7 +697,7 @@ impl Workspace {
         walk.file(&key, &Folder::of(&root, true), &[]);
         let calls = std::mem::take(&mut walk.calls);
         walk.settle(calls);
-        let Walk { files, missing, pending, replaced, taken, endless, open, not_run, .. } = walk;
+        let Walk { files, missing, pending, replaced, units, taken, endless, open, not_run, .. } = walk;
         for (identity, key, expansion) in pending {
             if !replaced.contains_key(&identity) {
                 self.set_expansion(krate, key, &expansion, lines);
@@ -710,6 +710,17 @@ impl Workspace {
             }
         }
         self.replaced.extend(replaced);
+        // What no call takes any more.
+        self.cache.retain(|it, _| it.0 != krate || units.contains_key(&it.1));
+        let used: HashSet<&String> = taken.values().collect();
+        let front = format!("{{\"caller\":{krate},");
+        let is_left =
+            |key: &&String| key.starts_with(&front) && key.contains(",\"call\":\"bang\",") && !used.contains(key);
+        let left: Vec<String> = self.expansions.keys().filter(is_left).cloned().collect();
+        for key in left {
+            lines.push(format!("{{\"do\":\"remove expansion\",\"key\":{key}}}"));
+            self.expansions.remove(&key);
+        }
         let state = &mut self.states[krate as usize];
         state.places = HashMap::new();
         for (at, (key, _)) in files.iter().enumerate() {
