@@ -347,8 +347,7 @@ fn watch(path: &Path, options: &Options) -> Result<ExitCode> {
             }
             (0..space.crates.all.len() as u32).collect()
         } else {
-            let sources: Vec<PathBuf> =
-                paths.into_iter().filter(|it| it.extension().is_some_and(|it| it == "rs")).collect();
+            let sources: Vec<PathBuf> = paths.into_iter().filter(|it| space.reads(it)).collect();
             if sources.is_empty() {
                 continue;
             }

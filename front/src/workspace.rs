@@ -28,7 +28,8 @@ pub struct Parsed {
 
 struct Sent {
     unit: Arc<Unit>,
-    replaced: Vec<Hash>,
+    /// What stands in place of its calls, in their order.
+    replaced: Vec<Arc<Unit>>,
     built: Arc<Built>,
 }
 
@@ -56,11 +57,13 @@ struct Expansion {
     is_endless: bool,
     /// Whether what it includes isn't known, as what a build script writes.
     is_unknown: bool,
+    /// The file that it includes.
+    file: Option<Key>,
 }
 
 impl Expansion {
     fn of(unit: Arc<Unit>, error: Option<String>, tokens: usize) -> Expansion {
-        Expansion { unit, error, tokens, is_endless: false, is_unknown: false }
+        Expansion { unit, error, tokens, is_endless: false, is_unknown: false, file: None }
     }
 }
 
@@ -96,6 +99,8 @@ struct CrateState {
     endless: Vec<Endless>,
     /// The modules in which a call stands whose items aren't known.
     open: HashSet<Vec<String>>,
+    /// The files that `include!` names.
+    included: HashSet<Key>,
     /// How often the program resolved it.
     resolved: usize,
 }
@@ -307,6 +312,7 @@ struct Walk<'a> {
     is_too_deep: bool,
     endless: Vec<Endless>,
     open: HashSet<Vec<String>>,
+    included: HashSet<Key>,
     not_run: NotRun,
 }
 
@@ -469,6 +475,7 @@ impl Walk<'_> {
         if is_unknown {
             self.open.insert(place.to_vec());
         }
+        self.included.extend(expansion.file.clone());
         self.tokens += expansion.tokens + 1;
         let expansion_key = self.space.expansion_key(self.krate, call, &target);
         self.taken.insert(call.identity, expansion_key.clone());
@@ -692,12 +699,13 @@ impl Workspace {
             is_too_deep: false,
             endless: Vec::new(),
             open: HashSet::new(),
+            included: HashSet::new(),
             not_run: NotRun::new(),
         };
         walk.file(&key, &Folder::of(&root, true), &[]);
         let calls = std::mem::take(&mut walk.calls);
         walk.settle(calls);
-        let Walk { files, missing, pending, replaced, units, taken, endless, open, not_run, .. } = walk;
+        let Walk { files, missing, pending, replaced, units, taken, endless, open, included, not_run, .. } = walk;
         for (identity, key, expansion) in pending {
             if !replaced.contains_key(&identity) {
                 self.set_expansion(krate, key, &expansion, lines);
@@ -727,7 +735,7 @@ impl Workspace {
             state.places.entry(key.clone()).or_insert(at);
         }
         (state.files, state.missing, state.taken) = (files, missing, taken);
-        (state.endless, state.open) = (endless, open);
+        (state.endless, state.open, state.included) = (endless, open, included);
         let kept = self.not_run.entry(krate).or_default();
         kept.retain(|it, _| it.0 != "macro");
         kept.extend(not_run);
@@ -736,8 +744,10 @@ impl Workspace {
 
     /// Adds the commands for the files whose unit is another than the one that was handed in.
     fn build_files(&mut self, lines: &mut Vec<String>) -> Result<()> {
-        let mut work: Vec<(Key, u32, Vec<Hash>)> = Vec::new();
+        let mut work: Vec<(Key, u32, Vec<Arc<Unit>>)> = Vec::new();
         let mut seen = HashSet::new();
+        let same =
+            |a: &[Arc<Unit>], b: &[Arc<Unit>]| a.len() == b.len() && a.iter().zip(b).all(|(a, b)| Arc::ptr_eq(a, b));
         for (number, state) in self.states.iter().enumerate() {
             for (key, _) in &state.files {
                 if seen.insert(key.clone()) {
@@ -747,7 +757,7 @@ impl Workspace {
                     let is_same = self
                         .sent
                         .get(key)
-                        .is_some_and(|it| Arc::ptr_eq(&it.unit, &parsed.unit) && it.replaced == replaced);
+                        .is_some_and(|it| Arc::ptr_eq(&it.unit, &parsed.unit) && same(&it.replaced, &replaced));
                     if !is_same {
                         work.push((key.clone(), number as u32, replaced));
                     }
@@ -1096,6 +1106,12 @@ impl Workspace {
         self.program.ask_all(lines)
     }
 
+    /// Whether a change of this file may change something.
+    pub fn reads(&self, path: &Path) -> bool {
+        let is_included = |key: &Key| self.states.iter().any(|it| it.included.contains(key));
+        path.extension().is_some_and(|it| it == "rs") || key_of(path).is_ok_and(|it| is_included(&it))
+    }
+
     /// Reads these files again where they changed. Answers which crates were resolved again, or none where nothing
     /// that resolution reads changed.
     pub fn update(&mut self, paths: &[PathBuf]) -> Result<Vec<u32>> {
@@ -1103,6 +1119,13 @@ impl Workspace {
         for path in paths {
             let key = key_of(path)?;
             let is_there = path.is_file();
+            let including = (0..self.states.len()).filter(|it| self.states[*it].included.contains(&key));
+            let including: Vec<u32> = including.map(|it| it as u32).collect();
+            if !including.is_empty() {
+                self.cache.retain(|_, it| it.1.file.as_ref() != Some(&key));
+                self.expansions.retain(|it, _| !it.contains("\"text\":\"builtin include\""));
+                crates.extend(including);
+            }
             if is_there {
                 let parsed = parse(path, &key)?;
                 if self.parsed.get(&key).is_some_and(|it| it.text == parsed.text && it.error == parsed.error) {
@@ -1287,8 +1310,8 @@ pub fn place_json(krate: u32, module: &[String]) -> String {
     format!("[{krate}{names}]")
 }
 
-/// The replaced calls among these items and in what they expand to.
-fn replaced_in(items: &[Item], replaced: &HashMap<Hash, Arc<Unit>>, made: &mut Vec<Hash>) {
+/// What stands in place of calls among these items and in what they expand to.
+fn replaced_in(items: &[Item], replaced: &HashMap<Hash, Arc<Unit>>, made: &mut Vec<Arc<Unit>>) {
     if replaced.is_empty() {
         return;
     }
@@ -1296,7 +1319,7 @@ fn replaced_in(items: &[Item], replaced: &HashMap<Hash, Arc<Unit>>, made: &mut V
         match &item.kind {
             ItemKind::Call(call) => {
                 if let Some(unit) = replaced.get(&call.identity) {
-                    made.push(call.identity);
+                    made.push(unit.clone());
                     replaced_in(&unit.items, replaced, made);
                 }
             }
@@ -1352,12 +1375,13 @@ fn included(call: &Call, folder: &Path) -> Expansion {
     };
     let path = folder.join(name);
     let around: Key = call.identity.text().into();
+    let file = key_of(&path).ok();
     match std::fs::read_to_string(&path) {
         Ok(text) => {
             let parsed = parse_text(&path, &around, &text);
             let error = parsed.error.map(|it| format!("{}: {}", path.display(), it.message));
-            Expansion::of(parsed.unit, error, text.len() / 4)
+            Expansion { file, ..Expansion::of(parsed.unit, error, text.len() / 4) }
         }
-        Err(error) => Expansion { error: Some(format!("{} can't be read: {error}", path.display())), ..none },
+        Err(error) => Expansion { error: Some(format!("{} can't be read: {error}", path.display())), file, ..none },
     }
 }

@@ -49,7 +49,7 @@ fn edits_lead_where_a_fresh_session_begins() {
     write("src/a.rs", "pub struct T;\n");
     let mut space = open(&root);
     let before = space.counts().expansions;
-    let edits: [(&str, Option<&str>); 16] = [
+    let edits: [(&str, Option<&str>); 17] = [
         ("src/m.rs", Some("pub struct S;\nmake! { C D }\n")),
         ("src/m.rs", Some("pub struct S;\nmake! { C E }\npub fn made() { let x = 1; }\n")),
         ("src/m.rs", Some("pub struct S;\nmake! { C E }\npub fn made() { let x = 2; }\n")),
@@ -64,6 +64,11 @@ fn edits_lead_where_a_fresh_session_begins() {
         ("src/lib.rs", Some("macro_rules! make { ($($n:ident)*) => { $(pub struct $n;)* make2! { B } } }\nmacro_rules! make2 { ($n:ident) => { pub struct $n; } }\nmod m;\nmod a;\nmake! { A }\npub use a::T;\n")),
         ("src/lib.rs", Some("macro_rules! more { () => { macro_rules! make { ($($n:ident)*) => { $(pub struct $n;)* } } } }\nmore!();\nmod m;\nmod a;\nmake! { A }\npub use a::T;\n")),
         ("src/m.rs", Some("pub struct S;\nmake! { C }\nmore!();\nmake! { made }\n")),
+        // Another macro is defined by a call that stays as it is.
+        (
+            "src/lib.rs",
+            Some("macro_rules! more { () => { macro_rules! make { ($($n:ident)*) => { $(pub enum $n { V })* } } } }\nmore!();\nmod m;\nmod a;\nmake! { A }\npub use a::T;\n"),
+        ),
         ("src/lib.rs", Some("\n\n#[macro_use] mod macros;\nmod m;\nmod a;\nmake! { A }\npub use a::T;\n")),
         ("src/macros.rs", Some("macro_rules! make { ($($n:ident)*) => { $(pub struct $n;)* } }\nmacro_rules! more { () => {} }\n")),
     ];
@@ -79,6 +84,14 @@ fn edits_lead_where_a_fresh_session_begins() {
         space.update(&[path]).unwrap();
         assert_eq!(told(&mut space), told(&mut open(&root)), "after edit {number}, of {name}");
     }
+    // A file that is included.
+    let included = write("src/more.txt", "pub struct A;\n");
+    let root_file = write("src/lib.rs", "include!(\"more.txt\");\nmod m;\n");
+    space.update(&[root_file]).unwrap();
+    assert!(told(&mut space).iter().any(|it| it.contains("struct one::A")), "{:?}", told(&mut space));
+    write("src/more.txt", "pub fn other() {}\npub enum A {}\n");
+    space.update(&[included]).unwrap();
+    assert!(told(&mut space).iter().any(|it| it.contains("enum one::A")), "{:?}", told(&mut space));
     // What calls expand to no longer isn't kept.
     let path = root.join("src/m.rs");
     for it in 0..20 {
