@@ -193,7 +193,7 @@ fn summary(space: &Workspace, report: &Report, taken: Duration) -> String {
         text.push_str(&format!("note: `{name}` ({}) {what}\n", plural(*count, "use")));
     }
     for it in &report.elsewhere {
-        text.push_str(&format!("note: a file of a dependency isn't read: {it}\n"));
+        text.push_str(&format!("note: not read: {it}\n"));
     }
     if report.unjudged > 0 {
         let count = plural(report.unjudged, "path");

@@ -49,7 +49,7 @@ pub struct Report {
     /// How many imports and calls weren't judged, since they go into a crate for which a stub stands, or into a file that
     /// couldn't be read.
     pub unjudged: usize,
-    /// Files of other crates that couldn't be read.
+    /// Files of other crates, and expansions, that couldn't be read.
     pub elsewhere: Vec<String>,
     pub not_run: NotRun,
 }
@@ -534,6 +534,8 @@ impl Workspace {
                 });
             }
         }
+        let refused = self.refused().iter().filter(|it| it.0.is_empty());
+        report.elsewhere.extend(refused.map(|it| it.1.clone()));
         report.elsewhere.sort();
         report.elsewhere.dedup();
     }

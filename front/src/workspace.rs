@@ -313,6 +313,8 @@ struct Walk<'a> {
     endless: Vec<Endless>,
     open: HashSet<Vec<String>>,
     included: HashSet<Key>,
+    /// The paths that were looked up, by module.
+    looked_up: HashSet<(Vec<String>, String)>,
     not_run: NotRun,
 }
 
@@ -454,6 +456,7 @@ impl Walk<'_> {
             Some(it) => it.clone(),
             None => {
                 let question = (place.to_vec(), call.path.text.clone());
+                self.looked_up.insert(question.clone());
                 let known = self.space.states[self.krate as usize].reached.get(&question).cloned();
                 match known.unwrap_or_else(|| self.space.likely(self.krate, question)) {
                     Some(it) => it,
@@ -700,12 +703,15 @@ impl Workspace {
             endless: Vec::new(),
             open: HashSet::new(),
             included: HashSet::new(),
+            looked_up: HashSet::new(),
             not_run: NotRun::new(),
         };
         walk.file(&key, &Folder::of(&root, true), &[]);
         let calls = std::mem::take(&mut walk.calls);
         walk.settle(calls);
-        let Walk { files, missing, pending, replaced, units, taken, endless, open, included, not_run, .. } = walk;
+        let Walk {
+            files, missing, pending, replaced, units, taken, endless, open, included, looked_up, not_run, ..
+        } = walk;
         for (identity, key, expansion) in pending {
             if !replaced.contains_key(&identity) {
                 self.set_expansion(krate, key, &expansion, lines);
@@ -730,6 +736,7 @@ impl Workspace {
             self.expansions.remove(&key);
         }
         let state = &mut self.states[krate as usize];
+        state.reached.retain(|it, _| looked_up.contains(it));
         state.places = HashMap::new();
         for (at, (key, _)) in files.iter().enumerate() {
             state.places.entry(key.clone()).or_insert(at);
