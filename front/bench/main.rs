@@ -1,0 +1,99 @@
+//! Measures edits: a package of so many nodes, in which the body of a function is edited in a file of 2,000 lines, and in
+//! which an item is added there. Each time runs from the new text to the diagnostics of the package.
+
+use std::path::PathBuf;
+use std::time::Instant;
+
+use anyhow::Result;
+use cargo_nogsimat::package::{Crates, Wanted};
+use cargo_nogsimat::program;
+use cargo_nogsimat::workspace::Workspace;
+use clap::Parser;
+
+/// Measures edits in a package that is made for it
+#[derive(Parser)]
+struct Cli {
+    /// The folder in which the package is made
+    folder: PathBuf,
+    #[arg(long, default_value_t = 50_000)]
+    nodes: usize,
+    #[arg(long, default_value_t = 50)]
+    edits: usize,
+    #[arg(long)]
+    std_sources: Option<PathBuf>,
+}
+
+/// A file of 2,000 lines: functions of ten lines, structs, imports and an impl each.
+fn file(number: usize, edited: usize, added: usize) -> String {
+    let mut text = String::from("use super::*;\nuse std::fmt::Debug;\n\n");
+    for it in 0..125 {
+        let value = if it == 60 { edited } else { 0 };
+        text.push_str(&format!(
+            "#[derive(Clone, Debug)]\npub struct Item{it}In{number} {{\n    pub first: u32,\n    second: Vec<String>,\n}}\n\n\
+             impl Item{it}In{number} {{\n    pub fn get(&self, at: usize) -> Option<&String> {{\n        let found = self.second.get(at + {value});\n        \
+             if found.is_none() {{\n            return None;\n        }}\n        found\n    }}\n}}\n\n",
+        ));
+    }
+    for it in 0..added {
+        text.push_str(&format!("pub fn added_{it}() {{}}\n"));
+    }
+    text
+}
+
+fn told(what: &str, mut times: Vec<f64>) {
+    times.sort_by(f64::total_cmp);
+    let at = |part: f64| times[((times.len() - 1) as f64 * part) as usize];
+    println!("| {what} | {:.1} | {:.1} | {:.1} |", at(0.5), at(0.95), at(1.0));
+}
+
+fn main() -> Result<()> {
+    let cli = Cli::parse();
+    let source = cli.folder.join("src");
+    std::fs::create_dir_all(&source)?;
+    std::fs::write(
+        cli.folder.join("Cargo.toml"),
+        "[package]\nname = \"large\"\nversion = \"0.1.0\"\nedition = \"2021\"\n[workspace]\n",
+    )?;
+    let files = (cli.nodes / 377).max(1);
+    let mut root = String::new();
+    for it in 0..files {
+        root.push_str(&format!("pub mod m{it};\npub use m{it}::Item0In{it};\n"));
+        std::fs::write(source.join(format!("m{it}.rs")), file(it, 0, 0))?;
+    }
+    std::fs::write(source.join("lib.rs"), root)?;
+    let wanted = Wanted {
+        path: cli.folder.clone(),
+        std_sources: cli.std_sources.clone(),
+        no_std: cli.std_sources.is_none(),
+        ..Wanted::default()
+    };
+    let crates = Crates::read(&wanted)?;
+    let start = Instant::now();
+    let mut space = Workspace::open(crates, &program::find(None)?, None, |_, _, _| {})?;
+    let report = space.report()?;
+    let own: usize = {
+        let number = space.crates.all.iter().position(|it| it.is_asked).unwrap_or(0) as u32;
+        space.files(number).iter().filter_map(|(key, _)| space.built(key)).map(|it| it.nodes.len()).sum()
+    };
+    println!(
+        "{own} nodes in {files} files; opened in {:.2} s; {} errors",
+        start.elapsed().as_secs_f64(),
+        report.diagnostics.len()
+    );
+    println!("| Edit | median, ms | 95 of 100 | most |\n|---|---|---|---|");
+    let path = source.join("m3.rs").canonicalize()?;
+    let mut measure = |what: &str, text: &dyn Fn(usize) -> String| -> Result<()> {
+        let mut times = Vec::new();
+        for it in 0..cli.edits {
+            let text = text(it);
+            let start = Instant::now();
+            space.update_text(&path, &text)?;
+            space.report()?;
+            times.push(start.elapsed().as_secs_f64() * 1000.0);
+        }
+        told(what, times);
+        Ok(())
+    };
+    measure("the body of a function", &|it| file(3, it + 1, 0))?;
+    measure("an item is added", &|it| file(3, 0, it + 1))
+}

@@ -1,0 +1,3 @@
+pub(super) fn row(price: u32, tax: u32) -> String {
+    format!("{price} {tax}")
+}

@@ -1,0 +1,14 @@
+//! Resolves the names of real crates.
+//!
+//! [`package`] finds which crates there are, [`workspace`] reads their files and keeps a session of the resolver's
+//! program ([`program`]) the same as what the files say, and [`report`] tells answers at places in files.
+
+pub mod cfg;
+pub mod macros;
+pub mod package;
+pub mod program;
+pub mod report;
+pub mod syntax;
+pub mod token;
+pub mod unit;
+pub mod workspace;

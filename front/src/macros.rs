@@ -1,0 +1,930 @@
+//! The expander of `macro_rules!` and of `macro` with rules, over token trees.
+//!
+//! Rules are tried in their order. Repetitions take as many turns as they can, and fewer where what follows them
+//! doesn't match then. Types, paths and the like are passed over by hand; expressions, patterns and statements are
+//! read by `syn`.
+
+use std::collections::HashMap;
+use std::sync::Arc;
+
+use crate::syntax::{angle, MacroDefinition};
+use crate::token::{count, opened, text_of, Delimiter, Kind, Span, Token, Tokens};
+
+/// An expansion has at most so many tokens.
+pub const MOST_TOKENS: usize = 1_000_000;
+/// Matching one call takes at most so many steps.
+const MOST_STEPS: usize = 20_000_000;
+
+/// The rules of a macro, read once.
+#[derive(Debug)]
+pub struct Rules(Vec<(Vec<Pattern>, Vec<Template>)>);
+
+#[derive(Debug)]
+enum Pattern {
+    Token(Token),
+    Group(Delimiter, Vec<Pattern>),
+    Variable(Arc<str>, Fragment),
+    Repeat { inner: Vec<Pattern>, separator: Option<Token>, least: usize, most: usize },
+}
+
+#[derive(Debug)]
+enum Template {
+    Token(Token),
+    Group(Delimiter, Vec<Template>, Span),
+    Variable(Arc<str>),
+    Repeat {
+        inner: Vec<Template>,
+        separator: Option<Token>,
+    },
+    /// `${count(x)}`, `${index()}`, `${len()}`, `${ignore(x)}`.
+    Function(Arc<str>, Vec<Token>),
+    Crate(Token),
+}
+
+#[derive(Clone, Copy, PartialEq, Eq, Debug)]
+enum Fragment {
+    Block,
+    Expression,
+    Ident,
+    Item,
+    Lifetime,
+    Literal,
+    Meta,
+    Pattern { or: bool },
+    Path,
+    Statement,
+    Tree,
+    Type,
+    Visibility,
+}
+
+/// What a variable stands for: tokens, or as many as a repetition took turns.
+#[derive(Clone, Debug)]
+enum Bound {
+    Tokens(Vec<Token>),
+    Turns(Vec<Bound>),
+}
+
+type Bindings = HashMap<Arc<str>, Bound>;
+
+impl Fragment {
+    fn of(name: &str) -> Option<Fragment> {
+        Some(match name {
+            "block" => Fragment::Block,
+            "expr" | "expr_2021" => Fragment::Expression,
+            "ident" => Fragment::Ident,
+            "item" => Fragment::Item,
+            "lifetime" => Fragment::Lifetime,
+            "literal" => Fragment::Literal,
+            "meta" => Fragment::Meta,
+            "pat" => Fragment::Pattern { or: true },
+            "pat_param" => Fragment::Pattern { or: false },
+            "path" => Fragment::Path,
+            "stmt" => Fragment::Statement,
+            "tt" => Fragment::Tree,
+            "ty" => Fragment::Type,
+            "vis" => Fragment::Visibility,
+            _ => return None,
+        })
+    }
+}
+
+impl Rules {
+    pub fn read(definition: &MacroDefinition) -> Result<Rules, String> {
+        let mut rules = Vec::new();
+        let mut rest = &definition.body[..];
+        while !rest.is_empty() {
+            let [matcher, arrow, body, behind @ ..] = rest else {
+                return Err(format!("the rules of `{}` end in the middle of one", definition.name));
+            };
+            let (Kind::Group(_, matcher), Kind::Group(_, body), true) = (&matcher.kind, &body.kind, arrow.is("=>"))
+            else {
+                return Err(format!("a rule of `{}` isn't `(..) => {{..}}`", definition.name));
+            };
+            let patterns = patterns_of(matcher)?;
+            let mut names = Vec::new();
+            names_of(&patterns, &mut names);
+            rules.push((patterns, templates_of(body, &names, definition.has_local_inner_macros)?));
+            rest = match behind {
+                [it, behind @ ..] if it.is(";") || it.is(",") => behind,
+                behind => behind,
+            };
+        }
+        Ok(Rules(rules))
+    }
+
+    /// What the call expands to. `krate` is the number of the macro's crate, which `$crate` stands for.
+    pub fn expand(&self, input: &[Token], krate: u32) -> Result<Vec<Token>, String> {
+        let mut steps = 0;
+        for (patterns, templates) in &self.0 {
+            let mut bindings = Bindings::new();
+            let end = match_all(patterns, input, &mut bindings, &mut steps);
+            if steps > MOST_STEPS {
+                return Err("the call takes too many steps to match".to_owned());
+            }
+            if end {
+                let mut made = Writer { made: Vec::new(), left: MOST_TOKENS, krate };
+                made.write(templates, &bindings, &mut Vec::new())?;
+                return Ok(made.made);
+            }
+        }
+        let shown: String = text_of(input).chars().take(60).collect();
+        Err(format!("no rule of the macro takes `{}`", shown.trim_end()))
+    }
+}
+
+fn names_of(patterns: &[Pattern], names: &mut Vec<Arc<str>>) {
+    for it in patterns {
+        match it {
+            Pattern::Variable(name, _) => names.push(name.clone()),
+            Pattern::Group(_, inner) | Pattern::Repeat { inner, .. } => names_of(inner, names),
+            Pattern::Token(_) => {}
+        }
+    }
+}
+
+/// The separator and the operator behind `$(..)`, and how many tokens they are.
+fn repetition(behind: &[Token]) -> Option<(Option<Token>, &'static str, usize)> {
+    fn operator(token: &Token) -> Option<&'static str> {
+        ["*", "+", "?"].into_iter().find(|it| token.is(it))
+    }
+    match behind {
+        [it, ..] if operator(it).is_some() => Some((None, operator(it)?, 1)),
+        [separator, it, ..] => Some((Some(separator.clone()), operator(it)?, 2)),
+        _ => None,
+    }
+}
+
+fn patterns_of(tokens: &[Token]) -> Result<Vec<Pattern>, String> {
+    let tokens = opened(tokens);
+    let mut made = Vec::new();
+    let mut rest = &tokens[..];
+    while let [it, behind @ ..] = rest {
+        rest = behind;
+        match &it.kind {
+            Kind::Punct("$") => match behind {
+                [Token { kind: Kind::Group(Delimiter::Parenthesis, inner), .. }, behind @ ..] => {
+                    let Some((separator, operator, taken)) = repetition(behind) else {
+                        return Err("a repetition of a macro has no `*`, `+` or `?`".to_owned());
+                    };
+                    let (least, most) = match operator {
+                        "*" => (0, usize::MAX),
+                        "+" => (1, usize::MAX),
+                        _ => (0, 1),
+                    };
+                    made.push(Pattern::Repeat { inner: patterns_of(inner)?, separator, least, most });
+                    rest = &behind[taken..];
+                }
+                [Token { kind: Kind::Ident(name), .. }, colon, fragment, behind @ ..] if colon.is(":") => {
+                    let Some(fragment) = fragment.word().and_then(Fragment::of) else {
+                        return Err(format!("`${name}` has a fragment that isn't known"));
+                    };
+                    made.push(Pattern::Variable(name.clone(), fragment));
+                    rest = behind;
+                }
+                [dollar, behind @ ..] if dollar.is("$") => {
+                    made.push(Pattern::Token(dollar.clone()));
+                    rest = behind;
+                }
+                _ => made.push(Pattern::Token(it.clone())),
+            },
+            Kind::Group(delimiter, inner) => made.push(Pattern::Group(*delimiter, patterns_of(inner)?)),
+            _ => made.push(Pattern::Token(it.clone())),
+        }
+    }
+    Ok(made)
+}
+
+/// What a rule's right side is. With `local` each macro that it calls by a single name is one of the macro's crate.
+fn templates_of(tokens: &[Token], names: &[Arc<str>], local: bool) -> Result<Vec<Template>, String> {
+    let mut made: Vec<Template> = Vec::new();
+    let mut rest = tokens;
+    while let [it, behind @ ..] = rest {
+        rest = behind;
+        match &it.kind {
+            Kind::Punct("$") => match behind {
+                [Token { kind: Kind::Group(Delimiter::Parenthesis, inner), .. }, behind @ ..] => {
+                    match repetition(behind) {
+                        Some((separator, _, taken)) => {
+                            made.push(Template::Repeat { inner: templates_of(inner, names, local)?, separator });
+                            rest = &behind[taken..];
+                        }
+                        None => made.push(Template::Token(it.clone())),
+                    }
+                }
+                [Token { kind: Kind::Group(Delimiter::Brace, inner), .. }, behind @ ..]
+                    if matches!(&inner[..], [name, Token { kind: Kind::Group(Delimiter::Parenthesis, _), .. }]
+                        if name.word().is_some()) =>
+                {
+                    let name = inner[0].word().unwrap_or_default();
+                    let given = inner[1].group(Delimiter::Parenthesis).map_or(Vec::new(), |it| it.to_vec());
+                    made.push(Template::Function(name.into(), given));
+                    rest = behind;
+                }
+                [name @ Token { kind: Kind::Ident(word), .. }, behind @ ..] => {
+                    if **word == *"crate" {
+                        made.push(Template::Crate(name.clone()));
+                    } else if names.contains(word) {
+                        made.push(Template::Variable(word.clone()));
+                    } else {
+                        // A variable of a macro that the expansion defines.
+                        made.extend([Template::Token(it.clone()), Template::Token(name.clone())]);
+                    }
+                    rest = behind;
+                }
+                [dollar, behind @ ..] if dollar.is("$") => {
+                    made.push(Template::Token(dollar.clone()));
+                    rest = behind;
+                }
+                _ => made.push(Template::Token(it.clone())),
+            },
+            Kind::Group(delimiter, inner) => {
+                made.push(Template::Group(*delimiter, templates_of(inner, names, local)?, it.span));
+            }
+            Kind::Ident(word) if local && is_called(behind) && **word != *"macro_rules" => {
+                let is_path = matches!(made.last(), Some(Template::Token(it)) if it.is("::"));
+                if !is_path {
+                    let colons = Token { kind: Kind::Punct("::"), span: it.span };
+                    made.extend([Template::Crate(it.clone()), Template::Token(colons)]);
+                }
+                made.push(Template::Token(it.clone()));
+            }
+            _ => made.push(Template::Token(it.clone())),
+        }
+    }
+    Ok(made)
+}
+
+fn is_called(behind: &[Token]) -> bool {
+    matches!(behind, [bang, Token { kind: Kind::Group(..), .. }, ..] if bang.is("!"))
+}
+
+fn same(wanted: &Token, found: &Token) -> bool {
+    match (&wanted.kind, &found.kind) {
+        (Kind::Ident(a), Kind::Ident(b)) => a == b,
+        (Kind::Lifetime(a), Kind::Lifetime(b)) => a == b,
+        (Kind::Literal(a), Kind::Literal(b)) => a == b,
+        (Kind::Punct(a), Kind::Punct(b)) => a == b,
+        (Kind::Crate(a), Kind::Crate(b)) => a == b,
+        _ => false,
+    }
+}
+
+/// Whether all of the input is what the patterns say. The bindings are those of the way that was found.
+fn match_all(patterns: &[Pattern], input: &[Token], bindings: &mut Bindings, steps: &mut usize) -> bool {
+    match_from(patterns, input, 0, bindings, steps) == Some(input.len()) && *steps <= MOST_STEPS
+}
+
+/// Where the patterns end in the input, which is its end at the outermost level: the last pattern sees to that by
+/// taking fewer turns where that helps.
+fn match_from(
+    patterns: &[Pattern],
+    input: &[Token],
+    mut at: usize,
+    bindings: &mut Bindings,
+    steps: &mut usize,
+) -> Option<usize> {
+    for (number, pattern) in patterns.iter().enumerate() {
+        *steps += 1;
+        if *steps > MOST_STEPS {
+            return None;
+        }
+        match pattern {
+            Pattern::Token(wanted) => {
+                let found = input.get(at)?;
+                if !same(wanted, found) {
+                    return None;
+                }
+                at += 1;
+            }
+            Pattern::Group(delimiter, inner) => {
+                let found = input.get(at)?.group(*delimiter)?;
+                if !match_all(inner, found, bindings, steps) {
+                    return None;
+                }
+                at += 1;
+            }
+            Pattern::Variable(name, fragment) => {
+                let (tokens, taken) = take_fragment(*fragment, &input[at..], steps)?;
+                bindings.insert(name.clone(), Bound::Tokens(tokens));
+                at += taken;
+            }
+            Pattern::Repeat { inner, separator, least, most } => {
+                let rest = &patterns[number + 1..];
+                return match_turns(inner, separator.as_ref(), (*least, *most), rest, input, at, bindings, steps);
+            }
+        }
+    }
+    // Only all of the input will do, both at the end of a group and in a turn's last pattern where it is the last.
+    Some(at)
+}
+
+#[allow(clippy::too_many_arguments)]
+fn match_turns(
+    inner: &[Pattern],
+    separator: Option<&Token>,
+    (least, most): (usize, usize),
+    rest: &[Pattern],
+    input: &[Token],
+    at: usize,
+    bindings: &mut Bindings,
+    steps: &mut usize,
+) -> Option<usize> {
+    let mut turns: Vec<Bindings> = Vec::new();
+    let mut ends = vec![at];
+    while turns.len() < most {
+        let mut from = *ends.last()?;
+        if let (Some(separator), false) = (separator, turns.is_empty()) {
+            match input.get(from) {
+                Some(found) if same(separator, found) => from += 1,
+                _ => break,
+            }
+        }
+        let mut turn = Bindings::new();
+        match match_from(inner, input, from, &mut turn, steps) {
+            Some(end) if end > *ends.last()? => {
+                turns.push(turn);
+                ends.push(end);
+            }
+            _ => break,
+        }
+    }
+    let mut names = Vec::new();
+    names_of(inner, &mut names);
+    let wants_end = rest.is_empty();
+    loop {
+        if turns.len() < least {
+            return None;
+        }
+        let from = ends.pop()?;
+        let mut more = Bindings::new();
+        // Where nothing follows, the most turns that could be taken are taken.
+        let end = if wants_end { Some(from) } else { match_from(rest, input, from, &mut more, steps) };
+        if let Some(end) = end {
+            bindings.extend(more);
+            for name in names {
+                let all = turns.iter_mut().filter_map(|it| it.remove(&name)).collect();
+                bindings.insert(name, Bound::Turns(all));
+            }
+            return Some(end);
+        }
+        if *steps > MOST_STEPS {
+            return None;
+        }
+        turns.pop()?;
+    }
+}
+
+/// What the fragment takes from the front of the input, as what the variable stands for, and how many tokens.
+fn take_fragment(fragment: Fragment, input: &[Token], steps: &mut usize) -> Option<(Vec<Token>, usize)> {
+    let first = input.first();
+    if let Some(Token { kind: Kind::Group(Delimiter::None, inner), .. }) = first {
+        let fits = match fragment {
+            Fragment::Ident => matches!(&inner[..], [it] if it.word().is_some()),
+            Fragment::Lifetime => matches!(&inner[..], [Token { kind: Kind::Lifetime(_), .. }]),
+            Fragment::Literal => is_literal(inner) == Some(inner.len()),
+            Fragment::Block => matches!(&inner[..], [it] if it.group(Delimiter::Brace).is_some()),
+            Fragment::Visibility => visibility(inner) == inner.len(),
+            Fragment::Tree => true,
+            _ => !inner.is_empty(),
+        };
+        // What a fragment begins with may go on behind it: `$path::<T>`, `$expr + 1`.
+        let goes_on = matches!(fragment, Fragment::Expression | Fragment::Statement | Fragment::Type)
+            && input.get(1).is_some_and(|it| !it.is(",") && !it.is(";") && !it.is("=>"));
+        if fits && !goes_on {
+            return Some((vec![input[0].clone()], 1));
+        }
+        if fragment == Fragment::Visibility {
+            return Some((Vec::new(), 0));
+        }
+        if !fits {
+            return None;
+        }
+    }
+    let taken = match fragment {
+        Fragment::Tree => 1 + usize::from(first?.goes_on_in(input.get(1))),
+        Fragment::Ident => usize::from(first?.word().is_some_and(|it| it != "_")),
+        Fragment::Lifetime => usize::from(matches!(first?.kind, Kind::Lifetime(_))),
+        Fragment::Literal => is_literal(input)?,
+        Fragment::Block => usize::from(first?.group(Delimiter::Brace).is_some()),
+        Fragment::Path => path(input)?,
+        Fragment::Type => type_(input)?,
+        Fragment::Meta => {
+            let from = path(input)?;
+            match input.get(from) {
+                Some(Token { kind: Kind::Group(..), .. }) => from + 1,
+                Some(it) if it.is("=") => from + 1 + by_syn::<syn::Expr>(&input[from + 1..], &[], steps)?,
+                _ => from,
+            }
+        }
+        Fragment::Visibility => {
+            let taken = visibility(input);
+            return Some((grouped(&input[..taken]), taken));
+        }
+        Fragment::Expression => {
+            if first?.is_word("let") || first?.is("=>") || first?.is(",") || first?.is(";") {
+                return None;
+            }
+            by_syn::<syn::Expr>(input, &[], steps)?
+        }
+        Fragment::Pattern { or: true } => by_syn::<OrPattern>(input, &["=", "if"], steps)?,
+        Fragment::Pattern { or: false } => by_syn::<syn::Pat>(input, &["=", "|", "if"], steps)?,
+        // Items alone take their `;` along.
+        Fragment::Statement => match begins_item(input) {
+            true => item(input)?,
+            false => by_syn::<Statement>(input, &[], steps)?,
+        },
+        Fragment::Item => item(input)?,
+    };
+    if taken == 0 {
+        return None;
+    }
+    let tokens = &input[..taken];
+    let stays = matches!(fragment, Fragment::Tree | Fragment::Ident | Fragment::Lifetime);
+    Some((if stays { tokens.to_vec() } else { grouped(tokens) }, taken))
+}
+
+/// The tokens kept together, so that another macro sees them as the one fragment that they are.
+fn grouped(tokens: &[Token]) -> Vec<Token> {
+    match tokens {
+        [] => Vec::new(),
+        [it] if matches!(it.kind, Kind::Group(..) | Kind::Literal(_)) => vec![it.clone()],
+        [first, ..] => {
+            let span = Span { start: first.span.start, end: tokens[tokens.len() - 1].span.end };
+            vec![Token { kind: Kind::Group(Delimiter::None, tokens.into()), span }]
+        }
+    }
+}
+
+fn is_literal(input: &[Token]) -> Option<usize> {
+    match input {
+        [Token { kind: Kind::Literal(_), .. }, ..] => Some(1),
+        [it, ..] if it.is_word("true") || it.is_word("false") => Some(1),
+        [minus, Token { kind: Kind::Literal(_), .. }, ..] if minus.is("-") => Some(2),
+        _ => None,
+    }
+}
+
+fn visibility(input: &[Token]) -> usize {
+    match input {
+        [it, Token { kind: Kind::Group(Delimiter::Parenthesis, inner), .. }, ..] if it.is_word("pub") => {
+            let is_place = inner.first().is_some_and(|it| it.is_word("in"))
+                || (inner.len() == 1 && ["crate", "self", "super"].iter().any(|word| inner[0].is_word(word)));
+            1 + usize::from(is_place)
+        }
+        [it, ..] if it.is_word("pub") => 1,
+        [it, next, ..] if it.is_word("crate") && !next.is("::") => 1,
+        [it] if it.is_word("crate") => 1,
+        _ => 0,
+    }
+}
+
+/// Behind what stands in `<` and `>`, which begins at the front.
+fn arguments(input: &[Token]) -> Option<usize> {
+    let mut depth = 0;
+    for (at, it) in input.iter().enumerate() {
+        depth += angle(it);
+        if depth <= 0 {
+            // `>>` that closes one level more than it should is cut by no one here: the outer level isn't in the input.
+            return (depth == 0).then_some(at + 1);
+        }
+    }
+    None
+}
+
+fn is_path_word(token: &Token) -> bool {
+    match &token.kind {
+        Kind::Crate(_) => true,
+        Kind::Ident(word) => !is_reserved(word) || ["self", "Self", "super", "crate"].contains(&&**word),
+        _ => false,
+    }
+}
+
+fn is_reserved(word: &str) -> bool {
+    const WORDS: [&str; 37] = [
+        "_", "as", "async", "await", "break", "const", "continue", "crate", "dyn", "else", "enum", "extern", "false",
+        "fn", "for", "if", "impl", "in", "let", "loop", "match", "mod", "move", "mut", "pub", "ref", "return", "self",
+        "Self", "static", "struct", "super", "trait", "true", "type", "unsafe", "use",
+    ];
+    WORDS.contains(&word) || word == "where" || word == "while"
+}
+
+/// A path of a type, with arguments in `<>`, `::<>` or as `Fn(A) -> B`.
+fn path(input: &[Token]) -> Option<usize> {
+    let mut at = 0;
+    if input.first()?.is("<") {
+        at = arguments(input)?;
+        if !input.get(at)?.is("::") {
+            return None;
+        }
+        at += 1;
+    } else if input.first()?.is("::") {
+        at = 1;
+    }
+    loop {
+        let it = input.get(at)?;
+        let is_whole_path = matches!(&it.kind, Kind::Group(Delimiter::None, _)) && at == 0;
+        if !is_path_word(it) && !is_whole_path {
+            return None;
+        }
+        at += 1;
+        if input.get(at).is_some_and(|it| it.is("<")) {
+            at += arguments(&input[at..])?;
+        } else if input.get(at).is_some_and(|it| it.is("::")) && input.get(at + 1).is_some_and(|it| it.is("<")) {
+            at += 1 + arguments(&input[at + 1..])?;
+        } else if input.get(at).is_some_and(|it| it.group(Delimiter::Parenthesis).is_some()) && is_fn(&input[at - 1]) {
+            at += 1;
+            if input.get(at).is_some_and(|it| it.is("->")) {
+                at += 1 + type_without_plus(&input[at + 1..])?;
+            }
+        }
+        let goes_on = input.get(at).is_some_and(|it| it.is("::")) && input.get(at + 1).is_some_and(is_path_word);
+        if !goes_on {
+            return Some(at);
+        }
+        at += 1;
+    }
+}
+
+fn is_fn(token: &Token) -> bool {
+    matches!(token.word(), Some("Fn" | "FnMut" | "FnOnce" | "AsyncFn" | "AsyncFnMut" | "AsyncFnOnce"))
+}
+
+/// Bounds as `A + 'a + ?Sized`.
+fn bounds(input: &[Token]) -> Option<usize> {
+    let mut at = 0;
+    loop {
+        let it = input.get(at)?;
+        if let Kind::Lifetime(_) | Kind::Group(Delimiter::Parenthesis, _) = it.kind {
+            at += 1;
+        } else {
+            at += usize::from(it.is("?"));
+            at += binder(&input[at..])?;
+            at += path(&input[at..])?;
+        }
+        if !input.get(at).is_some_and(|it| it.is("+")) {
+            return Some(at);
+        }
+        at += 1;
+    }
+}
+
+/// `for<'a>`, or nothing.
+fn binder(input: &[Token]) -> Option<usize> {
+    match input {
+        [it, rest @ ..] if it.is_word("for") => Some(1 + arguments(rest)?),
+        _ => Some(0),
+    }
+}
+
+fn type_without_plus(input: &[Token]) -> Option<usize> {
+    let first = input.first()?;
+    let word = first.word().unwrap_or("");
+    match &first.kind {
+        Kind::Group(Delimiter::Parenthesis | Delimiter::Bracket, _) => return Some(1),
+        Kind::Group(Delimiter::None, _) if !input.get(1).is_some_and(|it| it.is("::")) => return Some(1),
+        Kind::Punct("!") => return Some(1),
+        Kind::Punct("&" | "&&") => {
+            let mut at = 1;
+            at += usize::from(matches!(input.get(at)?.kind, Kind::Lifetime(_)));
+            at += usize::from(input.get(at)?.is_word("mut"));
+            return Some(at + type_without_plus(&input[at..])?);
+        }
+        Kind::Punct("*") => {
+            let is_pointer = input.get(1)?.is_word("const") || input.get(1)?.is_word("mut");
+            return if is_pointer { Some(2 + type_without_plus(&input[2..])?) } else { None };
+        }
+        _ => {}
+    }
+    match word {
+        "_" => return Some(1),
+        "impl" | "dyn" if !input.get(1).is_some_and(|it| it.is("::")) => return Some(1 + bounds(&input[1..])?),
+        "for" | "unsafe" | "extern" | "fn" => {
+            let mut at = binder(input)?;
+            at += usize::from(input.get(at)?.is_word("unsafe"));
+            if input.get(at)?.is_word("extern") {
+                at += 1;
+                at += usize::from(matches!(input.get(at)?.kind, Kind::Literal(_)));
+            }
+            if !input.get(at)?.is_word("fn") {
+                // A bound without `dyn`, as the editions before 2021 have it.
+                return if word == "for" { bounds(input) } else { None };
+            }
+            at += 1;
+            input.get(at)?.group(Delimiter::Parenthesis)?;
+            at += 1;
+            if input.get(at).is_some_and(|it| it.is("->")) {
+                at += 1 + type_without_plus(&input[at + 1..])?;
+            }
+            return Some(at);
+        }
+        _ => {}
+    }
+    let at = path(input)?;
+    match (input.get(at), input.get(at + 1)) {
+        (Some(bang), Some(Token { kind: Kind::Group(..), .. })) if bang.is("!") => Some(at + 2),
+        _ => Some(at),
+    }
+}
+
+fn type_(input: &[Token]) -> Option<usize> {
+    let mut at = type_without_plus(input)?;
+    while input.get(at).is_some_and(|it| it.is("+")) {
+        at += 1;
+        at += bounds(&input[at..])?;
+    }
+    Some(at)
+}
+
+fn begins_item(input: &[Token]) -> bool {
+    const WORDS: [&str; 12] =
+        ["enum", "extern", "fn", "impl", "mod", "pub", "static", "struct", "trait", "type", "use", "macro_rules"];
+    match input {
+        [hash, Token { kind: Kind::Group(Delimiter::Bracket, _), .. }, rest @ ..] if hash.is("#") => begins_item(rest),
+        [it, next, ..] if it.is_word("const") || it.is_word("unsafe") => next.group(Delimiter::Brace).is_none(),
+        [it, ..] => it.word().is_some_and(|it| WORDS.contains(&it)),
+        [] => false,
+    }
+}
+
+/// An item, from its attributes to its end.
+fn item(input: &[Token]) -> Option<usize> {
+    // Its end is found by reading one item more and more: at a `;` or a group that items end with.
+    let mut at = 0;
+    while input.get(at)?.is("#") {
+        at += 2;
+    }
+    let from = at;
+    let mut depth = 0;
+    let is_braced = |words: &[Token]| {
+        let word = |it: &&str| words.iter().take(8).any(|token| token.is_word(it));
+        !["use", "const", "static", "type"].iter().any(word) || word(&"fn") || word(&"impl")
+    };
+    while let Some(it) = input.get(at) {
+        at += 1;
+        let ends = match &it.kind {
+            Kind::Punct(";") => depth <= 0,
+            Kind::Group(Delimiter::Brace, _) => depth <= 0 && is_braced(&input[from..at]),
+            _ => false,
+        };
+        depth += angle(it);
+        if ends {
+            let unit = crate::syntax::unit_of(&input[..at], Default::default()).ok()?;
+            return (unit.items.len() == 1).then_some(at);
+        }
+    }
+    None
+}
+
+struct OrPattern;
+impl syn::parse::Parse for OrPattern {
+    fn parse(input: syn::parse::ParseStream) -> syn::Result<OrPattern> {
+        input.parse::<Option<syn::Token![|]>>()?;
+        input.parse::<syn::Pat>()?;
+        while input.peek(syn::Token![|]) && !input.peek(syn::Token![||]) {
+            input.parse::<syn::Token![|]>()?;
+            input.parse::<syn::Pat>()?;
+        }
+        Ok(OrPattern)
+    }
+}
+
+struct Statement;
+impl syn::parse::Parse for Statement {
+    fn parse(input: syn::parse::ParseStream) -> syn::Result<Statement> {
+        if input.peek(syn::Token![let]) {
+            input.parse::<syn::Token![let]>()?;
+            input.parse::<OrPattern>()?;
+            if input.parse::<Option<syn::Token![:]>>()?.is_some() {
+                input.parse::<syn::Type>()?;
+            }
+            if input.parse::<Option<syn::Token![=]>>()?.is_some() {
+                input.parse::<syn::Expr>()?;
+            }
+            return Ok(Statement);
+        }
+        input.parse::<syn::Expr>()?;
+        Ok(Statement)
+    }
+}
+
+/// How many tokens of the front `syn` reads as a `T`.
+///
+/// Behind an expression or a statement stands `,`, `;` or `=>`, behind a pattern also what `behind` says: the shortest part up to one of these that reads as a whole is the fragment. Where there is none, as in a repetition
+/// without separator, it is as much as can be read.
+fn by_syn<T: syn::parse::Parse>(input: &[Token], behind: &[&str], steps: &mut usize) -> Option<usize> {
+    let first = input.first()?;
+    let ends = |it: &Token| {
+        it.is(",")
+            || it.is(";")
+            || it.is("=>")
+            || behind.contains(&"if") && (it.is_word("if") || it.is_word("in"))
+            || behind.iter().any(|punct| it.is(punct))
+    };
+    let is_plain = match first.kind {
+        Kind::Literal(_) | Kind::Ident(_) => !first.word().is_some_and(is_reserved),
+        _ => false,
+    };
+    if is_plain && input.get(1).map_or(true, ends) {
+        return Some(1);
+    }
+    let most = input.iter().position(|it| it.is(";") || it.is("=>")).unwrap_or(input.len());
+    for at in 1..=most {
+        if at == most || ends(&input[at]) {
+            *steps += 10 * at;
+            if *steps > MOST_STEPS {
+                return None;
+            }
+            if syn::parse_str::<T>(&readable(&input[..at])).is_ok() {
+                return Some(at);
+            }
+        }
+    }
+    let Front::<T> { rest, .. } = syn::parse_str(&readable(&input[..most])).ok()?;
+    let mut left = input[..most].iter().map(trees).sum::<usize>().checked_sub(rest)?;
+    for (at, it) in input[..most].iter().enumerate() {
+        if left == 0 {
+            return Some(at);
+        }
+        left = left.checked_sub(trees(it))?;
+    }
+    Some(most)
+}
+
+/// A `T`, and how many token trees follow it.
+struct Front<T> {
+    rest: usize,
+    _front: std::marker::PhantomData<T>,
+}
+
+impl<T: syn::parse::Parse> syn::parse::Parse for Front<T> {
+    fn parse(input: syn::parse::ParseStream) -> syn::Result<Front<T>> {
+        input.parse::<T>()?;
+        let rest: proc_macro2::TokenStream = input.parse()?;
+        Ok(Front { rest: rest.into_iter().count(), _front: std::marker::PhantomData })
+    }
+}
+
+/// How many token trees `syn` reads for a token.
+fn trees(token: &Token) -> usize {
+    match &token.kind {
+        Kind::Punct(it) => it.len(),
+        Kind::Lifetime(_) => 2,
+        Kind::Group(Delimiter::None, inner) if is_path(inner) => inner.iter().map(trees).sum(),
+        _ => 1,
+    }
+}
+
+fn is_path(tokens: &[Token]) -> bool {
+    tokens.iter().all(|it| it.word().is_some() || it.is("::") || angle(it) != 0)
+}
+
+/// A text that `syn` reads: fragments in parentheses where they aren't paths, and `$crate` a name.
+fn readable(tokens: &[Token]) -> String {
+    fn write(tokens: &[Token], text: &mut String) {
+        for (at, it) in tokens.iter().enumerate() {
+            match &it.kind {
+                Kind::Crate(_) => text.push_str("crate"),
+                Kind::Group(Delimiter::None, inner) => {
+                    let (open, close) = if is_path(inner) { ("", "") } else { ("(", ")") };
+                    text.push_str(open);
+                    write(inner, text);
+                    text.push_str(close);
+                }
+                Kind::Group(delimiter, inner) => {
+                    let (open, close) = match delimiter {
+                        Delimiter::Parenthesis => ('(', ')'),
+                        Delimiter::Bracket => ('[', ']'),
+                        _ => ('{', '}'),
+                    };
+                    text.push(open);
+                    write(inner, text);
+                    text.push(close);
+                }
+                _ => text.push_str(text_of(std::slice::from_ref(it)).trim_end()),
+            }
+            if !it.goes_on_in(tokens.get(at + 1)) {
+                text.push(' ');
+            }
+        }
+    }
+    let mut text = String::new();
+    write(tokens, &mut text);
+    text
+}
+
+struct Writer {
+    made: Vec<Token>,
+    left: usize,
+    krate: u32,
+}
+
+impl Writer {
+    fn push(&mut self, token: Token, size: usize) -> Result<(), String> {
+        self.left = self.left.checked_sub(size).ok_or(format!("the expansion has more than {MOST_TOKENS} tokens"))?;
+        self.made.push(token);
+        Ok(())
+    }
+
+    fn write(&mut self, templates: &[Template], bindings: &Bindings, turns: &mut Vec<usize>) -> Result<(), String> {
+        for it in templates {
+            match it {
+                Template::Token(it) => self.push(it.clone(), 1)?,
+                Template::Crate(it) => {
+                    self.push(Token { kind: Kind::Crate(self.krate), span: it.span }, 1)?;
+                }
+                Template::Group(delimiter, inner, span) => {
+                    let outer = std::mem::take(&mut self.made);
+                    self.write(inner, bindings, turns)?;
+                    let inner: Tokens = std::mem::replace(&mut self.made, outer).into();
+                    self.push(Token { kind: Kind::Group(*delimiter, inner), span: *span }, 1)?;
+                }
+                Template::Variable(name) => {
+                    let Some(tokens) = bindings.get(name).and_then(|it| it.at(turns)) else {
+                        return Err(format!("`${name}` stands in fewer repetitions than where it is bound"));
+                    };
+                    for it in tokens {
+                        self.push(it.clone(), count(std::slice::from_ref(it)))?;
+                    }
+                }
+                Template::Function(name, given) => self.function(name, given, bindings, turns)?,
+                Template::Repeat { inner, separator } => {
+                    let mut names = Vec::new();
+                    variables_of(inner, &mut names);
+                    let counts: Vec<usize> =
+                        names.iter().filter_map(|it| bindings.get(it).and_then(|it| it.turns(turns))).collect();
+                    let Some(most) = counts.first().copied() else {
+                        return Err("a repetition holds no variable that repeats".to_owned());
+                    };
+                    if counts.iter().any(|it| *it != most) {
+                        return Err("the variables of a repetition took different numbers of turns".to_owned());
+                    }
+                    for turn in 0..most {
+                        if let (Some(it), true) = (separator, turn > 0) {
+                            self.push(it.clone(), 1)?;
+                        }
+                        turns.push(turn);
+                        self.write(inner, bindings, turns)?;
+                        turns.pop();
+                    }
+                }
+            }
+        }
+        Ok(())
+    }
+
+    fn function(&mut self, name: &str, given: &[Token], bindings: &Bindings, turns: &[usize]) -> Result<(), String> {
+        let span = given.first().map_or(Span::default(), |it| it.span);
+        let number = match name {
+            "ignore" => return Ok(()),
+            "index" => turns.last().copied(),
+            "count" => {
+                let mut words = given.iter().filter_map(Token::word);
+                words.next_back().and_then(|it| bindings.get(it)).and_then(|it| it.turns(turns))
+            }
+            _ => None,
+        };
+        let Some(number) = number else {
+            return Err(format!("`${{{name}(..)}}` isn't known here"));
+        };
+        self.push(Token { kind: Kind::Literal(number.to_string().into()), span }, 1)
+    }
+}
+
+fn variables_of(templates: &[Template], names: &mut Vec<Arc<str>>) {
+    for it in templates {
+        match it {
+            Template::Variable(name) => names.push(name.clone()),
+            Template::Group(_, inner, _) | Template::Repeat { inner, .. } => variables_of(inner, names),
+            Template::Function(_, given) => names.extend(given.iter().filter_map(|it| it.word().map(Into::into))),
+            Template::Token(_) | Template::Crate(_) => {}
+        }
+    }
+}
+
+impl Bound {
+    /// What it is in these turns; a variable of fewer repetitions is the same in the inner ones.
+    fn inner(&self, turns: &[usize]) -> Option<&Bound> {
+        match (self, turns) {
+            (Bound::Tokens(_), _) | (_, []) => Some(self),
+            (Bound::Turns(all), [turn, rest @ ..]) => all.get(*turn)?.inner(rest),
+        }
+    }
+
+    fn at(&self, turns: &[usize]) -> Option<&[Token]> {
+        match self.inner(turns)? {
+            Bound::Tokens(it) => Some(it),
+            Bound::Turns(_) => None,
+        }
+    }
+
+    fn turns(&self, turns: &[usize]) -> Option<usize> {
+        match self.inner(turns)? {
+            Bound::Tokens(_) => None,
+            Bound::Turns(all) => Some(all.len()),
+        }
+    }
+}
+
+#[cfg(test)]
+mod tests;

@@ -1,0 +1,417 @@
+use std::collections::BTreeSet;
+use std::io::{IsTerminal, Write};
+use std::path::{Path, PathBuf};
+use std::process::ExitCode;
+use std::time::{Duration, Instant};
+
+use anyhow::{bail, Context as _, Result};
+use cargo_nogsimat::package::{Crates, Wanted};
+use cargo_nogsimat::program::{self, VARIABLE};
+use cargo_nogsimat::report::{Answer, Context, Diagnostic, Report, Texts};
+use cargo_nogsimat::token::Position;
+use cargo_nogsimat::workspace::Workspace;
+use clap::{Args, Parser, Subcommand};
+use indicatif::{ProgressBar, ProgressStyle};
+use notify::{RecursiveMode, Watcher};
+
+/// Resolves the names of a Cargo package
+#[derive(Parser)]
+#[command(name = "cargo-nogsimat", bin_name = "cargo nogsimat", version, about)]
+struct Cli {
+    #[command(subcommand)]
+    command: Command,
+}
+
+#[derive(Subcommand)]
+enum Command {
+    /// Tells what isn't resolved in a package: imports, modules, extern crates, macro calls
+    Check {
+        /// The package's folder, or its Cargo.toml
+        #[arg(default_value = ".")]
+        path: PathBuf,
+        #[command(flatten)]
+        options: Options,
+    },
+    /// Tells what the path at a place names
+    Where {
+        /// FILE:LINE:COLUMN, both from 1
+        place: String,
+        #[command(flatten)]
+        options: Options,
+    },
+    /// Tells what a path names
+    Resolve {
+        /// As `a::b` or `crate::a`
+        path: String,
+        /// The module in which it is looked up, as `crate::a` or `name_of_a_crate::a`
+        #[arg(long, value_name = "MODULE", default_value = "crate")]
+        at: String,
+        #[command(flatten)]
+        options: Options,
+    },
+    /// Checks, and again after each save
+    Watch {
+        /// The package's folder, or its Cargo.toml
+        #[arg(default_value = ".")]
+        path: PathBuf,
+        #[command(flatten)]
+        options: Options,
+    },
+    /// Prints the session: the commands that the resolver's program is given, one a line
+    Session {
+        /// The package's folder, or its Cargo.toml
+        #[arg(default_value = ".")]
+        path: PathBuf,
+        #[command(flatten)]
+        options: Options,
+    },
+}
+
+#[derive(Args, Clone)]
+struct Options {
+    /// The package's Cargo.toml, where no PATH names it
+    #[arg(long, value_name = "FILE")]
+    manifest_path: Option<PathBuf>,
+    /// The resolver's program
+    #[arg(long, value_name = "FILE", env = VARIABLE)]
+    program: Option<PathBuf>,
+    /// Prints JSON, one object a line
+    #[arg(long)]
+    json: bool,
+    /// A package in place of that at PATH, by name; one that it depends on will do too
+    #[arg(long, short = 'p', value_name = "NAME")]
+    package: Vec<String>,
+    /// Features of the package, separated by commas or spaces
+    #[arg(long, short = 'F', value_name = "FEATURES")]
+    features: Vec<String>,
+    #[arg(long)]
+    all_features: bool,
+    #[arg(long)]
+    no_default_features: bool,
+    /// With `cfg(test)`, and with tests, examples and their dependencies
+    #[arg(long)]
+    test: bool,
+    /// Doesn't read the standard library: a stub with its preludes stands for it
+    #[arg(long)]
+    no_std: bool,
+    /// The folder `library` of the standard library's sources [default: that of the toolchain's rust-src]
+    #[arg(long, value_name = "FOLDER")]
+    std_sources: Option<PathBuf>,
+    /// A condition that is set for the package besides, as `rustc --cfg` takes it
+    #[arg(long, value_name = "SPEC")]
+    cfg: Vec<String>,
+    /// Cargo fetches nothing (the default)
+    #[arg(long)]
+    offline: bool,
+    /// Lets Cargo fetch what isn't there
+    #[arg(long, conflicts_with = "offline")]
+    online: bool,
+    /// What calls of procedural macros expand to: JSON lines with `macro`, `call`, `input` and `expansion`
+    #[arg(long, value_name = "FILE")]
+    expansions: Option<PathBuf>,
+    /// Configuration for Cargo, as `cargo --config` takes it
+    #[arg(long, value_name = "KEY=VALUE|FILE")]
+    config: Vec<String>,
+}
+
+impl Options {
+    fn wanted(&self, path: &Path) -> Wanted {
+        let features = self.features.iter().flat_map(|it| it.split([',', ' '])).filter(|it| !it.is_empty());
+        Wanted {
+            path: self.manifest_path.clone().unwrap_or_else(|| path.to_owned()),
+            packages: self.package.clone(),
+            features: features.map(str::to_owned).collect(),
+            all_features: self.all_features,
+            no_default_features: self.no_default_features,
+            test: self.test,
+            online: self.online,
+            no_std: self.no_std,
+            std_sources: self.std_sources.clone(),
+            cfg: self.cfg.clone(),
+            config: self.config.clone(),
+        }
+    }
+
+    fn open(&self, path: &Path) -> Result<Workspace> {
+        let program = program::find(self.program.as_deref())?;
+        let bar = match std::io::stderr().is_terminal() && !self.json {
+            true => ProgressBar::new(1),
+            false => ProgressBar::hidden(),
+        };
+        let style =
+            ProgressStyle::with_template("{msg:>11} [{bar:25}] {pos}/{len}").context("the bar has a template")?;
+        bar.set_style(style.progress_chars("=> "));
+        bar.set_message("metadata");
+        let crates = Crates::read(&self.wanted(path))?;
+        let shown = bar.clone();
+        let space = Workspace::open(crates, &program, self.expansions.as_deref(), move |what, done, of| {
+            shown.set_message(what.to_owned());
+            shown.set_length(of as u64);
+            shown.set_position(done as u64);
+        });
+        bar.finish_and_clear();
+        space
+    }
+}
+
+fn print(text: &str) -> Result<()> {
+    match std::io::stdout().lock().write_all(text.as_bytes()) {
+        // Who reads no further, as `head`, has what it wants.
+        Err(error) if error.kind() == std::io::ErrorKind::BrokenPipe => std::process::exit(0),
+        it => it.context("standard output can't be written"),
+    }
+}
+
+fn print_json(value: &impl serde::Serialize) -> Result<()> {
+    print(&format!("{}\n", serde_json::to_string(value)?))
+}
+
+fn plural(count: usize, what: &str) -> String {
+    format!("{count} {what}{}", if count == 1 { "" } else { "s" })
+}
+
+/// How one may read a time.
+fn time(it: Duration) -> String {
+    match it.as_secs_f64() {
+        it if it < 0.1 => format!("{:.1} ms", it * 1000.0),
+        it => format!("{it:.2} s"),
+    }
+}
+
+fn summary(space: &Workspace, report: &Report, taken: Duration) -> String {
+    let counts = space.counts();
+    let own: Vec<&str> = space.crates.all.iter().filter(|it| it.is_asked).map(|it| &*it.title).take(3).collect();
+    let more = space.crates.all.iter().filter(|it| it.is_asked).count() - own.len();
+    let own = format!("{}{}", own.join(", "), if more > 0 { format!(" and {more} more") } else { String::new() });
+    let mut text = String::new();
+    for ((kind, name), count) in &report.not_run {
+        let what = match *kind {
+            "derive" => "is a derive of a procedural macro, which isn't run: its impls bring no names",
+            "attribute" => "is an attribute of a procedural macro, which isn't run: its items stay as they are",
+            _ => "is a procedural macro, which isn't run: what it brings isn't known",
+        };
+        text.push_str(&format!("note: `{name}` ({}) {what}\n", plural(*count, "use")));
+    }
+    for it in &report.elsewhere {
+        text.push_str(&format!("note: not read: {it}\n"));
+    }
+    if report.unjudged > 0 {
+        let count = plural(report.unjudged, "path");
+        let stub = match space.crates.all.iter().any(|it| it.is_stub) {
+            true => format!(": {}", space.crates.std),
+            false => String::new(),
+        };
+        text.push_str(&format!("note: not judged: {count} into what isn't read{stub}\n"));
+    }
+    let mut scripts: Vec<&str> =
+        space.crates.all.iter().filter(|it| it.is_asked && it.has_build_script).map(|it| &*it.title).collect();
+    scripts.dedup();
+    if !scripts.is_empty() && !report.diagnostics.is_empty() {
+        let names = scripts.join(", ");
+        text.push_str(&format!(
+            "note: build scripts aren't run ({names}): --cfg sets the conditions that they would\n"
+        ));
+    }
+    let size = format!(
+        "{}, {}, {}, {}; {}",
+        plural(counts.crates, "crate"),
+        plural(counts.files, "file"),
+        plural(counts.nodes, "node"),
+        time(taken),
+        space.crates.std
+    );
+    match report.diagnostics.len() {
+        0 => text.push_str(&format!("all names resolved in {own} ({size})\n")),
+        it => text.push_str(&format!("{} in {own} ({size})\n", plural(it, "error"))),
+    }
+    text
+}
+
+fn tell(space: &Workspace, report: &Report, taken: Duration, json: bool) -> Result<()> {
+    if json {
+        for it in &report.diagnostics {
+            print_json(it)?;
+        }
+        let not_run: Vec<_> = report
+            .not_run
+            .iter()
+            .map(|((kind, name), count)| serde_json::json!({"kind": kind, "macro": name, "uses": count}))
+            .collect();
+        let counts = space.counts();
+        return print_json(&serde_json::json!({
+            "errors": report.diagnostics.len(),
+            "unjudged": report.unjudged,
+            "not_run": not_run,
+            "crates": counts.crates,
+            "files": counts.files,
+            "nodes": counts.nodes,
+            "milliseconds": taken.as_millis() as u64,
+            "std": space.crates.std,
+        }));
+    }
+    let colored = std::io::stdout().is_terminal() && std::env::var_os("NO_COLOR").is_none();
+    let mut texts = Texts::default();
+    for it in &report.diagnostics {
+        print(&format!("{}\n", texts.show(it, colored)))?;
+    }
+    print(&summary(space, report, taken))
+}
+
+fn check(path: &Path, options: &Options) -> Result<ExitCode> {
+    let start = Instant::now();
+    let mut space = options.open(path)?;
+    let report = space.report()?;
+    tell(&space, &report, start.elapsed(), options.json)?;
+    Ok(match (report.diagnostics.is_empty(), report.is_partial()) {
+        (true, _) => ExitCode::SUCCESS,
+        (false, false) => ExitCode::from(1),
+        (false, true) => ExitCode::from(2),
+    })
+}
+
+fn say(answer: &Answer, json: bool) -> Result<ExitCode> {
+    match json {
+        true => print_json(answer)?,
+        false => print(&answer.text())?,
+    }
+    Ok(if answer.meanings.is_empty() { ExitCode::from(1) } else { ExitCode::SUCCESS })
+}
+
+/// The nearest folder at or above a file that has a `Cargo.toml`.
+fn package_of(file: &Path) -> Result<PathBuf> {
+    let file = file.canonicalize().with_context(|| format!("{} isn't there", file.display()))?;
+    let found = file.ancestors().skip(1).find(|it| it.join("Cargo.toml").is_file());
+    found.map(Path::to_owned).with_context(|| format!("no folder above {} has a Cargo.toml", file.display()))
+}
+
+fn where_(place: &str, options: &Options) -> Result<ExitCode> {
+    let mut parts = place.rsplitn(3, ':');
+    let (column, line, file) = (parts.next(), parts.next(), parts.next());
+    let number = |it: Option<&str>| it.and_then(|it| it.parse::<u32>().ok()).filter(|it| *it > 0);
+    let (Some(line), Some(column), Some(file)) = (number(line), number(column), file) else {
+        bail!("`{place}` is no place; give FILE:LINE:COLUMN, as src/lib.rs:3:9");
+    };
+    let file = Path::new(file);
+    let mut space = options.open(&package_of(file)?)?;
+    say(&space.answer_at(file, Position { line, column })?, options.json)
+}
+
+fn resolve(path: &str, at: &str, options: &Options) -> Result<ExitCode> {
+    let mut space = options.open(Path::new("."))?;
+    let mut names = at.split("::").map(str::to_owned);
+    let first = names.next().unwrap_or_default();
+    let found = match &*first {
+        "crate" => space.crates.all.iter().position(|it| it.is_asked),
+        it => space.crates.all.iter().position(|krate| krate.name == it.replace('-', "_")),
+    };
+    let Some(krate) = found else {
+        bail!("there is no crate `{first}` here; give a module as `crate::a` or `name_of_a_crate::a`");
+    };
+    let module: Vec<String> = names.collect();
+    let context = if path.ends_with('!') { Context::Call } else { Context::Plain };
+    say(&space.answer(krate as u32, &module, path.trim_end_matches('!'), context)?, options.json)
+}
+
+fn watch(path: &Path, options: &Options) -> Result<ExitCode> {
+    let start = Instant::now();
+    let mut space = options.open(path)?;
+    let mut report = space.report()?;
+    tell(&space, &report, start.elapsed(), options.json)?;
+    let (send, events) = std::sync::mpsc::channel();
+    let mut watcher = notify::recommended_watcher(send).context("files can't be watched")?;
+    let folder = space.crates.folder.clone();
+    watcher
+        .watch(&folder, RecursiveMode::Recursive)
+        .with_context(|| format!("{} can't be watched", folder.display()))?;
+    eprintln!("watching {}", folder.display());
+    while let Ok(event) = events.recv() {
+        let mut paths = BTreeSet::new();
+        let mut next = Some(event);
+        while let Some(event) = next {
+            if let Ok(it) = event {
+                paths.extend(it.paths);
+            }
+            next = events.recv_timeout(Duration::from_millis(30)).ok();
+        }
+        let target = folder.join("target");
+        paths.retain(|it| !it.starts_with(&target));
+        let names_manifest = |it: &PathBuf| it.file_name().is_some_and(|it| it == "Cargo.toml" || it == "Cargo.lock");
+        let start = Instant::now();
+        let resolved = if paths.iter().any(names_manifest) {
+            match options.open(path) {
+                Ok(it) => space = it,
+                Err(error) => {
+                    eprintln!("error: {error:#}");
+                    continue;
+                }
+            }
+            (0..space.crates.all.len() as u32).collect()
+        } else {
+            let sources: Vec<PathBuf> = paths.into_iter().filter(|it| space.reads(it)).collect();
+            if sources.is_empty() {
+                continue;
+            }
+            // An editor may be about to write what it has emptied.
+            if sources.iter().any(|it| it.metadata().is_ok_and(|it| it.len() == 0)) {
+                std::thread::sleep(Duration::from_millis(50));
+            }
+            space.update(&sources)?
+        };
+        let next = space.report()?;
+        let taken = start.elapsed();
+        let names: Vec<&str> = resolved.iter().map(|it| &*space.crates.all[*it as usize].title).collect();
+        tell_changes(&report, &next, &names, taken, options.json)?;
+        report = next;
+    }
+    Ok(ExitCode::SUCCESS)
+}
+
+fn tell_changes(before: &Report, now: &Report, names: &[&str], taken: Duration, json: bool) -> Result<()> {
+    let came: Vec<&Diagnostic> = now.diagnostics.iter().filter(|it| !before.diagnostics.contains(it)).collect();
+    let went: Vec<&Diagnostic> = before.diagnostics.iter().filter(|it| !now.diagnostics.contains(it)).collect();
+    if json {
+        return print_json(&serde_json::json!({
+            "resolved": names, "microseconds": taken.as_micros() as u64, "errors": now.diagnostics.len(), "new": came,
+            "gone": went,
+        }));
+    }
+    let mut texts = Texts::default();
+    for it in came {
+        print(&format!("{}\n", texts.show(it, false)))?;
+    }
+    for it in went {
+        print(&format!("gone: {}:{}:{}: {}\n", it.place.file, it.place.line, it.place.column, it.message))?;
+    }
+    let what = match names.len() {
+        0 => "nothing to resolve again".to_owned(),
+        _ => format!("resolved again: {}", names.join(", ")),
+    };
+    print(&format!("{what} ({}); {}\n", time(taken), plural(now.diagnostics.len(), "error")))
+}
+
+fn session(path: &Path, options: &Options) -> Result<ExitCode> {
+    let space = options.open(path)?;
+    for line in space.session() {
+        print(&format!("{line}\n"))?;
+    }
+    Ok(ExitCode::SUCCESS)
+}
+
+fn main() -> ExitCode {
+    // `cargo nogsimat` gives its own name as the first argument.
+    let mut words: Vec<_> = std::env::args_os().collect();
+    if words.get(1).is_some_and(|it| it == "nogsimat") {
+        words.remove(1);
+    }
+    let ran = match &Cli::parse_from(words).command {
+        Command::Check { path, options } => check(path, options),
+        Command::Where { place, options } => where_(place, options),
+        Command::Resolve { path, at, options } => resolve(path, at, options),
+        Command::Watch { path, options } => watch(path, options),
+        Command::Session { path, options } => session(path, options),
+    };
+    ran.unwrap_or_else(|error| {
+        eprintln!("error: {error:#}");
+        ExitCode::from(2)
+    })
+}

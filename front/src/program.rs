@@ -1,0 +1,120 @@
+//! The resolver's program, as a child that reads a command a line and writes a reply a line.
+
+use std::io::{BufRead, BufReader, BufWriter, Write};
+use std::path::{Path, PathBuf};
+use std::process::{Child, ChildStdin, ChildStdout, Command, Stdio};
+
+use anyhow::{anyhow, bail, Context, Result};
+use serde_json::Value;
+
+/// The variable of the environment that names the program.
+pub const VARIABLE: &str = "NOGSIMAT_PROGRAM";
+
+/// A line above this isn't taken by the program.
+pub const MOST_BYTES: usize = 16_777_216;
+
+pub struct Program {
+    path: PathBuf,
+    child: Child,
+    input: BufWriter<ChildStdin>,
+    output: BufReader<ChildStdout>,
+    answered: usize,
+}
+
+/// Where the program is: what is named, here or by the variable, else the proved one of the repository that this was built in, else its
+/// unproved one, else `hir_session` beside this executable or on the path.
+pub fn find(named: Option<&Path>) -> Result<PathBuf> {
+    let named = named.map(Path::to_owned).or_else(|| std::env::var_os(VARIABLE).map(PathBuf::from));
+    if let Some(it) = named {
+        if !it.is_file() {
+            bail!("the program {} isn't there; name one by --program or {VARIABLE}", it.display());
+        }
+        return Ok(it);
+    }
+    let top = Path::new(env!("CARGO_MANIFEST_DIR")).parent().unwrap_or(Path::new("."));
+    let mut places =
+        vec![top.join("crates/hir_session_main/out/hir_session_main"), top.join("unproved/hir_session_main")];
+    let own = std::env::current_exe().ok();
+    places.extend(own.and_then(|it| it.parent().map(|it| it.join("hir_session"))));
+    let path = std::env::var_os("PATH").unwrap_or_default();
+    places.extend(std::env::split_paths(&path).map(|it| it.join("hir_session")));
+    places.into_iter().find(|it| it.is_file()).ok_or_else(|| {
+        anyhow!(
+            "the resolver's program isn't there. Build it with tools/unproved.sh in Nogsimat's repository, or name it by \
+             --program FILE or by the variable {VARIABLE}"
+        )
+    })
+}
+
+impl Program {
+    pub fn start(path: &Path) -> Result<Program> {
+        let mut child = Command::new(path)
+            .stdin(Stdio::piped())
+            .stdout(Stdio::piped())
+            .spawn()
+            .with_context(|| format!("the program {} doesn't start", path.display()))?;
+        let input = BufWriter::with_capacity(1 << 16, child.stdin.take().expect("its input is a pipe"));
+        let output = BufReader::with_capacity(1 << 16, child.stdout.take().expect("its output is a pipe"));
+        Ok(Program { path: path.to_owned(), child, input, output, answered: 0 })
+    }
+
+    /// The replies to the commands, in order.
+    pub fn ask_all(&mut self, lines: &[String]) -> Result<Vec<Value>> {
+        let Program { input, output, .. } = self;
+        let mut replies = Vec::with_capacity(lines.len());
+        let read = std::thread::scope(|scope| {
+            scope.spawn(move || {
+                for line in lines {
+                    if input.write_all(line.as_bytes()).and_then(|()| input.write_all(b"\n")).is_err() {
+                        return;
+                    }
+                }
+                let _ = input.flush();
+            });
+            let mut text = String::new();
+            for _ in lines {
+                text.clear();
+                match output.read_line(&mut text) {
+                    Ok(0) | Err(_) => return false,
+                    Ok(_) => match serde_json::from_str(&text) {
+                        Ok(it) => replies.push(it),
+                        Err(_) => return false,
+                    },
+                }
+            }
+            true
+        });
+        self.answered += replies.len();
+        if !read {
+            return Err(self.ended());
+        }
+        Ok(replies)
+    }
+
+    pub fn ask(&mut self, line: String) -> Result<Value> {
+        let mut replies = self.ask_all(&[line])?;
+        replies.pop().context("one reply for one command")
+    }
+
+    /// Why no reply came.
+    fn ended(&mut self) -> anyhow::Error {
+        let _ = self.child.kill();
+        let how = match self.child.wait() {
+            Ok(it) => it.to_string(),
+            Err(it) => it.to_string(),
+        };
+        anyhow!(
+            "the program {} stopped after {} replies ({how}). Call this again; where it stops again, `cargo nogsimat \
+             session > FILE` keeps what it was given, for a report",
+            self.path.display(),
+            self.answered
+        )
+    }
+}
+
+impl Drop for Program {
+    fn drop(&mut self) {
+        let _ = self.child.kill();
+        let _ = self.child.wait();
+    }
+}

@@ -1,0 +1,337 @@
+//! Token trees as plain values: read from text by `proc_macro2`, sent between threads, and cheap to clone.
+
+use std::fmt::Write as _;
+use std::sync::Arc;
+
+use proc_macro2::{TokenStream, TokenTree};
+
+/// A place in a text: the line from 1, and the column from 1 in characters.
+#[derive(Clone, Copy, PartialEq, Eq, PartialOrd, Ord, Hash, Debug, Default)]
+pub struct Position {
+    pub line: u32,
+    pub column: u32,
+}
+
+/// From the first character to behind the last.
+#[derive(Clone, Copy, PartialEq, Eq, Debug, Default)]
+pub struct Span {
+    pub start: Position,
+    pub end: Position,
+}
+
+#[derive(Clone, Copy, PartialEq, Eq, Hash, Debug)]
+pub enum Delimiter {
+    Parenthesis,
+    Bracket,
+    Brace,
+    /// What a fragment of a macro is kept together by.
+    None,
+}
+
+#[derive(Clone, Debug)]
+pub enum Kind {
+    /// A word as it is written, with `r#` where it has it.
+    Ident(Arc<str>),
+    /// With its quote.
+    Lifetime(Arc<str>),
+    Literal(Arc<str>),
+    /// One operator of the language, as `=>`.
+    Punct(&'static str),
+    Group(Delimiter, Tokens),
+    /// `$crate` in what a macro of this crate wrote.
+    Crate(u32),
+}
+
+#[derive(Clone, Debug)]
+pub struct Token {
+    pub kind: Kind,
+    pub span: Span,
+}
+
+pub type Tokens = Arc<[Token]>;
+
+/// Why a text has no tokens or no items, and where.
+#[derive(Clone, PartialEq, Eq, Debug)]
+pub struct SyntaxError {
+    pub at: Span,
+    pub message: String,
+}
+
+/// More groups in one another than this aren't read.
+const DEEPEST: usize = 500;
+
+/// `>>` isn't among them: it may close two lists of arguments.
+const OPERATORS: [&str; 24] = [
+    "<<=", ">>=", "...", "..=", "::", "->", "=>", "==", "!=", "<=", ">=", "&&", "||", "+=", "-=", "*=", "/=", "%=",
+    "^=", "&=", "|=", "<<", "..", "<-",
+];
+const CHARACTERS: [&str; 25] = [
+    "+", "-", "*", "/", "%", "^", "!", "&", "|", "=", "<", ">", "@", ".", ",", ";", ":", "#", "$", "?", "~", "'", "\\",
+    "`", "_",
+];
+
+/// The operator at the front of a run of characters that stand together.
+fn operator(run: &str) -> Option<&'static str> {
+    let all = OPERATORS.iter().chain(&CHARACTERS);
+    all.copied().find(|it| run.starts_with(it))
+}
+
+impl Token {
+    pub fn is(&self, punct: &str) -> bool {
+        matches!(self.kind, Kind::Punct(it) if it == punct)
+    }
+
+    /// Whether the two are one operator `>>`.
+    pub fn goes_on_in(&self, next: Option<&Token>) -> bool {
+        self.is(">") && next.is_some_and(|it| it.is(">") && it.span.start == self.span.end)
+    }
+
+    pub fn is_word(&self, word: &str) -> bool {
+        matches!(&self.kind, Kind::Ident(it) if **it == *word)
+    }
+
+    pub fn word(&self) -> Option<&str> {
+        match &self.kind {
+            Kind::Ident(it) => Some(it),
+            _ => None,
+        }
+    }
+
+    pub fn group(&self, delimiter: Delimiter) -> Option<&Tokens> {
+        match &self.kind {
+            Kind::Group(it, inner) if *it == delimiter => Some(inner),
+            _ => None,
+        }
+    }
+}
+
+/// The tokens of a file or of a piece of one. To be called on a thread of its own for each text, see [`on_a_thread`].
+pub fn tokens_of(text: &str) -> Result<Vec<Token>, SyntaxError> {
+    let mut text = text.strip_prefix('\u{feff}').unwrap_or(text);
+    let mut blanked = String::new();
+    if text.starts_with("#!") {
+        // A first line for a shell stands before no attribute.
+        let line = text.lines().next().unwrap_or("");
+        let behind = line[2..].trim_start();
+        if !behind.starts_with('[') {
+            blanked.push_str(&text[line.len()..]);
+            text = &blanked;
+        }
+    }
+    let stream: TokenStream = text.parse().map_err(|error: proc_macro2::LexError| {
+        let at = error.span();
+        let message = "this isn't Rust's syntax: a bracket without its partner, or no token".to_owned();
+        SyntaxError { at: span_of(at), message }
+    })?;
+    let mut words = Words::default();
+    trees_of(stream, &mut words, 0)
+}
+
+/// Runs `work` on a thread with room for deep syntax. The positions of `proc_macro2` are a table of the thread, so that
+/// a long session would otherwise grow with each text that is read.
+pub fn on_a_thread<T: Send>(work: impl FnOnce() -> T + Send) -> T {
+    std::thread::scope(|scope| {
+        let builder = std::thread::Builder::new().stack_size(256 << 20);
+        let thread = builder.spawn_scoped(scope, work).expect("the system starts a thread");
+        thread.join().unwrap_or_else(|panic| std::panic::resume_unwind(panic))
+    })
+}
+
+/// Each word once.
+#[derive(Default)]
+struct Words(std::collections::HashSet<Arc<str>>);
+
+impl Words {
+    fn take(&mut self, text: &str) -> Arc<str> {
+        if let Some(it) = self.0.get(text) {
+            return it.clone();
+        }
+        let it: Arc<str> = text.into();
+        self.0.insert(it.clone());
+        it
+    }
+}
+
+fn span_of(span: proc_macro2::Span) -> Span {
+    let position = |it: proc_macro2::LineColumn| Position { line: it.line as u32, column: it.column as u32 + 1 };
+    Span { start: position(span.start()), end: position(span.end()) }
+}
+
+fn trees_of(stream: TokenStream, words: &mut Words, depth: usize) -> Result<Vec<Token>, SyntaxError> {
+    let mut made = Vec::new();
+    let mut trees = stream.into_iter().peekable();
+    let mut text = String::new();
+    while let Some(tree) = trees.next() {
+        match tree {
+            TokenTree::Group(group) => {
+                let span = span_of(group.span());
+                if depth == DEEPEST {
+                    let message = format!("more than {DEEPEST} brackets stand in one another");
+                    return Err(SyntaxError { at: span, message });
+                }
+                let delimiter = match group.delimiter() {
+                    proc_macro2::Delimiter::Parenthesis => Delimiter::Parenthesis,
+                    proc_macro2::Delimiter::Bracket => Delimiter::Bracket,
+                    proc_macro2::Delimiter::Brace => Delimiter::Brace,
+                    proc_macro2::Delimiter::None => Delimiter::None,
+                };
+                let inner = trees_of(group.stream(), words, depth + 1)?.into();
+                made.push(Token { kind: Kind::Group(delimiter, inner), span });
+            }
+            TokenTree::Ident(it) => {
+                text.clear();
+                let _ = write!(text, "{it}");
+                made.push(Token { kind: Kind::Ident(words.take(&text)), span: span_of(it.span()) });
+            }
+            TokenTree::Literal(it) => {
+                text.clear();
+                let _ = write!(text, "{it}");
+                made.push(Token { kind: Kind::Literal(words.take(&text)), span: span_of(it.span()) });
+            }
+            TokenTree::Punct(it) if it.as_char() == '\'' => {
+                let mut span = span_of(it.span());
+                text.clear();
+                text.push('\'');
+                if let Some(TokenTree::Ident(name)) = trees.peek() {
+                    let _ = write!(text, "{name}");
+                    span.end = span_of(name.span()).end;
+                    trees.next();
+                }
+                made.push(Token { kind: Kind::Lifetime(words.take(&text)), span });
+            }
+            TokenTree::Punct(it) => {
+                let mut at = span_of(it.span());
+                text.clear();
+                text.push(it.as_char());
+                let mut is_joint = it.spacing() == proc_macro2::Spacing::Joint;
+                while let (true, Some(TokenTree::Punct(next))) = (is_joint, trees.peek()) {
+                    if next.as_char() == '\'' {
+                        break;
+                    }
+                    text.push(next.as_char());
+                    is_joint = next.spacing() == proc_macro2::Spacing::Joint;
+                    trees.next();
+                }
+                let mut rest = &text[..];
+                while !rest.is_empty() {
+                    let Some(it) = operator(rest) else {
+                        return Err(SyntaxError { at, message: format!("`{rest}` is no token of Rust") });
+                    };
+                    at.end = Position { column: at.start.column + it.len() as u32, ..at.start };
+                    made.push(Token { kind: Kind::Punct(it), span: at });
+                    at.start = at.end;
+                    rest = &rest[it.len()..];
+                }
+            }
+        }
+    }
+    Ok(made)
+}
+
+/// The tokens as a text that reads back as the same tokens, groups of fragments without brackets.
+pub fn text_of(tokens: &[Token]) -> String {
+    let mut text = String::new();
+    write_text(tokens, &mut text);
+    text
+}
+
+fn write_text(tokens: &[Token], text: &mut String) {
+    for (at, token) in tokens.iter().enumerate() {
+        match &token.kind {
+            Kind::Ident(it) | Kind::Lifetime(it) | Kind::Literal(it) => text.push_str(it),
+            Kind::Punct(it) => text.push_str(it),
+            Kind::Crate(it) => {
+                let _ = write!(text, "$crate{it}");
+            }
+            Kind::Group(delimiter, inner) => {
+                let (open, close) = match delimiter {
+                    Delimiter::Parenthesis => ("(", ")"),
+                    Delimiter::Bracket => ("[", "]"),
+                    Delimiter::Brace => ("{", "}"),
+                    Delimiter::None => ("", ""),
+                };
+                text.push_str(open);
+                write_text(inner, text);
+                if text.ends_with(' ') && *delimiter != Delimiter::None {
+                    text.pop();
+                }
+                text.push_str(close);
+            }
+        }
+        if !text.ends_with(' ') && !text.is_empty() && !token.goes_on_in(tokens.get(at + 1)) {
+            text.push(' ');
+        }
+    }
+}
+
+/// The tokens with groups of fragments opened, but not those within other groups.
+pub fn opened(tokens: &[Token]) -> Vec<Token> {
+    fn open_into(tokens: &[Token], made: &mut Vec<Token>) {
+        for token in tokens {
+            match &token.kind {
+                Kind::Group(Delimiter::None, inner) => open_into(inner, made),
+                _ => made.push(token.clone()),
+            }
+        }
+    }
+    let mut made = Vec::with_capacity(tokens.len());
+    open_into(tokens, &mut made);
+    made
+}
+
+/// How many tokens there are, those within groups included.
+pub fn count(tokens: &[Token]) -> usize {
+    let inner = |it: &Token| match &it.kind {
+        Kind::Group(_, inner) => 1 + count(inner),
+        _ => 1,
+    };
+    tokens.iter().map(inner).sum()
+}
+
+/// A hash that is the same in each run and on each machine.
+#[derive(Clone, Copy, PartialEq, Eq, Hash, Debug)]
+pub struct Hash(pub u128);
+
+impl Default for Hash {
+    fn default() -> Hash {
+        Hash(0x6c62_272e_07bb_0142_62b8_2175_6295_c58d)
+    }
+}
+
+impl Hash {
+    /// FNV-1a of 128 bits over the text and a byte that no text has.
+    pub fn with(mut self, text: &str) -> Hash {
+        for byte in text.bytes().chain([0xff]) {
+            self.0 = (self.0 ^ u128::from(byte)).wrapping_mul(0x0000_0000_0100_0000_0000_0000_0000_013b);
+        }
+        self
+    }
+
+    pub fn with_tokens(self, tokens: &[Token]) -> Hash {
+        tokens.iter().fold(self, |hash, it| match &it.kind {
+            Kind::Ident(it) | Kind::Lifetime(it) | Kind::Literal(it) => hash.with(it),
+            Kind::Punct(it) => hash.with(it),
+            Kind::Crate(it) => hash.with(&format!("$crate{it}")),
+            Kind::Group(delimiter, inner) => {
+                let open = match delimiter {
+                    Delimiter::Parenthesis => "(",
+                    Delimiter::Bracket => "[",
+                    Delimiter::Brace => "{",
+                    Delimiter::None => "<",
+                };
+                hash.with(open).with_tokens(inner).with("end")
+            }
+        })
+    }
+
+    pub fn text(self) -> String {
+        format!("{:032x}", self.0)
+    }
+
+    /// Folded to 16 bits.
+    pub fn short(self) -> u16 {
+        let it = self.0 ^ (self.0 >> 64);
+        let it = it ^ (it >> 32);
+        (it ^ (it >> 16)) as u16
+    }
+}

@@ -1,0 +1,406 @@
+//! Each command as one would call it, its output compared to the files in `expected/`. With the variable `UPDATE` set
+//! these files are written anew.
+
+use std::io::{BufRead, BufReader};
+use std::path::{Path, PathBuf};
+use std::process::{Command, Output, Stdio};
+
+use tempfile::TempDir;
+
+const REGISTRY: &str = "/usr/share/cargo/registry";
+
+fn own(path: &str) -> PathBuf {
+    Path::new(env!("CARGO_MANIFEST_DIR")).join(path)
+}
+
+fn copy(from: &Path, to: &Path) {
+    std::fs::create_dir_all(to).unwrap();
+    for it in std::fs::read_dir(from).unwrap() {
+        let it = it.unwrap();
+        let (name, target) = (it.file_name(), to.join(it.file_name()));
+        if it.file_type().unwrap().is_dir() {
+            if name != "target" {
+                copy(&it.path(), &target);
+            }
+        } else {
+            std::fs::copy(it.path(), target).unwrap();
+        }
+    }
+}
+
+/// The example in a folder of its own.
+fn market() -> TempDir {
+    let folder = TempDir::new().unwrap();
+    copy(&own("examples/market"), folder.path());
+    folder
+}
+
+/// A package with these files.
+fn package(files: &[(&str, &str)]) -> TempDir {
+    let folder = TempDir::new().unwrap();
+    let manifest = ("Cargo.toml", "[package]\nname = \"one\"\nversion = \"0.1.0\"\nedition = \"2021\"\n[workspace]\n");
+    for (name, text) in std::iter::once(&manifest).chain(files) {
+        let path = folder.path().join(name);
+        std::fs::create_dir_all(path.parent().unwrap()).unwrap();
+        std::fs::write(path, text).unwrap();
+    }
+    folder
+}
+
+fn command(folder: &Path, words: &[&str]) -> Command {
+    let mut command = Command::new(env!("CARGO_BIN_EXE_cargo-nogsimat"));
+    command.arg("nogsimat").args(words).current_dir(folder).env("NO_COLOR", "1");
+    command
+}
+
+fn run(folder: &Path, words: &[&str]) -> Output {
+    command(folder, words).output().unwrap()
+}
+
+fn text(of: &[u8]) -> String {
+    String::from_utf8_lossy(of).into_owned()
+}
+
+/// Times and the folder are another each time.
+fn steady(output: &Output, folder: &Path) -> String {
+    let folder = folder.canonicalize().unwrap();
+    let folder = folder.to_str().unwrap();
+    let mut made = format!("status {}\n", output.status.code().unwrap());
+    let all = text(&output.stdout) + &text(&output.stderr);
+    for line in all.lines() {
+        let line = line.replace(folder, "DIR").replace(folder.trim_start_matches('/'), "DIR");
+        let line = line.replace(", since the toolchain has no rust-src", "");
+        let mut words: Vec<String> = line.split(' ').map(str::to_owned).collect();
+        for at in 1..words.len() {
+            if ["s", "ms", "s;", "ms;", "ms)", "s)", "ms);", "s);"].contains(&&*words[at]) {
+                let rest = words[at].trim_start_matches(['m', 's']).to_owned();
+                let before = &words[at - 1];
+                let front = if before.starts_with('(') { "(" } else { "" };
+                if before.trim_start_matches('(').parse::<f64>().is_ok() {
+                    words[at - 1] = format!("{front}TIME{rest}");
+                    words[at].clear();
+                }
+            }
+        }
+        words.retain(|it| !it.is_empty() || line.is_empty());
+        let line =
+            if line.contains("TIME") || words.iter().any(|it| it.contains("TIME")) { words.join(" ") } else { line };
+        let line = match line.split_once("\"milliseconds\":") {
+            Some((before, after)) => format!("{before}\"milliseconds\":0{}", &after[after.find(',').unwrap()..]),
+            None => line,
+        };
+        made.push_str(line.trim_end());
+        made.push('\n');
+    }
+    made
+}
+
+fn compare(name: &str, made: &str) {
+    let path = own("tests/expected").join(name).with_extension("txt");
+    if std::env::var_os("UPDATE").is_some() {
+        std::fs::write(&path, made).unwrap();
+    }
+    let wanted = std::fs::read_to_string(&path).unwrap_or_default();
+    assert_eq!(made, wanted, "{name}: what is told differs from {}", path.display());
+}
+
+fn compare_run(name: &str, folder: &Path, words: &[&str]) {
+    compare(name, &steady(&run(folder, words), folder));
+}
+
+#[test]
+fn check_tells_what_is_not_resolved() {
+    let folder = market();
+    compare_run("check", folder.path(), &["check", "--no-std"]);
+    compare_run("check-json", folder.path(), &["check", "--no-std", "--json"]);
+    compare_run("check-test", folder.path(), &["check", "shop", "--no-std", "--test", "--no-default-features"]);
+    compare_run("check-package", folder.path(), &["check", "--no-std", "-p", "codec", "--features", "codec/numbers"]);
+}
+
+#[test]
+fn where_tells_what_a_path_names() {
+    let folder = market();
+    let places = [
+        ("import", "shop/src/lib.rs:25:18"),
+        ("import-prefix", "shop/src/lib.rs:25:10"),
+        ("derive", "shop/src/model.rs:7:18"),
+        ("attribute", "shop/src/report.rs:11:12"),
+        ("field-type", "shop/src/model.rs:11:14"),
+        ("macro", "shop/src/model.rs:5:2"),
+        ("in-body", "shop/src/report.rs:15:22"),
+        ("inline-module", "shop/src/lib.rs:28:24"),
+        ("left-out", "shop/src/lib.rs:38:20"),
+        ("glob-in-list", "shop/src/main.rs:1:12"),
+        ("nothing", "shop/src/report.rs:6:35"),
+        ("path-in-body", "shop/src/report.rs:16:35"),
+    ];
+    for (name, place) in places {
+        compare_run(&format!("where-{name}"), folder.path(), &["where", place, "--no-std"]);
+    }
+    compare_run("where-json", folder.path(), &["where", "shop/src/lib.rs:25:18", "--no-std", "--json"]);
+}
+
+#[test]
+fn resolve_tells_what_a_path_names() {
+    let folder = market();
+    for (name, words) in [
+        ("variant", &["resolve", "Goods::Gift", "--at", "crate"][..]),
+        ("module", &["resolve", "Price", "--at", "shop::all"]),
+        ("macro", &["resolve", "codecs!", "--at", "codec::prelude"]),
+        ("builtin", &["resolve", "u8"]),
+        ("stops", &["resolve", "Order::new", "--at", "shop"]),
+        ("dependency", &["resolve", "codec::Codec", "--json"]),
+        ("nothing", &["resolve", "no::such"]),
+        ("no-module", &["resolve", "a", "--at", "crate::no"]),
+        ("no-crate", &["resolve", "a", "--at", "nowhere::no"]),
+        ("no-path", &["resolve", "a b"]),
+    ] {
+        compare_run(&format!("resolve-{name}"), folder.path(), &[words, &["--no-std", "-p", "shop"]].concat());
+    }
+}
+
+#[test]
+fn session_prints_what_the_program_is_given() {
+    let folder = market();
+    let session = run(folder.path(), &["session", "--no-std", "-p", "codec"]);
+    assert!(session.status.success());
+    let shown = steady(&session, folder.path());
+    let files: Vec<&str> = shown.lines().filter(|it| it.starts_with("{\"do\":\"set file\",\"file\":\"DIR/")).collect();
+    compare("session", &(files.join("\n") + "\n"));
+    let program = cargo_nogsimat::program::find(None).unwrap();
+    let mut child =
+        Command::new(program).stdin(Stdio::piped()).stdout(Stdio::piped()).spawn().expect("the program starts");
+    std::io::Write::write_all(&mut child.stdin.take().unwrap(), &session.stdout).unwrap();
+    let replies = text(&child.wait_with_output().unwrap().stdout);
+    assert_eq!(replies.lines().count(), text(&session.stdout).lines().count());
+    assert!(replies.lines().all(|it| it.starts_with("{\"ok\":")), "{replies}");
+}
+
+#[test]
+fn watch_tells_what_a_save_changes() {
+    let folder = market();
+    let mut child =
+        command(folder.path(), &["watch", "--no-std"]).stdout(Stdio::piped()).stderr(Stdio::piped()).spawn().unwrap();
+    let mut told = BufReader::new(child.stderr.take().unwrap()).lines();
+    assert!(told.next().unwrap().unwrap().starts_with("watching "));
+    let mut lines = BufReader::new(child.stdout.take().unwrap()).lines();
+    let mut until = |end: &str| {
+        let mut all = Vec::new();
+        loop {
+            let line = lines.next().unwrap().unwrap();
+            all.push(line);
+            if all.last().unwrap().contains(end) {
+                return all.join("\n");
+            }
+        }
+    };
+    assert!(until("1 error in").contains("unresolved import `crate::price::Rebate`"));
+    let price = folder.path().join("shop/src/price.rs");
+    let before = std::fs::read_to_string(&price).unwrap();
+    std::fs::write(&price, format!("{before}\npub struct Rebate;\n")).unwrap();
+    let made = until("; 0 errors");
+    assert!(made.contains("gone: shop/src/report.rs:6:32: unresolved import `crate::price::Rebate`"), "{made}");
+    assert!(made.contains("resolved again: shop, shop (bin shop) ("), "{made}");
+    // A body alone.
+    std::fs::write(&price, format!("{}\npub struct Rebate;\n", before.replace("price.0 / 5", "price.0 / 4"))).unwrap();
+    assert!(until("; 0 errors").contains("nothing to resolve again"));
+    // A file that isn't there any more, and that is there again.
+    std::fs::remove_file(&price).unwrap();
+    assert!(until("resolved again").contains("file not found for module `price`"));
+    std::fs::write(&price, format!("{before}\npub struct Rebate;\n")).unwrap();
+    until("; 0 errors");
+    // A file with a bracket too many.
+    std::fs::write(&price, format!("{before}}}\n")).unwrap();
+    assert!(until("resolved again").contains("this isn't Rust's syntax"));
+    child.kill().unwrap();
+    child.wait().unwrap();
+}
+
+#[test]
+fn the_first_command_of_the_readme() {
+    let made = run(&own("examples/market"), &["check", "--no-std"]);
+    assert_eq!(made.status.code(), Some(1));
+    assert!(text(&made.stdout).contains("1 error in"));
+}
+
+#[test]
+fn expansions_from_elsewhere() {
+    let folder = market();
+    std::fs::write(
+        folder.path().join("entries.jsonl"),
+        concat!(
+            r#"{"macro":"Codec","call":"derive","input":"pub enum Item { Book, #[codec(skip)] Gift, }","#,
+            r#""expansion":"pub struct Rebate;"}"#,
+            "\n"
+        ),
+    )
+    .unwrap();
+    std::fs::write(folder.path().join("shop/src/report.rs"), "use crate::model::{Rebate, Other};").unwrap();
+    std::fs::create_dir_all(folder.path().join("shop/src/report")).unwrap();
+    compare_run("expansions", folder.path(), &["check", "--no-std", "--expansions", "entries.jsonl"]);
+    std::fs::write(folder.path().join("entries.jsonl"), "{\"macro\":\"Codec\"}\n").unwrap();
+    compare_run("expansions-bad", folder.path(), &["check", "--no-std", "--expansions", "entries.jsonl"]);
+}
+
+/// What comes in has a message that says what to do, and the status 2; nothing panics.
+#[test]
+fn bad_input() {
+    let empty = TempDir::new().unwrap();
+    compare_run("bad-no-manifest", empty.path(), &["check"]);
+    compare_run("bad-no-folder", empty.path(), &["check", "no/such"]);
+    let folder = package(&[("src/lib.rs", "pub struct S;")]);
+    compare_run("bad-place", folder.path(), &["where", "src/lib.rs"]);
+    compare_run("bad-no-file", folder.path(), &["where", "src/no.rs:1:1"]);
+    compare_run("bad-no-path", folder.path(), &["where", "src/lib.rs:1:13", "--no-std"]);
+    compare_run("bad-program", folder.path(), &["check", "--program", "no/such"]);
+    compare_run("bad-std", folder.path(), &["check", "--std-sources", "."]);
+    compare_run("bad-package", folder.path(), &["check", "-p", "two"]);
+    let folder = package(&[("src/lib.rs", "")]);
+    std::fs::write(folder.path().join("Cargo.toml"), "[package\n").unwrap();
+    let made = run(folder.path(), &["check"]);
+    assert_eq!(made.status.code(), Some(2));
+    assert!(text(&made.stderr).starts_with("error: Cargo can't resolve"), "{}", text(&made.stderr));
+    let folder = package(&[("src/lib.rs", ""), ("src/other.rs", "")]);
+    let manifest = folder.path().join("Cargo.toml");
+    std::fs::write(&manifest, std::fs::read_to_string(&manifest).unwrap() + "[dependencies]\nno_such_crate = \"1\"\n")
+        .unwrap();
+    let made = run(folder.path(), &["check"]);
+    assert_eq!(made.status.code(), Some(2));
+    assert!(text(&made.stderr).contains("--online lets Cargo fetch what isn't there"), "{}", text(&made.stderr));
+}
+
+/// Files and macros that can't be read are told, and the rest goes on.
+#[test]
+fn bad_files() {
+    let folder = package(&[
+        (
+            "src/lib.rs",
+            "mod brackets; mod bytes; mod items; mod many; mod deep; mod twice; mod macros; pub use self::many::f1;",
+        ),
+        ("src/brackets.rs", "pub fn f() { (] }"),
+        ("src/items.rs", "pub struct S;\nlet x = 1;"),
+        ("src/twice.rs", "mod twice { mod twice; }"),
+    ]);
+    std::fs::write(folder.path().join("src/bytes.rs"), b"pub struct S;\n// \xff\n").unwrap();
+    let name = "n".repeat(900);
+    let many: String = (0..20_000).map(|it| format!("pub fn f{it}() {{}} fn {name}{it}() {{}}\n")).collect();
+    std::fs::write(folder.path().join("src/many.rs"), many).unwrap();
+    std::fs::write(folder.path().join("src/deep.rs"), format!("fn f() {{ {}{} }}", "(".repeat(9000), ")".repeat(9000)))
+        .unwrap();
+    let macros = "macro_rules! forever { ($($x:tt)*) => { forever!($($x)* x); } } forever!();
+        macro_rules! twice { () => { twice!(); twice!(); } } twice!();
+        macro_rules! more { ($($x:tt)*) => { more!($($x)* $($x)*); } } more!(x);
+        macro_rules! bad { ($x:nothing) => {} } bad!(1); none!();";
+    std::fs::write(folder.path().join("src/macros.rs"), macros).unwrap();
+    compare_run("bad-files", folder.path(), &["check", "--no-std"]);
+}
+
+/// What isn't a fault for the program, but is one of rustc's: a name that an item before it doesn't hold.
+#[test]
+fn imports_of_what_an_item_lacks() {
+    let folder = package(&[(
+        "src/lib.rs",
+        "pub enum E { A }\npub struct S;\npub use E::{A, B as C};\npub use self::S::nope;\npub use crate::E::{self as F, *};\n",
+    )]);
+    compare_run("past-items", folder.path(), &["check", "--no-std"]);
+}
+
+/// Macros mean what they mean in rustc's order: also those that expansions define, and of two of one name the one before
+/// the call.
+#[test]
+fn macros_in_textual_scope() {
+    let folder = package(&[
+        (
+            "src/lib.rs",
+            "macro_rules! t { () => { macro_rules! d { ($n:ident) => { pub struct $n; } } } }
+             t!{}
+             mod m { d!{A} }
+             #[macro_use] mod x { t2!{} }
+             macro_rules! t2 { () => { macro_rules! e { ($n:ident) => { pub struct $n; } } } }
+             #[macro_use] mod y { t2!{} }
+             mod z;
+             macro_rules! two { () => { pub struct First; } }
+             two!{}
+             macro_rules! two { () => { pub struct Second; } }
+             two!{}
+             pub use self::{m::A, z::{B, inner::C}, First, Second};",
+        ),
+        ("src/z.rs", "e!{B}\nmacro_rules! nested { ($($x:item)*) => { $($x)* } }\nnested! { pub mod inner; }\n"),
+        ("src/z/inner.rs", "t2!{} e!{C}"),
+    ]);
+    let made = run(folder.path(), &["check", "--no-std"]);
+    let told = text(&made.stdout);
+    // rustc tells of the first `t2!{}` alone, which stands before its macro.
+    assert_eq!(told.matches("error").count(), 2, "{told}");
+    assert!(told.contains("cannot find macro `t2` in this scope") && told.contains("src/lib.rs:4:35"), "{told}");
+    for (path, line) in [("crate::m::A", 3), ("crate::z::inner::C", 1), ("First", 9), ("Second", 11)] {
+        let made = run(folder.path(), &["resolve", path, "--no-std"]);
+        assert!(text(&made.stdout).contains(&format!(".rs:{line}:")), "{path}: {}", text(&made.stdout));
+    }
+}
+
+/// A program that dies in the middle of a session.
+#[cfg(unix)]
+#[test]
+fn a_program_that_stops() {
+    use std::os::unix::fs::PermissionsExt;
+    let folder = package(&[("src/lib.rs", "mod a;"), ("src/a.rs", "pub struct S;")]);
+    let program = folder.path().join("program");
+    for (name, script) in [
+        ("at-once", "#!/bin/sh\nexit 3\n"),
+        ("after-three", "#!/bin/sh\nfor i in 1 2 3; do read -r line; echo '{\"ok\":null}'; done\nexit 1\n"),
+        ("no-json", "#!/bin/sh\nread -r line; echo hello\ncat > /dev/null\n"),
+    ] {
+        std::fs::write(&program, script).unwrap();
+        std::fs::set_permissions(&program, std::fs::Permissions::from_mode(0o755)).unwrap();
+        let made = run(folder.path(), &["check", "--no-std", "--program", "./program"]);
+        assert_eq!(made.status.code(), Some(2), "{name}");
+        let told = text(&made.stderr);
+        assert!(told.starts_with("error: the program ./program stopped after"), "{name}: {told}");
+        assert!(told.contains("cargo nogsimat session > FILE"), "{name}: {told}");
+    }
+    std::fs::write(&program, "no program").unwrap();
+    std::fs::set_permissions(&program, std::fs::Permissions::from_mode(0o644)).unwrap();
+    let made = run(folder.path(), &["check", "--no-std", "--program", "./program"]);
+    assert_eq!(made.status.code(), Some(2));
+    assert!(text(&made.stderr).contains("doesn't start"), "{}", text(&made.stderr));
+}
+
+/// Three crates of Debian whose macros define macros in textual scope.
+#[test]
+fn real_crates() {
+    let names = ["libc", "petgraph", "os_str_bytes"];
+    let is_there = |name: &&str| {
+        let found = std::fs::read_dir(REGISTRY).map(|mut all| {
+            all.any(|it| {
+                it.is_ok_and(|it| it.file_name().to_str().is_some_and(|it| it.starts_with(&format!("{name}-"))))
+            })
+        });
+        found.unwrap_or(false)
+    };
+    if !names.iter().all(is_there) {
+        eprintln!("the crates libc, petgraph and os_str_bytes aren't in {REGISTRY}: not tried");
+        return;
+    }
+    let folder = package(&[("src/lib.rs", "")]);
+    let manifest = folder.path().join("Cargo.toml");
+    let dependencies: String = names.iter().map(|it| format!("{it} = \"*\"\n")).collect();
+    let before = std::fs::read_to_string(&manifest).unwrap();
+    std::fs::write(&manifest, format!("{before}[dependencies]\n{dependencies}")).unwrap();
+    let config = own("debian.toml");
+    let more = ["--config", config.to_str().unwrap(), "--no-std"];
+    for name in names {
+        let made = run(folder.path(), &[&["check", "-p", name][..], &more].concat());
+        compare(&format!("real-{name}"), &steady(&made, folder.path()));
+    }
+    for (name, path) in [
+        ("libc", "libc::FD_SET"),
+        ("libc-type", "libc::pthread_mutex_t"),
+        ("petgraph", "petgraph::prelude::DiGraph"),
+        ("petgraph-trait", "petgraph::visit::IntoNeighbors"),
+        ("os_str_bytes", "os_str_bytes::OsStrBytes"),
+    ] {
+        let made = run(folder.path(), &[&["resolve", path][..], &more].concat());
+        compare(&format!("real-resolve-{name}"), &steady(&made, folder.path()));
+    }
+}
