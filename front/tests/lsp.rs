@@ -2,7 +2,7 @@
 //!
 //! The files `lsp/*.jsonl` hold what is sent and what comes back, one JSON object a line: `send` and `receive` with a
 //! message, `write` and `remove` with a file below the package's folder, `say` for the reader. After each run of lines
-//! that do something comes what the server sends until it has done all of that. `DIR` stands for the package's folder.
+//! that do something comes what the server sends until it has done all of that, or null where that is nothing. `DIR` stands for the package's folder.
 //! With the variable `UPDATE` set the files are written anew.
 
 use std::collections::BTreeMap;
@@ -43,6 +43,12 @@ fn market() -> TempDir {
     folder
 }
 
+/// The resolver's program, which is there.
+fn program() -> PathBuf {
+    let named = std::env::var_os(cargo_nogsimat::program::VARIABLE);
+    cargo_nogsimat::program::find(named.as_deref().map(Path::new)).unwrap()
+}
+
 struct Client {
     child: Child,
     input: Option<ChildStdin>,
@@ -55,6 +61,7 @@ struct Client {
 
 impl Client {
     fn start(folder: &Path, words: &[&str]) -> Client {
+        program();
         let mut child = Command::new(env!("CARGO_BIN_EXE_cargo-nogsimat"))
             .args(["nogsimat", "lsp", "--no-std"])
             .args(words)
@@ -195,7 +202,11 @@ fn run(name: &str) -> i32 {
         // A run of lines ends before what is received, or where the reader is told something.
         let is_last = lines.get(at + 1).map_or(true, |it| !acts(it) || it.get("say").is_some());
         if is_last && !block.is_empty() {
-            made.extend(client.exchange(&block).into_iter().map(|it| json!({"receive": it})));
+            let received = client.exchange(&block);
+            if received.is_empty() {
+                made.push(json!({"receive": null}));
+            }
+            made.extend(received.into_iter().map(|it| json!({"receive": it})));
             block.clear();
         }
     }
@@ -350,8 +361,7 @@ fn random_edits_beside_a_fresh_server() {
 fn a_program_that_dies() {
     use std::os::unix::fs::PermissionsExt;
     let folder = market();
-    let program =
-        cargo_nogsimat::program::find(std::env::var_os("NOGSIMAT_PROGRAM").as_deref().map(Path::new)).unwrap();
+    let program = program();
     let script = folder.path().join("program");
     let write = |text: &str| {
         std::fs::write(&script, text).unwrap();
