@@ -408,6 +408,32 @@ fn a_program_that_dies() {
     assert_eq!(client.end(), 1);
 }
 
+/// An editor at work, where Neovim is installed.
+#[test]
+fn neovim() {
+    let folder = market();
+    let made = Command::new("nvim")
+        .args(["--headless", "-u", "NONE", "-i", "NONE", "-n", "-c"])
+        .arg(format!("luafile {}", own("tests/lsp/neovim.lua").display()))
+        .env("SERVER", env!("CARGO_BIN_EXE_cargo-nogsimat"))
+        .env("FOLDER", folder.path().canonicalize().unwrap())
+        .env("XDG_STATE_HOME", folder.path().join("state"))
+        .env("XDG_CACHE_HOME", folder.path().join("cache"))
+        .output();
+    let Ok(made) = made else {
+        eprintln!("nvim isn't installed: not tried");
+        return;
+    };
+    let told = String::from_utf8_lossy(&made.stdout).replace('\r', "");
+    let path = own("tests/lsp/neovim.txt");
+    if std::env::var_os("UPDATE").is_some() {
+        std::fs::write(&path, &*told).unwrap();
+    }
+    let errors = String::from_utf8_lossy(&made.stderr);
+    assert_eq!(told, std::fs::read_to_string(&path).unwrap_or_default(), "{errors}");
+    assert!(made.status.success(), "{errors}");
+}
+
 #[test]
 fn messages_that_are_none() {
     let folder = market();
