@@ -133,6 +133,7 @@ const MOST_RESTARTS: usize = 3;
 const ERROR: u32 = 1;
 const WARNING: u32 = 2;
 const INFO: u32 = 3;
+const LOG: u32 = 4;
 
 impl<W: Write> Server<W> {
     fn new(settings: Settings, output: W) -> Server<W> {
@@ -316,14 +317,18 @@ impl<W: Write> Server<W> {
                 self.open()
             }
             "textDocument/didOpen" => {
-                let (Some(uri), Some(text)) = (uri, params["textDocument"]["text"].as_str()) else {
+                let document = &params["textDocument"];
+                let (Some(uri), Some(text)) = (uri, document["text"].as_str()) else {
                     return Ok(());
                 };
-                let Some(key) = key_of_uri(uri) else {
+                let is_rust = uri.ends_with(".rs") || document["languageId"] == "rust";
+                let Some(key) = key_of_uri(uri).filter(|_| is_rust) else {
                     return Ok(());
                 };
                 let text = Arc::new(Text::new(text.to_owned()));
-                let good = self.texts.remove(&key).filter(|it| it.as_str() == text.as_str()).map(|_| text.clone());
+                let is_known = self.space.as_ref().is_some_and(|it| it.built(&key).is_some());
+                let good = is_known.then(|| self.unit_text(&key));
+                self.texts.remove(&key);
                 let document = Document { uri: uri.to_owned(), text, good, is_dirty: true };
                 self.documents.insert(key, document);
                 match self.space.is_none() && self.package().is_none() {
@@ -357,7 +362,8 @@ impl<W: Write> Server<W> {
             },
             "textDocument/didClose" => {
                 if let Some(key) = uri.and_then(key_of_uri).filter(|it| self.documents.contains_key(it)) {
-                    self.documents.remove(&key);
+                    let good = self.documents.remove(&key).and_then(|it| it.good);
+                    self.texts.extend(good.map(|it| (key.clone(), it)));
                     self.read_file(&key)?;
                 }
                 Ok(())
@@ -448,6 +454,7 @@ impl<W: Write> Server<W> {
                 Err(it) => it,
             };
             if space.is_running() {
+                self.log(LOG, &format!("Nogsimat: {error:#}"))?;
                 return Ok(None);
             }
             self.restart(&error)?;
@@ -494,7 +501,7 @@ impl<W: Write> Server<W> {
                 // Not there any more, or no UTF-8.
                 self.texts.remove(key);
                 self.needs_report |= self.errors.remove(key).is_some();
-                let resolved = self.with_space(|it| it.update(&[path.clone()]))?;
+                let resolved = self.with_space(|it| it.update(std::slice::from_ref(&path)))?;
                 self.needs_report |= resolved.is_some_and(|it| !it.is_empty()) || self.touched.contains(key);
             }
         }
@@ -591,16 +598,17 @@ impl<W: Write> Server<W> {
                 list.push(made);
             }
         }
-        for (key, error) in &self.errors {
-            // Where the text doesn't parse is a place of the text as it is now.
-            let range = match self.documents.get(key) {
+        for (key, error) in self.errors.clone() {
+            let is_used = self.space.as_ref().is_some_and(|it| !it.crates_of(&key).is_empty());
+            if !is_used {
+                continue;
+            }
+            // The place is one of the text as it is now.
+            let range = match self.documents.get(&key) {
                 Some(it) => it.text.range(error.at),
-                None => std::fs::read_to_string(path_of_key(key))
-                    .map(Text::new)
-                    .unwrap_or_else(|_| Text::new(String::new()))
-                    .range(error.at),
+                None => Text::new(std::fs::read_to_string(path_of_key(&key)).unwrap_or_default()).range(error.at),
             };
-            now.entry(key.clone()).or_default().push(json!({
+            now.entry(key).or_default().push(json!({
                 "range": range,
                 "severity": ERROR,
                 "source": "nogsimat",

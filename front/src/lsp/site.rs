@@ -213,8 +213,10 @@ fn is_in_use(list: &[Token], number: usize) -> bool {
     let mut at = list[..number].iter().rposition(|it| it.is(";")).map_or(0, |it| it + 1);
     // What stands behind a block needs no semicolon; a list of a `use` has `::` before it.
     let ends = |it: &usize| list[*it].group(Delimiter::Brace).is_some() && (*it == 0 || !list[*it - 1].is("::"));
-    at = (at..number).filter(ends).last().map_or(at, |it| it + 1);
-    list[at..number].iter().any(|it| it.is_word("use"))
+    at = (at..number).rfind(ends).map_or(at, |it| it + 1);
+    // `use<..>` in a type is none.
+    let is_use = |it: usize| list[it].is_word("use") && !list.get(it + 1).is_some_and(|it| it.is("<"));
+    (at..number).any(is_use)
 }
 
 /// Whether the word is the name of an item or of a binding.
@@ -323,7 +325,8 @@ fn names_in_pattern(tokens: &[Token], names: &mut HashSet<String>) {
             })
             || next.is_some_and(|it| it.group(Delimiter::Brace).is_some());
         let is_upper = plain(word).chars().next().is_some_and(char::is_uppercase);
-        if !is_path && !(is_upper && !next.is_some_and(|it| it.is("@"))) {
+        let is_bound = !is_upper || next.is_some_and(|it| it.is("@"));
+        if !is_path && is_bound {
             names.insert(plain(word).to_owned());
         }
     }
@@ -530,7 +533,7 @@ mod tests {
             "struct S<T>(«T»); struct U(«T»); trait X<T> { fn f(t: «T»); } fn g() where «T»: «A» {}",
             &["-", "T", "-", "T", "A"],
         );
-        all("fn f<'a, T>() {} fn g(t: &'a mut «T») {}", &["T"]);
+        all("fn f<'a, T>() {} fn g(t: &'a mut «T») -> impl A + use<'a> { B::«C» }", &["T", "B::C"]);
     }
 
     #[test]
