@@ -32,5 +32,5 @@ fi
 jobs=(--config debian.toml --offline --quiet)
 export CARGO_BUILD_JOBS=${CARGO_BUILD_JOBS:-2} CARGO_TERM_COLOR=never
 cargo fmt --check
-cargo clippy "${jobs[@]}" --all-targets -- -D warnings
+cargo clippy "${jobs[@]}" --all-targets --features tools -- -D warnings
 cargo test "${jobs[@]}"

@@ -66,7 +66,8 @@ fn plain(definition: &str) -> Option<String> {
         if name.starts_with("{extern#") || name.starts_with("{constructor#") {
             continue;
         }
-        let name = name.strip_prefix("r#").unwrap_or(name);
+        // What sets two definitions of one name apart.
+        let name = name.split('#').next().filter(|it| *it != "r").unwrap_or(name.trim_start_matches("r#"));
         names.push(name.to_owned());
     }
     Some(names.join("::"))
@@ -101,7 +102,7 @@ fn read_tree(text: &str) -> Vec<Resolved> {
         };
         let results = &lines[at + 2..end];
         let mut names = Vec::new();
-        let depth = text_depth(text, &lines, end);
+        let depth = depth_of(text, &lines, end);
         let mut close = end;
         for (number, it) in lines.iter().enumerate().skip(end + 1) {
             if depth_of(text, &lines, number) == depth && *it == "]," {
@@ -121,14 +122,12 @@ fn read_tree(text: &str) -> Vec<Resolved> {
             continue;
         }
         for (number, it) in results.iter().enumerate() {
-            let Some(kind) = it.strip_suffix("Def(") else {
-                if let Some(found) = it.strip_prefix("res: PrimTy(").or(it.strip_prefix("PrimTy(")) {
-                    let _ = found;
-                    push(&mut made, &mut seen, file, line_number, column, &names, "PrimTy", "", is_import);
-                }
+            if it.starts_with("res: PrimTy(") || it.starts_with("PrimTy(") {
+                push(&mut made, &mut seen, file, line_number, column, &names, "PrimTy", "", is_import);
+            }
+            if !it.ends_with("Def(") {
                 continue;
-            };
-            let _ = kind;
+            }
             let kind = results.get(number + 1).copied().unwrap_or_default();
             let kind = kind.trim_end_matches([',', '(', '{', ' ']);
             let definition = results[number..].iter().find(|it| it.starts_with("DefId("));
@@ -165,16 +164,12 @@ fn push(
     }
 }
 
+/// How far a trimmed line of the text is indented.
 fn depth_of(text: &str, lines: &[&str], at: usize) -> usize {
-    // Where the trimmed line begins in its own line.
     let trimmed = lines[at].as_ptr() as usize;
     let start = text.as_ptr() as usize;
     let before = &text.as_bytes()[..trimmed - start];
     before.iter().rev().take_while(|it| **it == b' ').count()
-}
-
-fn text_depth(text: &str, lines: &[&str], at: usize) -> usize {
-    depth_of(text, lines, at)
 }
 
 /// What rustc says, the options that build scripts set, and how long it took.
@@ -317,11 +312,11 @@ fn main() -> Result<ExitCode> {
         }
         let is_same = |found: &String| match kind {
             "PrimTy" => !found.contains("::") && it.names.last() == Some(found),
+            // rustc counts a `macro_rules` to the module in which it is written.
             "Macro" => found.rsplit("::").next() == wanted.rsplit("::").next(),
-            _ => found == wanted || format!("{name}::{}", found.trim_start_matches("crate")) == *wanted,
+            _ => found == wanted,
         };
         imports += usize::from(it.is_import);
-        // rustc counts the macros of a crate's root at the module in which they are written.
         if found.iter().any(is_same) && reply["ok"]["stop"].is_null() {
             agree += 1;
             agreed_imports += usize::from(it.is_import);

@@ -356,9 +356,11 @@ impl<W: Write> Server<W> {
                 document.is_dirty = true;
                 Ok(())
             }
-            "textDocument/didSave" => match self.space.is_none() {
-                true => self.open(),
-                false => Ok(()),
+            "textDocument/didSave" => match (self.space.is_none(), uri.and_then(key_of_uri)) {
+                (true, _) => self.open(),
+                // One that another includes is taken as it is on the disk.
+                (false, Some(key)) if !self.is_module(&key) => self.update_file(&key),
+                _ => Ok(()),
             },
             "textDocument/didClose" => {
                 if let Some(key) = uri.and_then(key_of_uri).filter(|it| self.documents.contains_key(it)) {
@@ -376,8 +378,9 @@ impl<W: Write> Server<W> {
                 if paths.iter().any(is_manifest) {
                     return self.open();
                 }
-                for path in paths.iter().filter(|it| it.extension().is_some_and(|it| it == "rs")) {
-                    if let Some(key) = key_of_path(path).filter(|it| !self.documents.contains_key(it)) {
+                for key in paths.iter().filter_map(|it| key_of_path(it)) {
+                    let is_read = self.space.as_ref().is_some_and(|it| it.reads(&path_of_key(&key)));
+                    if is_read && !self.documents.contains_key(&key) {
                         self.read_file(&key)?;
                     }
                 }
@@ -487,24 +490,33 @@ impl<W: Write> Server<W> {
         }
     }
 
+    /// Whether the file has the items of a module.
+    fn is_module(&self, key: &Key) -> bool {
+        self.space.as_ref().is_some_and(|it| !it.crates_of(key).is_empty())
+    }
+
     /// Reads a file that isn't open in the editor.
     fn read_file(&mut self, key: &Key) -> Result<()> {
-        let path = path_of_key(key);
-        match std::fs::read_to_string(&path) {
-            Ok(text) => {
+        match std::fs::read_to_string(path_of_key(key)) {
+            Ok(text) if self.is_module(key) => {
                 let text = Arc::new(Text::new(text));
                 if self.read_text(key, &text)? {
                     self.texts.insert(key.clone(), text);
                 }
+                Ok(())
             }
-            Err(_) => {
-                // Not there any more, or no UTF-8.
-                self.texts.remove(key);
-                self.needs_report |= self.errors.remove(key).is_some();
-                let resolved = self.with_space(|it| it.update(std::slice::from_ref(&path)))?;
-                self.needs_report |= resolved.is_some_and(|it| !it.is_empty()) || self.touched.contains(key);
-            }
+            // Not there any more, no UTF-8, new, or included by another.
+            _ => self.update_file(key),
         }
+    }
+
+    /// Has a file read as it is on the disk.
+    fn update_file(&mut self, key: &Key) -> Result<()> {
+        self.texts.remove(key);
+        self.needs_report |= self.errors.remove(key).is_some() || self.touched.contains(key);
+        let path = path_of_key(key);
+        let resolved = self.with_space(|it| it.update(std::slice::from_ref(&path)))?;
+        self.needs_report |= resolved.is_some_and(|it| !it.is_empty());
         Ok(())
     }
 

@@ -198,12 +198,24 @@ fn summary(space: &Workspace, report: &Report, taken: Duration) -> String {
         text.push_str(&format!("note: `{name}` ({}) {what}\n", plural(*count, "use")));
     }
     for it in &report.elsewhere {
-        text.push_str(&format!("note: a file of a dependency isn't read: {it}\n"));
+        text.push_str(&format!("note: not read: {it}\n"));
     }
     if report.unjudged > 0 {
         let count = plural(report.unjudged, "path");
-        let unread = if report.is_partial() { " or into files that couldn't be read" } else { "" };
-        text.push_str(&format!("note: not judged: {count} into the standard library ({}){unread}\n", space.crates.std));
+        let stub = match space.crates.all.iter().any(|it| it.is_stub) {
+            true => format!(": {}", space.crates.std),
+            false => String::new(),
+        };
+        text.push_str(&format!("note: not judged: {count} into what isn't read{stub}\n"));
+    }
+    let mut scripts: Vec<&str> =
+        space.crates.all.iter().filter(|it| it.is_asked && it.has_build_script).map(|it| &*it.title).collect();
+    scripts.dedup();
+    if !scripts.is_empty() && !report.diagnostics.is_empty() {
+        let names = scripts.join(", ");
+        text.push_str(&format!(
+            "note: build scripts aren't run ({names}): --cfg sets the conditions that they would\n"
+        ));
     }
     let size = format!(
         "{}, {}, {}, {}; {}",
@@ -340,8 +352,7 @@ fn watch(path: &Path, options: &Options) -> Result<ExitCode> {
             }
             (0..space.crates.all.len() as u32).collect()
         } else {
-            let sources: Vec<PathBuf> =
-                paths.into_iter().filter(|it| it.extension().is_some_and(|it| it == "rs")).collect();
+            let sources: Vec<PathBuf> = paths.into_iter().filter(|it| space.reads(it)).collect();
             if sources.is_empty() {
                 continue;
             }

@@ -45,6 +45,8 @@ pub struct Krate {
     pub is_proc_macro: bool,
     /// Whether its diagnostics are told.
     pub is_asked: bool,
+    /// Whether its package has a build script.
+    pub has_build_script: bool,
     /// Whether it is the stub of a crate of the standard library.
     pub is_stub: bool,
 }
@@ -58,26 +60,41 @@ pub struct Crates {
     pub std: String,
 }
 
-fn toolchain(words: &[&str], unstable: bool) -> Result<String> {
-    let rustc = std::env::var_os("RUSTC").unwrap_or_else(|| "rustc".into());
-    let mut command = Command::new(&rustc);
+fn rustc(words: &[&str], unstable: bool) -> Result<String> {
+    let program = std::env::var_os("RUSTC").unwrap_or_else(|| "rustc".into());
+    let mut command = Command::new(&program);
     if unstable {
         // The standard library is compiled with conditions that rustc else keeps to itself.
         command.env("RUSTC_BOOTSTRAP", "1");
     }
     let ran = command.args(words).output();
-    let ran = ran.with_context(|| format!("{} doesn't start; install a Rust toolchain", rustc.to_string_lossy()))?;
+    let ran = ran.with_context(|| format!("{} doesn't start; install a Rust toolchain", program.to_string_lossy()))?;
     if !ran.status.success() {
         bail!("rustc {} fails: {}", words.join(" "), String::from_utf8_lossy(&ran.stderr).trim());
     }
     Ok(String::from_utf8_lossy(&ran.stdout).into_owned())
 }
 
-/// The conditions that are set for each crate, or for one that is compiled as the standard library is.
-fn options_of_rustc(unstable: bool) -> Result<Options> {
-    let mut options = Options::default();
-    toolchain(&["--print", "cfg"], unstable)?.lines().for_each(|it| options.set(it));
-    Ok(options)
+/// What rustc says of itself.
+struct Toolchain {
+    sysroot: PathBuf,
+    host: String,
+    /// The conditions that are set for each crate.
+    options: Options,
+}
+
+impl Toolchain {
+    fn ask() -> Result<Toolchain> {
+        let text = rustc(&["--print", "sysroot", "--print", "target-libdir", "--print", "cfg"], false)?;
+        let mut lines = text.lines();
+        let sysroot = lines.next().unwrap_or_default().into();
+        // The folder is SYSROOT/lib/rustlib/HOST/lib.
+        let libraries = Path::new(lines.next().unwrap_or_default());
+        let host = libraries.parent().and_then(Path::file_name).unwrap_or_default().to_string_lossy().into_owned();
+        let mut options = Options::default();
+        lines.for_each(|it| options.set(it));
+        Ok(Toolchain { sysroot, host, options })
+    }
 }
 
 /// The folder of the stub.
@@ -102,9 +119,8 @@ impl Crates {
         if !wanted.features.is_empty() {
             command.features(CargoOpt::SomeFeatures(wanted.features.clone()));
         }
-        let host = toolchain(&["-vV"], false)?;
-        let host = host.lines().find_map(|it| it.strip_prefix("host: ")).unwrap_or("").to_owned();
-        let mut words = vec!["--filter-platform".to_owned(), host];
+        let toolchain = Toolchain::ask()?;
+        let mut words = vec!["--filter-platform".to_owned(), toolchain.host.clone()];
         if !wanted.online {
             words.push("--offline".to_owned());
         }
@@ -112,17 +128,7 @@ impl Crates {
             words.extend(["--config".to_owned(), it.clone()]);
         }
         command.other_options(words);
-        // rustc is asked while Cargo works.
-        let (metadata, base, unstable) = std::thread::scope(|scope| {
-            let base = scope.spawn(|| options_of_rustc(false));
-            let unstable = scope.spawn(|| options_of_rustc(true));
-            let joined = |it: std::thread::ScopedJoinHandle<Result<Options>>| match it.join() {
-                Ok(it) => it,
-                Err(panic) => std::panic::resume_unwind(panic),
-            };
-            (command.exec(), joined(base), joined(unstable))
-        });
-        let (base, unstable) = (base?, unstable?);
+        let metadata = command.exec();
         let metadata = metadata.map_err(|error| {
             let hint = if wanted.online { "" } else { "\n--online lets Cargo fetch what isn't there" };
             let text = error.to_string();
@@ -130,8 +136,8 @@ impl Crates {
             anyhow::anyhow!("Cargo can't resolve {}:\n{}{hint}", manifest.display(), text.trim())
         })?;
         let mut crates = Crates { folder: metadata.workspace_root.clone().into_std_path_buf(), ..Crates::default() };
-        let sysroot = crates.sysroot(wanted, unstable)?;
-        crates.packages(wanted, &manifest, &metadata, &base, &sysroot)?;
+        let sysroot = crates.sysroot(wanted, &toolchain)?;
+        crates.packages(wanted, &manifest, &metadata, &toolchain.options, &sysroot)?;
         Ok(crates)
     }
 
@@ -141,17 +147,12 @@ impl Crates {
     }
 
     /// Adds the standard library's crates; answers their numbers by name.
-    fn sysroot(&mut self, wanted: &Wanted, mut base: Options) -> Result<HashMap<String, u32>> {
-        base.set("feature=\"panic-unwind\"");
-        base.set("feature=\"backtrace\"");
+    fn sysroot(&mut self, wanted: &Wanted, toolchain: &Toolchain) -> Result<HashMap<String, u32>> {
         let mut sources = None;
         if !wanted.no_std {
             sources = match &wanted.std_sources {
                 Some(it) => Some(it.clone()),
-                None => {
-                    let sysroot = toolchain(&["--print", "sysroot"], false)?;
-                    Some(Path::new(sysroot.trim()).join("lib/rustlib/src/rust/library")).filter(|it| it.is_dir())
-                }
+                None => Some(toolchain.sysroot.join("lib/rustlib/src/rust/library")).filter(|it| it.is_dir()),
             };
         }
         let is_stub = sources.is_none();
@@ -159,6 +160,12 @@ impl Crates {
         if !folder.join("core/src/lib.rs").is_file() {
             bail!("{} has no core/src/lib.rs; name the folder `library` of Rust's sources", folder.display());
         }
+        let mut base = toolchain.options.clone();
+        if !is_stub {
+            rustc(&["--print", "cfg"], true)?.lines().for_each(|it| base.set(it));
+        }
+        base.set("feature=\"panic-unwind\"");
+        base.set("feature=\"backtrace\"");
         self.std = match (is_stub, wanted.no_std) {
             (false, _) => format!("std from {}", folder.display()),
             (true, true) => "a stub in place of std".to_owned(),
@@ -199,6 +206,7 @@ impl Crates {
                 dependencies: dependencies.iter().filter_map(named).collect(),
                 is_proc_macro: false,
                 is_asked: false,
+                has_build_script: false,
                 is_stub,
             };
             numbers.insert(name.to_owned(), self.add(krate));
@@ -323,6 +331,7 @@ impl Crates {
                     dependencies,
                     is_proc_macro,
                     is_asked,
+                    has_build_script: package.targets.iter().any(|it| is(it, &["custom-build"])),
                     is_stub: false,
                 });
                 if is_library {

@@ -21,14 +21,15 @@ pub struct Program {
     answered: usize,
 }
 
-/// Where the program is: what is named, else the proved one of the repository that this was built in, else its
+/// Where the program is: what is named, here or by the variable, else the proved one of the repository that this was built in, else its
 /// unproved one, else `hir_session` beside this executable or on the path.
 pub fn find(named: Option<&Path>) -> Result<PathBuf> {
+    let named = named.map(Path::to_owned).or_else(|| std::env::var_os(VARIABLE).map(PathBuf::from));
     if let Some(it) = named {
         if !it.is_file() {
             bail!("the program {} isn't there; name one by --program or {VARIABLE}", it.display());
         }
-        return Ok(it.to_owned());
+        return Ok(it);
     }
     let top = Path::new(env!("CARGO_MANIFEST_DIR")).parent().unwrap_or(Path::new("."));
     let mut places =

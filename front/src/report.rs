@@ -11,7 +11,7 @@ use serde_json::Value;
 use crate::syntax::{plain, Item, ItemKind, UseTree};
 use crate::token::{on_a_thread, tokens_of, Delimiter, Kind, Position, Span, Token};
 use crate::unit::{quoted, Detail};
-use crate::workspace::{key_of, path_of_key, place_json, Located, NotRun, Workspace};
+use crate::workspace::{key_of, path_of_key, place_json, Located, NotRun, PastItem, Workspace};
 
 /// A place in a file.
 #[derive(Clone, PartialEq, Eq, PartialOrd, Ord, Hash, Debug, Serialize)]
@@ -52,7 +52,7 @@ pub struct Report {
     /// How many imports and calls weren't judged, since they go into a crate for which a stub stands, or into a file that
     /// couldn't be read.
     pub unjudged: usize,
-    /// Files of other crates that couldn't be read.
+    /// Files of other crates, and expansions, that couldn't be read.
     pub elsewhere: Vec<String>,
     pub not_run: NotRun,
 }
@@ -119,9 +119,24 @@ impl Workspace {
         let replies = self.ask_all(&asks)?;
         let mut imports = Vec::new();
         let mut calls = Vec::new();
+        let mut absent = Bound::new();
         for (krate, reply) in judged.iter().copied().zip(replies) {
             for it in reply["ok"].as_array().into_iter().flatten() {
+                let is_given_back = |it: &Value| {
+                    let source = it["in"].as_array().into_iter().flatten();
+                    source.into_iter().any(|it| !it["attr"].is_null())
+                };
+                if it["kind"] == "unresolved module" {
+                    let located = self.locate(krate, &it["item"]);
+                    absent.extend(located.map(|it| {
+                        let module = it.module.into_iter().chain([it.node.name.to_string()]).collect();
+                        (krate, module, "*".to_owned())
+                    }));
+                }
                 match it["kind"].as_str().unwrap_or_default() {
+                    // What the attribute of a procedural macro takes for its own.
+                    "invalid derive target" | "malformed derive" if is_given_back(&it["item"]) => {}
+                    "unresolved macro call" if is_given_back(&it["call"]) => {}
                     "unresolved import" => imports.extend(self.import(krate, it)),
                     "unresolved macro call" => calls.push((krate, it.clone())),
                     _ if self.crates.all[krate as usize].is_asked => self.other(krate, it, &mut report),
@@ -135,6 +150,7 @@ impl Workspace {
             false => Bound::new(),
         };
         self.unread_modules(&judged, &mut bound);
+        bound.extend(absent);
         // What can't be judged since a stub stands in its way, and what stands on that.
         loop {
             let before = imports.len();
@@ -163,6 +179,9 @@ impl Workspace {
                 report.diagnostics.push(self.import_diagnostic(it));
             }
         }
+        for krate in judged.iter().copied().filter(|it| self.crates.all[*it as usize].is_asked).collect::<Vec<_>>() {
+            self.imports_past_items(krate, &mut report)?;
+        }
         for (krate, it) in calls {
             if self.crates.all[krate as usize].is_asked {
                 self.call_diagnostic(krate, &it, &bound, &mut report)?;
@@ -174,7 +193,7 @@ impl Workspace {
         Ok(report)
     }
 
-    /// Adds the modules whose files couldn't be read, each with the name `*`.
+    /// Adds the modules whose files couldn't be read, and those with calls whose items aren't known, each with the name `*`.
     fn unread_modules(&self, crates: &[u32], bound: &mut Bound) {
         for krate in crates.iter().copied() {
             for (key, module) in self.files(krate) {
@@ -182,6 +201,9 @@ impl Workspace {
                 if is_refused || self.parsed(key).is_some_and(|it| it.error.is_some()) {
                     bound.insert((krate, module.clone(), "*".to_owned()));
                 }
+            }
+            for module in self.open_modules(krate) {
+                bound.insert((krate, module.clone(), "*".to_owned()));
             }
         }
     }
@@ -228,6 +250,60 @@ impl Workspace {
             }
         }
         Ok(bound)
+    }
+
+    /// Tells the imports that name what an enum or another item doesn't hold, as a variant that isn't there. The program
+    /// takes them as the item itself, so each path is asked.
+    fn imports_past_items(&mut self, krate: u32, report: &mut Report) -> Result<()> {
+        let times = self.times_resolved(krate);
+        if self.past_items.get(&krate).map(|it| it.0) != Some(times) {
+            let is_old = self.crates.all[krate as usize].edition == "2015";
+            let mut asks = Vec::new();
+            let mut leaves_of = Vec::new();
+            for (key, module) in self.files(krate) {
+                for node in self.built(key).map_or(&[][..], |it| &it.nodes) {
+                    let Detail::Use(leaves) = &node.detail else {
+                        continue;
+                    };
+                    for (at, leaf) in leaves.iter().enumerate() {
+                        let is_single = leaf.path.contains("::") && !leaf.path.ends_with("::*");
+                        if !is_single || leaf.binds.is_none() && !leaf.path.contains(char::is_uppercase) {
+                            continue;
+                        }
+                        let mut place = module.clone();
+                        place.extend(node.modules.iter().map(|it| it.to_string()));
+                        let before = if is_old && prefixes(&leaf.path, true)[0].starts_with("::") { "::" } else { "" };
+                        let path = format!("{before}{}", leaf.path.trim_start_matches(before));
+                        asks.push(question(krate, &place, &path));
+                        leaves_of.push(PastItem { file: key.clone(), node: node.id, leaf: at });
+                    }
+                }
+            }
+            let replies = self.ask_all(&asks)?;
+            let found = leaves_of.into_iter().zip(replies).filter(|it| !it.1["ok"]["stop"].is_null());
+            let found = found.map(|it| it.0).collect();
+            self.past_items.insert(krate, (times, found));
+        }
+        for PastItem { file: key, node, leaf: at } in &self.past_items[&krate].1 {
+            let Some(node) = self.built(key).and_then(|it| it.find("Use", *node)) else {
+                continue;
+            };
+            if let Detail::Use(leaves) = &node.detail {
+                let leaf = &leaves[*at];
+                let (holder, name) = leaf.path.rsplit_once("::").unwrap_or(("", &leaf.path));
+                report.diagnostics.push(Diagnostic {
+                    place: place_at(key, leaf.span),
+                    kind: "unresolved import".to_owned(),
+                    code: Some("E0432"),
+                    message: format!("unresolved import `{}`", leaf.path),
+                    label: format!("no `{name}` in `{holder}`"),
+                    krate: self.crates.all[krate as usize].title.clone(),
+                    notes: Vec::new(),
+                    related: Vec::new(),
+                });
+            }
+        }
+        Ok(())
     }
 
     fn import(&self, krate: u32, it: &Value) -> Option<Import> {
@@ -470,6 +546,8 @@ impl Workspace {
                 });
             }
         }
+        let refused = self.refused().iter().filter(|it| it.0.is_empty());
+        report.elsewhere.extend(refused.map(|it| it.1.clone()));
         report.elsewhere.sort();
         report.elsewhere.dedup();
     }
@@ -701,14 +779,21 @@ pub(crate) fn path_before(tokens: &[Token], at: usize) -> Option<String> {
     Some(names.join("::"))
 }
 
+/// Whether a statement of a block is an item, or a macro call that holds one.
 fn has_items(list: &[Token]) -> bool {
-    const WORDS: [&str; 11] =
-        ["use", "fn", "struct", "enum", "mod", "static", "trait", "impl", "type", "const", "macro_rules"];
+    const WORDS: [&str; 12] =
+        ["use", "fn", "struct", "enum", "mod", "static", "trait", "impl", "type", "const", "extern", "macro_rules"];
     list.iter().enumerate().any(|(at, it)| {
         let is_first = at == 0
             || list[at - 1].is(";")
             || matches!(list[at - 1].kind, Kind::Group(Delimiter::Brace | Delimiter::Bracket, _));
-        is_first && it.word().is_some_and(|it| WORDS.contains(&it))
+        let holds = match (list.get(at + 1), list.get(at + 2).map(|it| &it.kind)) {
+            (Some(bang), Some(Kind::Group(Delimiter::Brace, inner))) if bang.is("!") => {
+                inner.iter().filter_map(|it| it.group(Delimiter::Brace)).any(|it| has_items(it))
+            }
+            _ => false,
+        };
+        is_first && it.word().is_some_and(|it| WORDS.contains(&it) || holds)
     })
 }
 

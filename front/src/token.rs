@@ -312,7 +312,15 @@ impl Hash {
             Kind::Ident(it) | Kind::Lifetime(it) | Kind::Literal(it) => hash.with(it),
             Kind::Punct(it) => hash.with(it),
             Kind::Crate(it) => hash.with(&format!("$crate{it}")),
-            Kind::Group(delimiter, inner) => hash.with(&format!("{delimiter:?}")).with_tokens(inner).with("end"),
+            Kind::Group(delimiter, inner) => {
+                let open = match delimiter {
+                    Delimiter::Parenthesis => "(",
+                    Delimiter::Bracket => "[",
+                    Delimiter::Brace => "{",
+                    Delimiter::None => "<",
+                };
+                hash.with(open).with_tokens(inner).with("end")
+            }
         })
     }
 

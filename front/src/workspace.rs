@@ -28,7 +28,8 @@ pub struct Parsed {
 
 struct Sent {
     unit: Arc<Unit>,
-    replaced: Vec<Hash>,
+    /// What stands in place of its calls, in their order.
+    replaced: Vec<Arc<Unit>>,
     built: Arc<Built>,
 }
 
@@ -54,6 +55,16 @@ struct Expansion {
     error: Option<String>,
     tokens: usize,
     is_endless: bool,
+    /// Whether what it includes isn't known, as what a build script writes.
+    is_unknown: bool,
+    /// The file that it includes.
+    file: Option<Key>,
+}
+
+impl Expansion {
+    fn of(unit: Arc<Unit>, error: Option<String>, tokens: usize) -> Expansion {
+        Expansion { unit, error, tokens, is_endless: false, is_unknown: false, file: None }
+    }
 }
 
 struct SentExpansion {
@@ -86,6 +97,19 @@ struct CrateState {
     taken: HashMap<Hash, String>,
     /// The calls whose expansions end nowhere, and why.
     endless: Vec<Endless>,
+    /// The modules in which a call stands whose items aren't known.
+    open: HashSet<Vec<String>>,
+    /// The files that `include!` names.
+    included: HashSet<Key>,
+    /// How often the program resolved it.
+    resolved: usize,
+}
+
+/// A leaf of a `use`, by its file, its node and its place in the tree.
+pub(crate) struct PastItem {
+    pub file: Key,
+    pub node: crate::unit::Id,
+    pub leaf: usize,
 }
 
 /// A call that isn't expanded since it ends nowhere.
@@ -127,6 +151,9 @@ pub struct Workspace {
     elsewhere: HashMap<(String, &'static str, Hash), Arc<Unit>>,
     crates_line: String,
     refused: Vec<(Key, String)>,
+    /// Of a crate, when it had been resolved so often, the imports that name what an item doesn't
+    /// hold.
+    pub(crate) past_items: HashMap<u32, (usize, Vec<PastItem>)>,
     progress: Progress,
 }
 
@@ -284,6 +311,10 @@ struct Walk<'a> {
     tokens: usize,
     is_too_deep: bool,
     endless: Vec<Endless>,
+    open: HashSet<Vec<String>>,
+    included: HashSet<Key>,
+    /// The paths that were looked up, by module.
+    looked_up: HashSet<(Vec<String>, String)>,
     not_run: NotRun,
 }
 
@@ -425,6 +456,7 @@ impl Walk<'_> {
             Some(it) => it.clone(),
             None => {
                 let question = (place.to_vec(), call.path.text.clone());
+                self.looked_up.insert(question.clone());
                 let known = self.space.states[self.krate as usize].reached.get(&question).cloned();
                 match known.unwrap_or_else(|| self.space.likely(self.krate, question)) {
                     Some(it) => it,
@@ -438,6 +470,15 @@ impl Walk<'_> {
             (self.tokens, self.is_too_deep) = (0, false);
         }
         let expansion = self.space.expand(self.krate, call, &target, folder, &mut self.not_run);
+        let is_unknown = match target.how {
+            How::Procedural => expansion.unit.items.is_empty(),
+            How::Builtin => target.name == "include" && expansion.is_unknown,
+            How::Rules(_) => false,
+        };
+        if is_unknown {
+            self.open.insert(place.to_vec());
+        }
+        self.included.extend(expansion.file.clone());
         self.tokens += expansion.tokens + 1;
         let expansion_key = self.space.expansion_key(self.krate, call, &target);
         self.taken.insert(call.identity, expansion_key.clone());
@@ -465,7 +506,7 @@ impl Walk<'_> {
                 ),
             };
             self.endless.push(Endless { file: key.clone(), span: call.path.span, message });
-            let none = Arc::new(Expansion { unit: Arc::default(), error: None, tokens: 0, is_endless: true });
+            let none = Arc::new(Expansion { is_endless: true, ..Expansion::of(Arc::default(), None, 0) });
             for it in &mut self.pending[first..] {
                 it.2 = none.clone();
                 self.replaced.remove(&it.0);
@@ -509,6 +550,7 @@ impl Workspace {
             elsewhere: HashMap::new(),
             crates_line: String::new(),
             refused: Vec::new(),
+            past_items: HashMap::new(),
             progress: Box::new(progress),
         };
         if let Some(it) = elsewhere {
@@ -610,6 +652,7 @@ impl Workspace {
             }
             (self.progress)("resolving", round, round);
             resolved.extend(&due);
+            due.iter().for_each(|it| self.states[*it as usize].resolved += 1);
             let mut changed = HashSet::new();
             let mut lines = Vec::new();
             let asks: Vec<String> = due.iter().map(|it| format!("{{\"do\":\"diagnostics\",\"crate\":{it}}}")).collect();
@@ -658,12 +701,17 @@ impl Workspace {
             tokens: 0,
             is_too_deep: false,
             endless: Vec::new(),
+            open: HashSet::new(),
+            included: HashSet::new(),
+            looked_up: HashSet::new(),
             not_run: NotRun::new(),
         };
         walk.file(&key, &Folder::of(&root, true), &[]);
         let calls = std::mem::take(&mut walk.calls);
         walk.settle(calls);
-        let Walk { files, missing, pending, replaced, taken, endless, not_run, .. } = walk;
+        let Walk {
+            files, missing, pending, replaced, units, taken, endless, open, included, looked_up, not_run, ..
+        } = walk;
         for (identity, key, expansion) in pending {
             if !replaced.contains_key(&identity) {
                 self.set_expansion(krate, key, &expansion, lines);
@@ -676,12 +724,25 @@ impl Workspace {
             }
         }
         self.replaced.extend(replaced);
+        // What no call takes any more.
+        self.cache.retain(|it, _| it.0 != krate || units.contains_key(&it.1));
+        let used: HashSet<&String> = taken.values().collect();
+        let front = format!("{{\"caller\":{krate},");
+        let is_left =
+            |key: &&String| key.starts_with(&front) && key.contains(",\"call\":\"bang\",") && !used.contains(key);
+        let left: Vec<String> = self.expansions.keys().filter(is_left).cloned().collect();
+        for key in left {
+            lines.push(format!("{{\"do\":\"remove expansion\",\"key\":{key}}}"));
+            self.expansions.remove(&key);
+        }
         let state = &mut self.states[krate as usize];
+        state.reached.retain(|it, _| looked_up.contains(it));
         state.places = HashMap::new();
         for (at, (key, _)) in files.iter().enumerate() {
             state.places.entry(key.clone()).or_insert(at);
         }
-        (state.files, state.missing, state.taken, state.endless) = (files, missing, taken, endless);
+        (state.files, state.missing, state.taken) = (files, missing, taken);
+        (state.endless, state.open, state.included) = (endless, open, included);
         let kept = self.not_run.entry(krate).or_default();
         kept.retain(|it, _| it.0 != "macro");
         kept.extend(not_run);
@@ -690,8 +751,10 @@ impl Workspace {
 
     /// Adds the commands for the files whose unit is another than the one that was handed in.
     fn build_files(&mut self, lines: &mut Vec<String>) -> Result<()> {
-        let mut work: Vec<(Key, u32, Vec<Hash>)> = Vec::new();
+        let mut work: Vec<(Key, u32, Vec<Arc<Unit>>)> = Vec::new();
         let mut seen = HashSet::new();
+        let same =
+            |a: &[Arc<Unit>], b: &[Arc<Unit>]| a.len() == b.len() && a.iter().zip(b).all(|(a, b)| Arc::ptr_eq(a, b));
         for (number, state) in self.states.iter().enumerate() {
             for (key, _) in &state.files {
                 if seen.insert(key.clone()) {
@@ -701,7 +764,7 @@ impl Workspace {
                     let is_same = self
                         .sent
                         .get(key)
-                        .is_some_and(|it| Arc::ptr_eq(&it.unit, &parsed.unit) && it.replaced == replaced);
+                        .is_some_and(|it| Arc::ptr_eq(&it.unit, &parsed.unit) && same(&it.replaced, &replaced));
                     if !is_same {
                         work.push((key.clone(), number as u32, replaced));
                     }
@@ -838,13 +901,13 @@ impl Workspace {
         }
         let elsewhere = (target.name.clone(), "bang", Hash::default().with_tokens(&call.input));
         let made = match (&target.how, self.elsewhere.get(&elsewhere)) {
-            (_, Some(unit)) => Expansion { unit: unit.clone(), error: None, tokens: 0, is_endless: false },
+            (_, Some(unit)) => Expansion::of(unit.clone(), None, 0),
             (How::Rules(definition), None) => {
                 let rules = self.rules.entry(definition.hash).or_insert_with(|| Arc::new(Rules::read(definition)));
                 expand_rules(rules, call, target.krate)
             }
             (How::Builtin, None) if target.name == "include" => included(call, &folder.of_file),
-            _ => Expansion { unit: Arc::default(), error: None, tokens: 0, is_endless: false },
+            _ => Expansion::of(Arc::default(), None, 0),
         };
         let made = Arc::new(made);
         self.cache.insert(cached, (text, made.clone()));
@@ -933,7 +996,7 @@ impl Workspace {
         if is_derived && asked.insert(format!("{krate} {text} {key}")) {
             *self.not_run.entry(krate).or_default().entry(("derive", target.name.clone())).or_default() += 1;
             let unit = self.elsewhere.get(&(target.name.clone(), "derive", input)).cloned().unwrap_or_default();
-            let expansion = Expansion { unit, error: None, tokens: 0, is_endless: false };
+            let expansion = Expansion::of(unit, None, 0);
             self.set_expansion(krate, key, &expansion, lines);
             return;
         }
@@ -955,7 +1018,7 @@ impl Workspace {
                     Arc::new(Unit { attributes: Vec::new(), items: vec![given] })
                 }
             };
-            let expansion = Expansion { unit, error: None, tokens: 0, is_endless: false };
+            let expansion = Expansion::of(unit, None, 0);
             let built = self.set_expansion(krate, key, &expansion, lines);
             self.given_back.insert((input, *number), built);
             return;
@@ -1050,6 +1113,12 @@ impl Workspace {
         self.program.ask_all(lines)
     }
 
+    /// Whether a change of this file may change something.
+    pub fn reads(&self, path: &Path) -> bool {
+        let is_included = |key: &Key| self.states.iter().any(|it| it.included.contains(key));
+        path.extension().is_some_and(|it| it == "rs") || key_of(path).is_ok_and(|it| is_included(&it))
+    }
+
     /// Reads these files again where they changed. Answers which crates were resolved again, or none where nothing
     /// that resolution reads changed.
     pub fn update(&mut self, paths: &[PathBuf]) -> Result<Vec<u32>> {
@@ -1057,6 +1126,13 @@ impl Workspace {
         for path in paths {
             let key = key_of(path)?;
             let is_there = path.is_file();
+            let including = (0..self.states.len()).filter(|it| self.states[*it].included.contains(&key));
+            let including: Vec<u32> = including.map(|it| it as u32).collect();
+            if !including.is_empty() {
+                self.cache.retain(|_, it| it.1.file.as_ref() != Some(&key));
+                self.expansions.retain(|it, _| !it.contains("\"text\":\"builtin include\""));
+                crates.extend(including);
+            }
             if is_there {
                 let parsed = parse(path, &key)?;
                 if self.parsed.get(&key).is_some_and(|it| it.text == parsed.text && it.error == parsed.error) {
@@ -1180,6 +1256,17 @@ impl Workspace {
         self.sent.get(key).map(|it| &it.built)
     }
 
+    /// The modules of a crate in which a call stands whose items aren't known: of a procedural macro, or an `include!` of
+    /// what a build script writes.
+    pub fn open_modules(&self, krate: u32) -> impl Iterator<Item = &Vec<String>> {
+        self.states[krate as usize].open.iter()
+    }
+
+    /// How often the program resolved a crate.
+    pub fn times_resolved(&self, krate: u32) -> usize {
+        self.states[krate as usize].resolved
+    }
+
     /// The calls of a crate that end nowhere.
     pub fn endless(&self, krate: u32) -> &[Endless] {
         &self.states[krate as usize].endless
@@ -1250,8 +1337,8 @@ pub fn place_json(krate: u32, module: &[String]) -> String {
     format!("[{krate}{names}]")
 }
 
-/// The replaced calls among these items and in what they expand to.
-fn replaced_in(items: &[Item], replaced: &HashMap<Hash, Arc<Unit>>, made: &mut Vec<Hash>) {
+/// What stands in place of calls among these items and in what they expand to.
+fn replaced_in(items: &[Item], replaced: &HashMap<Hash, Arc<Unit>>, made: &mut Vec<Arc<Unit>>) {
     if replaced.is_empty() {
         return;
     }
@@ -1259,7 +1346,7 @@ fn replaced_in(items: &[Item], replaced: &HashMap<Hash, Arc<Unit>>, made: &mut V
         match &item.kind {
             ItemKind::Call(call) => {
                 if let Some(unit) = replaced.get(&call.identity) {
-                    made.push(call.identity);
+                    made.push(unit.clone());
                     replaced_in(&unit.items, replaced, made);
                 }
             }
@@ -1298,29 +1385,30 @@ fn expand_rules(rules: &Result<Rules, String>, call: &Call, krate: u32) -> Expan
     let around = Hash::default().with("expansion").with(&call.identity.text());
     let unit = made.and_then(|it: Vec<Token>| unit_of(&it, around).map_err(|it| it.message));
     match unit {
-        Ok(unit) => Expansion { unit: Arc::new(unit), error: None, tokens, is_endless: false },
-        Err(error) => Expansion { unit: Arc::default(), error: Some(error), tokens, is_endless: false },
+        Ok(unit) => Expansion::of(Arc::new(unit), None, tokens),
+        Err(error) => Expansion::of(Arc::default(), Some(error), tokens),
     }
 }
 
 /// What stands in the file that `include!` names by a literal.
 fn included(call: &Call, folder: &Path) -> Expansion {
-    let none = Expansion { unit: Arc::default(), error: None, tokens: 0, is_endless: false };
+    let none = Expansion::of(Arc::default(), None, 0);
     let name = match &call.input[..] {
         [Token { kind: crate::token::Kind::Literal(it), .. }, ..] => crate::cfg::string_of(it),
         _ => None,
     };
     let Some(name) = name else {
-        return none;
+        return Expansion { is_unknown: true, ..none };
     };
     let path = folder.join(name);
     let around: Key = call.identity.text().into();
+    let file = key_of(&path).ok();
     match std::fs::read_to_string(&path) {
         Ok(text) => {
             let parsed = parse_text(&path, &around, &text);
             let error = parsed.error.map(|it| format!("{}: {}", path.display(), it.message));
-            Expansion { unit: parsed.unit, error, tokens: text.len() / 4, is_endless: false }
+            Expansion { file, ..Expansion::of(parsed.unit, error, text.len() / 4) }
         }
-        Err(error) => Expansion { error: Some(format!("{} can't be read: {error}", path.display())), ..none },
+        Err(error) => Expansion { error: Some(format!("{} can't be read: {error}", path.display())), file, ..none },
     }
 }

@@ -295,6 +295,50 @@ fn bad_files() {
     compare_run("bad-files", folder.path(), &["check", "--no-std"]);
 }
 
+/// What isn't a fault for the program, but is one of rustc's: a name that an item before it doesn't hold.
+#[test]
+fn imports_of_what_an_item_lacks() {
+    let folder = package(&[(
+        "src/lib.rs",
+        "pub enum E { A }\npub struct S;\npub use E::{A, B as C};\npub use self::S::nope;\npub use crate::E::{self as F, *};\n",
+    )]);
+    compare_run("past-items", folder.path(), &["check", "--no-std"]);
+}
+
+/// Macros mean what they mean in rustc's order: also those that expansions define, and of two of one name the one before
+/// the call.
+#[test]
+fn macros_in_textual_scope() {
+    let folder = package(&[
+        (
+            "src/lib.rs",
+            "macro_rules! t { () => { macro_rules! d { ($n:ident) => { pub struct $n; } } } }
+             t!{}
+             mod m { d!{A} }
+             #[macro_use] mod x { t2!{} }
+             macro_rules! t2 { () => { macro_rules! e { ($n:ident) => { pub struct $n; } } } }
+             #[macro_use] mod y { t2!{} }
+             mod z;
+             macro_rules! two { () => { pub struct First; } }
+             two!{}
+             macro_rules! two { () => { pub struct Second; } }
+             two!{}
+             pub use self::{m::A, z::{B, inner::C}, First, Second};",
+        ),
+        ("src/z.rs", "e!{B}\nmacro_rules! nested { ($($x:item)*) => { $($x)* } }\nnested! { pub mod inner; }\n"),
+        ("src/z/inner.rs", "t2!{} e!{C}"),
+    ]);
+    let made = run(folder.path(), &["check", "--no-std"]);
+    let told = text(&made.stdout);
+    // rustc tells of the first `t2!{}` alone, which stands before its macro.
+    assert_eq!(told.matches("error").count(), 2, "{told}");
+    assert!(told.contains("cannot find macro `t2` in this scope") && told.contains("src/lib.rs:4:35"), "{told}");
+    for (path, line) in [("crate::m::A", 3), ("crate::z::inner::C", 1), ("First", 9), ("Second", 11)] {
+        let made = run(folder.path(), &["resolve", path, "--no-std"]);
+        assert!(text(&made.stdout).contains(&format!(".rs:{line}:")), "{path}: {}", text(&made.stdout));
+    }
+}
+
 /// A program that dies in the middle of a session.
 #[cfg(unix)]
 #[test]

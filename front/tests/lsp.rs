@@ -45,8 +45,7 @@ fn market() -> TempDir {
 
 /// The resolver's program, which is there.
 fn program() -> PathBuf {
-    let named = std::env::var_os(cargo_nogsimat::program::VARIABLE);
-    cargo_nogsimat::program::find(named.as_deref().map(Path::new)).unwrap()
+    cargo_nogsimat::program::find(None).unwrap()
 }
 
 struct Client {
