@@ -12,6 +12,8 @@ missing=()
 for it in $libraries; do
   compgen -G "$registry/${it%=*}-[0-9]*" > /dev/null || missing+=("librust-${it#*=}-dev")
 done
+# The editor that drives the language server.
+command -v nvim > /dev/null || missing+=(neovim)
 if [ ${#missing[@]} -gt 0 ]; then
   for try in 1 2 3; do
     if apt-get update -qq && DEBIAN_FRONTEND=noninteractive apt-get install -y -qq --no-install-recommends "${missing[@]}" > /dev/null; then

@@ -1,9 +1,11 @@
 //! Resolves the names of real crates.
 //!
 //! [`package`] finds which crates there are, [`workspace`] reads their files and keeps a session of the resolver's
-//! program ([`program`]) the same as what the files say, and [`report`] tells answers at places in files.
+//! program ([`program`]) the same as what the files say, [`report`] tells answers at places in files, and [`lsp`] tells
+//! them to editors.
 
 pub mod cfg;
+pub mod lsp;
 pub mod macros;
 pub mod package;
 pub mod program;

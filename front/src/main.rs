@@ -57,6 +57,11 @@ enum Command {
         #[command(flatten)]
         options: Options,
     },
+    /// Serves an editor: a language server over standard input and output
+    Lsp {
+        #[command(flatten)]
+        options: Options,
+    },
     /// Prints the session: the commands that the resolver's program is given, one a line
     Session {
         /// The package's folder, or its Cargo.toml
@@ -397,6 +402,16 @@ fn session(path: &Path, options: &Options) -> Result<ExitCode> {
     Ok(ExitCode::SUCCESS)
 }
 
+fn lsp(options: &Options) -> Result<ExitCode> {
+    let settings = cargo_nogsimat::lsp::Settings {
+        wanted: options.wanted(Path::new(".")),
+        program: options.program.clone(),
+        expansions: options.expansions.clone(),
+    };
+    let was_shut_down = cargo_nogsimat::lsp::serve(settings, std::io::stdin(), std::io::stdout())?;
+    Ok(if was_shut_down { ExitCode::SUCCESS } else { ExitCode::from(1) })
+}
+
 fn main() -> ExitCode {
     // `cargo nogsimat` gives its own name as the first argument.
     let mut words: Vec<_> = std::env::args_os().collect();
@@ -409,6 +424,7 @@ fn main() -> ExitCode {
         Command::Resolve { path, at, options } => resolve(path, at, options),
         Command::Watch { path, options } => watch(path, options),
         Command::Session { path, options } => session(path, options),
+        Command::Lsp { options } => lsp(options),
     };
     ran.unwrap_or_else(|error| {
         eprintln!("error: {error:#}");

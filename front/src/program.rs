@@ -58,6 +58,11 @@ impl Program {
         Ok(Program { path: path.to_owned(), child, input, output, answered: 0 })
     }
 
+    /// Whether the process hasn't ended.
+    pub fn is_running(&mut self) -> bool {
+        matches!(self.child.try_wait(), Ok(None))
+    }
+
     /// The replies to the commands, in order.
     pub fn ask_all(&mut self, lines: &[String]) -> Result<Vec<Value>> {
         let Program { input, output, .. } = self;

@@ -40,6 +40,9 @@ pub struct Diagnostic {
     pub krate: String,
     #[serde(skip_serializing_if = "Vec::is_empty")]
     pub notes: Vec<String>,
+    /// What stands elsewhere that has to do with it, each with its place.
+    #[serde(skip)]
+    pub related: Vec<(String, Place)>,
 }
 
 /// What isn't resolved in the crates that are asked for.
@@ -296,6 +299,7 @@ impl Workspace {
                     label: format!("no `{name}` in `{holder}`"),
                     krate: self.crates.all[krate as usize].title.clone(),
                     notes: Vec::new(),
+                    related: Vec::new(),
                 });
             }
         }
@@ -384,6 +388,9 @@ impl Workspace {
             _ if it.reached + 1 == names.len() => format!("no `{missing}` in `{before}`"),
             _ => format!("could not find `{missing}` in `{before}`"),
         };
+        let (what, path, place) = self.described(&it.last);
+        let related = place.filter(|_| it.reached > 0).map(|it| (format!("{what} `{path}`"), it));
+        let related = related.into_iter().collect();
         Diagnostic {
             place: place_at(&it.located.file, it.span),
             kind: "unresolved import".to_owned(),
@@ -392,6 +399,7 @@ impl Workspace {
             label,
             krate: self.crates.all[it.krate as usize].title.clone(),
             notes: expanded_note(&it.located),
+            related,
         }
     }
 
@@ -440,6 +448,7 @@ impl Workspace {
             label: format!("no {what} of this name"),
             krate: self.crates.all[krate as usize].title.clone(),
             notes: expanded_note(&located),
+            related: Vec::new(),
         });
         Ok(())
     }
@@ -491,6 +500,7 @@ impl Workspace {
             label,
             krate: self.crates.all[krate as usize].title.clone(),
             notes,
+            related: Vec::new(),
         });
     }
 
@@ -518,6 +528,7 @@ impl Workspace {
                     label: String::new(),
                     krate: krate.title.clone(),
                     notes: vec!["the file counts as one without items".to_owned()],
+                    related: Vec::new(),
                 });
             }
         }
@@ -531,6 +542,7 @@ impl Workspace {
                     label: "it counts as one without items".to_owned(),
                     krate: self.crates.all[number as usize].title.clone(),
                     notes: Vec::new(),
+                    related: Vec::new(),
                 });
             }
         }
@@ -695,7 +707,7 @@ fn lists_at(tokens: &[Token], at: Position, context: Context) -> Option<(Vec<Lev
 }
 
 /// Whether the group there is the body of a function, or the value of a constant.
-fn is_body(list: &[Token], number: usize) -> bool {
+pub(crate) fn is_body(list: &[Token], number: usize) -> bool {
     if list[number].group(Delimiter::Brace).is_none() {
         return false;
     }
@@ -705,7 +717,7 @@ fn is_body(list: &[Token], number: usize) -> bool {
 }
 
 /// Where the `<` is that the `>` at `end` closes.
-fn opening(tokens: &[Token], end: usize) -> Option<usize> {
+pub(crate) fn opening(tokens: &[Token], end: usize) -> Option<usize> {
     let mut depth = 0;
     for at in (0..=end).rev() {
         depth -= crate::syntax::angle(&tokens[at]);
@@ -717,7 +729,7 @@ fn opening(tokens: &[Token], end: usize) -> Option<usize> {
 }
 
 /// The path that ends with the word at `at`.
-fn path_before(tokens: &[Token], at: usize) -> Option<String> {
+pub(crate) fn path_before(tokens: &[Token], at: usize) -> Option<String> {
     let mut names = vec![plain(tokens[at].word()?).to_owned()];
     let mut left = at;
     while left > 0 && tokens[left - 1].is("::") {
@@ -803,7 +815,7 @@ fn prefix_at(tree: &UseTree, at: Position) -> Option<String> {
 }
 
 /// The names of the inline modules around a place, and the item that it is in.
-fn around<'a>(items: &'a [Item], at: Position, modules: &mut Vec<String>) -> Option<&'a Item> {
+pub(crate) fn around<'a>(items: &'a [Item], at: Position, modules: &mut Vec<String>) -> Option<&'a Item> {
     let item = items.iter().find(|it| contains(it.span, at))?;
     match &item.kind {
         ItemKind::Module(Some(inner)) if item.name.as_ref().is_some_and(|it| !contains(it.span, at)) => {
@@ -891,7 +903,8 @@ impl Workspace {
         Ok(answer)
     }
 
-    pub fn answer(&mut self, krate: u32, module: &[String], path: &str, context: Context) -> Result<Answer> {
+    /// The command that asks what a path names as it stands in a context.
+    pub fn question_in(&self, krate: u32, module: &[String], path: &str, context: Context) -> String {
         let is_old = self.crates.all[krate as usize].edition == "2015" && context == Context::Import;
         let asked = match is_old {
             true => {
@@ -908,8 +921,11 @@ impl Workspace {
             Context::Plain => "",
         };
         let place = place_json(krate, module);
-        let line = format!("{{\"do\":\"resolve\",\"at\":{place},\"path\":{}{more}}}", quoted(&asked));
-        let reply = self.ask(line)?;
+        format!("{{\"do\":\"resolve\",\"at\":{place},\"path\":{}{more}}}", quoted(&asked))
+    }
+
+    pub fn answer(&mut self, krate: u32, module: &[String], path: &str, context: Context) -> Result<Answer> {
+        let reply = self.ask(self.question_in(krate, module, path, context))?;
         match reply["error"].as_str() {
             None => {}
             Some("unknown place") => bail!(

@@ -1187,6 +1187,11 @@ impl Workspace {
     pub fn update_text(&mut self, path: &Path, text: &str) -> Result<Vec<u32>> {
         let key = key_of(path)?;
         let parsed = parse_text(path, &key, text);
+        self.update_parsed(key, parsed)
+    }
+
+    /// Takes what [`parse_text`] made in place of what the file holds.
+    pub fn update_parsed(&mut self, key: Key, parsed: Parsed) -> Result<Vec<u32>> {
         if self.parsed.get(&key).is_some_and(|it| it.text == parsed.text) || self.take_same(&key, &parsed) {
             return Ok(Vec::new());
         }
@@ -1212,6 +1217,21 @@ impl Workspace {
         lines.extend(self.expansions.values().map(|it| it.line.clone()));
         lines.push("{\"do\":\"refresh\"}".to_owned());
         lines
+    }
+
+    /// Whether the program runs.
+    pub fn is_running(&mut self) -> bool {
+        self.program.is_running()
+    }
+
+    /// Starts the program anew, and brings it to where this session is.
+    pub fn restart(&mut self, program: &Path) -> Result<()> {
+        self.program = Program::start(program)?;
+        let lines = self.session();
+        self.program.ask_all(&lines)?;
+        let all: Vec<u32> = (0..self.crates.all.len() as u32).collect();
+        self.settle(&all)?;
+        Ok(())
     }
 
     pub fn counts(&self) -> Counts {

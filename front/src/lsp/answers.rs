@@ -1,0 +1,429 @@
+//! What is told at places: definitions, hovers, references, symbols.
+
+use std::collections::{BTreeSet, HashSet};
+use std::io::Write;
+use std::sync::Arc;
+
+use anyhow::Result;
+use serde_json::{json, Value};
+
+use super::message::INVALID_PARAMS;
+use super::site::{sites, symbol_kind, Site};
+use super::text::Text;
+use super::{key_of_uri, place_of, Failure, Server};
+use crate::report::{place_at, Context, Meaning, Place};
+use crate::syntax::{plain, Item, ItemKind, Shape};
+use crate::token::{on_a_thread, tokens_of, Position, Span};
+use crate::unit::{Detail, Node};
+use crate::workspace::{Key, Workspace};
+
+/// What stands at a place.
+enum Found {
+    /// An item's own name.
+    Node(Box<Node>),
+    Path(Site),
+}
+
+/// The nodes whose names are written where they are declared.
+fn is_declaration(node: &Node) -> bool {
+    !matches!(node.kind, "Use" | "ExternCrate" | "ExternBlock" | "Impl" | "MacroCall")
+}
+
+/// The sites of a text whose items these are. None where the text has no tokens.
+fn sites_of(text: &str, items: &[Item], wanted: impl Fn(&str, Span) -> bool + Sync) -> Vec<Site> {
+    on_a_thread(|| tokens_of(text).map(|it| sites(&it, items, &wanted)).unwrap_or_default())
+}
+
+/// The meanings that fit how a path is written.
+fn fitting(site: &Site, meanings: Vec<Meaning>) -> Vec<Meaning> {
+    let is_type = |it: &Meaning| it.namespace == "type";
+    let is_macro = |it: &Meaning| it.namespace == "macro";
+    if site.goes_on {
+        return meanings.into_iter().filter(is_type).collect();
+    }
+    let has_others = meanings.iter().any(|it| !is_macro(it));
+    let drops_macros = site.context == Context::Plain && has_others;
+    meanings.into_iter().filter(|it| !drops_macros || !is_macro(it)).collect()
+}
+
+/// Whether an answer of the program has one of these definitions in a namespace that fits.
+fn names_one(site: &Site, reply: &Value, targets: &[Value]) -> bool {
+    let namespaces: &[&str] = match (site.goes_on, site.context) {
+        (true, _) => &["types"],
+        (_, Context::Call | Context::Attribute) => &["macros"],
+        (_, Context::Import) => &["types", "values", "macros"],
+        (_, Context::Plain) => &["types", "values"],
+    };
+    reply["ok"]["stop"].is_null() && namespaces.iter().any(|it| targets.contains(&reply["ok"][*it]["def"]))
+}
+
+impl<W: Write> Server<W> {
+    /// The file that a request speaks of, and the position in the text of which its items are.
+    fn asked(&mut self, params: &Value) -> Result<(Key, Position), Failure> {
+        let key = asked_file(params)?;
+        let place = place_of(&params["position"]);
+        let (line, character) =
+            place.ok_or_else(|| Failure(INVALID_PARAMS, "`position` has a `line` and a `character`".to_owned()))?;
+        let text = self.unit_text(&key);
+        let position = match self.documents.get(&key).map(|it| &it.text) {
+            Some(now) if !Arc::ptr_eq(now, &text) => text.position(now.moved(&text, now.offset(line, character))),
+            _ => text.position(text.offset(line, character)),
+        };
+        Ok((key, position))
+    }
+
+    /// What stands at a position of a file, and the crate of the file with the module whose items it has.
+    fn found(&mut self, key: &Key, at: Position) -> Option<(Found, u32, Vec<String>)> {
+        let text = self.unit_text(key);
+        let space = self.space.as_ref()?;
+        let krate = space.crates_of(key).first().copied()?;
+        let mut module = space.module_of(krate, key)?.to_vec();
+        let contains = |span: Span| span.start <= at && at <= span.end;
+        let is_named = |node: &Node| {
+            let (start, end) = (text.offset_of(node.span.start), text.offset_of(node.span.end));
+            text.as_str().get(start..end).is_some_and(|it| plain(it) == &*node.name)
+        };
+        let nodes = space.built(key).map_or(&[][..], |it| &it.nodes);
+        let own = nodes.iter().find(|it| is_declaration(it) && contains(it.span) && is_named(it));
+        if let Some(node) = own {
+            module.extend(node.modules.iter().map(|it| it.to_string()));
+            return Some((Found::Node(Box::new(node.clone())), krate, module));
+        }
+        let items = &space.parsed(key)?.unit.items;
+        let site = sites_of(text.as_str(), items, |_, span| contains(span)).pop()?;
+        module.extend(site.modules.iter().cloned());
+        Some((Found::Path(site), krate, module))
+    }
+
+    /// What the path of a site names.
+    fn meanings(&mut self, site: &Site, krate: u32, module: &[String]) -> Result<Vec<Meaning>> {
+        let answer = self.with_space(|it| it.answer(krate, module, &site.path, site.context))?;
+        Ok(match answer {
+            Some(it) if it.stopped_at.is_none() => fitting(site, it.meanings),
+            _ => Vec::new(),
+        })
+    }
+
+    /// What an item is in its module.
+    fn own_meanings(&mut self, node: &Node, key: &Key, krate: u32, module: &[String]) -> Result<Vec<Meaning>> {
+        let mut path = node.name.to_string();
+        let built = self.space.as_ref().and_then(|it| it.built(key));
+        if let Some(of) = node.of.and_then(|at| built.and_then(|it| it.nodes.get(at))) {
+            path = format!("{}::{path}", of.name);
+        }
+        let place = place_at(key, node.span);
+        let context = if node.kind == "MacroRules" { Context::Call } else { Context::Import };
+        let answer = self.with_space(|it| it.answer(krate, module, &path, context))?;
+        let is_own = |it: &Meaning| it.place.as_ref() == Some(&place) && it.brought_by.is_none();
+        Ok(answer.map_or(Vec::new(), |it| it.meanings.into_iter().filter(is_own).collect()))
+    }
+
+    pub(super) fn definition(&mut self, params: &Value) -> Result<Result<Value, Failure>> {
+        let (key, at) = match self.asked(params) {
+            Ok(it) => it,
+            Err(it) => return Ok(Err(it)),
+        };
+        let Some((found, krate, module)) = self.found(&key, at) else {
+            return Ok(Ok(Value::Null));
+        };
+        let mut locations = Vec::new();
+        match found {
+            Found::Node(node) => {
+                let place = place_at(&key, node.span);
+                let mut path = module;
+                path.push(node.name.to_string());
+                let path = self.space.as_ref().map(|it| it.module_text(krate, &path)).unwrap_or_default();
+                let file = (node.kind == "Module").then(|| self.file_of(&path)).flatten();
+                locations.extend(file.or_else(|| self.location(&place)));
+            }
+            Found::Path(site) => {
+                for it in self.meanings(&site, krate, &module)? {
+                    let file = (it.what == "module").then(|| self.file_of(&it.path)).flatten();
+                    let location = file.or_else(|| it.place.as_ref().and_then(|it| self.location(it)));
+                    if let Some(it) = location.filter(|it| !locations.contains(it)) {
+                        locations.push(it);
+                    }
+                }
+            }
+        }
+        Ok(Ok(if locations.is_empty() { Value::Null } else { locations.into() }))
+    }
+
+    /// The beginning of the file that has the items of a module.
+    fn file_of(&mut self, module: &str) -> Option<Value> {
+        let space = self.space.as_ref()?;
+        let found = (0..space.crates.all.len() as u32).find_map(|krate| {
+            let mut files = space.files(krate).iter();
+            files.find(|it| !it.1.is_empty() && space.module_text(krate, &it.1) == module).map(|it| it.0.clone())
+        })?;
+        self.location(&place_at(&found, Span::default()))
+    }
+
+    pub(super) fn hover(&mut self, params: &Value) -> Result<Result<Value, Failure>> {
+        let (key, at) = match self.asked(params) {
+            Ok(it) => it,
+            Err(it) => return Ok(Err(it)),
+        };
+        let Some((found, krate, module)) = self.found(&key, at) else {
+            return Ok(Ok(Value::Null));
+        };
+        let (meanings, span) = match &found {
+            Found::Node(node) => (self.own_meanings(node, &key, krate, &module)?, node.span),
+            Found::Path(site) => (self.meanings(site, krate, &module)?, site.span),
+        };
+        if meanings.is_empty() {
+            return Ok(Ok(Value::Null));
+        }
+        let folder = self.space.as_ref().map(|it| it.crates.folder.clone()).unwrap_or_default();
+        let folder = folder.canonicalize().unwrap_or(folder);
+        let shown = |it: &Place| {
+            let here = std::env::current_dir().and_then(|it| it.canonicalize()).unwrap_or_default();
+            let path = here.join(&it.file);
+            let below = path.strip_prefix(&folder).unwrap_or(&path);
+            format!("`{}:{}:{}`", below.display(), it.line, it.column)
+        };
+        let mut parts: Vec<(String, Vec<&str>)> = Vec::new();
+        for it in &meanings {
+            let mut part = format!("{} `{}`", it.what, it.path);
+            let mut told = format!("\n\nvisible: {}", it.visibility);
+            if let Some((what, place)) = &it.brought_by {
+                told = format!("\n\nbrought by: {what} at {}{told}", shown(place));
+            }
+            part.push_str(&told);
+            match parts.iter_mut().find(|it| it.0 == part) {
+                Some(known) => known.1.push(it.namespace),
+                None => parts.push((part, vec![it.namespace])),
+            }
+        }
+        let told: Vec<String> =
+            parts.into_iter().map(|(part, names)| format!("{part}\n\nas: {}", names.join(", "))).collect();
+        let range = self.range(&key, span);
+        Ok(Ok(json!({"contents": {"kind": "markdown", "value": told.join("\n\n---\n\n")}, "range": range})))
+    }
+
+    pub(super) fn references(&mut self, params: &Value) -> Result<Result<Value, Failure>> {
+        let (key, at) = match self.asked(params) {
+            Ok(it) => it,
+            Err(it) => return Ok(Err(it)),
+        };
+        let Some((found, krate, module)) = self.found(&key, at) else {
+            return Ok(Ok(Value::Null));
+        };
+        let targets: Vec<Value> = match &found {
+            Found::Node(node) => {
+                let crates = self.space.as_ref().map(|it| it.crates_of(&key)).unwrap_or_default();
+                let id = [node.id.0, node.id.1];
+                crates.iter().map(|it| json!({"crate": it, "id": id, "in": [&*key], "kind": node.kind})).collect()
+            }
+            Found::Path(site) => {
+                let ask = |it: &mut Workspace| it.ask(it.question_in(krate, &module, &site.path, site.context));
+                let reply = self.with_space(ask)?.unwrap_or_default();
+                let known = ["types", "values", "macros"].map(|it| reply["ok"][it]["def"].clone());
+                let mut all: Vec<Value> = known.into_iter().filter(|it| !it.is_null()).collect();
+                all.retain(|it| names_one(site, &reply, std::slice::from_ref(it)));
+                all
+            }
+        };
+        if targets.is_empty() {
+            return Ok(Ok(Value::Null));
+        }
+        let with_declaration = params["context"]["includeDeclaration"] == json!(true);
+        let made = self.references_to(&targets, with_declaration)?;
+        Ok(Ok(made.into()))
+    }
+
+    /// The words in the files of the crates that are asked for whose paths name one of these.
+    fn references_to(&mut self, targets: &[Value], with_declaration: bool) -> Result<Vec<Value>> {
+        let Some(space) = self.space.as_ref() else {
+            return Ok(Vec::new());
+        };
+        let mut names: HashSet<String> = HashSet::new();
+        let mut made: BTreeSet<(Key, Position, Position)> = BTreeSet::new();
+        for it in targets {
+            let place = it["crate"].as_u64().and_then(|krate| {
+                let mut node = it.clone();
+                if node["kind"] == "ProcMacro" {
+                    node["kind"] = "Fn".into();
+                }
+                space.locate(krate as u32, &node)
+            });
+            match place {
+                Some(located) => {
+                    names.insert(match &located.node.detail {
+                        Detail::Derive(it) => it.clone(),
+                        _ => located.node.name.to_string(),
+                    });
+                    if with_declaration {
+                        made.insert((located.file, located.span.start, located.span.end));
+                    }
+                }
+                None => names.extend(space.described(it).1.rsplit("::").next().map(str::to_owned)),
+            }
+            // A crate's root is also named by where the path begins.
+            if it["kind"] == "CrateRoot" {
+                names.insert("crate".to_owned());
+            }
+        }
+        let asked: Vec<u32> =
+            (0..space.crates.all.len() as u32).filter(|it| space.crates.all[*it as usize].is_asked).collect();
+        let files: BTreeSet<Key> = asked.iter().flat_map(|it| space.files(*it)).map(|it| it.0.clone()).collect();
+        self.add_aliases(targets, &files, &mut names)?;
+        let mut questions = Vec::new();
+        let mut whose = Vec::new();
+        for key in &files {
+            let text = self.unit_text(key);
+            let Some(space) = self.space.as_ref() else {
+                continue;
+            };
+            let (Some(parsed), true) = (space.parsed(key), names.iter().any(|it| text.as_str().contains(&**it))) else {
+                continue;
+            };
+            let found = sites_of(text.as_str(), &parsed.unit.items, |word, _| names.contains(word));
+            for krate in space.crates_of(key) {
+                let module = space.module_of(krate, key).unwrap_or(&[]);
+                for site in &found {
+                    let mut module = module.to_vec();
+                    module.extend(site.modules.iter().cloned());
+                    questions.push(space.question_in(krate, &module, &site.path, site.context));
+                    whose.push((key.clone(), site.clone()));
+                }
+            }
+        }
+        let replies = self.with_space(|it| it.ask_all(&questions))?.unwrap_or_default();
+        for ((key, site), reply) in whose.into_iter().zip(replies) {
+            if names_one(&site, &reply, targets) {
+                made.insert((key, site.span.start, site.span.end));
+            }
+        }
+        let mut locations = Vec::new();
+        for (key, start, end) in made {
+            locations.extend(self.location(&place_at(&key, Span { start, end })));
+        }
+        Ok(locations)
+    }
+
+    /// Adds the other names that imports give to one of these.
+    fn add_aliases(&mut self, targets: &[Value], files: &BTreeSet<Key>, names: &mut HashSet<String>) -> Result<()> {
+        let Some(space) = self.space.as_ref() else {
+            return Ok(());
+        };
+        let mut questions = Vec::new();
+        let mut bound = Vec::new();
+        for key in files {
+            for krate in space.crates_of(key) {
+                for node in space.built(key).map_or(&[][..], |it| &it.nodes) {
+                    let Detail::Use(leaves) = &node.detail else {
+                        continue;
+                    };
+                    let mut module = space.module_of(krate, key).unwrap_or(&[]).to_vec();
+                    module.extend(node.modules.iter().map(|it| it.to_string()));
+                    for leaf in leaves {
+                        let last = leaf.path.rsplit("::").next().unwrap_or_default();
+                        if let Some(name) = leaf.binds.as_ref().filter(|it| names.contains(last) && ***it != *last) {
+                            questions.push(space.question_in(krate, &module, &leaf.path, Context::Import));
+                            bound.push(name.to_string());
+                        }
+                    }
+                }
+            }
+        }
+        let replies = self.with_space(|it| it.ask_all(&questions))?.unwrap_or_default();
+        for (name, reply) in bound.into_iter().zip(replies) {
+            if ["types", "values", "macros"].iter().any(|it| targets.contains(&reply["ok"][*it]["def"])) {
+                names.insert(name);
+            }
+        }
+        Ok(())
+    }
+
+    pub(super) fn symbols(&mut self, params: &Value) -> Result<Value, Failure> {
+        let key = asked_file(params)?;
+        let text = self.unit_text(&key);
+        let Some(parsed) = self.space.as_ref().and_then(|it| it.parsed(&key)).cloned() else {
+            return Ok(json!([]));
+        };
+        let made = self.symbols_of(&parsed.unit.items, &key, &text);
+        if self.has_nested_symbols {
+            return Ok(made.into());
+        }
+        let uri = self.uri(&key);
+        let mut flat = Vec::new();
+        flatten(&made, None, &uri, &mut flat);
+        Ok(flat.into())
+    }
+
+    fn symbols_of(&mut self, items: &[Item], key: &Key, text: &Text) -> Vec<Value> {
+        let mut made = Vec::new();
+        for item in items {
+            let Some(kind) = symbol_kind(item) else {
+                continue;
+            };
+            let name = match &item.name {
+                Some(it) => it.text.to_string(),
+                None => head_of(item, text),
+            };
+            let children = match &item.kind {
+                ItemKind::Module(Some(items)) | ItemKind::ExternBlock(items) | ItemKind::Trait(items) => {
+                    self.symbols_of(items, key, text)
+                }
+                ItemKind::Impl { items, .. } => self.symbols_of(items, key, text),
+                ItemKind::Enum(variants) => {
+                    let mut all = Vec::new();
+                    for it in variants {
+                        let range = self.range(key, it.name.span);
+                        let detail = if it.shape == Shape::Unit { "" } else { ".." };
+                        all.push(json!({
+                            "name": &*it.name.text, "kind": 22, "detail": detail, "range": range,
+                            "selectionRange": range,
+                        }));
+                    }
+                    all
+                }
+                _ => Vec::new(),
+            };
+            let mut it = json!({
+                "name": name,
+                "kind": kind,
+                "range": self.range(key, item.span),
+                "selectionRange": self.range(key, item.name.as_ref().map_or(item.span, |it| it.span)),
+            });
+            if !children.is_empty() {
+                it["children"] = children.into();
+            }
+            made.push(it);
+        }
+        made
+    }
+}
+
+fn asked_file(params: &Value) -> Result<Key, Failure> {
+    let uri = params["textDocument"]["uri"].as_str();
+    uri.and_then(key_of_uri).ok_or_else(|| Failure(INVALID_PARAMS, "`textDocument` has the `uri` of a file".to_owned()))
+}
+
+/// What stands in an item before its braces.
+fn head_of(item: &Item, text: &Text) -> String {
+    let (start, end) = (text.offset_of(item.span.start), text.offset_of(item.span.end));
+    let whole = text.as_str().get(start..end).unwrap_or_default();
+    let head = whole.split(['{', ';']).next().unwrap_or_default();
+    let words: Vec<&str> = head.split_whitespace().collect();
+    if words.is_empty() {
+        return "_".to_owned();
+    }
+    words.join(" ")
+}
+
+fn flatten(symbols: &[Value], around: Option<&str>, uri: &str, made: &mut Vec<Value>) {
+    for it in symbols {
+        let mut flat = json!({
+            "name": it["name"], "kind": it["kind"], "location": {"uri": uri, "range": it["range"]},
+        });
+        if let Some(around) = around {
+            flat["containerName"] = around.into();
+        }
+        made.push(flat);
+        if let Some(children) = it["children"].as_array() {
+            flatten(children, it["name"].as_str(), uri, made);
+        }
+    }
+}

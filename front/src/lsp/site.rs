@@ -1,0 +1,588 @@
+//! Paths as they stand in a text, and which of them begin with a name of a body: a local variable, a generic
+//! parameter, an item within the body. Those are no names of modules, and nothing is asked for them.
+
+use std::collections::HashSet;
+
+use crate::report::{around, is_body, path_before, Context};
+use crate::syntax::{angle, plain, Item, ItemKind};
+use crate::token::{Delimiter, Kind, Span, Token};
+use crate::unit::is_builtin;
+
+/// A word that stands in a path, and the path up to it.
+#[derive(Clone, PartialEq, Eq, Debug)]
+pub struct Site {
+    pub path: String,
+    pub context: Context,
+    /// The names of the inline modules around it.
+    pub modules: Vec<String>,
+    pub span: Span,
+    /// Whether the path goes on behind the word.
+    pub goes_on: bool,
+}
+
+/// A list of tokens, and which of them the place is in.
+type Level<'a> = (&'a [Token], usize);
+
+const KEYWORDS: [&str; 37] = [
+    "Self", "_", "as", "async", "await", "break", "const", "continue", "dyn", "else", "enum", "extern", "false", "fn",
+    "for", "if", "impl", "in", "let", "loop", "match", "mod", "move", "mut", "pub", "ref", "return", "static",
+    "struct", "trait", "true", "type", "unsafe", "use", "where", "while", "yield",
+];
+
+/// The words of a text that are wanted and stand in a path. `items` are those of the text.
+pub fn sites(tokens: &[Token], items: &[Item], wanted: &dyn Fn(&str, Span) -> bool) -> Vec<Site> {
+    let mut finder = Finder { items, wanted, levels: Vec::new(), made: Vec::new() };
+    finder.list(tokens, Some(Context::Plain));
+    finder.made
+}
+
+struct Finder<'a, 'w> {
+    items: &'a [Item],
+    wanted: &'w dyn Fn(&str, Span) -> bool,
+    levels: Vec<Level<'a>>,
+    made: Vec<Site>,
+}
+
+impl<'a> Finder<'a, '_> {
+    /// Without a context no word of the list is a path.
+    fn list(&mut self, list: &'a [Token], context: Option<Context>) {
+        for (number, token) in list.iter().enumerate() {
+            match &token.kind {
+                Kind::Ident(word) if (self.wanted)(plain(word), token.span) => {
+                    self.levels.push((list, number));
+                    let site = context.and_then(|it| self.site(it));
+                    self.made.extend(site);
+                    self.levels.pop();
+                }
+                Kind::Group(delimiter, inner) => {
+                    let inside = inside(list, number, *delimiter, context);
+                    self.levels.push((list, number));
+                    self.list(inner, inside);
+                    self.levels.pop();
+                }
+                _ => {}
+            }
+        }
+    }
+
+    fn site(&self, context: Context) -> Option<Site> {
+        let (list, number) = *self.levels.last()?;
+        let word = list[number].word()?;
+        let before = |by: usize| number.checked_sub(by).map(|it| &list[it]);
+        let next = list.get(number + 1);
+        let is_in_macro = self.is_in_macro();
+        if KEYWORDS.contains(&word) || before(1).is_some_and(|it| it.is(".") || it.is("$") && word != "crate") {
+            return None;
+        }
+        if before(1).is_some_and(|it| it.is("#")) || is_declared(list, number) {
+            return None;
+        }
+        let goes_on = next.is_some_and(|it| it.is("::"));
+        let in_use = self.levels.iter().position(|(list, number)| is_in_use(list, *number));
+        if in_use.is_none() && self.is_label(list, number) {
+            return None;
+        }
+        let is_alias = in_use.is_some() && before(1).is_some_and(|it| it.is_word("as"));
+        let mut path = if is_alias { plain(word).to_owned() } else { path_before(list, number)? };
+        if let (Some(at), false) = (in_use, is_alias) {
+            path = self.in_use_tree(at, path)?;
+        }
+        let is_call = next.is_some_and(|it| it.is("!"))
+            && list.get(number + 2).is_some_and(|it| matches!(it.kind, Kind::Group(..)) || it.word().is_some());
+        let context = match (is_call, in_use, context) {
+            (true, None, Context::Plain) => Context::Call,
+            (_, Some(_), _) if is_alias => Context::Plain,
+            (_, Some(_), _) => Context::Import,
+            (_, _, it) => it,
+        };
+        let first = path.split("::").next().unwrap_or_default();
+        let is_single = !path.contains("::") && !goes_on;
+        if first == "Self" || (is_in_macro && first != "crate") {
+            return None;
+        }
+        let in_brackets =
+            self.levels.iter().rev().nth(1).is_some_and(|it| it.0[it.1].group(Delimiter::Bracket).is_some());
+        if context == Context::Attribute && is_single && is_builtin(first) && in_brackets {
+            return None;
+        }
+        let locals = self.locals();
+        if locals.types.contains(first) || (is_single && context == Context::Plain && locals.values.contains(first)) {
+            return None;
+        }
+        if is_single && first == "self" && in_use.is_none() && locals.is_in_body {
+            return None;
+        }
+        let hides = locals.has_glob && !matches!(first, "crate" | "self" | "super" | "");
+        if hides && !is_alias {
+            return None;
+        }
+        let mut modules = Vec::new();
+        around(self.items, list[number].span.start, &mut modules);
+        Some(Site { path, context, modules, span: list[number].span, goes_on })
+    }
+
+    fn is_in_macro(&self) -> bool {
+        self.levels.iter().any(|(list, number)| {
+            let is = |by: usize, word: &str| number.checked_sub(by).is_some_and(|it| list[it].is_word(word));
+            let is_group = matches!(list[*number].kind, Kind::Group(..));
+            is_group && ((is(3, "macro_rules") && list[number - 2].is("!")) || is(2, "macro") || is(3, "macro"))
+        })
+    }
+
+    /// Whether the word is a field, a parameter, or a binding with its type.
+    fn is_label(&self, list: &[Token], number: usize) -> bool {
+        if !list.get(number + 1).is_some_and(|it| it.is(":")) {
+            return false;
+        }
+        let is_first = match number.checked_sub(1).map(|it| &list[it]) {
+            None => true,
+            Some(it) => {
+                it.is(",")
+                    || it.is("|")
+                    || it.is("<")
+                    || ["pub", "mut", "ref", "let"].iter().any(|word| it.is_word(word))
+                    || it.group(Delimiter::Bracket).is_some()
+                    || it.group(Delimiter::Parenthesis).is_some()
+            }
+        };
+        let start = start_of(list, number);
+        is_first && !list[start..number].iter().any(|it| it.is_word("where"))
+    }
+
+    /// The path with the prefixes of the lists around it in a `use` tree.
+    fn in_use_tree(&self, from: usize, path: String) -> Option<String> {
+        let mut prefix: Option<String> = None;
+        for (list, number) in &self.levels[from..self.levels.len() - 1] {
+            let is_prefixed = number.checked_sub(1).is_some_and(|it| list[it].is("::"));
+            let own = match number.checked_sub(2) {
+                Some(at) if is_prefixed && list[at].word().is_some_and(|it| it != "use") => path_before(list, at)?,
+                _ if is_prefixed => String::new(),
+                _ => continue,
+            };
+            prefix = Some(match prefix {
+                None => own,
+                Some(it) => format!("{it}::{own}"),
+            });
+        }
+        Some(match prefix {
+            None => path,
+            Some(it) if path == "self" => it,
+            Some(it) => format!("{it}::{path}"),
+        })
+    }
+
+    /// What the bodies and the items around the word name.
+    fn locals(&self) -> Locals {
+        let mut locals = Locals::default();
+        for (list, number) in &self.levels {
+            generics(list, *number, &mut locals);
+            if locals.is_in_body {
+                block_items(list, &mut locals);
+                bindings(list, *number, &mut locals);
+            }
+            locals.is_in_body |= is_body(list, *number);
+        }
+        locals
+    }
+}
+
+/// How the words in a group are read.
+fn inside(list: &[Token], number: usize, delimiter: Delimiter, context: Option<Context>) -> Option<Context> {
+    let before = |by: usize| number.checked_sub(by).map(|it| &list[it]);
+    let is_hash = |by: usize| before(by).is_some_and(|it| it.is("#"));
+    if delimiter == Delimiter::Bracket && (is_hash(1) || is_hash(2) && before(1).is_some_and(|it| it.is("!"))) {
+        return context.map(|_| Context::Attribute);
+    }
+    match context? {
+        Context::Attribute => {
+            let is_known = before(1).is_some_and(|it| it.is_word("derive") || it.is_word("cfg_attr"));
+            is_known.then_some(Context::Attribute)
+        }
+        _ => Some(Context::Plain),
+    }
+}
+
+/// Where the statement or the item begins in which a token stands.
+fn start_of(list: &[Token], number: usize) -> usize {
+    let ends = |it: &Token| it.is(";") || it.group(Delimiter::Brace).is_some();
+    list[..number].iter().rposition(ends).map_or(0, |it| it + 1)
+}
+
+/// Whether the token stands in a `use`.
+fn is_in_use(list: &[Token], number: usize) -> bool {
+    let mut at = list[..number].iter().rposition(|it| it.is(";")).map_or(0, |it| it + 1);
+    // What stands behind a block needs no semicolon; a list of a `use` has `::` before it.
+    let ends = |it: &usize| list[*it].group(Delimiter::Brace).is_some() && (*it == 0 || !list[*it - 1].is("::"));
+    at = (at..number).rfind(ends).map_or(at, |it| it + 1);
+    // `use<..>` in a type is none.
+    let is_use = |it: usize| list[it].is_word("use") && !list.get(it + 1).is_some_and(|it| it.is("<"));
+    (at..number).any(is_use)
+}
+
+/// Whether the word is the name of an item or of a binding.
+fn is_declared(list: &[Token], number: usize) -> bool {
+    let before = |by: usize| number.checked_sub(by).map(|it| &list[it]);
+    let is = |by: usize, punct: &str| before(by).is_some_and(|it| it.is(punct));
+    let Some(word) = before(1).and_then(Token::word) else {
+        return is(1, "!") && before(2).is_some_and(|it| it.is_word("macro_rules"));
+    };
+    match word {
+        "fn" | "struct" | "enum" | "trait" | "mod" | "type" | "union" | "macro" => true,
+        "const" => !is(2, "*"),
+        "mut" => !is(2, "*") && !is(2, "&") && !before(2).is_some_and(|it| matches!(it.kind, Kind::Lifetime(_))),
+        "static" | "let" | "ref" => true,
+        _ => false,
+    }
+}
+
+#[derive(Default)]
+struct Locals {
+    is_in_body: bool,
+    values: HashSet<String>,
+    /// Generic parameters, and items within bodies.
+    types: HashSet<String>,
+    /// Whether a body around has a glob import.
+    has_glob: bool,
+}
+
+/// The `>` that closes the `<` at a place, or the list's end.
+fn closing(list: &[Token], open: usize) -> usize {
+    let mut depth = 0;
+    for (at, it) in list.iter().enumerate().skip(open) {
+        depth += angle(it);
+        if depth <= 0 {
+            return at;
+        }
+    }
+    list.len()
+}
+
+/// The generic parameters and the parameters of the item around a token.
+fn generics(list: &[Token], number: usize, locals: &mut Locals) {
+    let start = start_of(list, number);
+    let ends = |it: &Token| it.is(";") || it.group(Delimiter::Brace).is_some();
+    let end = list[number..].iter().position(ends).map_or(list.len(), |it| number + it);
+    for at in start..end {
+        let Some(word) = list[at].word() else {
+            continue;
+        };
+        let (named, is_function) = match word {
+            "fn" => (true, true),
+            "struct" | "enum" | "union" | "trait" | "type" => (true, false),
+            "impl" => (false, false),
+            _ => continue,
+        };
+        let mut next = at + 1;
+        if named {
+            if !list.get(next).is_some_and(|it| it.word().is_some()) {
+                continue;
+            }
+            next += 1;
+        }
+        if list.get(next).is_some_and(|it| it.is("<")) {
+            let close = closing(list, next);
+            let mut depth = 0;
+            for it in next..close {
+                depth += angle(&list[it]);
+                let is_const = list[it].is_word("const");
+                let is_first = list[it - 1].is("<") || list[it - 1].is(",") || list[it - 1].is_word("const");
+                if let (1, true, false, Some(name)) = (depth, is_first, is_const, list[it].word()) {
+                    locals.types.insert(plain(name).to_owned());
+                }
+            }
+            next = close + 1;
+        }
+        if let (true, Some(parameters)) = (is_function, list.get(next).and_then(|it| it.group(Delimiter::Parenthesis)))
+        {
+            if number >= next {
+                for it in parameters.split(|it| it.is(",")) {
+                    names_in_pattern(before_colon(it), &mut locals.values);
+                }
+            }
+        }
+    }
+}
+
+fn before_colon(tokens: &[Token]) -> &[Token] {
+    let end = tokens.iter().position(|it| it.is(":") || it.is("=")).unwrap_or(tokens.len());
+    &tokens[..end]
+}
+
+/// The names that a pattern binds. A name that begins with a capital letter is a constant or a variant.
+fn names_in_pattern(tokens: &[Token], names: &mut HashSet<String>) {
+    for (at, it) in tokens.iter().enumerate() {
+        if let Kind::Group(_, inner) = &it.kind {
+            names_in_pattern(inner, names);
+            continue;
+        }
+        let Some(word) = it.word().filter(|it| !KEYWORDS.contains(it) && *it != "box") else {
+            continue;
+        };
+        let next = tokens.get(at + 1);
+        let is_path = at.checked_sub(1).is_some_and(|it| tokens[it].is("::"))
+            || next.is_some_and(|it| {
+                it.is("::") || it.is(":") || it.is("!") || it.group(Delimiter::Parenthesis).is_some()
+            })
+            || next.is_some_and(|it| it.group(Delimiter::Brace).is_some());
+        let is_upper = plain(word).chars().next().is_some_and(char::is_uppercase);
+        let is_bound = !is_upper || next.is_some_and(|it| it.is("@"));
+        if !is_path && is_bound {
+            names.insert(plain(word).to_owned());
+        }
+    }
+}
+
+/// The items that a block declares, for all of it.
+fn block_items(list: &[Token], locals: &mut Locals) {
+    let mut at = 0;
+    while at < list.len() {
+        let is_call = |by: usize| list.get(at + by).is_some_and(|it| it.is("!"));
+        let name = list.get(at + 1).and_then(Token::word);
+        match (list[at].word(), name) {
+            (Some("fn" | "struct" | "enum" | "trait" | "mod" | "type" | "const" | "static" | "union"), Some(name)) => {
+                locals.types.insert(plain(name).to_owned());
+            }
+            (Some("macro_rules"), _) if is_call(1) => {
+                let name = list.get(at + 2).and_then(Token::word).unwrap_or_default();
+                locals.types.insert(plain(name).to_owned());
+            }
+            (Some("use"), _) => {
+                let end = list[at..].iter().position(|it| it.is(";")).map_or(list.len(), |it| at + it);
+                names_in_use(&list[at + 1..end], "", locals);
+                at = end;
+            }
+            _ => {}
+        }
+        at += 1;
+    }
+}
+
+fn names_in_use(tokens: &[Token], prefix: &str, locals: &mut Locals) {
+    for part in tokens.split(|it| it.is(",")) {
+        let last = part.last();
+        if last.is_some_and(|it| it.is("*")) {
+            locals.has_glob = true;
+        } else if let Some(inner) = last.and_then(|it| it.group(Delimiter::Brace)) {
+            let before = part.iter().rev().find_map(Token::word).unwrap_or(prefix);
+            names_in_use(inner, before, locals);
+        } else if let Some(name) = last.and_then(Token::word) {
+            let name = if name == "self" { prefix } else { name };
+            locals.types.insert(plain(name).to_owned());
+        }
+    }
+}
+
+/// The variables that are bound where a token stands, by what comes before it in its list.
+fn bindings(list: &[Token], number: usize, locals: &mut Locals) {
+    let names = &mut locals.values;
+    let brace = |it: &Token| it.group(Delimiter::Brace).is_some();
+    for at in 0..=number.min(list.len() - 1) {
+        match list[at].word() {
+            Some("let") => {
+                let pattern_end = end_of(list, at + 1, &["=", ":", ";"]);
+                let before = at.checked_sub(1).map(|it| &list[it]);
+                let is_condition =
+                    before.is_some_and(|it| it.is_word("if") || it.is_word("while") || it.is("&&") || it.is("||"));
+                let is_bound = if is_condition {
+                    let body = list[pattern_end.min(list.len())..].iter().position(brace).map(|it| pattern_end + it);
+                    // What stands behind `&&` sees it too.
+                    let joined = list[pattern_end.min(number)..number].iter().any(|it| it.is("&&"));
+                    body.map_or(joined, |it| number == it || (number < it && joined))
+                } else {
+                    number > end_of(list, at + 1, &[";"])
+                };
+                if is_bound || (at < number && number < pattern_end) {
+                    names_in_pattern(&list[at + 1..pattern_end.min(list.len())], names);
+                }
+            }
+            Some("for") => {
+                let end =
+                    list[at..].iter().position(|it| it.is_word("in") || brace(it)).map_or(list.len(), |it| at + it);
+                if list.get(end).is_some_and(|it| it.is_word("in")) {
+                    let body = list[end..].iter().position(brace).map(|it| end + it);
+                    if body == Some(number) || (at < number && number < end) {
+                        names_in_pattern(&list[at + 1..end], names);
+                    }
+                }
+            }
+            _ => {}
+        }
+        closure(list, at, number, names);
+    }
+    arm(list, number, names);
+}
+
+/// The first of these behind a place, or the list's end.
+fn end_of(list: &[Token], from: usize, puncts: &[&str]) -> usize {
+    let from = from.min(list.len());
+    let is_end = |it: &Token| puncts.iter().any(|punct| it.is(punct));
+    list[from..].iter().position(is_end).map_or(list.len(), |it| from + it)
+}
+
+/// The parameters of a closure that begins at `at`, where the token is in it.
+fn closure(list: &[Token], at: usize, number: usize, names: &mut HashSet<String>) {
+    let begins = |before: Option<&Token>| match before.map(|it| &it.kind) {
+        None => true,
+        Some(Kind::Punct(it)) => !matches!(*it, "?" | "|" | ">"),
+        Some(Kind::Ident(it)) => matches!(&**it, "move" | "return" | "else" | "in" | "match" | "async"),
+        _ => false,
+    };
+    if !list[at].is("|") || !begins(at.checked_sub(1).map(|it| &list[it])) {
+        return;
+    }
+    let close = end_of(list, at + 1, &["|"]);
+    if close == list.len() || number <= at {
+        return;
+    }
+    let is_inside = number < close || !list[close..number].iter().any(|it| it.is(",") || it.is(";"));
+    if is_inside {
+        for it in list[at + 1..close].split(|it| it.is(",")) {
+            names_in_pattern(before_colon(it), names);
+        }
+    }
+}
+
+/// What the pattern of a `match` arm binds, where the token is in the arm.
+fn arm(list: &[Token], number: usize, names: &mut HashSet<String>) {
+    let arrows: Vec<usize> = list.iter().enumerate().filter(|it| it.1.is("=>")).map(|it| it.0).collect();
+    let mut start = 0;
+    for arrow in arrows {
+        let is_block = list.get(arrow + 1).is_some_and(|it| it.group(Delimiter::Brace).is_some());
+        let mut end = if is_block { arrow + 1 } else { end_of(list, arrow + 1, &[","]) };
+        if is_block && list.get(end + 1).is_some_and(|it| it.is(",")) {
+            end += 1;
+        }
+        if number >= start && number <= end {
+            let pattern = &list[start.min(arrow)..arrow];
+            let guard = pattern.iter().position(|it| it.is_word("if")).unwrap_or(pattern.len());
+            names_in_pattern(&pattern[..guard], names);
+        }
+        start = end + 1;
+    }
+}
+
+/// What an item is, for a list of symbols: its name and the number that the protocol gives its kind.
+pub fn symbol_kind(item: &Item) -> Option<u32> {
+    Some(match &item.kind {
+        ItemKind::Module(_) | ItemKind::ExternBlock(_) => 2,
+        ItemKind::Struct { .. } | ItemKind::Union { .. } => 23,
+        ItemKind::Enum(_) => 10,
+        ItemKind::Trait(_) => 11,
+        ItemKind::Impl { .. } => 19,
+        ItemKind::Function | ItemKind::Macro(_) => 12,
+        ItemKind::Constant | ItemKind::Static => 14,
+        ItemKind::TypeAlias => 26,
+        ItemKind::Use(_) | ItemKind::ExternCrate { .. } | ItemKind::Call(_) => return None,
+    })
+}
+
+#[cfg(test)]
+mod tests {
+    use super::*;
+    use crate::token::{on_a_thread, tokens_of, Hash};
+
+    /// What stands at each `«word»` of a text: its path, or nothing.
+    fn found(text: &str) -> Vec<Option<String>> {
+        let mut plain_text = String::new();
+        let mut marks = Vec::new();
+        for (at, part) in text.split('«').enumerate() {
+            let (word, rest) = if at == 0 { ("", part) } else { part.split_once('»').unwrap() };
+            if at > 0 {
+                marks.push(super::super::text::Text::new(plain_text.clone()).position(plain_text.len()));
+            }
+            plain_text.push_str(word);
+            plain_text.push_str(rest);
+        }
+        let tokens = on_a_thread(|| tokens_of(&plain_text)).unwrap();
+        let unit = crate::syntax::unit_of(&tokens, Hash::default()).unwrap();
+        let at = |mark| {
+            let made = sites(&tokens, &unit.items, &|_, span: Span| span.start == mark);
+            made.into_iter().next().map(|it| it.path)
+        };
+        marks.into_iter().map(at).collect()
+    }
+
+    fn all(text: &str, wanted: &[&str]) {
+        let found = found(text);
+        let found: Vec<&str> = found.iter().map(|it| it.as_deref().unwrap_or("-")).collect();
+        assert_eq!(found, wanted, "{text}");
+    }
+
+    #[test]
+    fn paths_of_items() {
+        all("use «a»::{«b», c::{self, «d» as «e»}, f::{«self»}};", &["a", "a::b", "a::c::d", "e", "a::f"]);
+        all("use ::a::«b»; use {«c», d::«e»}; use a::{b}; fn f(x: «T») {}", &["::a::b", "c", "d::e", "T"]);
+        all("mod m { mod n { use super::«x»; } } struct S(m::«T»);", &["super::x", "m::T"]);
+        all("#[derive(«D», a::«E»)] #[a::«m»(x = «y»)] struct S;", &["D", "a::E", "a::m", "-"]);
+        all("#[«test»] fn f() {} «m»! {} impl «A» for «B» {} «m»!{ «x» }", &["-", "m", "A", "B", "m", "x"]);
+        all(
+            "fn «f»(«x»: u8) {} struct S { «x»: «T» } pub(in crate::«a») enum «E» {}",
+            &["-", "-", "-", "T", "crate::a", "-"],
+        );
+        all("macro_rules! m { () => { $crate::a::«b» + «c» } }", &["crate::a::b", "-"]);
+    }
+
+    #[test]
+    fn generic_parameters_and_self() {
+        all("fn f<T: «A», const N: usize>(x: «T», y: [u8; «N»]) -> T::«X» { «T»::new() }", &["A", "-", "-", "-", "-"]);
+        all(
+            "impl<T> A<«T»> for «S» { fn g(&self) -> «T» { «self»; «Self»::h(); <T as «Tr»>::x() } }",
+            &["-", "S", "-", "-", "-", "Tr"],
+        );
+        all(
+            "struct S<T>(«T»); struct U(«T»); trait X<T> { fn f(t: «T»); } fn g() where «T»: «A» {}",
+            &["-", "T", "-", "T", "A"],
+        );
+        all("fn f<'a, T>() {} fn g(t: &'a mut «T») -> impl A + use<'a> { B::«C» }", &["T", "B::C"]);
+    }
+
+    #[test]
+    fn local_variables() {
+        all("fn f(x: u8) { «x»; «y»; let y = «y»; «y»; x::«z»; { «y» } }", &["-", "y", "y", "-", "x::z", "-"]);
+        all(
+            "fn f() { let («a», B { c, d: «e», .. }) = g; «a» + «c» + «d» + «e» + «g»(a); }",
+            &["-", "-", "-", "-", "d", "-", "g"],
+        );
+        all(
+            "fn f() { if let Some(x) = «x» { «x» } else { «x» } «x»; while let Ok(y) = x { «y» } }",
+            &["x", "-", "x", "x", "-"],
+        );
+        all("fn f() { for (i, j) in «i» { «i»; j.«k»() } «j»; }", &["i", "-", "-", "j"]);
+        all(
+            "fn f() { match x { A(a) | B { a, .. } if «a» => «a», None => «a», c @ C => { «c» } _ => «c» } }",
+            &["-", "-", "a", "-", "c"],
+        );
+        all(
+            "fn f() { g(|x, y: «T»| «x» + «y», «x»); let h = move || «z»; let i = a | «b»; }",
+            &["T", "-", "-", "x", "z", "b"],
+        );
+        all("fn f() { let S { a } = s; T { a: «b», «c» } ; println!(\"{}\", «a»); a.«b».c(); }", &["b", "c", "-", "-"]);
+        all("const C: u8 = { let x = 1; «x» + «y» }; static mut S: u8 = «C»;", &["-", "y", "C"]);
+    }
+
+    #[test]
+    fn items_of_bodies() {
+        all(
+            "fn f() { fn g() {} «g»(); h(); use a::{b, c as d, e::{self}}; «b»::x; «c»::x; «d»::«y»; «e»; }",
+            &["-", "-", "c", "-", "-", "-"],
+        );
+        all(
+            "fn f() { use a::{b::«c»}; struct S; «S»; mod m {} m::«x»; { «S» } } fn g() { «S» }",
+            &["a::b::c", "-", "-", "-", "S"],
+        );
+        all("fn f() { use a::*; «b»; crate::«c»; }", &["-", "crate::c"]);
+    }
+
+    #[test]
+    fn nothing_panics() {
+        let text = "fn f<T(x: |a, match { => , if let = for in use :: { * let <";
+        let tokens = on_a_thread(|| tokens_of("fn f<T(x) |a, match ; => , if let = for in use :: ; * let < $ # !"));
+        let tokens = tokens.unwrap();
+        let _ = sites(&tokens, &[], &|_, _| true);
+        for end in 0..text.len() {
+            if let Ok(tokens) = on_a_thread(|| tokens_of(&format!("fn f() {{ {} }}", &text[..end]))) {
+                let _ = sites(&tokens, &[], &|_, _| true);
+            }
+        }
+    }
+}

@@ -1,0 +1,446 @@
+//! The language server as an editor calls it.
+//!
+//! The files `lsp/*.jsonl` hold what is sent and what comes back, one JSON object a line: `send` and `receive` with a
+//! message, `write` and `remove` with a file below the package's folder, `say` for the reader. After each run of lines
+//! that do something comes what the server sends until it has done all of that, or null where that is nothing. `DIR` stands for the package's folder.
+//! With the variable `UPDATE` set the files are written anew.
+
+use std::collections::BTreeMap;
+use std::io::{BufReader, Write};
+use std::path::{Path, PathBuf};
+use std::process::{Child, ChildStdin, Command, Stdio};
+use std::sync::mpsc::{channel, Receiver};
+use std::time::Duration;
+
+use cargo_nogsimat::lsp::message::{self, Read};
+use cargo_nogsimat::lsp::text::Text;
+use serde_json::{json, Value};
+use tempfile::TempDir;
+
+fn own(path: &str) -> PathBuf {
+    Path::new(env!("CARGO_MANIFEST_DIR")).join(path)
+}
+
+fn copy(from: &Path, to: &Path) {
+    std::fs::create_dir_all(to).unwrap();
+    for it in std::fs::read_dir(from).unwrap() {
+        let it = it.unwrap();
+        let target = to.join(it.file_name());
+        if it.file_type().unwrap().is_dir() {
+            if it.file_name() != "target" {
+                copy(&it.path(), &target);
+            }
+        } else {
+            std::fs::copy(it.path(), target).unwrap();
+        }
+    }
+}
+
+/// The example in a folder of its own.
+fn market() -> TempDir {
+    let folder = TempDir::new().unwrap();
+    copy(&own("examples/market"), folder.path());
+    folder
+}
+
+/// The resolver's program, which is there.
+fn program() -> PathBuf {
+    cargo_nogsimat::program::find(None).unwrap()
+}
+
+struct Client {
+    child: Child,
+    input: Option<ChildStdin>,
+    messages: Receiver<Value>,
+    folder: String,
+    next: u32,
+    /// What was published last, by file, lists without diagnostics left out.
+    published: BTreeMap<String, Value>,
+}
+
+impl Client {
+    fn start(folder: &Path, words: &[&str]) -> Client {
+        program();
+        let mut child = Command::new(env!("CARGO_BIN_EXE_cargo-nogsimat"))
+            .args(["nogsimat", "lsp", "--no-std"])
+            .args(words)
+            .stdin(Stdio::piped())
+            .stdout(Stdio::piped())
+            .spawn()
+            .unwrap();
+        let (send, messages) = channel();
+        let mut output = BufReader::new(child.stdout.take().unwrap());
+        std::thread::spawn(move || {
+            while let Read::Message(it) = message::read(&mut output) {
+                if send.send(it).is_err() {
+                    return;
+                }
+            }
+        });
+        let folder = folder.canonicalize().unwrap().to_str().unwrap().to_owned();
+        let input = child.stdin.take();
+        Client { child, input, messages, folder, next: 0, published: BTreeMap::new() }
+    }
+
+    fn write(&mut self, bytes: &[u8]) {
+        let input = self.input.as_mut().unwrap();
+        input.write_all(bytes).unwrap();
+        input.flush().unwrap();
+    }
+
+    fn receive(&mut self) -> Value {
+        let made = self.messages.recv_timeout(Duration::from_secs(120)).expect("the server answers in time");
+        if made["method"] == "textDocument/publishDiagnostics" {
+            let uri = made["params"]["uri"].as_str().unwrap().replace(&self.folder, "DIR");
+            let list = &made["params"]["diagnostics"];
+            match list.as_array().unwrap().is_empty() {
+                true => self.published.remove(&uri),
+                false => self.published.insert(uri, self.steady(list)),
+            };
+        }
+        made
+    }
+
+    /// Sends these at once, and answers what comes until the server has done all of it.
+    fn exchange(&mut self, sent: &[Value]) -> Vec<Value> {
+        let id = format!("last-{}", self.next);
+        self.next += 1;
+        let last = json!({"jsonrpc": "2.0", "id": id, "method": "textDocument/hover", "params": {}});
+        let mut bytes = Vec::new();
+        for it in sent.iter().chain([&last]) {
+            message::write(&mut bytes, &self.placed(it)).unwrap();
+        }
+        self.write(&bytes);
+        let mut made = Vec::new();
+        loop {
+            let it = self.receive();
+            if it["id"] == json!(id) {
+                return made;
+            }
+            // Sizes and times.
+            if it["method"] != "window/logMessage" {
+                made.push(self.steady(&it));
+            }
+        }
+    }
+
+    fn notify(&mut self, method: &str, params: Value) -> Vec<Value> {
+        self.exchange(&[message::notification(method, params)])
+    }
+
+    fn request(&mut self, method: &str, params: Value) -> Value {
+        let made = self.exchange(&[json!({"jsonrpc": "2.0", "id": 0, "method": method, "params": params})]);
+        made.into_iter().find(|it| it["id"] == 0).unwrap()["result"].clone()
+    }
+
+    fn initialize(&mut self) {
+        let params = json!({"processId": null, "rootUri": "file://DIR", "capabilities": {}});
+        self.request("initialize", params);
+        self.notify("initialized", json!({}));
+    }
+
+    fn open(&mut self, name: &str, text: &str) {
+        let document = json!({"uri": format!("file://DIR/{name}"), "languageId": "rust", "version": 1, "text": text});
+        self.notify("textDocument/didOpen", json!({"textDocument": document}));
+    }
+
+    fn at(&mut self, method: &str, name: &str, place: (u32, u32)) -> Value {
+        let position = json!({"line": place.0, "character": place.1});
+        self.request(method, json!({"textDocument": {"uri": format!("file://DIR/{name}")}, "position": position}))
+    }
+
+    fn placed(&self, it: &Value) -> Value {
+        serde_json::from_str(&it.to_string().replace("DIR", &self.folder)).unwrap()
+    }
+
+    fn steady(&self, it: &Value) -> Value {
+        let text = it.to_string().replace(&self.folder, "DIR").replace(own("").to_str().unwrap(), "FRONT/");
+        serde_json::from_str(&text).unwrap()
+    }
+
+    fn end(mut self) -> i32 {
+        let mut bytes = Vec::new();
+        message::write(&mut bytes, &message::notification("exit", Value::Null)).unwrap();
+        self.write(&bytes);
+        self.child.wait().unwrap().code().unwrap()
+    }
+}
+
+impl Drop for Client {
+    fn drop(&mut self) {
+        self.input = None;
+        let _ = self.child.kill();
+        let _ = self.child.wait();
+    }
+}
+
+/// Runs the messages of a file; answers the status with which the server ends.
+fn run(name: &str) -> i32 {
+    let path = own("tests/lsp").join(name).with_extension("jsonl");
+    let text = std::fs::read_to_string(&path).unwrap();
+    let lines: Vec<Value> = text.lines().map(|it| serde_json::from_str(it).unwrap()).collect();
+    let folder = market();
+    let mut client = Client::start(folder.path(), &[]);
+    let mut made = Vec::new();
+    let mut block = Vec::new();
+    let acts = |it: &Value| it.get("receive").is_none();
+    for (at, line) in lines.iter().enumerate() {
+        if !acts(line) {
+            continue;
+        }
+        made.push(line.clone());
+        if let Some(name) = line["write"].as_str() {
+            let path = folder.path().join(name);
+            std::fs::create_dir_all(path.parent().unwrap()).unwrap();
+            std::fs::write(path, line["text"].as_str().unwrap()).unwrap();
+        } else if let Some(name) = line["remove"].as_str() {
+            std::fs::remove_file(folder.path().join(name)).unwrap();
+        } else if let Some(it) = line.get("send") {
+            block.push(it.clone());
+        }
+        // A run of lines ends before what is received, or where the reader is told something.
+        let is_last = lines.get(at + 1).map_or(true, |it| !acts(it) || it.get("say").is_some());
+        if is_last && !block.is_empty() {
+            let received = client.exchange(&block);
+            if received.is_empty() {
+                made.push(json!({"receive": null}));
+            }
+            made.extend(received.into_iter().map(|it| json!({"receive": it})));
+            block.clear();
+        }
+    }
+    let written: String = made.iter().map(|it| format!("{it}\n")).collect();
+    if std::env::var_os("UPDATE").is_some() {
+        std::fs::write(&path, &written).unwrap();
+    }
+    for (number, (made, wanted)) in written.lines().zip(text.lines()).enumerate() {
+        let wanted: Value = serde_json::from_str(wanted).unwrap();
+        let made: Value = serde_json::from_str(made).unwrap();
+        assert!(std::env::var_os("UPDATE").is_some() || made == wanted, "{name}, line {}: {made}", number + 1);
+    }
+    assert!(std::env::var_os("UPDATE").is_some() || written.lines().count() == text.lines().count(), "{written}");
+    client.end()
+}
+
+#[test]
+fn how_a_session_begins_and_ends() {
+    assert_eq!(run("begin"), 0);
+}
+
+#[test]
+fn cancelled_requests() {
+    assert_eq!(run("cancel"), 1);
+}
+
+#[test]
+fn answers_at_places() {
+    assert_eq!(run("answers"), 1);
+}
+
+#[test]
+fn edits_and_files() {
+    assert_eq!(run("edits"), 1);
+}
+
+#[test]
+fn text_outside_ascii() {
+    assert_eq!(run("utf16"), 1);
+}
+
+/// Numbers that look random, the same each time.
+struct Dice(u64);
+
+impl Dice {
+    fn below(&mut self, most: usize) -> usize {
+        self.0 = self.0.wrapping_mul(6_364_136_223_846_793_005).wrapping_add(1_442_695_040_888_963_407);
+        (self.0 >> 33) as usize % most
+    }
+}
+
+const FILES: [&str; 5] =
+    ["shop/src/lib.rs", "shop/src/model.rs", "shop/src/price.rs", "shop/src/report.rs", "codec/src/lib.rs"];
+
+/// An edit of a text: what stands in a range of bytes, and what comes in its place.
+fn edit(text: &str, number: usize, dice: &mut Dice) -> (std::ops::Range<usize>, String) {
+    let starts: Vec<usize> = std::iter::once(0).chain(text.match_indices('\n').map(|it| it.0 + 1)).collect();
+    // Between items, where a line is empty.
+    let gaps: Vec<usize> = text.match_indices("\n\n").map(|it| it.0 + 1).collect();
+    let gap = if gaps.is_empty() { text.len() } else { gaps[dice.below(gaps.len())] };
+    let added: Vec<(usize, usize)> = text
+        .match_indices("// added")
+        .filter_map(|it| {
+            let start = text[..it.0].rfind('\n').map_or(0, |it| it + 1);
+            Some((start, it.0 + text[it.0..].find('\n')? + 1))
+        })
+        .collect();
+    let name = format!("Added{}", dice.below(6));
+    match dice.below(10) {
+        0 | 1 => (gap..gap, format!("pub struct {name}{number}; // added\n")),
+        2 => (gap..gap, format!("use crate::model::{name}; // added 🦀\n")),
+        3 => (gap..gap, format!("pub use crate::price::{{Price as {name}{number}, Nothing{number}}}; // added\r\n")),
+        4 => (
+            gap..gap,
+            format!("/* é\u{301}🦀 */ pub mod m{number} {{ pub use super::*; pub enum {name} {{ A }} }} // added\n"),
+        ),
+        5 => (gap..gap, "ids! { One Two } // added\n".to_owned()),
+        6 | 7 if !added.is_empty() => {
+            let (start, end) = added[dice.below(added.len())];
+            (start..end, String::new())
+        }
+        // A body.
+        _ => match text.find("let ") {
+            Some(at) => (at..at, format!("let _{number} = \"é🦀\"; ")),
+            None => {
+                let at = starts[dice.below(starts.len())];
+                (at..at, "// a line\n".to_owned())
+            }
+        },
+    }
+}
+
+#[test]
+fn random_edits_beside_a_fresh_server() {
+    let folder = market();
+    let mut client = Client::start(folder.path(), &[]);
+    client.initialize();
+    let mut texts: Vec<String> =
+        FILES.iter().map(|it| std::fs::read_to_string(folder.path().join(it)).unwrap()).collect();
+    for (name, text) in FILES.iter().zip(&texts) {
+        client.open(name, text);
+    }
+    let mut dice = Dice(11);
+    let mut compared = 0;
+    let mut named = 0;
+    for number in 1..=240 {
+        let at = dice.below(FILES.len());
+        let (range, new) = edit(&texts[at], number, &mut dice);
+        let mut edits = vec![(range, new)];
+        if dice.below(6) == 0 {
+            // A bracket that is taken away again, so that the text doesn't parse for a while.
+            let end = texts[at].len();
+            edits.insert(0, (end..end, "{".to_owned()));
+            edits.insert(1, (end..end + 1, String::new()));
+        }
+        for (range, new) in edits {
+            let before = Text::new(texts[at].clone());
+            let shown = before.range_of(range.clone());
+            texts[at].replace_range(range, &new);
+            let changes = json!([{"range": shown, "text": new}]);
+            let document = json!({"uri": format!("file://DIR/{}", FILES[at]), "version": number});
+            client.notify("textDocument/didChange", json!({"textDocument": document, "contentChanges": changes}));
+        }
+        if number % 20 != 0 {
+            continue;
+        }
+        let fresh_folder = market();
+        for (name, text) in FILES.iter().zip(&texts) {
+            std::fs::write(fresh_folder.path().join(name), text).unwrap();
+        }
+        let mut fresh = Client::start(fresh_folder.path(), &[]);
+        fresh.initialize();
+        assert_eq!(client.published, fresh.published, "after edit {number}");
+        assert!(!fresh.published.is_empty());
+        for _ in 0..60 {
+            let at = dice.below(FILES.len());
+            let text = Text::new(texts[at].clone());
+            let place = text.place(dice.below(texts[at].len()));
+            let made = client.at("textDocument/definition", FILES[at], place);
+            let wanted = fresh.at("textDocument/definition", FILES[at], place);
+            assert_eq!(made, wanted, "after edit {number} at {place:?} of {}", FILES[at]);
+            compared += 1;
+            named += usize::from(!made.is_null());
+        }
+    }
+    assert!(named * 5 > compared, "{named} of {compared} places have a definition");
+}
+
+/// A program that is killed is started again with the texts as they are; one that dies each time isn't.
+#[cfg(unix)]
+#[test]
+fn a_program_that_dies() {
+    use std::os::unix::fs::PermissionsExt;
+    let folder = market();
+    let program = program();
+    let script = folder.path().join("program");
+    let write = |text: &str| {
+        std::fs::write(&script, text).unwrap();
+        std::fs::set_permissions(&script, std::fs::Permissions::from_mode(0o755)).unwrap();
+    };
+    write(&format!("#!/bin/sh\necho $$ > {}/pid\nexec {}\n", folder.path().display(), program.display()));
+    let mut client = Client::start(folder.path(), &["--program", script.to_str().unwrap()]);
+    client.initialize();
+    assert_eq!(client.published.len(), 1);
+    let kill = || {
+        let pid = std::fs::read_to_string(folder.path().join("pid")).unwrap();
+        assert!(Command::new("kill").args(["-9", pid.trim()]).status().unwrap().success());
+        std::thread::sleep(Duration::from_millis(50));
+    };
+    let name = "shop/src/price.rs";
+    let text = std::fs::read_to_string(folder.path().join(name)).unwrap();
+    client.open(name, &format!("{text}pub struct Rebate;\n"));
+    assert!(client.published.is_empty(), "{:?}", client.published);
+    kill();
+    // `Rebate` is there by the editor's text alone.
+    let changes = json!([{"text": format!("{text}pub struct Rebate;\nuse self::Missing;\n")}]);
+    let document = json!({"uri": format!("file://DIR/{name}"), "version": 2});
+    let told = client.notify("textDocument/didChange", json!({"textDocument": document, "contentChanges": changes}));
+    assert_eq!(told[0]["method"], "window/showMessage", "{told:?}");
+    assert!(told[0]["params"]["message"].as_str().unwrap().contains("started again"), "{told:?}");
+    assert_eq!(client.published.keys().collect::<Vec<_>>(), ["file://DIR/shop/src/price.rs"]);
+    kill();
+    let made = client.at("textDocument/definition", "shop/src/report.rs", (5, 33));
+    assert_eq!(made[0]["uri"], "file://DIR/shop/src/price.rs");
+    // One that dies whenever it is started.
+    write("#!/bin/sh\nexit 1\n");
+    kill();
+    let line = json!({"uri": "file://DIR/shop/src/report.rs"});
+    let asked = json!({"jsonrpc": "2.0", "id": 7, "method": "textDocument/definition",
+        "params": {"textDocument": line, "position": {"line": 5, "character": 33}}});
+    let told = client.exchange(&[asked]);
+    assert!(told.iter().any(|it| it["id"] == 7 && it["result"].is_null()), "{told:?}");
+    let messages: Vec<&str> = told.iter().filter_map(|it| it["params"]["message"].as_str()).collect();
+    assert!(messages.iter().any(|it| it.contains("a save tries again")), "{messages:?}");
+    // A save.
+    write(&format!("#!/bin/sh\nexec {}\n", program.display()));
+    client.notify("textDocument/didSave", json!({"textDocument": {"uri": format!("file://DIR/{name}")}}));
+    assert_eq!(client.published.keys().collect::<Vec<_>>(), ["file://DIR/shop/src/price.rs"]);
+    assert_eq!(client.end(), 1);
+}
+
+/// An editor at work, where Neovim is installed.
+#[test]
+fn neovim() {
+    let folder = market();
+    let made = Command::new("nvim")
+        .args(["--headless", "-u", "NONE", "-i", "NONE", "-n", "-c"])
+        .arg(format!("luafile {}", own("tests/lsp/neovim.lua").display()))
+        .env("SERVER", env!("CARGO_BIN_EXE_cargo-nogsimat"))
+        .env("FOLDER", folder.path().canonicalize().unwrap())
+        .env("XDG_STATE_HOME", folder.path().join("state"))
+        .env("XDG_CACHE_HOME", folder.path().join("cache"))
+        .output();
+    let Ok(made) = made else {
+        eprintln!("nvim isn't installed: not tried");
+        return;
+    };
+    let told = String::from_utf8_lossy(&made.stdout).replace('\r', "");
+    let path = own("tests/lsp/neovim.txt");
+    if std::env::var_os("UPDATE").is_some() {
+        std::fs::write(&path, &*told).unwrap();
+    }
+    let errors = String::from_utf8_lossy(&made.stderr);
+    assert_eq!(told, std::fs::read_to_string(&path).unwrap_or_default(), "{errors}");
+    assert!(made.status.success(), "{errors}");
+}
+
+#[test]
+fn messages_that_are_none() {
+    let folder = market();
+    let mut client = Client::start(folder.path(), &[]);
+    client.write(b"Content-Length: 3\r\n\r\n{,}X: y\r\nContent-Length: 2\r\n\r\n[]");
+    assert_eq!(client.receive()["error"]["code"], message::PARSE_ERROR);
+    assert_eq!(client.receive()["error"]["code"], message::INVALID_REQUEST);
+    client.initialize();
+    client.input = None;
+    assert_eq!(client.child.wait().unwrap().code(), Some(1));
+}
