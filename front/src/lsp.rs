@@ -228,10 +228,11 @@ impl<W: Write> Server<W> {
             Ok(it) => it.map(Some),
             Err(_) => {
                 self.show(ERROR, "Nogsimat: something went wrong (see the server's standard error); reading all anew")?;
-                self.documents.values_mut().for_each(|it| it.is_dirty = false);
                 if catch_unwind(AssertUnwindSafe(|| self.open())).is_err() {
                     self.space = None;
                 }
+                // It may be one of these texts that can't be read. The next edit tries again.
+                self.documents.values_mut().for_each(|it| it.is_dirty = false);
                 Ok(None)
             }
         }
@@ -372,7 +373,10 @@ impl<W: Write> Server<W> {
             }
             "workspace/didChangeWatchedFiles" => {
                 let changes = params["changes"].as_array().into_iter().flatten();
-                let paths: Vec<PathBuf> = changes.filter_map(|it| path_of_uri(it["uri"].as_str()?)).collect();
+                let mut paths: Vec<PathBuf> = changes.filter_map(|it| path_of_uri(it["uri"].as_str()?)).collect();
+                // What Cargo builds there is none of the package.
+                let target = self.space.as_ref().map(|it| it.crates.folder.join("target"));
+                paths.retain(|it| !target.as_ref().is_some_and(|target| it.starts_with(target)));
                 let is_manifest =
                     |it: &PathBuf| it.file_name().is_some_and(|it| it == "Cargo.toml" || it == "Cargo.lock");
                 if paths.iter().any(is_manifest) {
