@@ -54,6 +54,8 @@ pub struct Krate {
 #[derive(Clone, Debug, Default)]
 pub struct Crates {
     pub all: Vec<Krate>,
+    /// How many of them are the standard library's, which come first.
+    pub of_std: usize,
     /// Where the package lies, or the workspace.
     pub folder: PathBuf,
     /// What stands for the standard library, in words.
@@ -211,6 +213,7 @@ impl Crates {
             };
             numbers.insert(name.to_owned(), self.add(krate));
         }
+        self.of_std = self.all.len();
         Ok(numbers)
     }
 

@@ -109,12 +109,10 @@ impl Workspace {
     pub fn report(&mut self) -> Result<Report> {
         let mut report = Report { not_run: self.not_run(), ..Report::default() };
         let has_stub = self.crates.all.iter().any(|it| it.is_stub);
-        let judged: Vec<u32> = (0..self.crates.all.len() as u32)
-            .filter(|it| {
-                let krate = &self.crates.all[*it as usize];
-                krate.is_asked || (has_stub && !krate.is_stub)
-            })
-            .collect();
+        let others = self.crates.of_std as u32..self.crates.all.len() as u32;
+        // Where something isn't read, what can't be judged for that is found through all crates.
+        let is_partial = has_stub || others.clone().any(|it| self.has_unread(it));
+        let judged: Vec<u32> = others.filter(|it| is_partial || self.crates.all[*it as usize].is_asked).collect();
         let asks: Vec<String> = judged.iter().map(|it| format!("{{\"do\":\"diagnostics\",\"crate\":{it}}}")).collect();
         let replies = self.ask_all(&asks)?;
         let mut imports = Vec::new();
@@ -145,12 +143,11 @@ impl Workspace {
             }
         }
         self.follow(&mut imports)?;
-        let mut bound = match has_stub && !imports.is_empty() {
-            true => self.globs_of_stubs(&judged)?,
-            false => Bound::new(),
-        };
+        let mut bound = absent;
         self.unread_modules(&judged, &mut bound);
-        bound.extend(absent);
+        if is_partial && !imports.is_empty() {
+            self.follow_globs(&judged, &mut bound)?;
+        }
         // What can't be judged since a stub stands in its way, and what stands on that.
         loop {
             let before = imports.len();
@@ -193,23 +190,28 @@ impl Workspace {
         Ok(report)
     }
 
+    fn is_unread(&self, key: &str) -> bool {
+        self.refused().iter().any(|it| &*it.0 == key) || self.parsed(key).is_some_and(|it| it.error.is_some())
+    }
+
+    /// Whether not all of a crate's items are known.
+    fn has_unread(&self, krate: u32) -> bool {
+        self.open_modules(krate).next().is_some() || self.files(krate).iter().any(|it| self.is_unread(&it.0))
+    }
+
     /// Adds the modules whose files couldn't be read, and those with calls whose items aren't known, each with the name `*`.
     fn unread_modules(&self, crates: &[u32], bound: &mut Bound) {
         for krate in crates.iter().copied() {
-            for (key, module) in self.files(krate) {
-                let is_refused = self.refused().iter().any(|it| it.0 == *key);
-                if is_refused || self.parsed(key).is_some_and(|it| it.error.is_some()) {
-                    bound.insert((krate, module.clone(), "*".to_owned()));
-                }
-            }
-            for module in self.open_modules(krate) {
+            let unread = self.files(krate).iter().filter(|it| self.is_unread(&it.0)).map(|it| &it.1);
+            for module in unread.chain(self.open_modules(krate)) {
                 bound.insert((krate, module.clone(), "*".to_owned()));
             }
         }
     }
 
-    /// The modules into which a glob brings names of a crate for which a stub stands, each with the name `*`.
-    fn globs_of_stubs(&mut self, crates: &[u32]) -> Result<Bound> {
+    /// Adds the modules into which a glob brings names of a crate for which a stub stands, or of a module that was added,
+    /// each with the name `*`.
+    fn follow_globs(&mut self, crates: &[u32], bound: &mut Bound) -> Result<()> {
         let mut globs = Vec::new();
         for krate in crates.iter().copied() {
             let is_old = self.crates.all[krate as usize].edition == "2015";
@@ -229,7 +231,6 @@ impl Workspace {
         }
         let asks: Vec<String> = globs.iter().map(|(krate, at, path)| question(*krate, at, path)).collect();
         let replies = self.ask_all(&asks)?;
-        let mut bound = Bound::new();
         let mut to: Vec<(Module, Module)> = Vec::new();
         for ((krate, at, _), reply) in globs.into_iter().zip(replies) {
             let found = &reply["ok"]["types"]["def"];
@@ -249,7 +250,7 @@ impl Workspace {
                 }
             }
         }
-        Ok(bound)
+        Ok(())
     }
 
     /// Tells the imports that name what an enum or another item doesn't hold, as a variant that isn't there. The program
