@@ -116,8 +116,8 @@ struct Server<W: Write> {
     texts: HashMap<Key, Arc<Text>>,
     /// Why the present texts of files don't parse whose last items are kept.
     errors: HashMap<Key, SyntaxError>,
-    /// What was published, by file.
-    published: BTreeMap<Key, Vec<Value>>,
+    /// What was published, by file, and how the editor named the file.
+    published: BTreeMap<Key, (String, Vec<Value>)>,
     /// The files of which diagnostics speak.
     touched: HashSet<Key>,
     needs_report: bool,
@@ -228,10 +228,11 @@ impl<W: Write> Server<W> {
             Ok(it) => it.map(Some),
             Err(_) => {
                 self.show(ERROR, "Nogsimat: something went wrong (see the server's standard error); reading all anew")?;
-                self.documents.values_mut().for_each(|it| it.is_dirty = false);
                 if catch_unwind(AssertUnwindSafe(|| self.open())).is_err() {
                     self.space = None;
                 }
+                // It may be one of these texts that can't be read. The next edit tries again.
+                self.documents.values_mut().for_each(|it| it.is_dirty = false);
                 Ok(None)
             }
         }
@@ -330,7 +331,8 @@ impl<W: Write> Server<W> {
                 let good = is_known.then(|| self.unit_text(&key));
                 self.texts.remove(&key);
                 let document = Document { uri: uri.to_owned(), text, good, is_dirty: true };
-                self.documents.insert(key, document);
+                self.documents.insert(key.clone(), document);
+                self.needs_report |= self.is_renamed(&key);
                 match self.space.is_none() && self.package().is_none() {
                     true => self.open_beside(uri),
                     false => Ok(()),
@@ -366,13 +368,17 @@ impl<W: Write> Server<W> {
                 if let Some(key) = uri.and_then(key_of_uri).filter(|it| self.documents.contains_key(it)) {
                     let good = self.documents.remove(&key).and_then(|it| it.good);
                     self.texts.extend(good.map(|it| (key.clone(), it)));
+                    self.needs_report |= self.is_renamed(&key);
                     self.read_file(&key)?;
                 }
                 Ok(())
             }
             "workspace/didChangeWatchedFiles" => {
                 let changes = params["changes"].as_array().into_iter().flatten();
-                let paths: Vec<PathBuf> = changes.filter_map(|it| path_of_uri(it["uri"].as_str()?)).collect();
+                let mut paths: Vec<PathBuf> = changes.filter_map(|it| path_of_uri(it["uri"].as_str()?)).collect();
+                // What Cargo builds there is none of the package.
+                let target = self.space.as_ref().map(|it| it.crates.folder.join("target"));
+                paths.retain(|it| !target.as_ref().is_some_and(|target| it.starts_with(target)));
                 let is_manifest =
                     |it: &PathBuf| it.file_name().is_some_and(|it| it == "Cargo.toml" || it == "Cargo.lock");
                 if paths.iter().any(is_manifest) {
@@ -632,15 +638,30 @@ impl<W: Write> Server<W> {
         keys.sort();
         keys.dedup();
         for key in keys {
-            let list = now.get(&key).cloned().unwrap_or_default();
-            if self.published.get(&key).map_or(&[][..], |it| it) != list {
-                let uri = self.uri(&key);
-                let params = json!({"uri": uri, "diagnostics": list});
-                self.send(&notification("textDocument/publishDiagnostics", params))?;
+            let uri = self.uri(&key);
+            let list = now.remove(&key).unwrap_or_default();
+            let (old_uri, old) = self.published.remove(&key).unwrap_or_else(|| (uri.clone(), Vec::new()));
+            if old_uri != uri {
+                self.send_list(&old_uri, &[])?;
+            }
+            if old_uri != uri || old != list {
+                self.send_list(&uri, &list)?;
+            }
+            if !list.is_empty() {
+                self.published.insert(key, (uri, list));
             }
         }
-        self.published = now;
         Ok(())
+    }
+
+    fn send_list(&mut self, uri: &str, list: &[Value]) -> Result<()> {
+        let params = json!({"uri": uri, "diagnostics": list});
+        self.send(&notification("textDocument/publishDiagnostics", params))
+    }
+
+    /// Whether what was published of a file went out under another name than the editor has for it now.
+    fn is_renamed(&self, key: &Key) -> bool {
+        self.published.get(key).is_some_and(|it| it.0 != self.uri(key))
     }
 
     /// The text from which the items of a file were read, as far as it is known.

@@ -718,7 +718,7 @@ pub(crate) fn is_body(list: &[Token], number: usize) -> bool {
 }
 
 /// Where the `<` is that the `>` at `end` closes.
-pub(crate) fn opening(tokens: &[Token], end: usize) -> Option<usize> {
+fn opening(tokens: &[Token], end: usize) -> Option<usize> {
     let mut depth = 0;
     for at in (0..=end).rev() {
         depth -= crate::syntax::angle(&tokens[at]);

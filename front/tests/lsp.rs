@@ -2,7 +2,8 @@
 //!
 //! The files `lsp/*.jsonl` hold what is sent and what comes back, one JSON object a line: `send` and `receive` with a
 //! message, `write` and `remove` with a file below the package's folder, `say` for the reader. After each run of lines
-//! that do something comes what the server sends until it has done all of that, or null where that is nothing. `DIR` stands for the package's folder.
+//! that do something comes what the server sends until it has done all of that, or null where that is nothing. `DIR`
+//! stands for the package's folder.
 //! With the variable `UPDATE` set the files are written anew.
 
 use std::collections::BTreeMap;
@@ -352,6 +353,66 @@ fn random_edits_beside_a_fresh_server() {
         }
     }
     assert!(named * 5 > compared, "{named} of {compared} places have a definition");
+}
+
+/// Whatever is typed and asked, nothing panics.
+#[test]
+fn edits_without_sense() {
+    const PIECES: [&str; 24] = [
+        "{",
+        "}",
+        "(",
+        ")",
+        "[",
+        "]",
+        "<",
+        ">",
+        "::",
+        "use ",
+        "fn f",
+        "let x = ",
+        "|",
+        "=>",
+        ";",
+        ",",
+        "\"",
+        "'",
+        "🦀",
+        "e\u{301}",
+        "\r\n",
+        "\r",
+        "macro_rules! m ",
+        "r#\"",
+    ];
+    let folder = market();
+    let mut client = Client::start(folder.path(), &[]);
+    client.initialize();
+    let name = "shop/src/lib.rs";
+    let text = std::fs::read_to_string(folder.path().join(name)).unwrap();
+    client.open(name, &text);
+    let mut dice = Dice(5);
+    let document = json!({"uri": format!("file://DIR/{name}")});
+    for number in 0..300 {
+        let mut place = || json!({"line": dice.below(45), "character": dice.below(60)});
+        let (start, end, asked) = (place(), place(), place());
+        let range = json!({"start": start, "end": if dice.below(8) == 0 { end } else { start.clone() }});
+        let mut changes = vec![json!({"range": range, "text": PIECES[dice.below(PIECES.len())]})];
+        if number % 25 == 24 {
+            changes = vec![json!({"text": text})];
+        }
+        let ask = |method: &str| {
+            let params = json!({"textDocument": document, "position": asked, "context": {"includeDeclaration": true}});
+            json!({"jsonrpc": "2.0", "id": method, "method": format!("textDocument/{method}"), "params": params})
+        };
+        let change = json!({"textDocument": document, "contentChanges": changes});
+        let mut sent = vec![message::notification("textDocument/didChange", change)];
+        sent.extend(["definition", "hover", "references", "documentSymbol"].map(ask));
+        let made = client.exchange(&sent);
+        let is_answered = |it: &&Value| it.get("id").is_some() && it.get("error").is_none();
+        assert_eq!(made.iter().filter(is_answered).count(), 4, "after edit {number}: {made:?}");
+        assert!(made.iter().all(|it| it["method"] != "window/showMessage"), "after edit {number}: {made:?}");
+    }
+    assert_eq!(client.end(), 1);
 }
 
 /// A program that is killed is started again with the texts as they are; one that dies each time isn't.

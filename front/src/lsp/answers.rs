@@ -211,9 +211,21 @@ impl<W: Write> Server<W> {
         };
         let targets: Vec<Value> = match &found {
             Found::Node(node) => {
-                let crates = self.space.as_ref().map(|it| it.crates_of(&key)).unwrap_or_default();
-                let id = [node.id.0, node.id.1];
-                crates.iter().map(|it| json!({"crate": it, "id": id, "in": [&*key], "kind": node.kind})).collect()
+                let Some(space) = self.space.as_ref() else {
+                    return Ok(Ok(Value::Null));
+                };
+                let mut all = Vec::new();
+                for krate in space.crates_of(&key) {
+                    let of = |kind: &str| {
+                        let id = [node.id.0, node.id.1];
+                        json!({"crate": krate, "id": id, "in": [&*key], "kind": kind})
+                    };
+                    all.push(of(node.kind));
+                    if node.kind == "Fn" && space.crates.all[krate as usize].is_proc_macro {
+                        all.push(of("ProcMacro"));
+                    }
+                }
+                all
             }
             Found::Path(site) => {
                 let ask = |it: &mut Workspace| it.ask(it.question_in(krate, &module, &site.path, site.context));
