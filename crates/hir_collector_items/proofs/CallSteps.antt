@@ -26,7 +26,7 @@ use Rattle.hir_collector_rules.specs.declared.macro_directive.Fate.TheVariants.{
 use Rattle.hir_collector_rules.specs.declared.macro_directive.MacroDirective.{MacroDirective}
 use Rattle.hir_collector_rules.specs.declared.macro_directive.WaitingItem.{WaitingItem}
 use Rattle.hir_collector_rules.specs.declared.site.Site.{Site}
-use Rattle.hir_collector_rules.specs.CallMoves.{NoneWaitsBefore, SeesCall}
+use Rattle.hir_collector_rules.specs.CallMoves.{NoneWaitsBefore, Rested, RestsTooFar, SeesCall, already, moved}
 use Rattle.hir_collector_rules.specs.Calls.{Expanding, IsMeantAt, IsWaiting, LeadsNowhere, call_site, error_of, helpers_brought, item_kept, waiting_item}
 use Rattle.hir_collector_rules.specs.Changes.{Change, act, helps, perform, with_derived}
 use Rattle.hir_collector_rules.specs.Derivation.{IsNumberedOut, IsSpent, counted_out, numbered_out}
@@ -34,7 +34,7 @@ use Rattle.hir_collector_rules.specs.ItemIds.{module_id}
 use Rattle.hir_collector_rules.specs.Keys.{Environment, environment}
 use Rattle.hir_collector_rules.specs.Moves.{Makes, OnceGrown, Walks, WalksTooFar}
 use Rattle.hir_collector_rules.specs.State.{Core, State, Task, at_rest, behind, counted, import_state, joined, ticked, visit, visits, visits_over, with_fate, with_map, with_settled}
-use Rattle.hir_collector_rules.specs.Steps.{CallsMacro, DerivesBuiltin, Expands, FallsBack, IsDeep, IsQuiet, IsReachedDeep, May, Numbered, Rule, Sees, Skips, Step, Steps, bringing, derives_builtin, drops_call, drops_reached, expands_call, failing, falls_back, none, reads, rests, site_behind, skips_attribute, visit_behind}
+use Rattle.hir_collector_rules.specs.Steps.{CallsMacro, DerivesBuiltin, Expands, FallsBack, IsDeep, IsQuiet, IsReachedDeep, May, MayRest, Numbered, Rule, Sees, Skips, Step, Steps, bringing, derives_builtin, drops_call, drops_reached, expands_call, failing, falls_back, none, reads, rests, site_behind, skips_attribute, visit_behind}
 use Rattle.hir_collector_rules.specs.TreeReads.{visits_at, visits_behind, visits_found}
 use Rattle.hir_collector_rules.specs.Workspace.{TreeLook, Workspace}
 use Rattle.hir_collector_rules.specs.Reports.{call_report}
@@ -251,11 +251,15 @@ module _ (env : Environment) (finished : Maps) (c : Core) where
   quiet : IsAtRest finished (import_state (at_rest c)) → IsQuiet finished (at_rest c)
   quiet rest = record { visited = refl; settled = rest.settled; closed = rest.closed }
 
-  pub rested : (new : Core) → IsAtRest finished (import_state (at_rest c)) → new ≡ counted (with_settled c) → Steps env finished (at_rest c) (at_rest new)
-  rested new rest ticks = Steps-one (made rests (quiet rest) tt tt (ap at_rest ticks))
+  may_rest : IsAtRest finished (import_state (at_rest c)) → ¬ (c.settled ≡ length c.calls) → MayRest finished (at_rest c)
+  may_rest rest more = record { quiet = quiet rest; more = more }
 
-  pub rested_past : IsAtRest finished (import_state (at_rest c)) → STEP_LIMIT ≤ c.count → IsSpent env finished (at_rest c)
-  rested_past rest full = past_rule rests (quiet rest) tt tt full
+  pub rested : (new : Core) → IsAtRest finished (import_state (at_rest c)) → Rested c new → Steps env finished (at_rest c) (at_rest new)
+  rested new rest (already all same) = subst (λ (n : Core). Steps env finished (at_rest c) (at_rest n)) (sym same) none
+  rested new rest (moved more ticks) = Steps-one (made rests (may_rest rest more) tt tt (ap at_rest ticks))
+
+  pub rested_past : IsAtRest finished (import_state (at_rest c)) → RestsTooFar c → IsSpent env finished (at_rest c)
+  rested_past rest far = past_rule rests (may_rest rest far.more) tt tt far.full
 
   -- ---- the item of an attribute goes on
 
@@ -316,8 +320,23 @@ kept_item k there = go (item_kept k) refl there
     go None e h = absurd (let no : ⊥ = cc in no)
     go (Some item) e h = (item, e)
 
+-- imports that rest do so once calls may be expanded
+pub rest_rested : (finished : Maps) (c d : Core) → Rested c d → IsAtRest finished (import_state (at_rest c)) → IsAtRest finished (import_state (at_rest d))
+rest_rested finished c d (already all same) rest = subst (λ (n : Core). IsAtRest finished (import_state (at_rest n))) (sym same) rest
+rest_rested finished c d (moved more is) rest = subst (λ (n : Core). IsAtRest finished (import_state (at_rest n))) (sym is) (rest_counted finished c rest)
+
+-- then all calls that there are may be expanded
+pub settled_rested : (c d : Core) → Rested c d → d.settled ≡ length d.calls
+settled_rested c d (already all same) = ap (λ (n : Core). n.settled) same ∙ all ∙ sym (ap (λ (n : Core). length n.calls) same)
+settled_rested c d (moved more is) = ap (λ (n : Core). n.settled) is ∙ sym (ap (λ (n : Core). length n.calls) is)
+
+-- and steps count on
+pub count_rested : (c d : Core) → Rested c d → c.count ≤ d.count
+count_rested c d (already all same) = let stays : d.count ≡ c.count = ap (λ (n : Core). n.count) same in omega (arith, stays)
+count_rested c d (moved more is) = let one : d.count ≡ c.count + 1 = ap (λ (n : Core). n.count) is in omega (arith, one)
+
 -- imports that rest do so where a step was counted
-pub rest_counted : (finished : Maps) (c : Core) → IsAtRest finished (import_state (at_rest c)) → IsAtRest finished (import_state (at_rest (counted (with_settled c))))
+rest_counted : (finished : Maps) (c : Core) → IsAtRest finished (import_state (at_rest c)) → IsAtRest finished (import_state (at_rest (counted (with_settled c))))
 rest_counted finished c rest = record {
   settled = λ i. record { among = (rest.settled i).among; linked = (rest.settled i).linked };
   recorded = λ i. record {
