@@ -114,6 +114,10 @@ pub enum Command {
         shadow: Shadow,
         sub: Option<MacroStyle>,
     },
+    /// The names of each module of the map that holds a place.
+    Dump {
+        at: Place,
+    },
     Status {
         at: Place,
     },
