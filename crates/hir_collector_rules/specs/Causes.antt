@@ -24,7 +24,7 @@ use Rattle.hir_collector_rules.specs.Workspace.{Workspace, transitive_dependenci
 use Rattle.hir_collector_rules.specs.Keys.{environment, map_key}
 use Rattle.hir_collector_rules.specs.ModuleFiles.{IsNumberOf, file_key, named_by}
 use Rattle.hir_collector_rules.specs.State.{State, Task, visits}
-use Rattle.hir_collector_rules.specs.Start.{Beginning, begin_of, krate_of, read_by, root_key}
+use Rattle.hir_collector_rules.specs.Start.{Beginning, begin_of, held_keys, holders_by, krate_of, read_by, root_key}
 use Rattle.hir_collector_rules.specs.Calls.{Expanding, IsNumberedCall}
 use Rattle.hir_collector_rules.specs.Steps.{Expands, Sees, Steps, behind, expands_call, keys_read, path_of, reads, visit}
 
@@ -76,6 +76,8 @@ pub record IsOfCall (tables : TablesValue) (w : Workspace) (finished : Maps) (at
 pub data HasCause (tables : TablesValue) (w : Workspace) (finished : Maps) (from : Beginning) (last : State) (key : Key) : Type 0 where
   -- it is the tree with which the run begins
   root_tree : key ≡ root_key from.start from.tree → HasCause tables w finished from last key
+  -- it is the map of the crate of a block, or that of a module which holds the block
+  of_holder : Contains (held_keys from.start (holders_by finished from.start)) key → HasCause tables w finished from last key
   -- it is the variants of an enum that a module lists
   declared_enum : (home : ℕ) (id : EnumId) → Contains (declarations_of (module_at last.core.map home)) (definitions.AdtId (adts.EnumId id)) → key ≡ Variants id
       → HasCause tables w finished from last key

@@ -44,10 +44,9 @@ path_attribute (a ∷ rest) = first_or (path_in a) (path_attribute rest)
 
 -- ---- numbers of files
 
--- the file that a tree is of; none of a block, and of what a call expands to
+-- the file that a tree is of, or in which its block is written; none of what a call expands to
 abbrev pub own_file : HirFileId → Option BlockId → Option FileId
-own_file (File f) None = Some f.file_id
-own_file (File f) (Some block) = None
+own_file (File f) block = Some f.file_id
 own_file (Macro call) block = None
 
 abbrev pub file_of_tree : TreeId → Option FileId
@@ -78,7 +77,7 @@ pub record LookedAt : Type 0 where
   pub id : FileId
   pub there : TreeLook
 
--- a candidate, and the file that it names; none where it leads past the root, or is declared in a block
+-- a candidate, and the file that it names; none where it leads past the root
 pub record Tried : Type 0 where
   pub candidate : Candidate
   pub file : Option LookedAt

@@ -1,13 +1,16 @@
 -- Where is written what a run binds?
-use Rattle.std.specs.Prelude.{◌≡◌, false, List, Contains}
+use Rattle.std.specs.Prelude.{◌≡◌, false, List, Some, Contains}
 use Rattle.hir_base.specs.declared.ids.ModuleId.{ModuleId}
 use Rattle.hir_def_map_rules.specs.Closed.{ModuleIsThere}
 use Rattle.hir_def_map_rules.specs.WellFormed.{AreWellFormed}
 use Rattle.hir_def_map_rules.specs.Sources.{HoldsNowhere, HoldsNowhereIn, HoldsOfNoExtern, SourceTest}
 use Rattle.hir_def_map_rules.specs.State.{Map}
 use Rattle.hir_def_map_rules.specs.Overlay.{Maps, overlay}
+use Rattle.hir_item_tree.specs.declared.tree_id.TreeId.{TreeId}
 use Rattle.hir_item_tree.specs.declared.tree_id.TreeKey.{TreeKey}
 use Rattle.hir_tables.specs.Tables.{TablesValue}
+use Rattle.hir_collector_rules.specs.declared.start.Start.{Start}
+use Rattle.hir_collector_rules.specs.declared.start.Start.TheVariants as starts
 use Rattle.hir_collector_rules.specs.declared.source_database.Key.{Key}
 use Rattle.hir_collector_rules.specs.declared.source_database.Key.TheVariants.{Tree}
 use Rattle.hir_collector_rules.specs.Derivation.{CollectedValue, Ends}
@@ -21,9 +24,14 @@ pub record IsClearOf (t : SourceTest) (finished : Maps) (asked : List Key) (map 
   pub shown : (m : ModuleId) → ModuleIsThere (overlay finished map) m → t.shown m ≡ false
   pub read : HoldsNowhere t finished
 
+-- the tree with which a block's run begins is that of the block
+abbrev pub IsTreeOf : Start → TreeId → Type 0
+IsTreeOf (starts.Crate krate root) tree = Unit {0}
+IsTreeOf (starts.Block krate block holder at) tree = tree ≡ record { file = at.file_id; block = Some block }
+
 -- a run binds only what the sources write that it asked for, and what the finished maps bind, seen from modules that are there
 abbrev pub RunsBindFromSources : Type 0
 RunsBindFromSources = (t : SourceTest) (tables : TablesValue) (w : Workspace) (finished : Maps) (from : Beginning) (answer : CollectedValue)
-    → AreWellFormed (read_by w finished from.start) → StandsOnWhole w (read_by w finished from.start) from.start → Ends tables w finished from answer
-    → IsClearOf t (read_by w finished from.start) answer.asked answer.map
+    → AreWellFormed (read_by w finished from.start) → StandsOnWhole w (read_by w finished from.start) from.start → IsTreeOf from.start from.tree
+    → Ends tables w finished from answer → IsClearOf t (read_by w finished from.start) answer.asked answer.map
     → HoldsNowhereIn t answer.map × HoldsOfNoExtern t answer.local
