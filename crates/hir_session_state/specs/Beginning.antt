@@ -55,5 +55,5 @@ pub record Begins (inputs : List CrateInputValue) (s : SessionState) : Type 0 wh
   pub rooted : AreRooted s.tables s.crates
   -- and nothing else has a number
   pub tables : s.tables ≡ record { files = s.tables.files; blocks = []; entries = []; calls = [] }
-  pub sources : s.sources ≡ record { files = []; entries = [] }
+  pub sources : s.sources ≡ record { files = []; blocks = []; entries = [] }
   pub kept : (id : MapId) → kept_of s id ≡ None
