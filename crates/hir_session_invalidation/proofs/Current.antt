@@ -8,7 +8,7 @@ use Rattle.hir_base.specs.contracts.ids.CrateOrd.TheImpl as crate_order
 use Rattle.hir_base.specs.declared.ids.Crate.{Crate}
 use Rattle.hir_item_tree.specs.Source.{SourceValue}
 use Rattle.hir_item_tree.specs.SourceTree.{SourceTreeValue}
-use Rattle.hir_tables.specs.SourcePlaces.{ExpansionValue, SourcePlaceValue, expansion, file}
+use Rattle.hir_tables.specs.SourcePlaces.{SourcePlaceValue, block, expansion, file}
 use Rattle.hir_collector_rules.specs.Workspace.{Workspace}
 use Rattle.hir_session_sources.specs.declared.source_trees.SourceTrees.{SourceTrees}
 use Rattle.hir_session_state.specs.Crates.{CrateValue}
@@ -94,11 +94,11 @@ dropped_current crates table edit old new are gone others = record {
 }
 
 -- and all else is as it was
-pub dropped_same : (w : Workspace) (key : ExpansionValue) (old new : SourceTrees) → AreCurrent w old
-    → ((c : Crate) → tree_in new (expansion key) c ≡ None)
-    → ((p : SourcePlaceValue) (c : Crate) → is_place (expansion key) p ≡ false → tree_in new p c ≡ tree_in old p c) → AreCurrent w new
-dropped_same w key old new are gone others = record {
-  each = λ p c t is. on_bool (is_place (expansion key) p)
-      (λ on. none_some (tree_in new p c) t (ap (λ (q : SourcePlaceValue). tree_in new q c) (sym (place_same (expansion key) p on)) ∙ gone c) is)
+pub dropped_same : (w : Workspace) (at : SourcePlaceValue) (old new : SourceTrees) → AreCurrent w old
+    → ((c : Crate) → tree_in new at c ≡ None)
+    → ((p : SourcePlaceValue) (c : Crate) → is_place at p ≡ false → tree_in new p c ≡ tree_in old p c) → AreCurrent w new
+dropped_same w at old new are gone others = record {
+  each = λ p c t is. on_bool (is_place at p)
+      (λ on. none_some (tree_in new p c) t (ap (λ (q : SourcePlaceValue). tree_in new q c) (sym (place_same at p on)) ∙ gone c) is)
       (λ off. are.each p c t (sym (others p c off) ∙ is));
 }
