@@ -5,6 +5,7 @@ use Rattle.std.specs.Cmp.Lexicographic.{slice_cmp}
 use Rattle.std.specs.Cmp.{first_so, second_so}
 use Rattle.std.specs.Ordering.{nat_cmp}
 use Rattle.hir_base.specs.contracts.ids.CrateOrd.TheImpl as crate_order
+use Rattle.hir_base.specs.contracts.place.BlockPlaceOrd.TheImpl as block_order
 use Rattle.hir_base.specs.declared.ids.Crate.{Crate}
 use Rattle.hir_item_tree.specs.Source.{SourceValue}
 use Rattle.hir_item_tree.specs.SourceTree.{SourceTreeValue}
@@ -18,7 +19,7 @@ use Rattle.hir_session_state.specs.SourceTable.{SourceTable, tree_under, workspa
 use Rattle.hir_session_sources.specs.SourceTrees.{CrateTrees, AreCurrent, AreTreesOf, is_kept_at, is_place, tree_by, tree_in}
 use Rattle.hir_session_sources.proofs.Changing.{equal_crate, same_crate}
 use Rattle.hir_session_sources.proofs.Expansions.{exact_expansions}
-use Rattle.hir_session_sources.proofs.SourceLemmas.{exact_paths, place_same, source-other, source-there}
+use Rattle.hir_session_sources.proofs.SourceLemmas.{exact_blocks, exact_paths, place_same, source-other, source-there}
 use Rattle.hir_session_state.proofs.Truth.{clash, on_bool}
 
 none_some : {A B : Type 0} (o : Option A) (x : A) → o ≡ None → o ≡ Some x → B
@@ -45,6 +46,11 @@ kept_here (file path) krate (file at) c on =
     let here = is_at (slice_cmp nat_cmp path) at in
     let under = is_at (crate_order.ghosts.cmp krate) c in
     (ap file (exact_paths.same path at (first_so here under on)), equal_crate krate c (second_so here under on))
+kept_here (block place) krate (block at) c on =
+    let here = is_at (block_order.ghosts.cmp place) at in
+    let under = nat_eq krate.0 c.0 in
+    let both = second_so (nat_eq place.holder.krate.0 krate.0) (here && under) on in
+    (ap block (exact_blocks.same place at (first_so here under both)), same_crate krate c (second_so here under both))
 kept_here (expansion key) krate (expansion at) c on =
     let here = is_at (expansion_cmp key) at in
     let under = nat_eq krate.0 c.0 in

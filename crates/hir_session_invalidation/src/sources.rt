@@ -54,7 +54,8 @@ impl<'a> Sources<'a> {
         if let Some(tree) = self.trees.get(place, krate) {
             return Ok(tree.clone()?);
         }
-        let tree = source_tree(alloc, self.crates, krate, place, self.table.get(place))?;
+        let source = self.table.get(alloc, place)?;
+        let tree = source_tree(alloc, self.crates, krate, place, source)?;
         self.trees.set(alloc, place, krate, tree.clone()?)?;
         Ok(tree)
     }
@@ -93,7 +94,7 @@ impl<'a> SourceDatabase for Sources<'a> {
     }
 
     fn present(&self, _krate: Crate, source: SourcePlace<'_>) -> bool {
-        self.table.get(source).is_some()
+        self.table.has(source)
     }
 
     fn expansion(&self, key: &ExpansionKey) -> ExpansionLook<'_> {

@@ -1,9 +1,10 @@
 //! What a session is asked.
 ghost use Rattle.std.specs.Prelude.{◌≡◌, ◌⊎◌, IfOk, IfErr, Ok, Err, option_map, string_bytes};
+ghost use Rattle.std.specs.Option.{option_and_then};
 ghost use Rattle.hir_base.specs.Refusal.{Gives};
 ghost use Rattle.hir_item_tree.specs.Source.{source_view};
 ghost use Rattle.hir_session_state.specs.Files.{file_at};
-ghost use Rattle.hir_session_state.specs.SessionState.{kept_of};
+ghost use Rattle.hir_session_state.specs.SessionState.{kept_of, module_of, standing_of};
 ghost use Rattle.hir_session_answers.specs.Diagnostics.{diagnostics_of};
 ghost use Rattle.hir_session_answers.specs.DiagnosticsStand.{DiagnosticsStand};
 ghost use Rattle.hir_session_state.specs.Refusals.{IsDiagnosticsMemory, IsQueryMemory, IsTreeTextMemory};
@@ -11,6 +12,7 @@ ghost use Rattle.hir_session_answers.specs.Status.{status_of};
 ghost use Rattle.hir_wire.specs.declared.reply.Status.TheVariants as status;
 ghost use Rattle.hir_session_state.specs.Crates.{id_of};
 ghost use Rattle.hir_session_answers.specs.Answers.{answer_kept, answer_of};
+ghost use Rattle.hir_session_answers.specs.Standings.{standing_value};
 ghost use Rattle.hir_session_answers.specs.AnswersStand.{AnswersStand};
 ghost use Rattle.hir_session_answers.specs.Dumps.{dump_at, dump_kept};
 ghost use Rattle.hir_session_answers.specs.TreeText.{tree_text_of};
@@ -24,8 +26,9 @@ use hir_def_map::def_maps::DefMaps;
 use hir_def_map::nameres::DefMap;
 use hir_def_map::world::part::WorldPart;
 use hir_item_tree::source::Source;
-use hir_session_answers::answers::{answer_at, module_below_root};
+use hir_session_answers::answers::answer_at;
 use hir_session_answers::diagnostics::diagnostics_at;
+use hir_session_answers::standing::{Standing, standing_at};
 use hir_session_sources::crate_info::CrateInfo;
 use hir_session_sources::files::Files;
 use hir_session_state::error::{DiagnosticsError, QueryError, TreeTextError};
@@ -47,6 +50,34 @@ impl Session {
         }
     }
 
+    /// Where the steps of a place lead, in what is kept.
+    pub(super) fn standing(&self, place: &Place) -> Standing
+        ensures value { standing_value result ≡ standing_of self.now place.now }
+    {
+        standing_at(
+            &self.tables,
+            self.inputs.sources().blocks(),
+            &self.kept,
+            place.krate(),
+            place.elements(),
+        )
+    }
+
+    /// The map in which the module lies that a place names, of a block's place that of the block; None where the place is stale
+    /// or unknown.
+    pub fn block_map(&self, place: &Place) -> Option<&DefMap>
+        ensures value { option_map (λ m. m.now) result
+            ≡ option_map (λ r. r.map) (option_and_then (λ m. kept_of self.now m.map) (module_of self.now place.now)) }
+    {
+        let Standing::At(at) = self.standing(place) else {
+            return None;
+        };
+        match self.kept.get(at.map) {
+            Some(found) => Some(found.map),
+            None => None,
+        }
+    }
+
     /// The source of a file, as it was handed in; None where the file isn't there.
     pub fn source(&self, file: &FilePath) -> Option<&Source>
         ensures value { option_map (λ s. source_view s.now) result ≡ file_at self.now.sources.files file.now }
@@ -58,16 +89,13 @@ impl Session {
     pub fn status(&self, place: &Place) -> Status
         ensures value { result ≡ status_of self.now place.now }
     {
-        let krate = place.krate();
-        if krate.0 as usize >= self.inputs.crates().len() {
+        if place.krate().0 as usize >= self.inputs.crates().len() {
             return Status::Unknown;
         }
-        let Some(found) = self.kept.get(MapId::of_crate(krate)) else {
-            return Status::Stale;
-        };
-        match module_below_root(found.map, place.elements()) {
-            Some(_) => Status::Current,
-            None => Status::Unknown,
+        match self.standing(place) {
+            Standing::At(_) => Status::Current,
+            Standing::Stale => Status::Stale,
+            Standing::Lacks(_) | Standing::Unset => Status::Unknown,
         }
     }
 
@@ -97,17 +125,16 @@ impl Session {
         ensures answer { Gives IsQueryMemory result (answer_kept self.now place.now path.now shadow style) }
         ensures stands { status.Current ≡ status_of self.now place.now → IfOk result (λ answer. AnswersStand self.now place.now path.now shadow style answer) }
     {
-        let krate = place.krate();
-        let Some(found) = self.kept.get(MapId::of_crate(krate)) else {
+        let Standing::At(at) = self.standing(place) else {
             return Err(QueryError::UnknownPlace);
         };
-        let Some(transitive) = self.inputs.crates().transitive_dependencies(krate) else {
+        let Some(found) = self.kept.get(at.map) else {
             return Err(QueryError::UnknownPlace);
         };
-        let Some(at) = module_below_root(found.map, place.elements()) else {
+        let Some(transitive) = self.inputs.crates().transitive_dependencies(at.map.krate) else {
             return Err(QueryError::UnknownPlace);
         };
-        let read = WorldPart::among(self.kept.world(), transitive, &[]);
+        let read = WorldPart::among(self.kept.world(), transitive, found.holders);
         let maps = DefMaps::new(read, found.map);
         let answer = answer_at(
             alloc,
@@ -146,16 +173,14 @@ impl Session {
         ensures text { IfOk result (λ text. dump_kept self.now place.now ≡ Ok (string_bytes text)) }
         ensures refused { IfErr result (λ e. IsQueryMemory e ⊎ (dump_kept self.now place.now ≡ Err e)) }
     {
-        let Some(found) = self.kept.get(MapId::of_crate(place.krate())) else {
+        let Standing::At(at) = self.standing(place) else {
             return Err(QueryError::UnknownPlace);
         };
-        match module_below_root(found.map, place.elements()) {
-            Some(_) => {
-                let text = found.map.dump(alloc, self.kept.world())?;
-                Ok(text)
-            }
-            None => Err(QueryError::UnknownPlace),
-        }
+        let Some(found) = self.kept.get(at.map) else {
+            return Err(QueryError::UnknownPlace);
+        };
+        let text = found.map.dump(alloc, self.kept.world())?;
+        Ok(text)
     }
 
     /// The modules of the whole map in which a place lies as text, each with its path and its scope.
@@ -200,7 +225,7 @@ impl Session {
         let Some(found) = self.kept.get(MapId::of_crate(krate)) else {
             return Err(DiagnosticsError::StalePlace);
         };
-        let read = WorldPart::among(self.kept.world(), transitive, &[]);
+        let read = WorldPart::among(self.kept.world(), transitive, found.holders);
         let maps = DefMaps::new(read, found.map);
         let told = diagnostics_at(
             alloc,

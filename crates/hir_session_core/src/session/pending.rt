@@ -1,0 +1,57 @@
+//! Blocks that wait to be resolved.
+ghost use Rattle.std.specs.Prelude.{◌≡◌, IfOk, Some, None, is_none};
+ghost use Rattle.hir_session_state.specs.Blocks.{place_of_block};
+ghost use Rattle.hir_session_state.specs.SessionState.{block_kept};
+ghost use Rattle.hir_session_core.specs.Progress.{pending_of, HasAllPending};
+
+use super::Session;
+use hir_base::place::{BlockPlace, Place};
+use hir_session_answers::standing::is_block_kept;
+use hir_session_sources::blocks::root_of_block;
+use hir_session_state::nesting::nesting_of;
+use std::alloc::{AllocError, Global};
+use std::collections::BTreeSet;
+
+/// A block of which nothing is kept. Such blocks are resolved in this order: by how many blocks are around one, and then by its
+/// place, so that an outer block comes before those within it.
+#[derive(Drop, PartialEq, Eq, PartialOrd, Ord)]
+pub struct PendingBlock {
+    pub nesting: usize,
+    /// The place of its root.
+    pub place: Place,
+}
+
+impl PendingBlock {
+    fn new(alloc: Global, block: &BlockPlace) -> Result<PendingBlock, AllocError>
+        ensures value { IfOk result (λ p. p ≡ pending_of (place_of_block block.now)) }
+    {
+        let place = root_of_block(alloc, block)?;
+        Ok(PendingBlock {
+            nesting: nesting_of(place.elements()),
+            place,
+        })
+    }
+}
+
+impl Session {
+    /// Whether nothing is kept of a block.
+    pub(super) fn is_block_marked(&self, block: &BlockPlace) -> bool
+        ensures value { result ≡ is_none (block_kept self.now block.now) }
+    {
+        !is_block_kept(&self.tables, &self.kept, block)
+    }
+
+    /// The blocks that are set and of which nothing is kept, in the order in which they are resolved.
+    pub(super) fn pending_blocks(&self, alloc: Global) -> Result<BTreeSet<PendingBlock>, AllocError>
+        ensures all { IfOk result (HasAllPending self.now) }
+    {
+        let mut pending = BTreeSet::new(alloc);
+        let blocks = self.inputs.sources().blocks().places(alloc)?;
+        for block in &blocks {
+            if self.is_block_marked(block) {
+                pending.insert(PendingBlock::new(alloc, block)?)?;
+            }
+        }
+        Ok(pending)
+    }
+}

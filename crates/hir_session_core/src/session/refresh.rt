@@ -1,0 +1,271 @@
+//! Resolving again what is marked.
+//!
+//! Crates come first, by number, so that a run finds what it depends on. Once no crate is marked, blocks follow, an outer one
+//! before those within it: whether the module that holds a block is there is known once the blocks around it were resolved.
+ghost use Rattle.std.specs.Prelude.{◌≡◌, ◌≢◌, ¬◌, ℕ, ◌<◌, ◌≤◌, ◌++◌, ◌∷◌, [], true, false, length, None, Some, IfOk, IfSome, OnOk, OnErr, OnNone, Ok, Err};
+ghost use Rattle.hir_base.specs.Locations.{max_locations};
+ghost use Rattle.hir_base.specs.Place.{PlaceValue};
+ghost use Rattle.hir_base.specs.declared.place.BlockPlace.{BlockPlace};
+ghost use Rattle.hir_collector_rules.specs.Derivation.{IsOverlong, collected_view};
+ghost use Rattle.hir_tables.specs.Tables.{block_at};
+ghost use Rattle.hir_session_state.specs.Blocks.{place_of_block};
+ghost use Rattle.hir_session_state.specs.Crates.{begins_in_block, id_of};
+ghost use Rattle.hir_session_state.specs.Changes.{Refreshes, RefreshesPartly};
+ghost use Rattle.hir_session_state.specs.Due.{root_place, Grows, HasOverlongRun, IsDueBlock, IsStuckAt, Resolved};
+ghost use Rattle.hir_session_state.specs.SessionState.{SessionState, Resolution, beginning_of, block_kept, finished_of, is_marked, module_of, workspace_of, IsPlace, IsResolutionOf, IsSound};
+ghost use Rattle.hir_session_state.specs.Standing.{block_map, block_number, is_set};
+ghost use Rattle.hir_session_core.specs.Progress.{held_in, AreCratesCurrent, AreFollowedCurrent, HasResolved, IsRefreshed, IsResolvedAt};
+ghost use Rattle.hir_session_answers.specs.Status.{status_of};
+ghost use Rattle.hir_wire.specs.declared.reply.Status.TheVariants as status;
+
+use super::Session;
+use hir_base::ast_id::BlockId;
+use hir_base::ids::{Crate, MapId, ModuleId};
+use hir_base::locations::LocationsError;
+use hir_base::place::{BlockPlace, Place};
+use hir_collector_rules::collected::Collected;
+use hir_session_answers::standing::{Standing, definition_file};
+use hir_session_invalidation::sources::HeldBlock;
+use hir_session_sources::source_trees::copied_place;
+use hir_session_state::error::RefreshError;
+use std::alloc::{AllocError, Global};
+
+/// A block that is due, and the module that holds it.
+#[derive(Clone, Copy)]
+struct DueBlock<'a> {
+    place: &'a BlockPlace,
+    holder: ModuleId,
+}
+
+/// Puts the place of a crate's root at the end.
+fn note(alloc: Global, done: &mut Vec<Place>, k: u32) -> Result<(), AllocError>
+    ensures ok { OnOk result (done.new.items ≡ done.old.items ++ root_place k ∷ []) }
+{
+    done.push(Place::new(Crate(k), Vec::new(alloc)))?;
+    Ok(())
+}
+
+impl Session {
+    /// Keeps what a run came to for a marked place, of which what it depends on is current.
+    fn keep_found(&mut self, id: MapId, found: Collected) -> Result<(), RefreshError>
+        requires place { IsPlace self.old id }
+        requires marked { is_marked self.old id ≡ true }
+        requires found { IsResolutionOf self.old id (held_in self.old (collected_view found)) }
+        requires behind { AreFollowedCurrent self.old id found.map.holder }
+        ensures ok { OnOk result ((r : Resolution) × Resolved self.old id r self.new) }
+        ensures sound { IsSound self.new }
+        ensures many { result ≡ Err RefreshError.TooMany → ⊥ }
+        ensures err { OnErr result (Grows self.old self.new) }
+    {
+        self.askers.note(&self.tables, &found.asked, id)?;
+        self.kept.keep(found)?;
+        Ok(())
+    }
+
+    /// Whether nothing is kept of a crate.
+    fn is_marked_at(&self, k: u32) -> bool
+        ensures value { result ≡ is_marked self.now (id_of k) }
+    {
+        self.kept.get(MapId::of_crate(Crate(k))).is_none()
+    }
+
+    /// What a run gives for a crate, beside the maps of those before it.
+    fn found_at(&mut self, alloc: Global, k: u32) -> Result<Collected, RefreshError>
+        requires within { k < length self.old.crates }
+        requires first { (j : ℕ) → j < k → is_marked self.old (id_of j) ≡ false }
+        ensures grown { Grows self.old self.new }
+        ensures found { IfOk result (λ r. IsResolutionOf self.new (id_of k) (held_in self.new (collected_view r))) }
+        ensures many { result ≡ Err RefreshError.TooMany → IsStuckAt self.new (root_place k) }
+    {
+        self.inputs
+            .resolve(alloc, &mut self.tables, self.kept.world(), k)
+    }
+
+    /// Resolves the first marked crate.
+    fn resolve_at(&mut self, alloc: Global, k: u32) -> Result<(), RefreshError>
+        requires within { k < length self.old.crates }
+        requires first { (j : ℕ) → j < k → is_marked self.old (id_of j) ≡ false }
+        requires marked { is_marked self.old (id_of k) ≡ true }
+        ensures ok { OnOk result ((r : Resolution) × Resolved self.old (id_of k) r self.new) }
+        ensures sound { IsSound self.new }
+        ensures many { result ≡ Err RefreshError.TooMany → IsStuckAt self.new (root_place k) }
+        ensures err { OnErr result (Grows self.old self.new) }
+    {
+        let found = self.found_at(alloc, k)?;
+        self.keep_found(MapId::of_crate(Crate(k)), found)
+    }
+
+    /// Resolves the marked crates, in order, and lists them.
+    fn refresh_crates(&mut self, alloc: Global) -> Result<Vec<Place>, RefreshError>
+        ensures so_far { IfOk result (λ done. HasResolved self.old done.items self.new) }
+        ensures current { OnOk result (AreCratesCurrent self.new) }
+        ensures err { OnErr result (RefreshesPartly self.old self.new) }
+        ensures many { result ≡ Err RefreshError.TooMany → HasOverlongRun self.new }
+    {
+        let mut done = Vec::new(alloc);
+        for k in 0..self.inputs.crates().len() as u32 {
+            if self.is_marked_at(k) {
+                note(alloc, &mut done, k)?;
+                self.resolve_at(alloc, k)?;
+            }
+        }
+        Ok(done)
+    }
+
+    /// The number of a block, which it gets where it has none.
+    fn number_of(&mut self, block: BlockPlace) -> Result<BlockId, RefreshError>
+        ensures grown { Grows self.old self.new }
+        ensures means { IfOk result (λ id. block_at self.new.tables id ≡ Some block) }
+        ensures number { IfOk result (λ id. block_number self.new.tables block ≡ Some id) }
+        ensures many { result ≡ Err RefreshError.TooMany
+            → (block_number self.new.tables block ≡ None) × (max_locations ≤ length self.new.tables.blocks) }
+    {
+        match self.tables.intern_block(block) {
+            Ok(number) => Ok(number),
+            Err(LocationsError::TooMany) => Err(RefreshError::TooMany),
+            Err(LocationsError::Memory) => Err(RefreshError::Memory),
+        }
+    }
+
+    /// What a run gives for a block, beside the maps of its crate and of the module that holds it.
+    fn found_in(&mut self, alloc: Global, at: HeldBlock) -> Result<Collected, RefreshError>
+        requires place { IsPlace self.old (block_map at.krate at.block) }
+        requires marked { is_marked self.old (block_map at.krate at.block) ≡ true }
+        requires begun { beginning_of self.old (block_map at.krate at.block)
+            ≡ Some (begins_in_block at.krate at.block at.holder at.file at.id) }
+        requires behind { AreFollowedCurrent self.old (block_map at.krate at.block) (Some at.holder) }
+        ensures grown { Grows self.old self.new }
+        ensures found { IfOk result (λ r. IsResolutionOf self.new (block_map at.krate at.block) (held_in self.new (collected_view r))) }
+        ensures holder { IfOk result (λ r. r.map.holder ≡ Some at.holder) }
+        ensures many { result ≡ Err RefreshError.TooMany → IsOverlong self.new.tables (workspace_of self.new) (finished_of self.new)
+            (begins_in_block at.krate at.block at.holder at.file at.id) }
+    {
+        self.inputs
+            .resolve_block(alloc, &mut self.tables, self.kept.world(), at)
+    }
+
+    /// Resolves a block that has a number, in the module that holds it.
+    fn resolve_in(&mut self, alloc: Global, at: HeldBlock) -> Result<(), RefreshError>
+        requires place { IsPlace self.old (block_map at.krate at.block) }
+        requires marked { is_marked self.old (block_map at.krate at.block) ≡ true }
+        requires begun { beginning_of self.old (block_map at.krate at.block)
+            ≡ Some (begins_in_block at.krate at.block at.holder at.file at.id) }
+        requires behind { AreFollowedCurrent self.old (block_map at.krate at.block) (Some at.holder) }
+        ensures ok { OnOk result ((r : Resolution) × Resolved self.old (block_map at.krate at.block) r self.new) }
+        ensures sound { IsSound self.new }
+        ensures many { result ≡ Err RefreshError.TooMany → IsOverlong self.new.tables (workspace_of self.new) (finished_of self.new)
+            (begins_in_block at.krate at.block at.holder at.file at.id) }
+        ensures err { OnErr result (Grows self.old self.new) }
+    {
+        let found = self.found_in(alloc, at)?;
+        let id = MapId {
+            krate: at.krate,
+            block: Some(at.block),
+        };
+        self.keep_found(id, found)
+    }
+
+    /// Gives a block that is due its number, and resolves it in the module that holds it.
+    fn resolve_block(
+        &mut self,
+        alloc: Global,
+        block: BlockPlace,
+        holder: ModuleId,
+    ) -> Result<(), RefreshError>
+        requires crates { AreCratesCurrent self.old }
+        requires due { IsDueBlock self.old block }
+        requires held { module_of self.old block.holder ≡ Some holder }
+        ensures ok { OnOk result (IsResolvedAt self.old (place_of_block block) self.new) }
+        ensures sound { IsSound self.new }
+        ensures many { result ≡ Err RefreshError.TooMany → IsStuckAt self.new (place_of_block block) }
+        ensures err { OnErr result (Grows self.old self.new) }
+    {
+        let krate = block.holder.krate();
+        let id = block.id;
+        let number = self.number_of(block)?;
+        // What holds a module of a finished map stands in a file, or in what a call in a file expands to, through calls that come
+        // before one another.
+        let Some(file) = definition_file(&self.tables, &self.kept, holder) else {
+            return Err(RefreshError::Memory);
+        };
+        let at = HeldBlock {
+            krate,
+            block: number,
+            holder,
+            file,
+            id,
+        };
+        self.resolve_in(alloc, at)
+    }
+
+    /// The block whose root a place names, if it is due.
+    fn due_at(&self, root: &Place) -> Option<DueBlock<'_>>
+        ensures place { IfSome result (λ due. place_of_block due.place.now ≡ root.now) }
+        ensures due { IfSome result (λ due. IsDueBlock self.now due.place.now) }
+        ensures held { IfSome result (λ due. module_of self.now due.place.now.holder ≡ Some due.holder) }
+        ensures none { OnNone result ((b : BlockPlace) → place_of_block b ≡ root.now → ¬ IsDueBlock self.now b) }
+    {
+        let blocks = self.inputs.sources().blocks();
+        let place = blocks.place(root.krate(), root.elements())?;
+        if !self.is_block_marked(place) {
+            return None;
+        }
+        match self.standing(&place.holder) {
+            Standing::At(holder) => Some(DueBlock { place, holder }),
+            Standing::Lacks(_) | Standing::Stale | Standing::Unset => None,
+        }
+    }
+
+    /// Resolves the block whose root a place names, if it is due, and lists it.
+    fn refresh_block(
+        &mut self,
+        alloc: Global,
+        root: Place,
+        done: &mut Vec<Place>,
+    ) -> Result<(), RefreshError>
+        requires crates { AreCratesCurrent self.old }
+        ensures ok { OnOk result (IsRefreshed self.old root done.old.items done.new.items self.new) }
+        ensures err { OnErr result (Grows self.old self.new) }
+        ensures many { result ≡ Err RefreshError.TooMany
+            → (b : BlockPlace) × (place_of_block b ≡ root) × IsDueBlock self.old b × IsStuckAt self.new root }
+    {
+        let Some(due) = self.due_at(&root) else {
+            return Ok(());
+        };
+        let block = copied_place(due.place)?;
+        let holder = due.holder;
+        done.push(root)?;
+        self.resolve_block(alloc, block, holder)
+    }
+
+    /// Resolves the blocks that are marked and set and whose holding place is there, an outer one before those within it, and
+    /// lists them. Resolving one makes only deeper ones due.
+    fn refresh_blocks(&mut self, alloc: Global, done: &mut Vec<Place>) -> Result<(), RefreshError>
+        requires crates { AreCratesCurrent self.old }
+        ensures so_far { OnOk result ((from : SessionState) → HasResolved from done.old.items self.old
+            → HasResolved from done.new.items self.new) }
+        ensures current { OnOk result (AreCratesCurrent self.new) }
+        ensures none_due { OnOk result ((b : BlockPlace) → ¬ IsDueBlock self.new b) }
+        ensures err { OnErr result ((from : SessionState) → HasResolved from done.old.items self.old → RefreshesPartly from self.new) }
+        ensures many { result ≡ Err RefreshError.TooMany → HasOverlongRun self.new }
+    {
+        let pending = self.pending_blocks(alloc)?;
+        for block in pending {
+            self.refresh_block(alloc, block.place, done)?;
+        }
+        Ok(())
+    }
+
+    /// Resolves what is marked, in order, and lists it.
+    pub fn refresh(&mut self, alloc: Global) -> Result<Vec<Place>, RefreshError>
+        ensures refreshes { IfOk result (λ done. Refreshes self.old done.items self.new) }
+        ensures none_stale { OnOk result ((k : ℕ) → k < length self.new.crates → is_marked self.new (id_of k) ≡ false) }
+        ensures nowhere_stale { OnOk result ((place : PlaceValue) → status_of self.new place ≢ status.Stale) }
+        ensures err { OnErr result (RefreshesPartly self.old self.new) }
+        ensures many { result ≡ Err RefreshError.TooMany → HasOverlongRun self.new }
+    {
+        let mut done = self.refresh_crates(alloc)?;
+        self.refresh_blocks(alloc, &mut done)?;
+        Ok(done)
+    }
+}
