@@ -58,6 +58,7 @@ impl Model for CrateBlocks {
 #[derive(Drop)]
 pub struct Blocks {
     by_crate: BTreeMap<Crate, CrateBlocks>,
+    alloc: Global,
 }
 
 impl Model for Blocks {
@@ -193,6 +194,7 @@ impl Blocks {
     {
         Blocks {
             by_crate: BTreeMap::new(alloc),
+            alloc,
         }
     }
 
@@ -236,46 +238,42 @@ impl Blocks {
     }
 
     /// The places of all blocks, in their order.
-    pub fn places(&self, alloc: Global) -> Result<Vec<&BlockPlace>, AllocError>
+    pub fn places(&self) -> Result<Vec<&BlockPlace>, AllocError>
         ensures value { IfOk result (λ places. map (λ p. place_of_block p.now) places.items ≡ places_of self.now) }
     {
-        let mut places = Vec::new(alloc);
+        let mut places = Vec::new(self.alloc);
         for own in self.by_crate.values() {
             own.add_places(&mut places)?;
         }
         Ok(places)
     }
 
-    /// The source of a block, if it is there.
-    pub fn at(&self, alloc: Global, place: &BlockPlace) -> Result<Option<&Source>, AllocError>
+    /// The source of a block, if it is there. The steps to it take memory.
+    pub fn at(&self, place: &BlockPlace) -> Result<Option<&Source>, AllocError>
         ensures value { IfOk result (λ found. option_map (λ s. source_view s.now) found ≡ block_in self.now (place_of_block place.now)) }
     {
-        let steps = steps_to(alloc, place)?;
+        let steps = steps_to(self.alloc, place)?;
         Ok(self.get(place.holder.krate(), steps.as_slice()))
     }
 
     /// Sets a block.
-    pub(crate) fn set(
-        &mut self,
-        alloc: Global,
-        place: BlockPlace,
-        source: Source,
-    ) -> Result<(), AllocError>
+    pub(crate) fn set(&mut self, place: BlockPlace, source: Source) -> Result<(), AllocError>
         ensures ok { OnOk result (self.new ≡ with_block self.old (place_of_block place) (source_view source)) }
         ensures err { OnErr result (self.new ≡ self.old) }
     {
+        let alloc = self.alloc;
         let steps = steps_to(alloc, &place)?;
         let krate = place.holder.krate();
         let block = SetBlock { place, source };
         set_of_crate(&mut self.by_crate, alloc, krate, steps, block)
     }
 
-    /// Removes a block.
-    pub(crate) fn remove(&mut self, alloc: Global, place: &BlockPlace) -> Result<(), AllocError>
+    /// Removes a block. The steps to it take memory.
+    pub(crate) fn remove(&mut self, place: &BlockPlace) -> Result<(), AllocError>
         ensures ok { OnOk result (self.new ≡ without_block self.old (place_of_block place.now)) }
         ensures err { OnErr result (self.new ≡ self.old) }
     {
-        let steps = steps_to(alloc, place)?;
+        let steps = steps_to(self.alloc, place)?;
         remove_of_crate(&mut self.by_crate, place.holder.krate(), steps.as_slice());
         Ok(())
     }

@@ -64,16 +64,12 @@ impl SourceTable {
     }
 
     /// The source at a place, if it is there. The steps to a block take memory.
-    pub fn get(
-        &self,
-        alloc: Global,
-        place: SourcePlace<'_>,
-    ) -> Result<Option<&Source>, AllocError>
+    pub fn get(&self, place: SourcePlace<'_>) -> Result<Option<&Source>, AllocError>
         ensures value { IfOk result (λ found. option_map (λ s. source_view s.now) found ≡ source_at self.now (source_value place.entry)) }
     {
         match place {
             SourcePlace::File(path) => Ok(self.files.get(path)),
-            SourcePlace::Block(place) => self.blocks.at(alloc, place),
+            SourcePlace::Block(place) => self.blocks.at(place),
             SourcePlace::Expansion(key) => Ok(source_in(self.entries.get(key))),
         }
     }
@@ -101,24 +97,19 @@ impl SourceTable {
     }
 
     /// Sets a block.
-    pub fn set_block(
-        &mut self,
-        alloc: Global,
-        place: BlockPlace,
-        source: Source,
-    ) -> Result<(), AllocError>
+    pub fn set_block(&mut self, place: BlockPlace, source: Source) -> Result<(), AllocError>
         ensures ok { OnOk result (self.new ≡ record self.old { blocks = blocks_with self.old.blocks (place_of_block place) (Some (source_view source)) }) }
         ensures err { OnErr result (self.new ≡ self.old) }
     {
-        self.blocks.set(alloc, place, source)
+        self.blocks.set(place, source)
     }
 
-    /// Removes a block.
-    pub fn remove_block(&mut self, alloc: Global, place: &BlockPlace) -> Result<(), AllocError>
+    /// Removes a block. The steps to it take memory.
+    pub fn remove_block(&mut self, place: &BlockPlace) -> Result<(), AllocError>
         ensures ok { OnOk result (self.new ≡ record self.old { blocks = blocks_with self.old.blocks (place_of_block place.now) None }) }
         ensures err { OnErr result (self.new ≡ self.old) }
     {
-        self.blocks.remove(alloc, place)
+        self.blocks.remove(place)
     }
 
     /// Sets an expansion.
