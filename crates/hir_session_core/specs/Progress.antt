@@ -1,5 +1,5 @@
 -- How far has a refresh come? No public clause speaks of this.
-use Rattle.std.specs.Prelude.{◌≡◌, ¬◌, ℕ, ◌<◌, Bool, true, false, List, [], ◌∷◌, ◌++◌, length, Option, Some, None, Contains, IsTrue}
+use Rattle.std.specs.Prelude.{◌≡◌, ¬◌, ℕ, ◌<◌, true, false, List, [], ◌∷◌, ◌++◌, length, Option, Some, None, Contains}
 use Rattle.std.specs.BTreeSet.{BTreeSet}
 use Rattle.hir_base.specs.Place.{PlaceValue}
 use Rattle.hir_base.specs.declared.ast_id.BlockId.{BlockId}
@@ -14,7 +14,7 @@ use Rattle.hir_session_state.specs.Crates.{dependency_maps, id_of}
 use Rattle.hir_session_state.specs.Due.{IsDueBlock, IsNext, Resolved}
 use Rattle.hir_session_state.specs.Kept.{Resolution, held}
 use Rattle.hir_session_state.specs.SessionState.{SessionState, block_kept, finished_of, holder_maps, is_marked, kept_of, IsSound}
-use Rattle.hir_session_state.specs.Standing.{is_set, place_of_map}
+use Rattle.hir_session_state.specs.Standing.{block_map, block_number, is_set, place_of_map}
 use Rattle.hir_session_core.specs.declared.session.pending.PendingBlock.{PendingBlock}
 use Rattle.hir_tables.specs.Tables.{KeepsTables}
 
@@ -39,12 +39,21 @@ follows_under s id (Some b) holder = crate_map id.krate ∷ holder_maps holder
 abbrev pub AreFollowedCurrent : SessionState → MapId → Option ModuleId → Type 0
 AreFollowedCurrent s id holder = (d : MapId) → Contains (follows_under s id id.block holder) d → is_marked s d ≡ false
 
--- the place was resolved
+-- a marked place was resolved
 pub record IsResolvedAt (old : SessionState) (place : PlaceValue) (new : SessionState) : Type 0 where
   pub id : MapId
   pub found : Resolution
   pub of : place_of_map new.tables id ≡ Some place
+  pub marked : is_marked old id ≡ true
   pub resolved : Resolved old id found new
+
+-- so was a block, under the number that it has
+pub record IsBlockResolved (old : SessionState) (b : BlockPlace) (new : SessionState) : Type 0 where
+  pub number : BlockId
+  pub numbered : block_number new.tables b ≡ Some number
+  pub found : Resolution
+  pub marked : is_marked old (block_map b.holder.krate number) ≡ true
+  pub resolved : Resolved old (block_map b.holder.krate number) found new
 
 -- ---- blocks that are left
 
@@ -63,7 +72,7 @@ AreNotDue s pending = (b : BlockPlace) → Contains pending (pending_of (place_o
 -- a block was resolved where it was due, and otherwise nothing changed
 pub data IsRefreshed (old : SessionState) (place : PlaceValue) (before after : List PlaceValue) (new : SessionState) : Type 0 where
   left : ((b : BlockPlace) → place_of_block b ≡ place → ¬ IsDueBlock old b) → new ≡ old → after ≡ before → IsRefreshed old place before after new
-  resolved : (b : BlockPlace) → place_of_block b ≡ place → IsDueBlock old b → IsResolvedAt old place new → IsSound new → after ≡ before ++ place ∷ []
+  resolved : (b : BlockPlace) → place_of_block b ≡ place → IsDueBlock old b → IsBlockResolved old b new → IsSound new → after ≡ before ++ place ∷ []
       → IsRefreshed old place before after new
 
 -- ---- all that was resolved so far

@@ -12,8 +12,8 @@ use hir_base::place::BlockPlace;
 use hir_item_tree::source::Source;
 use hir_session_invalidation::invalidate::{Invalidation, invalidated};
 use hir_session_sources::source_edit::SourceEdit;
-use hir_session_state::block_limits::verdict_at;
 use hir_session_state::error::EditError;
+use hir_session_state::steps::check_with_steps;
 use std::alloc::{AllocError, Global};
 
 /// Whether a source has each id once, and is within the limits with the steps to its block.
@@ -23,9 +23,9 @@ fn check_block(alloc: Global, block: &BlockPlace, source: &Source) -> Result<(),
         ⊎ (verdict_with_steps (place_of_block block.now).elements (verdict_of_source (source_view source.now)) ≡ Err e)) }
 {
     match check_source(alloc, source) {
-        Ok(()) => verdict_at(block, Ok(())),
+        Ok(()) => check_with_steps(block, Ok(())),
         Err(EditError::Memory) => Err(EditError::Memory),
-        Err(error) => verdict_at(block, Err(error)),
+        Err(error) => check_with_steps(block, Err(error)),
     }
 }
 
@@ -114,7 +114,7 @@ impl Session {
         if !self.has_crate_of(block) {
             return Err(EditError::UnknownCrate);
         }
-        verdict_at(block, Ok(()))?;
+        check_with_steps(block, Ok(()))?;
         self.drop_block(alloc, block)?;
         Ok(())
     }

@@ -8,7 +8,7 @@ use super::Session;
 use hir_base::place::{BlockPlace, Place};
 use hir_session_answers::standing::is_block_kept;
 use hir_session_sources::blocks::root_of_block;
-use hir_session_state::nesting::nesting_of;
+use hir_session_state::steps::nesting;
 use std::alloc::{AllocError, Global};
 use std::collections::BTreeSet;
 
@@ -27,7 +27,7 @@ impl PendingBlock {
     {
         let place = root_of_block(alloc, block)?;
         Ok(PendingBlock {
-            nesting: nesting_of(place.elements()),
+            nesting: nesting(place.elements()),
             place,
         })
     }

@@ -14,7 +14,7 @@ ghost use Rattle.hir_session_state.specs.Changes.{Refreshes, RefreshesPartly};
 ghost use Rattle.hir_session_state.specs.Due.{root_place, Grows, HasOverlongRun, IsDueBlock, IsStuckAt, Resolved};
 ghost use Rattle.hir_session_state.specs.SessionState.{SessionState, Resolution, beginning_of, block_kept, finished_of, is_marked, module_of, workspace_of, IsPlace, IsResolutionOf, IsSound};
 ghost use Rattle.hir_session_state.specs.Standing.{block_map, block_number, is_set};
-ghost use Rattle.hir_session_core.specs.Progress.{held_in, AreCratesCurrent, AreFollowedCurrent, HasResolved, IsRefreshed, IsResolvedAt};
+ghost use Rattle.hir_session_core.specs.Progress.{held_in, AreCratesCurrent, AreFollowedCurrent, HasResolved, IsBlockResolved, IsRefreshed};
 ghost use Rattle.hir_session_answers.specs.Status.{status_of};
 ghost use Rattle.hir_wire.specs.declared.reply.Status.TheVariants as status;
 
@@ -175,7 +175,7 @@ impl Session {
         requires crates { AreCratesCurrent self.old }
         requires due { IsDueBlock self.old block }
         requires held { module_of self.old block.holder ≡ Some holder }
-        ensures ok { OnOk result (IsResolvedAt self.old (place_of_block block) self.new) }
+        ensures ok { OnOk result (IsBlockResolved self.old block self.new) }
         ensures sound { IsSound self.new }
         ensures many { result ≡ Err RefreshError.TooMany → IsStuckAt self.new (place_of_block block) }
         ensures err { OnErr result (Grows self.old self.new) }
@@ -220,21 +220,21 @@ impl Session {
     fn refresh_block(
         &mut self,
         alloc: Global,
-        root: Place,
+        root: &Place,
         done: &mut Vec<Place>,
     ) -> Result<(), RefreshError>
         requires crates { AreCratesCurrent self.old }
-        ensures ok { OnOk result (IsRefreshed self.old root done.old.items done.new.items self.new) }
+        ensures ok { OnOk result (IsRefreshed self.old root.now done.old.items done.new.items self.new) }
         ensures err { OnErr result (Grows self.old self.new) }
         ensures many { result ≡ Err RefreshError.TooMany
-            → (b : BlockPlace) × (place_of_block b ≡ root) × IsDueBlock self.old b × IsStuckAt self.new root }
+            → (b : BlockPlace) × (place_of_block b ≡ root.now) × IsDueBlock self.old b × IsStuckAt self.new root.now }
     {
-        let Some(due) = self.due_at(&root) else {
+        let Some(due) = self.due_at(root) else {
             return Ok(());
         };
         let block = copied_place(due.place)?;
         let holder = due.holder;
-        done.push(root)?;
+        done.push(root.clone()?)?;
         self.resolve_block(alloc, block, holder)
     }
 
@@ -250,8 +250,8 @@ impl Session {
         ensures many { result ≡ Err RefreshError.TooMany → HasOverlongRun self.new }
     {
         let pending = self.pending_blocks(alloc)?;
-        for block in pending {
-            self.refresh_block(alloc, block.place, done)?;
+        for block in &pending {
+            self.refresh_block(alloc, &block.place, done)?;
         }
         Ok(())
     }
