@@ -1,5 +1,5 @@
 -- What holds syntax, through the calls whose expansions lead to it?
-use Rattle.std.specs.Prelude.{ℕ, zero, suc, List, [], ◌∷◌, ◌++◌, Option, None, Some, option_map}
+use Rattle.std.specs.Prelude.{ℕ, zero, suc, List, [], ◌∷◌, ◌++◌, reverse, Option, None, Some, option_map}
 use Rattle.std.specs.Option.{option_and_then}
 use Rattle.hir_base.specs.declared.ast_id.AstId.{AstId}
 use Rattle.hir_base.specs.declared.ast_id.BlockId.{BlockId}
@@ -17,6 +17,7 @@ use Rattle.hir_wire.specs.declared.answer.ItemSource.{ItemSource}
 use Rattle.hir_wire.specs.declared.answer.SourceCall.{SourceCall}
 use Rattle.hir_wire.specs.declared.answer.SourceCallKind.{SourceCallKind}
 use Rattle.hir_wire.specs.declared.answer.SourceCallKind.TheVariants as kind
+use Rattle.hir_wire.specs.declared.answer.SourceRoot.{SourceRoot}
 use Rattle.hir_wire.specs.declared.answer.SourceRoot.TheVariants as root
 
 -- how a macro is called
@@ -37,11 +38,6 @@ file_source path = record { root = root.File path; calls = [] }
 abbrev pub block_source : BlockPlace → ItemSource
 block_source b = record { root = root.Block (place_of_block b); calls = [] }
 
--- the path of what holds syntax, where that is a file of the tables
-abbrev pub path_of : TablesValue → HirFileId → Option (List ℕ)
-path_of t (File f) = file_at t f.file_id
-path_of t (Macro c) = None
-
 -- the expansion of a call in it
 abbrev pub and_call : SourceCall → ItemSource → ItemSource
 and_call call held = record held { calls = held.calls ++ call ∷ [] }
@@ -57,3 +53,18 @@ source_within (suc n) t (Macro c) None =
 -- what holds syntax
 abbrev pub source_of : TablesValue → HirFileId → Option BlockId → Option ItemSource
 source_of t id block = source_within (most_calls id) t id block
+
+-- ---- how the code finds it; no public clause speaks of this
+
+-- what holds syntax outside of all calls
+abbrev pub root_in : TablesValue → HirFileId → Option BlockId → Option SourceRoot
+root_in t file (Some b) = option_map (λ place. root.Block (place_of_block place)) (block_at t b)
+root_in t (File f) None = option_map root.File (file_at t f.file_id)
+root_in t (Macro c) None = None
+
+abbrev pub rooted : Option SourceRoot → Option ItemSource
+rooted r = option_map (λ x. record { root = x; calls = [] }) r
+
+-- what stands in expansions of these calls, the innermost first
+abbrev pub and_calls : List SourceCall → ItemSource → ItemSource
+and_calls calls held = record held { calls = held.calls ++ reverse calls }

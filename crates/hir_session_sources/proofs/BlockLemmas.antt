@@ -1,33 +1,29 @@
 -- Blocks that are stored by crate and steps: what is found of them, and what a change makes of them.
-use Rattle.std.proofs.Common.{◌≡◌, nat_eq, Bool, true, false, cond, not, filter, map, Ordering, Less, Equal, Greater, List, [], ◌∷◌, ◌++◌, Option, Some, None, option_map, refl, sym, ap, ap₂, subst, ◌∙◌, ℕ}
+use Rattle.std.proofs.Common.{◌≡◌, Bool, true, false, ◌&&◌, cond, not, filter, map, Ordering, Less, Equal, Greater, List, [], ◌∷◌, ◌++◌, Option, Some, None, option_map, refl, sym, ap, subst, ◌∙◌}
 use Rattle.std.specs.Prelude.{IfSome, is_some}
 use Rattle.std.specs.BTreeMap.{insert_entry, is_at}
-use Rattle.std.specs.Cmp.{IsTotalOrder, first_so, second_so, tied_itself, unsigned_Decides}
-use Rattle.std.specs.Cmp.Lexicographic.{bytes_decides, lists_ties, lists_total, pointwise, slice_cmp}
+use Rattle.std.specs.Cmp.{tied_itself}
+use Rattle.std.specs.Cmp.Lexicographic.{lists_ties, lists_total, pointwise, slice_cmp}
 use Rattle.std.specs.Map.{lookup}
 use Rattle.std.specs.Ordering.{is_eq, match_ordering}
 use Rattle.std.specs.declared.alloc.Global.{Global}
 use Rattle.std.specs.declared.vec.Vec.{Vec}
 use Rattle.std.proofs.lemmas.List.{same_from_push}
-use mathlib.Core.Bool.{true≢false}
 use Rattle.hir_base.specs.Place.{PlaceValue}
-use Rattle.hir_base.specs.contracts.ast_id.SyntaxIdPartialEq.TheImpl as syntax_eq
 use Rattle.hir_base.specs.contracts.ids.CrateOrd.TheImpl as crate_order
 use Rattle.hir_base.specs.contracts.ids.CrateOrd.TheImpl.Laws.{total-law as crates_total}
 use Rattle.hir_base.specs.contracts.place.BlockPlaceOrd.TheImpl as block_order
 use Rattle.hir_base.specs.contracts.place.BlockPlaceOrd.TheImpl.Laws.{total-law as blocks_total, matches_eq-law as blocks_tie}
-use Rattle.hir_base.specs.contracts.place.BlockPlacePartialEq.TheImpl as block_eq
 use Rattle.hir_base.specs.contracts.place.PlaceElementOrd.TheImpl as element_order
 use Rattle.hir_base.specs.contracts.place.PlaceElementOrd.TheImpl.Laws.{total-law as elements_total, matches_eq-law as elements_tie}
 use Rattle.hir_base.specs.contracts.place.PlaceElementPartialEq.TheImpl as element_eq
-use Rattle.hir_base.specs.contracts.place.PlacePartialEq.TheImpl as place_eq
-use Rattle.hir_base.specs.declared.ast_id.SyntaxId.{SyntaxId}
 use Rattle.hir_base.specs.declared.ids.Crate.{Crate}
 use Rattle.hir_base.specs.declared.place.BlockPlace.{BlockPlace}
 use Rattle.hir_base.specs.declared.place.PlaceElement.{PlaceElement}
 use Rattle.hir_base.specs.declared.place.PlaceElement.TheVariants as element
 use Rattle.hir_item_tree.specs.Source.{SourceValue}
 use Rattle.hir_session_state.specs.Blocks.{Blocks, CrateBlocks, block_in, blocks_in, blocks_of, blocks_with, place_of_block, steps_cmp, steps_with, with_block, without_block, without_in}
+use Rattle.hir_session_state.proofs.Places.{exact_block}
 use Rattle.hir_session_state.proofs.Truth.{clash, no_value, on_bool, one_value}
 use Rattle.hir_session_sources.specs.BlockTables.{AreInPlace, ArePlacedIn, SetBlockValue, SetBlocks, SetTables, by_steps, left_by, of_crate, or_none, sources_by_crate, sources_of, steps_in, with_set, without_set, without_steps}
 use Rattle.hir_session_sources.proofs.Changing.{equal_crate}
@@ -35,39 +31,12 @@ use Rattle.hir_session_sources.proofs.Lookups.{IsExact, at_same, lookup-insert_e
 
 -- ---- steps, places and crates that are tied are the same
 
-same_nat : (m n : ℕ) → nat_eq m n ≡ true → m ≡ n
-same_nat m n e = (unsigned_Decides m n).0 e
-
-same_syntax : (a b : SyntaxId) → syntax_eq.ghosts.eq a b ≡ true → a ≡ b
-same_syntax a b e = λ i. record {
-  hash = same_nat a.hash b.hash (first_so _ _ e) i;
-  index = same_nat a.index b.index (second_so (nat_eq a.hash b.hash) (nat_eq a.index b.index) e) i;
-}
-
-same_element : (a b : PlaceElement) → element_eq.ghosts.eq a b ≡ true → a ≡ b
-same_element (element.Module m) (element.Module n) e = ap element.Module ((bytes_decides m n).0 e)
-same_element (element.Module m) (element.Block n) e = absurd (true≢false (sym e))
-same_element (element.Block m) (element.Module n) e = absurd (true≢false (sym e))
-same_element (element.Block m) (element.Block n) e = ap element.Block (same_syntax m n e)
+-- the block of an id at the end of some steps
+abbrev at_end : List PlaceElement → BlockPlace
+at_end steps = record { holder = record { krate = record { 0 = 0 }; elements = steps }; id = record { hash = 0; index = 0 } }
 
 same_steps : (xs ys : List PlaceElement) → pointwise element_eq.ghosts.eq xs ys ≡ true → xs ≡ ys
-same_steps [] [] e = refl
-same_steps [] (y ∷ ys) e = absurd (true≢false (sym e))
-same_steps (x ∷ xs) [] e = absurd (true≢false (sym e))
-same_steps (x ∷ xs) (y ∷ ys) e =
-    ap₂ ◌∷◌ (same_element x y (first_so (element_eq.ghosts.eq x y) (pointwise element_eq.ghosts.eq xs ys) e)) (same_steps xs ys (second_so (element_eq.ghosts.eq x y) (pointwise element_eq.ghosts.eq xs ys) e))
-
-same_place : (a b : PlaceValue) → place_eq.ghosts.eq a b ≡ true → a ≡ b
-same_place a b e = λ i. record {
-  krate = record { 0 = same_nat a.krate.0 b.krate.0 (first_so _ _ e) i };
-  elements = same_steps a.elements b.elements (second_so _ _ e) i;
-}
-
-same_block : (a b : BlockPlace) → block_eq.ghosts.eq a b ≡ true → a ≡ b
-same_block a b e = λ i. record {
-  holder = same_place a.holder b.holder (first_so _ _ e) i;
-  id = same_syntax a.id b.id (second_so _ _ e) i;
-}
+same_steps xs ys e = ap (λ (b : BlockPlace). b.holder.elements) (exact_block (at_end xs) (at_end ys) (ap (λ (b : Bool). (true && b) && true) e))
 
 pub exact_steps : IsExact steps_cmp
 exact_steps = record {
@@ -76,7 +45,7 @@ exact_steps = record {
 }
 
 pub exact_blocks : IsExact block_order.ghosts.cmp
-exact_blocks = record { same = λ p q h. same_block p q (blocks_tie p q ∙ h); own = λ p. ap is_eq (tied_itself blocks_total p) }
+exact_blocks = record { same = λ p q h. exact_block p q (blocks_tie p q ∙ h); own = λ p. ap is_eq (tied_itself blocks_total p) }
 
 pub exact_crates : IsExact crate_order.ghosts.cmp
 exact_crates = record { same = equal_crate; own = λ p. ap is_eq (tied_itself crates_total p) }
