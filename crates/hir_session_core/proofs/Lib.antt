@@ -1,4 +1,5 @@
 pub mod Naming
 pub mod Sound
 pub mod Due
+pub mod Waiting
 pub mod Verdicts

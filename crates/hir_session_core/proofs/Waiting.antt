@@ -1,13 +1,16 @@
 -- Blocks in their turn: resolving one makes only deeper ones due.
-use Rattle.std.specs.Prelude.{is_none, cond}
-use Rattle.std.proofs.Common.{◌≡◌, ◌≢◌, ◌⊎◌, inl, inr, ¬◌, ℕ, zero, suc, ◌+◌, ◌<◌, ◌≤◌, Bool, true, false, IsTrue, List, [], ◌∷◌, ◌++◌, length, arith, refl, sym, subst, ◌∙◌, ap, Option, Some, None, option_map, Contains, append-nil}
+use Rattle.std.specs.Prelude.{is_none, cond, nat_lt, if◌then◌else◌}
+use Rattle.std.proofs.Common.{◌≡◌, ◌≢◌, ◌⊎◌, inl, inr, ¬◌, ℕ, zero, suc, ◌+◌, ◌<◌, ◌≤◌, Bool, true, false, IsTrue, List, [], ◌∷◌, ◌++◌, length, arith, refl, sym, subst, ◌∙◌, ap, Option, Some, None, option_map, Contains, append-nil, append_assoc}
 use Rattle.std.specs.Option.{option_and_then}
 use Rattle.std.specs.List.{AllByRecursion}
 use Rattle.std.specs.List.Sorted.{IsStrictlySortedBy}
 use Rattle.std.specs.BTreeSet.{BTreeSet}
+use Rattle.std.specs.Cmp.{tied_itself}
 use Rattle.std.specs.Ordering.{Less, Ordering, is_le}
 use Rattle.std.proofs.lemmas.List.Elements.{Contains-append_left, Contains-append_right, Contains-append_cases}
+use Rattle.std.proofs.lemmas.Bool.{ltb-true}
 use Rattle.hir_base.specs.Place.{PlaceValue}
+use Rattle.hir_base.specs.contracts.ids.MapIdPartialEq.TheImpl as map_id
 use Rattle.hir_base.specs.declared.ast_id.BlockId.{BlockId}
 use Rattle.hir_base.specs.declared.ids.Crate.{Crate}
 use Rattle.hir_base.specs.declared.ids.MapId.{MapId}
@@ -28,8 +31,9 @@ use Rattle.hir_session_state.specs.SourceTable.{SourceTable}
 use Rattle.hir_session_state.specs.Standing.{Standing, block_below, block_map, block_number, child_kept, down, from_crate, is_set, kept_block, module_by, place_of_map, step, to_child, to_root}
 use Rattle.hir_session_state.specs.Standing.Standing.{at, lacks, stale, unset}
 use Rattle.hir_session_state.proofs.Places.{block_total, nesting_below, no_deeper, number_means}
-use Rattle.hir_session_state.proofs.Standing.{at_module, kept_block_grown, kept_gives, standing_grown, to_block_at, to_child_at, unmarked}
-use Rattle.hir_session_state.proofs.Truth.{clash, no_value, one_value}
+use Rattle.hir_session_state.proofs.Standing.{down-append, kept_block_grown, kept_gives, standing_grown, to_block_at, to_child_at, unmarked}
+use Rattle.hir_session_state.proofs.Truth.{clash, no_value, on_bool, one_value}
+use Rattle.hir_session_sources.proofs.BlockLemmas.{same_root}
 use Rattle.hir_session_answers.specs.Status.{status_by, status_of}
 use Rattle.hir_session_core.specs.Progress.{pending_of, AreCratesCurrent, AreNotDue, HasAllPending, HasResolved, IsBlockResolved, IsRefreshed, IsResolvedAt}
 use Rattle.hir_session_core.specs.Progress.IsRefreshed.{left, resolved}
@@ -39,25 +43,6 @@ use Rattle.hir_session_core.proofs.Due.{grows_not, resolved_more, resolves_grown
 use Rattle.hir_session_state.specs.Changes.{Refreshes, RefreshesPartly}
 
 -- ---- places of blocks
-
-ends_alike : (xs ys : List PlaceElement) (x y : PlaceElement) → xs ++ x ∷ [] ≡ ys ++ y ∷ [] → (xs ≡ ys) × (x ≡ y)
-ends_alike [] [] x y e = (refl, (let one : x ≡ y = cc in one))
-ends_alike [] (z ∷ []) x y e = absurd (let no : ⊥ = cc in no)
-ends_alike [] (z ∷ w ∷ ys) x y e = absurd (let no : ⊥ = cc in no)
-ends_alike (z ∷ []) [] x y e = absurd (let no : ⊥ = cc in no)
-ends_alike (z ∷ w ∷ xs) [] x y e = absurd (let no : ⊥ = cc in no)
-ends_alike (z ∷ xs) (w ∷ ys) x y e =
-    let first : z ≡ w = cc in
-    let others : xs ++ x ∷ [] ≡ ys ++ y ∷ [] = cc in
-    let rest = ends_alike xs ys x y others in
-    ((λ i. first i ∷ rest.0 i), rest.1)
-
--- a place is that of one block
-pub one_block : (a b : BlockPlace) → place_of_block a ≡ place_of_block b → a ≡ b
-one_block a b e =
-    let ends = ends_alike a.holder.elements b.holder.elements (element.Block a.id) (element.Block b.id) (ap (λ (p : PlaceValue). p.elements) e) in
-    let same : a.id ≡ b.id = cc ends.1 in
-    λ i. record { holder = record { krate = (e i).krate; elements = ends.0 i }; id = same i }
 
 abbrev depth : BlockPlace → ℕ
 depth b = nesting_of (place_of_block b).elements
@@ -233,7 +218,7 @@ module _ (old new : SessionState) (sound : IsSound old) (b : BlockPlace) (p : Is
   -- what is due then and is no deeper was due
   pub was_due : (c : BlockPlace) → depth c ≤ depth b → IsDueBlock new c → IsDueBlock old c
   was_due c shallow due =
-      let ne : c ≢ b = λ e. no_value (sym (ap (block_kept new) (sym e) ∙ sym (sym due.marked) ∙ refl) ∙ kept_here) in
+      let ne : c ≢ b = λ e. no_value (sym due.marked ∙ ap (block_kept new) e ∙ kept_here) in
       let deep : depth c ≡ suc (nesting_of c.holder.elements) = nesting_below c.holder.elements c.id in
       record {
         set = sym (set_as_before c) ∙ due.set;
@@ -247,9 +232,12 @@ module _ (old new : SessionState) (sound : IsSound old) (b : BlockPlace) (p : Is
 
   -- what isn't resolved then wasn't before
   pub still_pending : (pending : BTreeSet PendingBlock) → HasAllPending old pending → HasAllPending new pending
-  still_pending pending all c set marked =
-      let ne : c ≢ b = λ e. no_value (sym marked ∙ ap (block_kept new) e ∙ kept_here) in
-      all c (sym (set_as_before c) ∙ set) (sym (kept_other c ne) ∙ marked)
+  still_pending pending so_far = record {
+    all = λ c set marked.
+        let ne : c ≢ b = λ e. no_value (sym marked ∙ ap (block_kept new) e ∙ kept_here) in
+        so_far.all c (sym (set_as_before c) ∙ set) (sym (kept_other c ne) ∙ marked);
+    own = so_far.own;
+  }
 
   pub crates_still : AreCratesCurrent old → AreCratesCurrent new
   crates_still current k within =
@@ -302,42 +290,45 @@ module _ (s : SessionState) (sound : IsSound s) (pending : BTreeSet PendingBlock
   no_crate : (k : ℕ) → ¬ IsDueCrate s k
   no_crate k due = clash due.marked (current k due.within)
 
+  own_turn : p ≡ pending_of p.place
+  own_turn = all.own p (subst (λ (ks : List PendingBlock). Contains ks p) split (Contains-append_right before (p ∷ after) p (zero, omega arith, refl)))
+
   -- where the block is due it is next
-  pub turn_next : (b : BlockPlace) → place_of_block b ≡ p.place → p ≡ pending_of p.place → IsDueBlock s b → IsNext s p.place
-  turn_next b of own due = next_block b no_crate due first (sym of)
+  pub turn_next : (b : BlockPlace) → place_of_block b ≡ p.place → IsDueBlock s b → IsNext s p.place
+  turn_next b of due = next_block b no_crate due first (sym of)
     where
       is_own : pending_of (place_of_block b) ≡ p
-      is_own = of_place b p.place of ∙ sym own
+      is_own = of_place b p.place of ∙ sym own_turn
 
       first : (c : BlockPlace) → IsDueBlock s c → IsTrue (is_le (block_cmp b c))
       first c d = elim (Contains-append_cases before (p ∷ after) (pending_of (place_of_block c))
-          (subst (λ (ks : List PendingBlock). Contains ks (pending_of (place_of_block c))) (sym split) (all c d.set d.marked))) [
+          (subst (λ (ks : List PendingBlock). Contains ks (pending_of (place_of_block c))) (sym split) (all.all c d.set d.marked))) [
             | inl early ↦ absurd (passed c early d)
             | inr later ↦ here_or later
           ]
         where
           here_or : Contains (p ∷ after) (pending_of (place_of_block c)) → IsTrue (is_le (block_cmp b c))
           here_or (zero, within, is) =
-              let same : b ≡ c = one_block b c (own_place (pending_of (place_of_block c)) (place_of_block b) (is_own ∙ is)) in
+              let same : b ≡ c = same_root b c (own_place (pending_of (place_of_block c)) (place_of_block b) (is_own ∙ is)) in
               subst (λ (x : BlockPlace). IsTrue (is_le (block_cmp b x))) same (le_itself b)
           here_or (suc n, within, is) =
               in_order b c (subst (λ (x : PendingBlock). pending_cmp x (pending_of (place_of_block c)) ≡ Less) (sym is_own)
               (sorted_after pending_cmp before p after ordered (pending_of (place_of_block c)) (n, (omega arith), is)))
 
           le_itself : (x : BlockPlace) → IsTrue (is_le (block_cmp x x))
-          le_itself x = ap is_le (block_total.refl x)
+          le_itself x = ap is_le (tied_itself block_total x)
 
   -- what wasn't due and comes before isn't due then either
-  turn_passed : (new : SessionState) (b : BlockPlace) → place_of_block b ≡ p.place → p ≡ pending_of p.place → IsBlockResolved s b new → AreNotDue new (before ++ p ∷ [])
-  turn_passed new b of own at c among due = elim (Contains-append_cases before (p ∷ []) (pending_of (place_of_block c)) among) [
+  turn_passed : (new : SessionState) (b : BlockPlace) → place_of_block b ≡ p.place → IsBlockResolved s b new → AreNotDue new (before ++ p ∷ [])
+  turn_passed new b of at c among due = elim (Contains-append_cases before (p ∷ []) (pending_of (place_of_block c)) among) [
     | inl early ↦ passed c early (was_due s new sound b at c (no_deeper c b (in_order c b (subst (λ (x : PendingBlock). pending_cmp (pending_of (place_of_block c)) x ≡ Less)
-        (own ∙ sym (of_place b p.place of)) (sorted_before pending_cmp before p after ordered (pending_of (place_of_block c)) early)))) due)
+        (own_turn ∙ sym (of_place b p.place of)) (sorted_before pending_cmp before p after ordered (pending_of (place_of_block c)) early)))) due)
     | inr last ↦ itself last
   ]
     where
       itself : Contains (p ∷ []) (pending_of (place_of_block c)) → ⊥
       itself (zero, within, is) =
-          let same : c ≡ b = one_block c b (sym (own_place (pending_of (place_of_block c)) p.place (sym own ∙ is)) ∙ sym of) in
+          let same : c ≡ b = same_root c b (sym (own_place (pending_of (place_of_block c)) p.place (sym own_turn ∙ is)) ∙ sym of) in
           not_due s new sound b at (subst (λ (x : BlockPlace). IsDueBlock new x) same due)
       itself (suc n, within, is) = absurd (omega arith)
 
@@ -350,3 +341,145 @@ module _ (s : SessionState) (sound : IsSound s) (pending : BTreeSet PendingBlock
       itself : Contains (p ∷ []) (pending_of (place_of_block c)) → ⊥
       itself (zero, within, is) = none c (sym (ap (λ (x : PendingBlock). x.place) is)) due
       itself (suc n, within, is) = absurd (omega arith)
+
+-- ---- all turns
+
+-- what is left once these were looked at, from a state in which the places before them were resolved
+pub record IsInTurn (from : SessionState) (before : List PlaceValue) (pending : BTreeSet PendingBlock) (looked rest : List PendingBlock) (now : SessionState) (done : List PlaceValue)
+    : Type 0 where
+  pub split : looked ++ rest ≡ pending.keys
+  pub so_far : (first : SessionState) → HasResolved first before from → HasResolved first done now
+  pub sound : IsSound now
+  pub all : HasAllPending now pending
+  pub passed : AreNotDue now looked
+  pub current : AreCratesCurrent now
+
+-- none was looked at
+pub in_turn-start : (s : SessionState) (before : List PlaceValue) (pending : BTreeSet PendingBlock) → IsSound s → HasAllPending s pending → AreCratesCurrent s
+    → IsInTurn s before pending [] pending.keys s before
+in_turn-start s before pending sound all current = record {
+  split = refl;
+  so_far = λ first h. h;
+  sound = sound;
+  all = all;
+  passed = λ b among due. absurd (let past : among.0 < 0 = among.1 in omega arith);
+  current = current;
+}
+
+module _ (from : SessionState) (before : List PlaceValue) (pending : BTreeSet PendingBlock) (looked rest : List PendingBlock) (p : PendingBlock) (now : SessionState) (done : List PlaceValue)
+    (sorted : IsStrictlySortedBy pending_cmp pending.keys) (t : IsInTurn from before pending looked (p ∷ rest) now done) where
+  split_behind : (looked ++ p ∷ []) ++ rest ≡ pending.keys
+  split_behind = append_assoc looked (p ∷ []) rest ∙ t.split
+
+  -- one more was looked at
+  pub in_turn-more : (new : SessionState) (after : List PlaceValue) → IsRefreshed now p.place done after new → IsInTurn from before pending (looked ++ p ∷ []) rest new after
+  in_turn-more new after (left none same as_was) =
+      subst (λ (s : SessionState). IsInTurn from before pending (looked ++ p ∷ []) rest s after) (sym same)
+      (subst (λ (ps : List PlaceValue). IsInTurn from before pending (looked ++ p ∷ []) rest now ps) (sym as_was) (record {
+        split = split_behind;
+        so_far = t.so_far;
+        sound = t.sound;
+        all = t.all;
+        passed = turn_left now t.sound pending looked rest p t.split sorted t.all t.passed t.current none;
+        current = t.current;
+      }))
+  in_turn-more new after (resolved b of due at sound more) =
+      subst (λ (ps : List PlaceValue). IsInTurn from before pending (looked ++ p ∷ []) rest new ps) (sym more) (record {
+        split = split_behind;
+        so_far = λ first h. resolved_more p.place new (t.so_far first h) sound (turn_next now t.sound pending looked rest p t.split sorted t.all t.passed t.current b of due)
+            (subst (λ (place : PlaceValue). IsResolvedAt now place new) of (at_place now new t.sound b at));
+        sound = sound;
+        all = still_pending now new t.sound b at pending t.all;
+        passed = turn_passed now t.sound pending looked rest p t.split sorted t.all t.passed t.current new b of at;
+        current = crates_still now new t.sound b at t.current;
+      })
+
+  -- the run for one was given up
+  pub in_turn-stuck : (new : SessionState) (b : BlockPlace) → place_of_block b ≡ p.place → IsDueBlock now b → Grows now new → IsStuckAt new p.place → HasOverlongRun new
+  in_turn-stuck new b of due grown stuck = record {
+    place = p.place;
+    next = next_after now new t.sound grown p.place (turn_next now t.sound pending looked rest p t.split sorted t.all t.passed t.current b of due);
+    stuck = stuck;
+  }
+
+-- some may be left where a refresh ends early
+pub in_turn-partly : (from : SessionState) (before : List PlaceValue) (pending : BTreeSet PendingBlock) (looked rest : List PendingBlock) (now : SessionState) (done : List PlaceValue)
+    → IsInTurn from before pending looked rest now done → (new : SessionState) → Grows now new → (first : SessionState) → HasResolved first before from → RefreshesPartly first new
+in_turn-partly from before pending looked rest now done t new grown first h = record { done = done; resolves = resolves_grown (t.so_far first h) grown }
+
+-- where all were looked at, none is due
+pub in_turn-end : (from : SessionState) (before : List PlaceValue) (pending : BTreeSet PendingBlock) (looked : List PendingBlock) (now : SessionState) (done : List PlaceValue)
+    → IsInTurn from before pending looked [] now done → (b : BlockPlace) → ¬ IsDueBlock now b
+in_turn-end from before pending looked now done t b due =
+    t.passed b (subst (λ (ks : List PendingBlock). Contains ks (pending_of (place_of_block b))) (sym t.split ∙ append-nil looked) (t.all.all b due.set due.marked)) due
+
+-- ---- the end of a refresh
+
+-- nothing is next
+nothing_next : (s : SessionState) → AreCratesCurrent s → ((b : BlockPlace) → ¬ IsDueBlock s b) → (place : PlaceValue) → ¬ IsNext s place
+nothing_next s current none place (next_crate k due lesser is) = clash due.marked (current k due.within)
+nothing_next s current none place (next_block b no due first is) = none b due
+
+pub refreshes_all : (old new : SessionState) (done : List PlaceValue) → HasResolved old done new → AreCratesCurrent new → ((b : BlockPlace) → ¬ IsDueBlock new b) → Refreshes old done new
+refreshes_all old new done so_far current none = record {
+  resolves = resolves_grown so_far (grows_not new so_far.sound);
+  all = nothing_next new current none;
+}
+
+-- ---- no place is stale
+
+module _ (s : SessionState) (current : AreCratesCurrent s) (none : (b : BlockPlace) → ¬ IsDueBlock s b) where
+  -- a step from what isn't stale leads to what isn't
+  fresh_step : (krate : Crate) (before : List PlaceElement) (st : Standing) (e : PlaceElement) → standing_of s (record { krate = krate; elements = before }) ≡ st → st ≢ stale
+      → step s.tables s.sources.blocks s.kept krate before st e ≢ stale
+  fresh_step krate before (at m) (element.Module name) is fresh = go (child_kept s.kept m name)
+    where
+      checked : (b : Bool) (n : ModuleId) → cond b (at n) (lacks m.map) ≢ stale
+      checked true n e = absurd (let no : ⊥ = cc in no)
+      checked false n e = absurd (let no : ⊥ = cc in no)
+
+      go : (o : Option ModuleId) → to_child m.map o ≢ stale
+      go None e = absurd (let no : ⊥ = cc in no)
+      go (Some n) e = checked (map_id.ghosts.eq n.map m.map) n e
+  fresh_step krate before (at m) (element.Block id) is fresh = go (is_set s.sources.blocks (block_below krate before id)) refl (kept_block s.tables s.kept (block_below krate before id)) refl
+    where
+      go : (b : Bool) → is_set s.sources.blocks (block_below krate before id) ≡ b → (o : Option Resolution) → kept_block s.tables s.kept (block_below krate before id) ≡ o
+          → cond b (to_root o) unset ≢ stale
+      go true set None marked e = none (block_below krate before id) (record { set = set; marked = marked; holder = m; held = ap module_by is })
+      go true set (Some r) kept e = absurd (let no : ⊥ = cc in no)
+      go false set o kept e = absurd (let no : ⊥ = cc in no)
+  fresh_step krate before (lacks id) e is fresh same = absurd (let no : ⊥ = cc in no)
+  fresh_step krate before stale e is fresh same = fresh refl
+  fresh_step krate before unset e is fresh same = absurd (let no : ⊥ = cc in no)
+
+  fresh_from : (krate : Crate) (r : Resolution) → kept_of s (crate_map krate) ≡ Some r → (before : List PlaceElement) (st : Standing) (more : List PlaceElement)
+      → down s.tables s.sources.blocks s.kept krate [] (at (root_of r.map.id)) before ≡ st → st ≢ stale → down s.tables s.sources.blocks s.kept krate before st more ≢ stale
+  fresh_from krate r is before st [] leads fresh = fresh
+  fresh_from krate r is before st (e ∷ more) leads fresh =
+      fresh_from krate r is (before ++ e ∷ []) (step s.tables s.sources.blocks s.kept krate before st e) more
+      (down-append s.tables s.sources.blocks s.kept krate [] (at (root_of r.map.id)) before (e ∷ []) ∙ ap (λ (x : Standing). step s.tables s.sources.blocks s.kept krate before x e) leads)
+      (fresh_step krate before st e
+      (ap (λ (o : Option Resolution). from_crate s.tables s.sources.blocks s.kept o (record { krate = krate; elements = before })) is ∙ leads) fresh)
+
+  not_stale_by : (st : Standing) → st ≢ stale → status_by st ≢ status.Stale
+  not_stale_by (at m) fresh e = absurd (let no : ⊥ = cc in no)
+  not_stale_by (lacks id) fresh e = absurd (let no : ⊥ = cc in no)
+  not_stale_by stale fresh e = fresh refl
+  not_stale_by unset fresh e = absurd (let no : ⊥ = cc in no)
+
+  pub nowhere_stale : (place : PlaceValue) → status_of s place ≢ status.Stale
+  nowhere_stale place = on_bool (nat_lt place.krate.0 (length s.crates))
+      (λ within e. not_stale_by (standing_of s place) (fresh_at within) (sym (ap (λ (b : Bool). if b then status_by (standing_of s place) else status.Unknown) within) ∙ e))
+      (λ past e. absurd (let no : ⊥ = cc (sym (ap (λ (b : Bool). if b then status_by (standing_of s place) else status.Unknown) past) ∙ e) in no))
+    where
+      fresh_at : nat_lt place.krate.0 (length s.crates) ≡ true → standing_of s place ≢ stale
+      fresh_at within = go (kept_of s (crate_map place.krate)) refl
+        where
+          off : is_marked s (id_of place.krate.0) ≡ false
+          off = current place.krate.0 (ltb-true place.krate.0 (length s.crates) within)
+
+          go : (o : Option Resolution) → kept_of s (crate_map place.krate) ≡ o → standing_of s place ≢ stale
+          go None is = clash (ap (λ (o : Option Resolution). is_none o) is) off
+          go (Some r) is e =
+              fresh_from place.krate r is [] (at (root_of r.map.id)) place.elements refl (λ f. absurd (let no : ⊥ = cc in no))
+              (sym (ap (λ (o : Option Resolution). from_crate s.tables s.sources.blocks s.kept o place) is) ∙ e)

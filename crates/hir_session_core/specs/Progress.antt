@@ -62,8 +62,9 @@ abbrev pub pending_of : PlaceValue → PendingBlock
 pending_of place = record { nesting = nesting_of place.elements; place = place }
 
 -- each block that is set and of which nothing is kept is among them
-abbrev pub HasAllPending : SessionState → BTreeSet PendingBlock → Type 0
-HasAllPending s pending = (b : BlockPlace) → is_set s.sources.blocks b ≡ true → block_kept s b ≡ None → Contains pending.keys (pending_of (place_of_block b))
+pub record HasAllPending (s : SessionState) (pending : BTreeSet PendingBlock) : Type 0 where
+  pub all : (b : BlockPlace) → is_set s.sources.blocks b ≡ true → block_kept s b ≡ None → Contains pending.keys (pending_of (place_of_block b))
+  pub own : (p : PendingBlock) → Contains pending.keys p → p ≡ pending_of p.place
 
 -- none of a list is due
 abbrev pub AreNotDue : SessionState → List PendingBlock → Type 0

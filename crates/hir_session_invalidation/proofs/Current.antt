@@ -17,9 +17,10 @@ use Rattle.hir_session_state.specs.Entries.{expansion_cmp}
 use Rattle.hir_session_state.specs.SourceEdits.{SourceEditValue, edited, place_of, source_by}
 use Rattle.hir_session_state.specs.SourceTable.{SourceTable, tree_under, workspace_in}
 use Rattle.hir_session_sources.specs.SourceTrees.{CrateTrees, AreCurrent, AreTreesOf, is_kept_at, is_place, tree_by, tree_in}
+use Rattle.hir_session_sources.proofs.BlockLemmas.{exact_blocks}
 use Rattle.hir_session_sources.proofs.Changing.{equal_crate, same_crate}
 use Rattle.hir_session_sources.proofs.Expansions.{exact_expansions}
-use Rattle.hir_session_sources.proofs.SourceLemmas.{exact_blocks, exact_paths, place_same, source-other, source-there}
+use Rattle.hir_session_sources.proofs.SourceLemmas.{exact_paths, place_same, source-other, source-there}
 use Rattle.hir_session_state.proofs.Truth.{clash, on_bool}
 
 none_some : {A B : Type 0} (o : Option A) (x : A) → o ≡ None → o ≡ Some x → B

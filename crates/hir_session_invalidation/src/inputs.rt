@@ -95,7 +95,7 @@ impl Inputs {
         match self.trees.get(place, krate) {
             Some(tree) => Ok(tree.clone()?),
             None => {
-                let source = self.sources.get(alloc, place)?;
+                let source = self.sources.get(place)?;
                 source_tree(alloc, &self.crates, krate, place, source)
             }
         }
@@ -141,26 +141,21 @@ impl Inputs {
     }
 
     /// Sets a block. What it had under its crate isn't kept.
-    pub fn set_block(
-        &mut self,
-        alloc: Global,
-        place: BlockPlace,
-        source: Source,
-    ) -> Result<(), AllocError>
+    pub fn set_block(&mut self, place: BlockPlace, source: Source) -> Result<(), AllocError>
         ensures ok { OnOk result (self.new ≡ record self.old { sources = record self.old.sources { blocks = with_block self.old.sources.blocks (place_of_block place) (source_view source) } }) }
         ensures err { OnErr result (self.new ≡ self.old) }
     {
         self.trees.remove_block(&place);
-        self.sources.set_block(alloc, place, source)
+        self.sources.set_block(place, source)
     }
 
     /// Removes a block. What it had under its crate isn't kept.
-    pub fn remove_block(&mut self, alloc: Global, place: &BlockPlace) -> Result<(), AllocError>
+    pub fn remove_block(&mut self, place: &BlockPlace) -> Result<(), AllocError>
         ensures ok { OnOk result (self.new ≡ record self.old { sources = record self.old.sources { blocks = without_block self.old.sources.blocks (place_of_block place.now) } }) }
         ensures err { OnErr result (self.new ≡ self.old) }
     {
         self.trees.remove_block(place);
-        self.sources.remove_block(alloc, place)
+        self.sources.remove_block(place)
     }
 
     /// Sets an expansion. What it had under the crate that calls isn't kept.

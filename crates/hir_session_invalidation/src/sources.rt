@@ -54,7 +54,7 @@ impl<'a> Sources<'a> {
         if let Some(tree) = self.trees.get(place, krate) {
             return Ok(tree.clone()?);
         }
-        let source = self.table.get(alloc, place)?;
+        let source = self.table.get(place)?;
         let tree = source_tree(alloc, self.crates, krate, place, source)?;
         self.trees.set(alloc, place, krate, tree.clone()?)?;
         Ok(tree)

@@ -39,7 +39,7 @@ pub struct SourceTrees {
 }
 
 /// The same place; no text is copied.
-fn copied_place(place: &BlockPlace) -> Result<BlockPlace, AllocError>
+pub fn copied_place(place: &BlockPlace) -> Result<BlockPlace, AllocError>
     ensures value { IfOk result (λ p. p ≡ place.now) }
 {
     Ok(BlockPlace {

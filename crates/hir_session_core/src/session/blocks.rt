@@ -59,7 +59,7 @@ impl Session {
             &self.askers,
             edit,
         )?;
-        self.inputs.set_block(alloc, block, source)?;
+        self.inputs.set_block(block, source)?;
         self.kept.forget(&hits);
         Ok(())
     }
@@ -81,7 +81,7 @@ impl Session {
             &self.askers,
             edit,
         )?;
-        self.inputs.remove_block(alloc, block)?;
+        self.inputs.remove_block(block)?;
         self.kept.forget(&hits);
         Ok(())
     }

@@ -5,8 +5,8 @@ ghost use Rattle.hir_session_state.specs.SessionState.{block_kept};
 ghost use Rattle.hir_session_core.specs.Progress.{pending_of, HasAllPending};
 
 use super::Session;
+use hir_base::ids::MapId;
 use hir_base::place::{BlockPlace, Place};
-use hir_session_answers::standing::is_block_kept;
 use hir_session_sources::blocks::root_of_block;
 use hir_session_state::steps::nesting;
 use std::alloc::{AllocError, Global};
@@ -38,7 +38,14 @@ impl Session {
     pub(super) fn is_block_marked(&self, block: &BlockPlace) -> bool
         ensures value { result ≡ is_none (block_kept self.now block.now) }
     {
-        !is_block_kept(&self.tables, &self.kept, block)
+        let Some(number) = self.tables.block_number(block) else {
+            return true;
+        };
+        let id = MapId {
+            krate: block.holder.krate(),
+            block: Some(number),
+        };
+        self.kept.get(id).is_none()
     }
 
     /// The blocks that are set and of which nothing is kept, in the order in which they are resolved.
@@ -46,7 +53,7 @@ impl Session {
         ensures all { IfOk result (HasAllPending self.now) }
     {
         let mut pending = BTreeSet::new(alloc);
-        let blocks = self.inputs.sources().blocks().places(alloc)?;
+        let blocks = self.inputs.sources().blocks().places()?;
         for block in &blocks {
             if self.is_block_marked(block) {
                 pending.insert(PendingBlock::new(alloc, block)?)?;

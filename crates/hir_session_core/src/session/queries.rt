@@ -12,7 +12,7 @@ ghost use Rattle.hir_session_answers.specs.Status.{status_of};
 ghost use Rattle.hir_wire.specs.declared.reply.Status.TheVariants as status;
 ghost use Rattle.hir_session_state.specs.Crates.{id_of};
 ghost use Rattle.hir_session_answers.specs.Answers.{answer_kept, answer_of};
-ghost use Rattle.hir_session_answers.specs.Standings.{standing_value};
+ghost use Rattle.hir_session_answers.specs.Walking.{standing_value};
 ghost use Rattle.hir_session_answers.specs.AnswersStand.{AnswersStand};
 ghost use Rattle.hir_session_answers.specs.Dumps.{dump_at, dump_kept};
 ghost use Rattle.hir_session_answers.specs.TreeText.{tree_text_of};
@@ -28,7 +28,7 @@ use hir_def_map::world::part::WorldPart;
 use hir_item_tree::source::Source;
 use hir_session_answers::answers::answer_at;
 use hir_session_answers::diagnostics::diagnostics_at;
-use hir_session_answers::standing::{Standing, standing_at};
+use hir_session_answers::standing::{PlaceStanding, standing_at};
 use hir_session_sources::crate_info::CrateInfo;
 use hir_session_sources::files::Files;
 use hir_session_state::error::{DiagnosticsError, QueryError, TreeTextError};
@@ -51,13 +51,14 @@ impl Session {
     }
 
     /// Where the steps of a place lead, in what is kept.
-    pub(super) fn standing(&self, place: &Place) -> Standing
+    pub(super) fn standing(&self, place: &Place) -> PlaceStanding
         ensures value { standing_value result ≡ standing_of self.now place.now }
     {
+        let blocks = self.inputs.sources().blocks();
         standing_at(
-            &self.tables,
-            self.inputs.sources().blocks(),
             &self.kept,
+            &self.tables,
+            blocks,
             place.krate(),
             place.elements(),
         )
@@ -69,9 +70,7 @@ impl Session {
         ensures value { option_map (λ m. m.now) result
             ≡ option_map (λ r. r.map) (option_and_then (λ m. kept_of self.now m.map) (module_of self.now place.now)) }
     {
-        let Standing::At(at) = self.standing(place) else {
-            return None;
-        };
+        let at = self.standing(place).module()?;
         match self.kept.get(at.map) {
             Some(found) => Some(found.map),
             None => None,
@@ -92,11 +91,7 @@ impl Session {
         if place.krate().0 as usize >= self.inputs.crates().len() {
             return Status::Unknown;
         }
-        match self.standing(place) {
-            Standing::At(_) => Status::Current,
-            Standing::Stale => Status::Stale,
-            Standing::Lacks(_) | Standing::Unset => Status::Unknown,
-        }
+        self.standing(place).status()
     }
 
     /// The crates in the order of their numbers.
@@ -125,7 +120,7 @@ impl Session {
         ensures answer { Gives IsQueryMemory result (answer_kept self.now place.now path.now shadow style) }
         ensures stands { status.Current ≡ status_of self.now place.now → IfOk result (λ answer. AnswersStand self.now place.now path.now shadow style answer) }
     {
-        let Standing::At(at) = self.standing(place) else {
+        let Some(at) = self.standing(place).module() else {
             return Err(QueryError::UnknownPlace);
         };
         let Some(found) = self.kept.get(at.map) else {
@@ -173,7 +168,7 @@ impl Session {
         ensures text { IfOk result (λ text. dump_kept self.now place.now ≡ Ok (string_bytes text)) }
         ensures refused { IfErr result (λ e. IsQueryMemory e ⊎ (dump_kept self.now place.now ≡ Err e)) }
     {
-        let Standing::At(at) = self.standing(place) else {
+        let Some(at) = self.standing(place).module() else {
             return Err(QueryError::UnknownPlace);
         };
         let Some(found) = self.kept.get(at.map) else {

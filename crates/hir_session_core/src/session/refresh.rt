@@ -24,7 +24,7 @@ use hir_base::ids::{Crate, MapId, ModuleId};
 use hir_base::locations::LocationsError;
 use hir_base::place::{BlockPlace, Place};
 use hir_collector_rules::collected::Collected;
-use hir_session_answers::standing::{Standing, definition_file};
+use hir_session_answers::definition_files::definition_file_at;
 use hir_session_invalidation::sources::HeldBlock;
 use hir_session_sources::source_trees::copied_place;
 use hir_session_state::error::RefreshError;
@@ -185,7 +185,7 @@ impl Session {
         let number = self.number_of(block)?;
         // What holds a module of a finished map stands in a file, or in what a call in a file expands to, through calls that come
         // before one another.
-        let Some(file) = definition_file(&self.tables, &self.kept, holder) else {
+        let Some(file) = definition_file_at(&self.tables, &self.kept, holder) else {
             return Err(RefreshError::Memory);
         };
         let at = HeldBlock {
@@ -210,10 +210,8 @@ impl Session {
         if !self.is_block_marked(place) {
             return None;
         }
-        match self.standing(&place.holder) {
-            Standing::At(holder) => Some(DueBlock { place, holder }),
-            Standing::Lacks(_) | Standing::Stale | Standing::Unset => None,
-        }
+        let holder = self.standing(&place.holder).module()?;
+        Some(DueBlock { place, holder })
     }
 
     /// Resolves the block whose root a place names, if it is due, and lists it.
