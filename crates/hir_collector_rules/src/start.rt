@@ -97,7 +97,8 @@ pub const STEP_LIMIT: u32 = MAX_STEPS;
 pub enum CollectError {
     /// As many steps or modules as are counted, and another was wanted.
     TooMany,
-    /// A macro of a finished map is written in a source that has no number: the map was made over other tables.
+    /// A source has no number: that of a macro of a finished map, which was made over other tables, or the file in which a
+    /// block is written.
     UnknownSource,
     Memory,
 }
