@@ -17,7 +17,10 @@ use std::alloc::AllocError;
 #[derive(Clone, Copy, Debug, PartialEq, Eq, Hash)]
 pub enum Start {
     /// A crate, and its root file in the crate's edition.
-    Crate { krate: Crate, root: EditionedFileId },
+    Crate {
+        krate: Crate,
+        root: EditionedFileId,
+    },
     /// A block of a crate, the module that holds it, and its node in the file that this module is written in.
     Block {
         krate: Crate,

@@ -20,11 +20,7 @@ fn ask_for_holders(asked: &mut Vec<Key>, holders: &[ModuleId]) -> Result<(), All
 }
 
 /// Asks for the map of a block's crate, and for those of what holds the block.
-fn ask_outwards(
-    asked: &mut Vec<Key>,
-    krate: Crate,
-    holders: &[ModuleId],
-) -> Result<(), AllocError>
+fn ask_outwards(asked: &mut Vec<Key>, krate: Crate, holders: &[ModuleId]) -> Result<(), AllocError>
     ensures ok { OnOk result (asked.new.items ≡ asked.old.items ++ map_key krate ∷ holder_keys holders.now) }
 {
     asked.push(Key::Map(MapId::of_crate(krate)))?;

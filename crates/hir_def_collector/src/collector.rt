@@ -131,8 +131,7 @@ pub fn collect_defs<D: SourceDatabase>(
     if is_unknown {
         return Ok(run.finish(false, transitive)?);
     }
-    let (run, round_limit_met) =
-        resolve_rounds(run, db, part, locations, is_apart(world, start))?;
+    let (run, round_limit_met) = resolve_rounds(run, db, part, locations, is_apart(world, start))?;
     Ok(run.finish(round_limit_met, transitive)?)
 }
 

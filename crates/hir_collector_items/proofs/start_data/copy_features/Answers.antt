@@ -10,7 +10,9 @@ use Rattle.hir_collector_items.proofs.start_data.copy_features.Goals as goal
 pub next-preserved : goal.next-preserved
 next-preserved c = (
   c.next.invariant.0,
-  (key_copied (slice_cmp nat_cmp) nat_list_cmp_total c.args.features.now.keys c.next.crate_data.features c.next.left c.next-in-next.new.self c.add_feature.new.self.features c.in-Some.name.now
-      c.next.invariant.0 c.next.invariant.1.0 (search rules) (search rules),
-  search rules),
+  (
+    key_copied (slice_cmp nat_cmp) nat_list_cmp_total c.args.features.now.keys c.next.crate_data.features c.next.left c.next-in-next.new.self c.add_feature.new.self.features c.in-Some.name.now
+        c.next.invariant.0 c.next.invariant.1.0 (search rules) (search rules),
+    search rules,
+  ),
 )
