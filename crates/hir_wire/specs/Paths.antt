@@ -139,13 +139,13 @@ block_step_of (array ds) = Err Command
 block_step_of (object ms) = required id_meant (codes "block") ms
 
 -- all items but the last
-pub items_before_last : Items → Items
+abbrev pub items_before_last : Items → Items
 items_before_last no_items = no_items
 items_before_last (item d no_items) = no_items
 items_before_last (item d (item e ds)) = item d (items_before_last (item e ds))
 
 -- the last item
-pub last_item : Items → Option Data
+abbrev pub last_item : Items → Option Data
 last_item no_items = None
 last_item (item d no_items) = Some d
 last_item (item d (item e ds)) = last_item (item e ds)
