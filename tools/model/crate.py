@@ -793,7 +793,8 @@ class Crate:
 
     def unnamed_along(self, edge, trait):
         vis = edge.source.unnamed[trait][0]
-        if vis == "pub" if edge.source.krate is not self.crate else self.sees(vis, edge.importer):
+        is_shown = self.sees(vis, edge.importer) if edge.source.krate is self.crate else vis == "pub"
+        if is_shown:
             self.push_unnamed(edge.importer, trait, self.compare(edge.vis, vis, True) or edge.vis, False)
 
     def take(self, import_):
@@ -833,8 +834,10 @@ class Crate:
             items[ns] = Binding(binding.definition, vis)
         if import_.name is not None:
             self.push(at, import_.name, items, ("import", import_.item, import_.place))
-        elif import_.is_unnamed and "types" in found and isinstance(found["types"].definition, Item) and found["types"].definition.kind == "Trait":
-            self.push_unnamed(at, found["types"].definition, own, True)
+        elif import_.is_unnamed and "types" in found:
+            trait = found["types"].definition
+            if isinstance(trait, Item) and trait.kind == "Trait":
+                self.push_unnamed(at, trait, own, True)
         return True
 
     def settle(self):
@@ -858,9 +861,8 @@ class Crate:
             for ns in KINDS:
                 if name in at.scope[ns]:
                     binding = at.scope[ns][name]
-                    by = binding.by and (binding.by[0] if ns != "values" or binding.by[0] != "extern crate" else None)
                     words += " " + ns[:-1] + (styles(binding.definition) if ns == "macros" else "")
-                    words += " (%s)" % by.removesuffix(" crate") if by else ""
+                    words += " (%s)" % binding.by[0].removesuffix(" crate") if binding.by else ""
             lines.append("- %s :%s" % (print_name(name), words or " _"))
         for name in sorted(at.textual, key=str.encode):
             macros = "".join(" macro" + styles(macro) for macro in at.textual[name])
