@@ -21,7 +21,7 @@ use Rattle.hir_session_state.specs.SessionState.{SessionState, beginning_by, fin
 use Rattle.hir_session_state.proofs.Following.{followed_crate, followed_holder}
 use Rattle.hir_session_state.proofs.Names.{holds}
 use Rattle.hir_session_state.proofs.Standing.{IsBlockBegun, block_begun, crate_unheld, holder_begun, kept_gives}
-use Rattle.hir_session_state.proofs.Truth.{and_left, and_right, clash, no_value, on_bool, one_value, or_left, or_right}
+use Rattle.hir_session_state.proofs.Truth.{and_left, and_right, clash, no_value, on_bool, one_value, or_first, or_left, or_right}
 
 -- ---- one holder
 
@@ -182,6 +182,17 @@ module _ (s : SessionState) (sound : IsSound s) where
       let first = first_of id r is x xs e in
       holders_hold {P = P} outwards xs x.map first.kept.found first.kept.is first.rest
       (outwards id x.map p (followed_holder s id first.block r x first.of is first.held)) h (n, omega arith, same)
+
+  -- all of them lie in maps of one crate
+  pub same_krate : (hs : List ModuleId) (h : ModuleId) (r : Resolution) → kept_of s h.map ≡ Some r → r.holders ≡ hs → (id : MapId) → holds (h ∷ hs) id ≡ true → id.krate ≡ h.map.krate
+  same_krate [] h r is e id lies = on_bool (map_id.ghosts.eq h.map id)
+      (λ same. sym (ap (λ (x : MapId). x.krate) (exact_map h.map id same)))
+      (λ other. clash (or_first (map_id.ghosts.eq h.map id) false lies other) refl)
+  same_krate (x ∷ xs) h r is e id lies = on_bool (map_id.ghosts.eq h.map id)
+      (λ same. sym (ap (λ (x : MapId). x.krate) (exact_map h.map id same)))
+      (λ other.
+      let first = first_of h.map r is x xs e in
+      same_krate xs x first.kept.found first.kept.is first.rest id (or_first (map_id.ghosts.eq h.map id) (holds (x ∷ xs) id) lies other) ∙ first.kept.krate)
 
   -- one of them lies in the map of the block's crate
   pub in_own_crate : (hs : List ModuleId) (id : MapId) (r : Resolution) (b : BlockId) → kept_of s id ≡ Some r → r.holders ≡ hs → id.block ≡ Some b → holds hs (crate_map id.krate) ≡ true

@@ -1,7 +1,11 @@
 -- Where the steps of a place lead stays while what is kept on the way does.
-use Rattle.std.proofs.Common.{◌≡◌, ◌≢◌, ◌∙◌, ap, sym, subst, refl, ℕ, zero, suc, ◌<◌, Bool, true, false, cond, is_some, Option, Some, None, option_map, List, [], ◌∷◌, ◌++◌, append_assoc, append-nil, arith, Contains}
+use Rattle.std.proofs.Common.{◌≡◌, ◌≢◌, ◌∙◌, ap, sym, subst, refl, ℕ, zero, suc, ◌<◌, Bool, true, false, cond, is_some, Option, Some, None, option_map, List, [], ◌∷◌, ◌++◌, length, not, append_assoc, append-nil, arith, Contains}
 use Rattle.std.specs.Option.{option_and_then}
-use Rattle.std.specs.Prelude.{is_none}
+use Rattle.std.specs.BTreeMap.{is_at}
+use Rattle.std.specs.Cmp.Lexicographic.{slice_cmp}
+use Rattle.std.specs.List.{list_any}
+use Rattle.std.specs.Ordering.{nat_cmp}
+use Rattle.std.specs.Prelude.{is_none, slice_get}
 use Rattle.hir_base.specs.Place.{PlaceValue}
 use Rattle.hir_base.specs.contracts.ids.MapIdPartialEq.TheImpl as map_id
 use Rattle.hir_base.specs.declared.ast_id.BlockId.{BlockId}
@@ -17,8 +21,13 @@ use Rattle.hir_base.specs.declared.place.BlockPlace.{BlockPlace}
 use Rattle.hir_base.specs.declared.place.PlaceElement.{PlaceElement}
 use Rattle.hir_base.specs.declared.place.PlaceElement.TheVariants as element
 use Rattle.hir_def_map_rules.specs.Diagnostics.{call_node}
-use Rattle.hir_def_map_rules.specs.Inner.OverlayLaws.{exact_map}
-use Rattle.hir_def_map_rules.specs.State.{ModuleValue, child_at, crate_map, module_at, root_of}
+use Rattle.hir_def_map_rules.specs.Inner.OverlayLaws.{exact_map, same_id}
+use Rattle.hir_def_map_rules.specs.Overlay.{Maps, Placed, module_in, overlay, placed_in}
+use Rattle.hir_def_map_rules.specs.References.{any_reference_in, is_missing, test_child}
+use Rattle.hir_def_map_rules.specs.declared.reference.Reference.TheVariants as named
+use Rattle.hir_def_map_rules.proofs.NoneOf.{none_at, none_found}
+use Rattle.hir_def_map_rules.proofs.Referred.{module_parts}
+use Rattle.hir_def_map_rules.specs.State.{ModuleValue, child_at, child_of, crate_map, module_at, root_of}
 use Rattle.hir_def_map_rules.specs.declared.origin.ModuleOrigin.{ModuleOrigin}
 use Rattle.hir_def_map_rules.specs.declared.origin.ModuleOrigin.TheVariants as origin
 use Rattle.hir_collector_rules.specs.Start.{Beginning, holder_of}
@@ -27,7 +36,7 @@ use Rattle.hir_session_state.specs.Blocks.{Blocks}
 use Rattle.hir_session_state.specs.Crates.{begins_in_block}
 use Rattle.hir_session_state.specs.Kept.{Resolution, Resolutions, kept_in}
 use Rattle.hir_session_state.specs.SourceTable.{SourceTable}
-use Rattle.hir_session_state.specs.SessionState.{SessionState, beginning_at, beginning_by, beginning_held, beginning_of, follows, holder_maps, is_marked, kept_of, module_of, standing_of, IsPlace, IsResolutionOf, IsSound}
+use Rattle.hir_session_state.specs.SessionState.{SessionState, beginning_at, beginning_by, beginning_held, beginning_of, follows, is_marked, kept_of, module_of, read_under, standing_of, IsPlace, IsResolutionOf, IsSound}
 use Rattle.hir_session_state.specs.SessionState.IsPlace.{of_block, of_crate}
 use Rattle.hir_session_state.specs.Standing.{Standing, block_below, block_map, block_number, child_kept, definition_file, down, file_of_module, file_of_origin, file_within, from_crate, is_set, kept_block, module_by, most_calls, standing_in, step, to_child, to_root}
 use Rattle.hir_session_state.specs.Standing.Standing.{at, lacks, stale, unset}
@@ -197,6 +206,106 @@ resolution_begun s krate b r p = block_begun s krate b p.from p.begun
 pub resolution_holder : (s : SessionState) (krate : Crate) (b : BlockId) (r : Resolution) (p : IsResolutionOf s (block_map krate b) r)
     → r.map.holder ≡ Some (resolution_begun s krate b r p).holder
 resolution_holder s krate b r p = p.holder ∙ holder_begun s krate b p.from (resolution_begun s krate b r p)
+
+-- ---- what steps lead to is there
+
+-- a module is one of a map of the crate that is kept
+pub record IsModuleKept (s : SessionState) (krate : Crate) (m : ModuleId) : Type 0 where
+  pub own : m.map.krate ≡ krate
+  pub found : Resolution
+  pub is : kept_of s m.map ≡ Some found
+  pub there : is_some (module_at found.map m.index) ≡ true
+
+not_off : (b : Bool) → not b ≡ false → b ≡ true
+not_off true e = refl
+not_off false e = clash refl e
+
+-- the first of some modules
+first_there : (ms : List ModuleValue) → 0 < length ms → is_some (slice_get ms 0) ≡ true
+first_there [] low = absurd (omega arith)
+first_there (m ∷ ms) low = refl
+
+-- what a resolution may name
+abbrev named_by : SessionState → MapId → Resolution → Maps
+named_by s id r = overlay (read_under s id r.holders) r.map
+
+-- a child that lies in the map of a resolution is one of its modules
+child_there : (s : SessionState) (id : MapId) (r : Resolution) → IsResolutionOf s id r → (index : ℕ) (name : List ℕ) (c : ModuleId) → child_at r.map index name ≡ Some c → c.map ≡ id
+    → is_some (module_at r.map c.index) ≡ true
+child_there s id r p index name c child of = go (module_at r.map index) refl child
+  where
+    inside : is_some (module_in (named_by s id r) c) ≡ true → is_some (module_at r.map c.index) ≡ true
+    inside there =
+        let same : map_id.ghosts.eq c.map r.map.id ≡ true = ap (λ (x : MapId). map_id.ghosts.eq x r.map.id) (of ∙ sym p.own) ∙ same_id r.map.id in
+        sym (ap (λ (b : Bool). is_some (option_and_then (λ (q : Placed). module_at q.map c.index) (cond b (Some (placed_in (read_under s id r.holders) r.map)) (read_under s id r.holders c.map)))) same) ∙ there
+
+    go : (o : Option ModuleValue) → module_at r.map index ≡ o → child_of o name ≡ Some c → is_some (module_at r.map c.index) ≡ true
+    go None at e = no_value e
+    go (Some v) at e =
+        let none : any_reference_in (is_missing (named_by s id r)) v ≡ false = none_at (any_reference_in (is_missing (named_by s id r))) r.map.modules p.names.modules index v at in
+        let children : list_any (test_child (is_missing (named_by s id r))) v.children ≡ false = (module_parts (is_missing (named_by s id r)) v none).children in
+        let there : is_missing (named_by s id r) (named.Module c) ≡ false =
+        none_found (λ (x : ModuleId). is_missing (named_by s id r) (named.Module x)) (is_at (slice_cmp nat_cmp name)) v.children c children e in
+        inside (not_off (is_some (module_in (named_by s id r) c)) there)
+
+module _ (s : SessionState) (sound : IsSound s) where
+  step_kept : (krate : Crate) (before : List PlaceElement) (st : Standing) (e : PlaceElement) (m : ModuleId) → ((n : ModuleId) → st ≡ at n → IsModuleKept s krate n)
+      → step s.tables s.sources.blocks s.kept krate before st e ≡ at m → IsModuleKept s krate m
+  step_kept krate before (at n) (element.Module name) m from leads =
+      let start = from n refl in
+      let child = to_child_at n.map (child_kept s.kept n name) m leads in
+      let named_child : child_at start.found.map n.index name ≡ Some m =
+      sym (ap (λ (o : Option Resolution). option_and_then (λ (r : Resolution). child_at r.map n.index name) o) start.is) ∙ child.0 in
+      record {
+        own = ap (λ (x : MapId). x.krate) child.1 ∙ start.own;
+        found = start.found;
+        is = ap (kept_of s) child.1 ∙ start.is;
+        there = child_there s n.map start.found (kept_gives s sound n.map start.found start.is) n.index name m named_child child.1;
+      }
+  step_kept krate before (at n) (element.Block id) m from leads =
+      let p = to_block_at s.tables s.sources.blocks s.kept (block_below krate before id) m leads in
+      let gives = kept_gives s sound (block_map krate p.number) p.found p.is in
+      let own : m.map ≡ block_map krate p.number = sym (ap (λ (x : ModuleId). x.map) p.root) ∙ gives.own in
+      record {
+        own = ap (λ (x : MapId). x.krate) own;
+        found = p.found;
+        is = ap (kept_of s) own ∙ p.is;
+        there = ap (λ (x : ModuleId). is_some (module_at p.found.map x.index)) (sym p.root) ∙ first_there p.found.map.modules gives.names.root;
+      }
+  step_kept krate before (lacks id) (element.Module name) m from leads = absurd (let no : ⊥ = cc in no)
+  step_kept krate before (lacks id) (element.Block b) m from leads = absurd (let no : ⊥ = cc in no)
+  step_kept krate before stale (element.Module name) m from leads = absurd (let no : ⊥ = cc in no)
+  step_kept krate before stale (element.Block id) m from leads = not_below (is_set s.sources.blocks (block_below krate before id)) leads
+    where
+      not_below : (b : Bool) → cond b stale unset ≡ at m → IsModuleKept s krate m
+      not_below true f = absurd (let no : ⊥ = cc in no)
+      not_below false f = absurd (let no : ⊥ = cc in no)
+  step_kept krate before unset (element.Module name) m from leads = absurd (let no : ⊥ = cc in no)
+  step_kept krate before unset (element.Block b) m from leads = absurd (let no : ⊥ = cc in no)
+
+  down_kept : (krate : Crate) (before : List PlaceElement) (st : Standing) (steps : List PlaceElement) (m : ModuleId) → ((n : ModuleId) → st ≡ at n → IsModuleKept s krate n)
+      → down s.tables s.sources.blocks s.kept krate before st steps ≡ at m → IsModuleKept s krate m
+  down_kept krate before st [] m from leads = from m leads
+  down_kept krate before st (e ∷ more) m from leads =
+      down_kept krate (before ++ e ∷ []) (step s.tables s.sources.blocks s.kept krate before st e) more m (λ n is. step_kept krate before st e n from is) leads
+
+  -- the module to which the steps of a place lead
+  pub module_there : (place : PlaceValue) (m : ModuleId) → standing_of s place ≡ at m → IsModuleKept s place.krate m
+  module_there place m leads = go (kept_of s (crate_map place.krate)) refl leads
+    where
+      root_kept : (r : Resolution) → kept_of s (crate_map place.krate) ≡ Some r → (n : ModuleId) → at (root_of r.map.id) ≡ at n → IsModuleKept s place.krate n
+      root_kept r is n e =
+          let gives = kept_gives s sound (crate_map place.krate) r is in
+          subst (λ (x : ModuleId). IsModuleKept s place.krate x) (same_module e) (record {
+            own = ap (λ (x : MapId). x.krate) gives.own;
+            found = r;
+            is = ap (kept_of s) gives.own ∙ is;
+            there = first_there r.map.modules gives.names.root;
+          })
+
+      go : (o : Option Resolution) → kept_of s (crate_map place.krate) ≡ o → from_crate s.tables s.sources.blocks s.kept o place ≡ at m → IsModuleKept s place.krate m
+      go None is f = absurd (let no : ⊥ = cc in no)
+      go (Some r) is f = down_kept place.krate [] (at (root_of r.map.id)) place.elements m (root_kept r is) f
 
 -- ---- along a way in which what is kept stays
 
