@@ -2,6 +2,8 @@
 use Rattle.std.specs.Prelude.{◌≡◌, ℕ, ◌+◌, ◌^◌, Bool, false, true, ◌&&◌, not, nat_le, nat_lt, List, [], ◌∷◌, length, map, Option, Some, None, Result, Ok, Err, if◌then◌else◌}
 use Rattle.std.specs.List.{list_all, list_any}
 use Rattle.hir_base.specs.declared.ids.Crate.{Crate}
+use Rattle.hir_base.specs.declared.locations.LocationsError.{LocationsError}
+use Rattle.hir_base.specs.declared.locations.LocationsError.TheVariants as number_error
 use Rattle.hir_base.specs.declared.limit.Limit.{Limit}
 use Rattle.hir_base.specs.declared.limit.Limit.TheVariants as limit
 use Rattle.hir_base.specs.declared.macro_kind.MacroText.{MacroText}
@@ -60,6 +62,11 @@ abbrev pub refresh_error_of : CollectError → RefreshError
 refresh_error_of collect_error.TooMany = refresh_error.TooMany
 refresh_error_of collect_error.UnknownSource = refresh_error.Memory
 refresh_error_of collect_error.Memory = refresh_error.Memory
+
+-- and where a block gets no number
+abbrev pub refresh_error_of_number : LocationsError → RefreshError
+refresh_error_of_number number_error.TooMany = refresh_error.TooMany
+refresh_error_of_number number_error.Memory = refresh_error.Memory
 
 -- the crates that a list names as dependencies
 abbrev pub dependency_crates : List Dependency → List Crate

@@ -13,10 +13,10 @@ use Rattle.hir_def_map_rules.specs.WellFormed.{HasNoDanglingExtern, HasNoDanglin
 use Rattle.hir_def_map_rules.specs.Overlay.{Maps, holders_of, holders_under, overlay}
 use Rattle.hir_def_map_rules.specs.State.{crate_map}
 use Rattle.hir_collector_rules.specs.Workspace.{Workspace}
-use Rattle.hir_collector_rules.specs.Calls.{AreCallsPlaced}
+use Rattle.hir_collector_rules.specs.Calls.{AreCallsPlaced, IsMeantAt}
 use Rattle.hir_collector_rules.specs.Keys.{AgreeOn}
 use Rattle.hir_collector_rules.specs.Derivation.{CollectedValue, Ends}
-use Rattle.hir_collector_rules.specs.Start.{Beginning, holder_of}
+use Rattle.hir_collector_rules.specs.Start.{Beginning, holder_of, root_site}
 use Rattle.hir_session_state.specs.Crates.{CrateValue, begins_in_block, beginning_in, transitive_in, crate_in, dependencies_in, dependency_maps}
 use Rattle.hir_session_state.specs.Inputs.{InputsValue}
 pub use Rattle.hir_session_state.specs.Kept.{Resolution}
@@ -127,6 +127,8 @@ pub record IsResolved (tables : TablesValue) (w : Workspace) (before : Maps) (fr
 pub record IsResolutionOf (s : SessionState) (id : MapId) (r : Resolution) : Type 0 where
   pub from : Beginning
   pub begun : beginning_of s id ≡ Some from
+  -- the numbers of its tree, and of the file in which that is written, mean something
+  pub meant : IsMeantAt s.tables (root_site from.tree)
   pub resolved : IsResolved s.tables (workspace_of s) (finished_of s) from (collected_of r)
   pub own : r.map.id ≡ id
   -- the module that holds it, and those that hold this one's block

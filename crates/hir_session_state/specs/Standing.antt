@@ -3,10 +3,12 @@ use Rattle.std.specs.Prelude.{ℕ, Bool, ◌+◌, zero, suc, List, [], ◌∷◌
 use Rattle.std.specs.Option.{option_and_then}
 use Rattle.hir_base.specs.Place.{PlaceValue}
 use Rattle.hir_base.specs.contracts.place.BlockPlacePartialEq.TheImpl as block_eq
+use Rattle.hir_base.specs.contracts.ids.MapIdPartialEq.TheImpl as map_id
 use Rattle.hir_base.specs.declared.ast_id.BlockId.{BlockId}
 use Rattle.hir_base.specs.declared.ast_id.EditionedFileId.{EditionedFileId}
 use Rattle.hir_base.specs.declared.ast_id.HirFileId.{HirFileId}
 use Rattle.hir_base.specs.declared.ast_id.HirFileId.TheVariants.{File, Macro}
+use Rattle.hir_base.specs.declared.ast_id.SyntaxId.{SyntaxId}
 use Rattle.hir_base.specs.declared.ids.Crate.{Crate}
 use Rattle.hir_base.specs.declared.ids.MapId.{MapId}
 use Rattle.hir_base.specs.declared.ids.ModuleId.{ModuleId}
@@ -62,17 +64,17 @@ pub data Standing : Type 0 where
   -- a block isn't set
   unset : Standing
 
--- to the child of a name, if it is there
+-- to the child of a name, if it is there; it is a module of the same map
 abbrev pub to_child : MapId → Option ModuleId → Standing
 to_child id None = lacks id
-to_child id (Some m) = at m
+to_child id (Some m) = cond (map_id.ghosts.eq m.map id) (at m) (lacks id)
 
 -- to the root of what is kept
 abbrev pub to_root : Option Resolution → Standing
 to_root None = stale
 to_root (Some r) = at (root_of r.map.id)
 
--- what holds a module's names, where its map is kept
+-- the child of a name, where the map is kept
 abbrev pub child_kept : Resolutions → ModuleId → List ℕ → Option ModuleId
 child_kept kept m name = option_and_then (λ (r : Resolution). child_at r.map m.index name) (kept_in kept m.map)
 
@@ -80,15 +82,18 @@ child_kept kept m name = option_and_then (λ (r : Resolution). child_at r.map m.
 abbrev pub is_set : Blocks → BlockPlace → Bool
 is_set blocks place = is_some (block_in blocks (place_of_block place))
 
+-- the block of an id at the end of some steps
+abbrev pub block_below : Crate → List PlaceElement → SyntaxId → BlockPlace
+block_below krate before id = record { holder = record { krate = krate; elements = before }; id = id }
+
 module _ (tables : TablesValue) (blocks : Blocks) (kept : Resolutions) where
   -- one step from where the steps before it lead
   abbrev pub step : Crate → List PlaceElement → Standing → PlaceElement → Standing
   step krate before (at m) (element.Module name) = to_child m.map (child_kept kept m name)
-  step krate before (at m) (element.Block id) =
-      let place : BlockPlace = record { holder = record { krate = krate; elements = before }; id = id } in cond (is_set blocks place) (to_root (kept_block tables kept place)) unset
+  step krate before (at m) (element.Block id) = cond (is_set blocks (block_below krate before id)) (to_root (kept_block tables kept (block_below krate before id))) unset
   step krate before (lacks id) e = lacks id
   step krate before stale (element.Module name) = stale
-  step krate before stale (element.Block id) = cond (is_set blocks (record { holder = record { krate = krate; elements = before }; id = id })) stale unset
+  step krate before stale (element.Block id) = cond (is_set blocks (block_below krate before id)) stale unset
   step krate before unset e = unset
 
   -- steps one after another, behind those that were taken before
