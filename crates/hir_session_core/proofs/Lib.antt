@@ -3,4 +3,5 @@ pub mod Sound
 pub mod Growth
 pub mod Due
 pub mod Waiting
+pub mod Begun
 pub mod Verdicts
