@@ -8,6 +8,7 @@ pub mod Names
 pub mod Standing
 pub mod Holding
 mod Holders
+pub mod Turns
 pub mod Worlds
 pub mod Resolving
 pub mod NumberLemmas

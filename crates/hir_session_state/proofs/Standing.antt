@@ -249,7 +249,7 @@ child_there s id r p index name c child of = go (module_at r.map index) refl chi
         inside (not_off (is_some (module_in (named_by s id r) c)) there)
 
 module _ (s : SessionState) (sound : IsSound s) where
-  step_kept : (krate : Crate) (before : List PlaceElement) (st : Standing) (e : PlaceElement) (m : ModuleId) → ((n : ModuleId) → st ≡ at n → IsModuleKept s krate n)
+  pub step_kept : (krate : Crate) (before : List PlaceElement) (st : Standing) (e : PlaceElement) (m : ModuleId) → ((n : ModuleId) → st ≡ at n → IsModuleKept s krate n)
       → step s.tables s.sources.blocks s.kept krate before st e ≡ at m → IsModuleKept s krate m
   step_kept krate before (at n) (element.Module name) m from leads =
       let start = from n refl in

@@ -41,19 +41,28 @@ fn has_high_index(step: &PlaceElement) -> bool
     }
 }
 
-/// Whether an id in the steps to a block has an index above those that ids may have.
-fn any_high_index(place: &BlockPlace) -> bool
-    ensures value { result ≡ list_any has_high_index (place_of_block place.now).elements }
+/// Whether an id in some steps has an index above those that ids may have.
+fn any_high_index(steps: &[PlaceElement]) -> bool
+    ensures value { result ≡ list_any has_high_index steps.now }
 {
-    for step in place.holder.elements() {
+    for step in steps {
         if has_high_index(step) {
             return true;
         }
     }
-    is_high(place.id)
+    false
+}
+
+/// The same of the steps to a block.
+#[tactic(auto, using(crate::proofs::Places::any_behind))]
+fn leads_through_high_index(place: &BlockPlace) -> bool
+    ensures value { result ≡ list_any has_high_index (place_of_block place.now).elements }
+{
+    any_high_index(place.holder.elements()) || is_high(place.id)
 }
 
 /// Whether a block is in more others than there may be in one another.
+#[tactic(auto, using(crate::proofs::Places::nesting_below))]
 fn is_too_deep(place: &BlockPlace) -> bool
     ensures value { result ≡ nat_lt 16 (nesting_of (place_of_block place.now).elements) }
 {
@@ -106,7 +115,7 @@ pub fn check_with_steps(
     if passes_before_index(verdict) {
         return verdict;
     }
-    if any_high_index(place) {
+    if leads_through_high_index(place) {
         return Err(EditError::TooLarge(Limit::Index));
     }
     if passes_limit(verdict) {
