@@ -92,9 +92,11 @@ numbered_from n (b ∷ bs) place id e = go (block_eq.ghosts.eq b place) refl e
 -- and a block with a number has one
 has_number : (n : ℕ) (bs : List BlockPlace) (place : BlockPlace) (at : ℕ) → slice_get bs at ≡ Some place → (id : BlockId) × (number_from n bs place ≡ Some id)
 has_number n [] place at e = no_value e
-has_number n (b ∷ bs) place zero e =
-    (block_id n, ap (λ (t : Bool). cond t (Some (block_id n)) (number_from (n + 1) bs place))
-    (subst (λ (x : BlockPlace). block_eq.ghosts.eq b x ≡ true) (one_value e) (own_block b)))
+has_number n (b ∷ bs) place zero e = (
+  block_id n,
+  ap (λ (t : Bool). cond t (Some (block_id n)) (number_from (n + 1) bs place))
+      (subst (λ (x : BlockPlace). block_eq.ghosts.eq b x ≡ true) (one_value e) (own_block b)),
+)
 has_number n (b ∷ bs) place (suc at) e = go (block_eq.ghosts.eq b place) (has_number (n + 1) bs place at e)
   where
     go : (t : Bool) → (id : BlockId) × (number_from (n + 1) bs place ≡ Some id) → (id : BlockId) × (cond t (Some (block_id n)) (number_from (n + 1) bs place) ≡ Some id)

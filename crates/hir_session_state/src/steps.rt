@@ -90,8 +90,8 @@ fn passes_before_index(verdict: Result<(), EditError>) -> bool
 {
     match verdict {
         Err(EditError::TooLarge(limit)) => is_before_index(limit),
-        Err(EditError::UnknownCrate | EditError::DuplicateId { .. } | EditError::Memory)
-        | Ok(()) => false,
+        Err(EditError::UnknownCrate | EditError::DuplicateId { .. } | EditError::Memory) | Ok(()) =>
+            false,
     }
 }
 
@@ -100,16 +100,13 @@ fn passes_limit(verdict: Result<(), EditError>) -> bool
 {
     match verdict {
         Err(EditError::TooLarge(_)) => true,
-        Err(EditError::UnknownCrate | EditError::DuplicateId { .. } | EditError::Memory)
-        | Ok(()) => false,
+        Err(EditError::UnknownCrate | EditError::DuplicateId { .. } | EditError::Memory) | Ok(()) =>
+            false,
     }
 }
 
 /// What an edit of a block is refused for, where this is said of its source. Of several limits the first is told.
-pub fn check_with_steps(
-    place: &BlockPlace,
-    verdict: Result<(), EditError>,
-) -> Result<(), EditError>
+pub fn check_with_steps(place: &BlockPlace, verdict: Result<(), EditError>) -> Result<(), EditError>
     ensures value { result ≡ verdict_with_steps (place_of_block place.now).elements verdict }
 {
     if passes_before_index(verdict) {
