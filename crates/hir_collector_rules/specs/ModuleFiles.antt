@@ -1,5 +1,5 @@
 -- Which file is that of an outline module, and which files does a run look at to find it?
-use Rattle.std.specs.Prelude.{◌≡◌, IsSome, Bool, true, false, ℕ, List, [], ◌∷◌, ◌++◌, Option, None, Some, map, option_map, if◌then◌else◌, codes}
+use Rattle.std.specs.Prelude.{◌≡◌, IsSome, is_some, Bool, true, false, ℕ, List, [], ◌∷◌, ◌++◌, Option, None, Some, map, option_map, if◌then◌else◌, codes}
 use Rattle.std.specs.Option.{option_and_then, option_map_or, option_to_list}
 use Rattle.hir_base.specs.declared.ast_id.BlockId.{BlockId}
 use Rattle.hir_base.specs.declared.ast_id.FileId.{FileId}
@@ -69,6 +69,11 @@ IsNumberOf tables (Some id) (Some path) = file_at tables id ≡ Some path
 -- the number of a file means something, if there is one
 abbrev pub IsFileMeant : TablesValue → Option FileId → Type 0
 IsFileMeant tables file = (id : FileId) → file ≡ Some id → IsSome (file_at tables id)
+
+-- whether it does
+abbrev pub is_file_meant : TablesValue → Option FileId → Bool
+is_file_meant tables None = true
+is_file_meant tables (Some id) = is_some (file_at tables id)
 
 -- ---- a search
 

@@ -19,7 +19,8 @@ use Rattle.hir_tables.specs.Tables.{TablesValue}
 use Rattle.hir_def_map.specs.WorldParts.{among}
 use Rattle.hir_def_map_rules.specs.References.{crate_map}
 use Rattle.hir_def_map_rules.specs.State.{CrateData, Local, Map, empty_map, map_id_of, new_module, with_prelude}
-use Rattle.hir_def_map_rules.specs.Overlay.{Maps, Placed, holders_of}
+use Rattle.hir_def_map_rules.specs.Overlay.{Maps, Placed, holders_of, map_in}
+use Rattle.hir_def_map_rules.specs.Scoping.Asking.{local_of}
 use Rattle.hir_def_map_rules.specs.declared.block_info.BlockInfo.{BlockInfo}
 use Rattle.hir_def_map_rules.specs.declared.origin.ModuleOrigin.{ModuleOrigin}
 use Rattle.hir_def_map_rules.specs.declared.origin.ModuleOrigin.TheVariants as origins
@@ -115,24 +116,19 @@ held_keys (starts.Block krate block holder at) holders = map_key krate ∷ holde
 -- ---- the first state
 
 -- what the map of a crate says of it, with these transitive dependencies; where it isn't there, what a crate says without attributes
-abbrev pub data_beside : Option Placed → List Crate → CrateData
+abbrev pub data_beside : Option Map → List Crate → CrateData
 data_beside None transitive = crate_data_of Edition2024 [] transitive
-data_beside (Some placed) transitive = record placed.map.crate_data { dependencies = transitive }
+data_beside (Some m) transitive = record m.crate_data { dependencies = transitive }
 
 -- what the crate's top says, and the crates on which it depends; a block has what its crate's map has
 abbrev pub start_data : Maps → Tree → List Crate → Start → CrateData
 start_data finished tree transitive (starts.Crate krate root) = crate_data_of root.edition tree.attributes.attributes transitive
-start_data finished tree transitive (starts.Block krate block holder at) = data_beside (finished (crate_map krate)) transitive
-
--- the crates that paths of a map may begin with, where it is there
-abbrev pub local_beside : Option Placed → Local
-local_beside None = []
-local_beside (Some placed) = placed.local
+start_data finished tree transitive (starts.Block krate block holder at) = data_beside (map_in finished (crate_map krate)) transitive
 
 -- the crates that paths may begin with; in a block those of its crate's map
 abbrev pub start_local : Maps → CrateData → List Dependency → Start → Local
 start_local finished crate_data dependencies (starts.Crate krate root) = extern_prelude crate_data [] dependencies
-start_local finished crate_data dependencies (starts.Block krate block holder at) = local_beside (finished (crate_map krate))
+start_local finished crate_data dependencies (starts.Block krate block holder at) = local_of (option_map (λ (p : Placed). p.local) (finished (crate_map krate)))
 
 -- the map with its root module alone
 abbrev pub root_map : CrateData → Start → Map

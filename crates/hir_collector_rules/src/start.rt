@@ -17,7 +17,10 @@ use std::alloc::AllocError;
 #[derive(Clone, Copy, Debug, PartialEq, Eq, Hash)]
 pub enum Start {
     /// A crate, and its root file in the crate's edition.
-    Crate { krate: Crate, root: EditionedFileId },
+    Crate {
+        krate: Crate,
+        root: EditionedFileId,
+    },
     /// A block of a crate, the module that holds it, and its node in the file that this module is written in.
     Block {
         krate: Crate,
@@ -97,7 +100,8 @@ pub const STEP_LIMIT: u32 = MAX_STEPS;
 pub enum CollectError {
     /// As many steps or modules as are counted, and another was wanted.
     TooMany,
-    /// A macro of a finished map is written in a source that has no number: the map was made over other tables.
+    /// A source has no number: that of a macro of a finished map, which was made over other tables, or the file in which a
+    /// block is written.
     UnknownSource,
     Memory,
 }

@@ -30,9 +30,10 @@ ghost use Rattle.hir_collector_rules.specs.Waiting.{IsNoted, NotesSlots};
 use crate::censor::censor_root;
 use crate::def_collector::changes::{changed_by, changed_by_imports, note_variants};
 use crate::diagnostics::{report_calls, report_unresolved, unresolved_crates};
+use crate::first_keys::first_keys;
 use crate::leftovers::untaken;
 use crate::macro_use::{root_scope, use_prelude_macros, use_wanted};
-use crate::preludes::prelude;
+use crate::preludes::own_prelude;
 use crate::textual;
 use hir_base::ast_id::{AstId, EditionedFileId, FileId, HirFileId};
 use hir_base::cfg_options::CfgOptions;
@@ -190,7 +191,7 @@ fn take_imports(
 }
 
 impl DefCollector {
-    /// The root module alone, beside what all modules find, its tree asked for.
+    /// The root module alone, beside what all modules find; its tree and the maps of what holds a block asked for.
     pub fn start(
         alloc: Global,
         world: WorldPart<'_>,
@@ -199,19 +200,18 @@ impl DefCollector {
         dependencies: Vec<Dependency>,
         options: CfgOptions,
         is_proc_macro: bool,
+        holders: &[ModuleId],
         start: Start,
         tree: TreeId,
     ) -> Result<DefCollector, AllocError>
-        ensures value { IfOk result (λ run. core_in run ≡ core_by (part_of world.entry) crate_data local dependencies.items options is_proc_macro start tree) }
+        ensures value { IfOk result (λ run. core_in run ≡ core_by (part_of world.entry) crate_data local dependencies.items options is_proc_macro holders.now start tree) }
     {
-        let krate = start.krate();
-        let root = ModuleData::new(alloc, start.origin(), Visibility::Public, None);
-        let mut map = DefMap::empty(alloc, krate, crate_data, root, None)?;
-        let found = prelude(alloc, world, &map, &local)?;
+        let root = ModuleData::new(alloc, start.origin(), start.visibility(), None);
+        let mut map = DefMap::empty(alloc, start.krate(), crate_data, root, start.block())?;
+        let found = own_prelude(alloc, world, &map, &local, start)?;
         map.set_prelude(found);
         use_prelude_macros(world, &mut map)?;
-        let mut asked = Vec::new(alloc);
-        asked.push(Key::Tree(TreeKey { krate, id: tree }))?;
+        let asked = first_keys(alloc, holders, start, tree)?;
         Ok(DefCollector {
             map,
             local,

@@ -157,13 +157,10 @@ node_by_kind node (Attr path attr item) = refl
 -- where an expansion gets a number, and then a call in a source that has one, each call is placed still
 pub placed_call : (first second tables : TablesValue) (d : MacroDirective) (entry : EntryId) → KeepsTables first second → KeepsTables second tables → second ≡ record first { entries = second.entries }
     → tables ≡ record second { calls = tables.calls } → Interns second.calls tables.calls (call_loc d entry) → IsSome (source_of first (node_tree d.ast_id)) → AreCallsPlaced first → AreCallsPlaced tables
-placed_call first second tables d entry before after entries calls interns there placed = record {
-  calls = go interns;
-  blocks = ap (λ (t : TablesValue). t.blocks) calls ∙ ap (λ (t : TablesValue). t.blocks) entries ∙ placed.blocks;
-}
+placed_call first second tables d entry before after entries calls interns there placed = record { calls = go interns }
   where
     middle : AreCallsPlaced second
-    middle = placed_grown first second before (ap (λ (t : TablesValue). t.calls) entries) (ap (λ (t : TablesValue). t.blocks) entries) placed
+    middle = placed_grown first second before (ap (λ (t : TablesValue). t.calls) entries) placed
 
     here : (n : ℕ) → length second.calls ≡ n → IsPlacedBelow tables n d.ast_id
     here n last =

@@ -4,6 +4,7 @@ use Rattle.std.proofs.Common.{◌≡◌, ◌∙◌, ◌<◌, ◌≤◌, ◌⊎�
 use Rattle.std.proofs.lemmas.List.Elements.{Contains-append_right}
 use Rattle.either.specs.declared.Either.TheVariants as either
 use Rattle.hir_base.specs.Cfg.{Cfg}
+use Rattle.hir_base.specs.declared.ast_id.FileId.{FileId}
 use Rattle.hir_base.specs.declared.edition.Edition.{Edition}
 use Rattle.hir_base.specs.declared.ast_id.AstId.{AstId}
 use Rattle.hir_base.specs.declared.ast_id.AstKind.TheVariants as nodes
@@ -97,8 +98,8 @@ if_disabled P false e = refl
 no_map : (c : Collected) (condition : Cfg) → c.disabled ≡ Some condition → is_enabled c ≡ false
 no_map c condition e = ap is_enabled_by e
 
-items_enabled : (tree : Tree) → is_enabled tree.attributes ≡ true → items_of tree ≡ tree.items
-items_enabled tree e = rw e refl
+items_enabled : (edition : Edition) (id : FileId) (tree : Tree) → is_enabled tree.attributes ≡ true → items_of (file_tree edition id) tree ≡ tree.items
+items_enabled edition id tree e = rw e refl
 
 module _ (tables : TablesValue) (w : Workspace) (finished : Maps) (from : Beginning) (answer : CollectedValue) (last : Core) where
   -- ---- what one item declares
@@ -395,8 +396,9 @@ module _ (tables : TablesValue) (w : Workspace) (finished : Maps) (from : Beginn
           let vis : Visibility = own_visibility finished s.core.local m site head in
           let next : List Task = visits_in_file m site head file ++ rest in
           let marked : Bool = is_macro_use head.attributes || is_macro_use file.tree.attributes in
-          let items : items_of (tree_at tables w (file_key answer.map.id.krate answer.map.crate_data.edition file.id)).tree ≡ file.tree.items =
-          ap items_of (file_seen file found) ∙ items_enabled file.tree enabled in
+          let edition : Edition = answer.map.crate_data.edition in
+          let items : items_of (file_tree edition file.id) (tree_at tables w (file_key answer.map.id.krate edition file.id)).tree ≡ file.tree.items =
+          ap (items_of (file_tree edition file.id)) (file_seen file found) ∙ items_enabled edition file.id file.tree enabled in
           filled_back r site head name (file_origin site.tree head.id m.crate_data.edition file) vis (takes_textual count site.home ∷ goes_on next ∷ declaring site.home (module_declaration m name vis)) low refl (making_adds site name vis next)
           (leaf head (outline_module name)) looks.here.done rest (inside_file m file) file.tree.items refl refl apart
           (λ none. quiet (quiet_closed tools count (inside_file m file) file.tree.items marked site.home count rest (λ here. none) (quiet_below tools count rest apart)))

@@ -14,13 +14,10 @@ use Rattle.hir_mod_dir.specs.Directory.{Directory}
 use Rattle.hir_mod_dir.specs.ModuleFiles.{candidate, candidates_of, child, file_directory, inline_directory, inline_path, is_mod_rs}
 use Rattle.hir_mod_dir.specs.PathText.{joined as joined_path}
 use Rattle.hir_mod_dir.specs.declared.candidate.Candidate.{Candidate}
-use Rattle.hir_base.specs.declared.ast_id.BlockId.{BlockId}
 use Rattle.hir_base.specs.declared.ast_id.FileId.{FileId}
-use Rattle.hir_base.specs.declared.ast_id.HirFileId.{HirFileId}
-use Rattle.hir_base.specs.declared.ast_id.HirFileId.TheVariants as files
 use Rattle.hir_base.specs.declared.edition.Edition.{Edition}
 use Rattle.hir_tables.specs.SourcePlaces.{SourcePlaceValue, file as file_place}
-use Rattle.hir_tables.specs.Tables.{KeepsTables, TablesValue, file_at, source_of, source_under as place_under}
+use Rattle.hir_tables.specs.Tables.{KeepsTables, TablesValue, file_at, source_of}
 use Rattle.hir_tables.proofs.Growth.{source_of-kept}
 use Rattle.hir_def_map_rules.specs.State.{Map}
 use Rattle.hir_def_map_rules.specs.Overlay.{Maps}
@@ -32,7 +29,7 @@ use Rattle.hir_def_map_rules.specs.declared.origin.ModuleOrigin.{ModuleOrigin}
 use Rattle.hir_collector_rules.specs.Items.{file_origin, inline_origin, own_visibility}
 use Rattle.hir_collector_rules.specs.ItemIds.{module_id, node_of}
 use Rattle.hir_base.specs.declared.ast_id.AstKind.TheVariants as nodes
-use Rattle.hir_collector_rules.specs.ModuleFiles.{AreTried, IsFileMeant, IsNumberOf, IsNumbered, IsSearch, ModuleFile, Search, Tried, file_of_tree, file_tree, module_file, own_file}
+use Rattle.hir_collector_rules.specs.ModuleFiles.{AreTried, IsFileMeant, IsNumberOf, IsNumbered, IsSearch, ModuleFile, Search, Tried, file_tree, module_file}
 use Rattle.hir_collector_rules.specs.Macros.{is_macro_use}
 use Rattle.hir_collector_rules.specs.Reports.{IsUnresolvedModule}
 use Rattle.hir_collector_rules.specs.State.{Core, Task, Visit, visits, joined, visits_over}
@@ -75,17 +72,9 @@ file_there : (o : Option (List ℕ)) (place : SourcePlaceValue) → option_map f
 file_there None place e = absurd (let no : ⊥ = cc in no)
 file_there (Some path) place e = refl
 
--- so does that of the file that a tree is of, if its source is held
-pub root_meant : (tables : TablesValue) (w : Workspace) (krate : Crate) (tree : TreeId) (source : SourceTreeValue) → IsHeld tables w krate tree source → IsFileMeant tables (file_of_tree tree)
-root_meant tables w krate tree source held = go tree.file tree.block held.at
-  where
-    go : (file : HirFileId) (block : Option BlockId) → place_under tables file block ≡ Some held.place → IsFileMeant tables (own_file file block)
-    go (files.File f) None e = λ id same. subst (λ (n : FileId). IsSome (file_at tables n)) (same_file f.file_id id same) (file_there (file_at tables f.file_id) held.place e)
-    go (files.File f) (Some block) e = λ id same. absurd (let no : ⊥ = cc in no)
-    go (files.Macro call) block e = λ id same. absurd (let no : ⊥ = cc in no)
-
+-- so does that of a file whose source is held
 pub file_meant : (tables : TablesValue) (w : Workspace) (krate : Crate) (edition : Edition) (id : FileId) (source : SourceTreeValue) → IsHeld tables w krate (file_tree edition id) source → IsFileMeant tables (Some id)
-file_meant tables w krate edition id source held = root_meant tables w krate (file_tree edition id) source held
+file_meant tables w krate edition id source held = λ other same. subst (λ (n : FileId). IsSome (file_at tables n)) (same_file id other same) (file_there (file_at tables id) held.place held.at)
 
 -- the numbers of a site mean something, so do those of another one in the same source
 pub meant_inside : (tables : TablesValue) (site inner : Site) → inner.tree ≡ site.tree → inner.file ≡ site.file → IsMeantAt tables site → IsMeantAt tables inner

@@ -83,16 +83,13 @@ pub fn path_of(locations: &Tables, file: Option<FileId>) -> Result<Option<FilePa
     }
 }
 
-/// The file that a tree is of, if it is one's.
+/// The file that a tree is of, or in which its block is written, if there is one.
 pub fn file_of_tree(tree: TreeId) -> Option<FileId>
     ensures value { result ≡ file_of_tree tree }
 {
-    match tree {
-        TreeId {
-            file: HirFileId::File(file),
-            block: None,
-        } => Some(file.file_id),
-        TreeId { .. } => None,
+    match tree.file {
+        HirFileId::File(file) => Some(file.file_id),
+        HirFileId::Macro(_) => None,
     }
 }
 

@@ -23,7 +23,7 @@ use Rattle.hir_def_collector.proofs.collector.calls.look_at_call.Goals as goal
 pub returns-in_err-id-clause-placed : goal.returns-in_err-id-clause-placed
 returns-in_err-id-clause-placed g c =
     subst (λ (t : TablesValue). AreCallsPlaced c.args.locations.now → AreCallsPlaced t) (sym c.in_err-id.ensures.err)
-    (placed_grown c.args.locations.now c.intern_entry.new.self c.intern_entry.ensures.kept (ap (λ (t : TablesValue). t.calls) c.intern_entry.ensures.others) (ap (λ (t : TablesValue). t.blocks) c.intern_entry.ensures.others))
+    (placed_grown c.args.locations.now c.intern_entry.new.self c.intern_entry.ensures.kept (ap (λ (t : TablesValue). t.calls) c.intern_entry.ensures.others))
 
 pub returns-in_err-source-clause-kept : goal.returns-in_err-source-clause-kept
 returns-in_err-source-clause-kept g c =

@@ -1,0 +1,18 @@
+-- The next feature comes after all that were copied.
+use Rattle.std.proofs.Common.{rules, ap, ◌∙◌}
+use Rattle.std.proofs.lemmas.Cmp.{nat_list_cmp_total}
+use Rattle.std.specs.Cmp.Lexicographic.{slice_cmp}
+use Rattle.std.specs.Ordering.{nat_cmp}
+use Rattle.hir_def_map_rules.specs.State.{CrateData}
+use Rattle.hir_def_map_rules.proofs.Copies.{key_copied}
+use Rattle.hir_collector_items.proofs.start_data.copy_features.Goals as goal
+
+pub next-preserved : goal.next-preserved
+next-preserved c = (
+  c.next.invariant.0,
+  (
+    key_copied (slice_cmp nat_cmp) nat_list_cmp_total c.args.features.now.keys c.next.crate_data.features c.next.left c.next-in-next.new.self c.add_feature.new.self.features c.in-Some.name.now
+        c.next.invariant.0 c.next.invariant.1.0 (search rules) (search rules),
+    search rules,
+  ),
+)
