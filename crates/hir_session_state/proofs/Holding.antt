@@ -44,8 +44,7 @@ module _ (s : SessionState) (id : MapId) (r : Resolution) (p : IsResolutionOf s 
       let there : is_holder_for (overlay read r.map) r.map.id (Some h) ≡ true = ap (is_holder_for (overlay read r.map) r.map.id) (sym held) ∙ p.names.held in
       let out : not (map_id.ghosts.eq h.map r.map.id) ≡ true = ap (is_held_outside r.map.id) (sym held) ∙ p.names.outside in
       let one : same_crate h.map.krate r.map.id.krate ≡ true = and_left (same_crate h.map.krate r.map.id.krate) (is_some (module_in (overlay read r.map) h)) there in
-      let other : is_some (module_in (overlay read r.map) h) ≡ true = and_right (same_crate h.map.krate r.map.id.krate) (is_some (module_in (overlay read r.map) h)) there in
-      (
+      let other : is_some (module_in (overlay read r.map) h) ≡ true = and_right (same_crate h.map.krate r.map.id.krate) (is_some (module_in (overlay read r.map) h)) there in (
         ap (λ (x : MapId). same_crate h.map.krate x.krate) (sym p.own) ∙ one,
         ap (λ (b : Bool). is_some (option_and_then (λ (q : Placed). module_at q.map h.index) (cond b (Some (placed_in read r.map)) (read h.map)))) (sym (off (map_id.ghosts.eq h.map r.map.id) out)) ∙ other,
       )
@@ -121,8 +120,7 @@ module _ (s : SessionState) (id : MapId) (r : Resolution) (p : IsResolutionOf s 
           let k = holder_kept g held in
           let both : g ∷ k.found.holders ≡ h ∷ hs = sym k.holders ∙ e in
           let same : g ≡ h = (cc) in
-          let rest : k.found.holders ≡ hs = (cc) in
-          (
+          let rest : k.found.holders ≡ hs = (cc) in (
             held ∙ ap (λ (x : ModuleId). Some x) same,
             λ f is. ap (λ (x : Resolution). x.holders) (one_value (sym is ∙ ap (λ (x : ModuleId). kept_of s x.map) (sym same) ∙ k.is)) ∙ rest,
           )
