@@ -20,12 +20,11 @@ use Rattle.hir_base.specs.declared.ids.ModuleDefId.{ModuleDefId}
 use Rattle.hir_base.specs.declared.ids.ModuleDefId.TheVariants as def
 use Rattle.hir_base.specs.declared.ids.MapId.{MapId}
 use Rattle.hir_base.specs.declared.ids.ModuleId.{ModuleId}
+use Rattle.hir_base.specs.contracts.ids.MapIdPartialEq.TheImpl as map_id
 use Rattle.hir_base.specs.declared.macro_kind.MacroCallLoc.{MacroCallLoc}
 use Rattle.hir_base.specs.declared.macro_kind.MacroId.{MacroId}
 use Rattle.hir_base.specs.declared.macro_kind.MacroId.TheVariants as macro
 use Rattle.hir_base.specs.declared.place.BlockPlace.{BlockPlace}
-use Rattle.hir_base.specs.declared.place.PlaceElement.{PlaceElement}
-use Rattle.hir_base.specs.declared.place.PlaceElement.TheVariants as element
 use Rattle.hir_scope.specs.declared.imports.ImportOrExternCrate.{ImportOrExternCrate}
 use Rattle.hir_scope.specs.declared.imports.ImportOrExternCrate.TheVariants as import
 use Rattle.hir_scope.specs.declared.imports.ImportOrGlob.{ImportOrGlob}
@@ -39,11 +38,12 @@ use Rattle.hir_def_map_rules.specs.References.{is_missing, any_reference_in, ref
 use Rattle.hir_def_map_rules.proofs.Referred.{module_parts}
 use Rattle.hir_def_map_rules.proofs.NoneOf.{none_at, none_found, not_first, not_second}
 use Rattle.hir_def_map_rules.specs.Scoping.{resolution_of}
-use Rattle.hir_def_map_rules.specs.Scoping.Asking.{Asking}
+use Rattle.hir_def_map_rules.specs.Inner.OverlayLaws.{same_id}
+use Rattle.hir_def_map_rules.specs.Scoping.Asking.{Asking, local_of}
 use Rattle.hir_def_map_rules.specs.Sources.{HoldsNowhere, HoldsNowhereIn, HoldsOfNoExtern, HoldsOfNone, PathsAnswerFromSources, SourceTest, on_adt, on_def, on_import, on_macro, on_macro_item, on_origin, on_some, on_type, on_value, on_value_def, on_value_import, on_visibility}
-use Rattle.hir_def_map_rules.specs.State.{Map, ModuleValue, child_at, child_of, crate_map, module_at, root_of}
-use Rattle.hir_def_map_rules.specs.Overlay.{Maps, Placed, holders_of, overlay, module_in}
-use Rattle.hir_def_map_rules.proofs.StaysWellFormed.{Extends-overlay, IsClosed-overlay, LocalIsThere-begins, module_there}
+use Rattle.hir_def_map_rules.specs.State.{ModuleValue, crate_map, module_at}
+use Rattle.hir_def_map_rules.specs.Overlay.{Maps, Placed, holders_of, overlay, module_in, placed_in}
+use Rattle.hir_def_map_rules.proofs.StaysWellFormed.{Extends-overlay, IsClosed-overlay, LocalIsThere-begins}
 use Rattle.hir_def_map_rules.proofs.StaysSourced.{HoldsNowhere-overlay}
 use Rattle.hir_def_map_rules.specs.declared.origin.ModuleOrigin.{ModuleOrigin}
 use Rattle.hir_def_map_rules.specs.declared.origin.ModuleOrigin.TheVariants as origin
@@ -55,9 +55,8 @@ use Rattle.hir_tables.specs.Tables.{TablesValue, block_at, call_at, entry_at, so
 use Rattle.hir_def_map_rules.specs.Diagnostics.{call_node}
 use Rattle.hir_collector_rules.specs.Calls.{AreCallsPlaced, IsPlacedBelow}
 use Rattle.hir_collector_rules.specs.Derivation.{Ends}
-use Rattle.hir_collector_rules.specs.Start.{Beginning, krate_of, read_by}
-use Rattle.hir_collector_rules.specs.Workspace.{Workspace}
-use Rattle.hir_def_collector_laws.specs.Sources.{IsClearOf, IsTreeOf, RunsBindFromSources}
+use Rattle.hir_collector_rules.specs.Start.{Beginning, read_by}
+use Rattle.hir_def_collector_laws.specs.Sources.{BeginsClear, IsClearOf, RunsBindFromSources}
 use Rattle.hir_def_collector_laws.specs.Whole.{StandsOnWhole}
 use Rattle.hir_collector_rules.specs.declared.source_database.Key.TheVariants as keys
 use Rattle.hir_wire.specs.declared.answer.AnswerVisibility.{AnswerVisibility}
@@ -70,21 +69,19 @@ use Rattle.hir_wire.specs.declared.command.Shadow.{Shadow}
 use Rattle.hir_session_answers.specs.Answers.{answer_in, asking_of}
 use Rattle.hir_session_answers.specs.LeavesOut.{LeavesNothingOut}
 use Rattle.hir_session_state.specs.Kept.{collected_of, placed_by}
-use Rattle.hir_session_state.specs.SessionState.{SessionState, Resolution, beginning_by, beginning_of, finished_of, kept_of, module_of, read_of, read_under, standing_of, workspace_of, IsSound}
-use Rattle.hir_session_state.specs.Standing.{Standing, block_below, block_map, child_kept, down, from_crate, is_set, most_calls, step}
-use Rattle.hir_session_state.specs.Standing.Standing as way
+use Rattle.hir_session_state.specs.SessionState.{SessionState, Resolution, beginning_by, finished_of, kept_of, module_of, read_of, read_under, standing_of, workspace_of, IsSound}
+use Rattle.hir_session_state.specs.Standing.{most_calls}
 use Rattle.hir_session_answers.specs.SourceCalls.{and_call, block_source, file_source, source_call, source_of, source_within}
 use Rattle.hir_session_answers.specs.SourceItems.{adt_definition, answered_macro, answered_type, answered_value, block_definition, definition_of, import_source, item_of, macro_definition, maybe_source, module_by, module_definition, together, value_import_source, visibility_source}
 use Rattle.hir_session_answers.proofs.LowerLaws.{asked_keys_have_meaning}
 use Rattle.hir_session_state.proofs.Holding.{start_holders}
-use Rattle.hir_session_state.proofs.Resolving.{stands_on_whole}
-use Rattle.hir_session_state.proofs.Standing.{at_module, block_begun, kept_gives, to_block_at, to_child_at}
+use Rattle.hir_session_state.proofs.Standing.{at_module, block_begun, kept_gives, module_there}
 use Rattle.hir_session_state.proofs.Truth.{no_value, one_value}
 use Rattle.hir_session_state.proofs.Worlds.{AgreeOn-refl}
 use Rattle.hir_def_map.specs.WorldParts.{among}
 use Rattle.hir_base.specs.Place.{PlaceValue}
 use Rattle.hir_session_state.specs.Crates.{transitive_in}
-use Rattle.hir_session_answers.proofs.ReadMaps.{own_apart, rank, read_whole, reads}
+use Rattle.hir_session_answers.proofs.ReadMaps.{krate_is, own_apart, rank, read_whole, reads, stood_on_whole}
 
 -- ---- options
 
@@ -106,23 +103,24 @@ module _ (s : SessionState) (sound : IsSound s) (id : MapId) (r : Resolution) (i
   pub ended_of : Ends s.tables (workspace_of s) (finished_of s) start_of (collected_of r)
   ended_of = (kept_gives s sound id r is).resolved.ends (workspace_of s) (finished_of s) AgreeOn-refl
 
-  -- it begins in the crate of the place
-  krate_is : krate_of start_of.start ≡ id.krate
-  krate_is = ap (λ (x : MapId). x.krate) (sym ended_of.own) ∙ ap (λ (x : MapId). x.krate) (kept_gives s sound id r is).own
-
-  -- and reads what the place does
+  -- it reads what the place does
   pub start_read : read_by (workspace_of s) (finished_of s) start_of.start ≡ read_under s id r.holders
   start_read =
       let holders = start_holders s id r (kept_gives s sound id r is) in
-      λ i. among (transitive_in s.crates (krate_is i).0) (sym holders i) (finished_of s)
+      λ i. among (transitive_in s.crates (krate_is s sound id r is i).0) (sym holders i) (finished_of s)
 
-  -- a block's tree is that of the block
-  tree_is : IsTreeOf start_of.start start_of.tree
-  tree_is = go id.block (kept_gives s sound id r is).begun
+  -- a block's run begins with the tree of the block, and with the crates of its crate's map
+  begins_clear : (t : SourceTest) → ((b : BlockId) → id.block ≡ Some b → HoldsOfNoExtern t (local_of (option_map (λ (p : Placed). p.local) (read_under s id r.holders (crate_map id.krate)))))
+      → BeginsClear t (read_under s id r.holders) start_of.start start_of.tree
+  begins_clear t local = go id.block refl
     where
-      go : (o : Option BlockId) → beginning_by s id.krate o ≡ Some start_of → IsTreeOf start_of.start start_of.tree
-      go None e = subst (λ (x : Beginning). IsTreeOf x.start x.tree) (one_value e) tt
-      go (Some b) e = subst (λ (x : Beginning). IsTreeOf x.start x.tree) (block_begun s id.krate b start_of e).is refl
+      go : (o : Option BlockId) → id.block ≡ o → BeginsClear t (read_under s id r.holders) start_of.start start_of.tree
+      go None of =
+          let begun = one_value (subst (λ (o : Option BlockId). beginning_by s id.krate o ≡ Some start_of) of (kept_gives s sound id r is).begun) in
+          subst (λ (x : Beginning). BeginsClear t (read_under s id r.holders) x.start x.tree) begun tt
+      go (Some b) of =
+          let begun = block_begun s id.krate b start_of (subst (λ (o : Option BlockId). beginning_by s id.krate o ≡ Some start_of) of (kept_gives s sound id r is).begun) in
+          subst (λ (x : Beginning). BeginsClear t (read_under s id r.holders) x.start x.tree) begun.is (refl, local b of)
 
 -- ---- what current maps bind, under a test of sources that holds of no tree that a run asked for
 
@@ -138,27 +136,41 @@ module _ (runs : RunsBindFromSources) (s : SessionState) (sound : IsSound s) (t 
   apart : (j : MapId) (f : Resolution) → kept_of s j ≡ Some f → read_under s j f.holders f.map.id ≡ None
   apart j f is = ap (read_under s j f.holders) (kept_gives s sound j f is).own ∙ own_apart s sound j f is
 
+  -- it holds of no module that is there beside the maps that a map reads which is read
+  seen_in : (j : MapId) (f : Resolution) (is : kept_of s j ≡ Some f) → ShowsThere j f → (id : MapId) (placed : Placed) (e : read_under s j f.holders id ≡ Some placed)
+      → ShowsThere id (reads s sound j f is id placed e).found
+  seen_in j f is shows id placed e m h =
+      shows m (Extends-overlay (read_under s j f.holders) f.map (apart j f is) (named.Module m) ((reads s sound j f is id placed e).extends (named.Module m) h))
+
   bound_reads : (j : MapId) (f : Resolution) → kept_of s j ≡ Some f → ShowsThere j f
       → ((i : MapId) (g : Resolution) → kept_of s i ≡ Some g → rank i g < rank j f → ShowsThere i g → Nowhere g) → HoldsNowhere t (read_under s j f.holders)
   bound_reads j f is shows below id placed e =
       let own = reads s sound j f is id placed e in
-      let seen : ShowsThere id own.found =
-      λ m h. shows m (Extends-overlay (read_under s j f.holders) f.map (apart j f is) (named.Module m) (own.extends (named.Module m) h)) in
-      subst (λ (p : Placed). HoldsNowhereIn t p.map) (sym own.map) (below id own.found own.is_kept own.lower seen).0
+      subst (λ (p : Placed). HoldsNowhereIn t p.map) (sym own.map) (below id own.found own.is_kept own.lower (seen_in j f is shows id placed e)).0
+
+  -- nor of the crates with which paths may begin in a map that is read
+  local_clear : (j : MapId) (f : Resolution) (is : kept_of s j ≡ Some f) → ShowsThere j f
+      → ((i : MapId) (g : Resolution) → kept_of s i ≡ Some g → rank i g < rank j f → ShowsThere i g → Nowhere g) → (id : MapId)
+      → HoldsOfNoExtern t (local_of (option_map (λ (p : Placed). p.local) (read_under s j f.holders id)))
+  local_clear j f is shows below id = go (read_under s j f.holders id) refl
+    where
+      go : (o : Option Placed) → read_under s j f.holders id ≡ o → HoldsOfNoExtern t (local_of (option_map (λ (p : Placed). p.local) o))
+      go None e = refl
+      go (Some placed) e =
+          let own = reads s sound j f is id placed e in
+          subst (λ (p : Placed). HoldsOfNoExtern t p.local) (sym own.map) (below id own.found own.is_kept own.lower (seen_in j f is shows id placed e)).1
 
   binds : (n : ℕ) (j : MapId) (f : Resolution) → kept_of s j ≡ Some f → rank j f < n → ShowsThere j f → Nowhere f
   binds zero j f is low shows = absurd (let no : rank j f < 0 = low in omega arith)
   binds (suc n) j f is low shows =
       let start = sym (start_read s sound j f is) in
-      let clear : IsClearOf t (read_under s j f.holders) f.asked f.map = record {
-        written = written j f is;
-        shown = shows;
-        read = bound_reads j f is shows (λ i g there lower seen. binds n i g there (omega (arith, lower, low)) seen);
-      } in
+      let below = λ (i : MapId) (g : Resolution) (there : kept_of s i ≡ Some g) (lower : rank i g < rank j f) (seen : ShowsThere i g). binds n i g there (let less : rank i g < n = omega arith in less) seen in
+      let clear : IsClearOf t (read_under s j f.holders) f.asked f.map = record { written = written j f is; shown = shows; read = bound_reads j f is shows below } in
       runs t s.tables (workspace_of s) (finished_of s) (start_of s sound j f is) (collected_of f)
       (subst AreWellFormed start (read_whole s sound j f is))
-      (subst (λ (maps : Maps). StandsOnWhole (workspace_of s) maps (start_of s sound j f is).start) start (stands_on_whole s sound j f is))
-      (tree_is s sound j f is)
+      (subst (λ (maps : Maps). StandsOnWhole (workspace_of s) maps (start_of s sound j f is).start) start (stood_on_whole s sound j f is))
+      (subst (λ (maps : Maps). BeginsClear t maps (start_of s sound j f is).start (start_of s sound j f is).tree) start
+      (begins_clear s sound j f is t (λ b of. local_clear j f is shows below (crate_map j.krate))))
       (ended_of s sound j f is)
       (subst (λ (maps : Maps). IsClearOf t maps f.asked f.map) start clear)
 
@@ -372,87 +384,25 @@ asked_there s sound id r is key asked =
 
 -- ---- the module that a place names
 
-module _ (finished : Maps) (map : Map) (names : HasNoDanglingReference (overlay finished map) map) where
-  child_there : (at : ℕ) (name : List ℕ) (next : ModuleId) → child_at map at name ≡ Some next → ModuleIsThere (overlay finished map) next
-  child_there at name next e = go (module_at map at) refl e
-    where
-      go : (o : Option ModuleValue) → module_at map at ≡ o → child_of o name ≡ Some next → ModuleIsThere (overlay finished map) next
-      go None s f = absurd cc
-      go (Some v) s f =
-          let missing = is_missing (overlay finished map) in
-          present (is_some (module_in (overlay finished map) next))
-          (none_found (λ (x : ModuleId). missing (named.Module x)) (is_at (slice_cmp nat_cmp name)) v.children next
-          (module_parts missing v (none_at (any_reference_in missing) map.modules names.modules at v s)).children f)
-
--- a place leads to a module that is there, in a map that is kept
+-- a module is there, in a map that is kept
 pub record IsThereAt (s : SessionState) (m : ModuleId) : Type 0 where
   pub found : Resolution
   pub is : kept_of s m.map ≡ Some found
+  pub module_ : is_some (module_at found.map m.index) ≡ true
   pub there : ModuleIsThere (overlay (read_under s m.map found.holders) found.map) m
 
-module _ (s : SessionState) (sound : IsSound s) where
-  -- the root of what is kept
-  root_there : (id : MapId) (r : Resolution) → kept_of s id ≡ Some r → IsThereAt s (root_of r.map.id)
-  root_there id r is =
-      let gives = kept_gives s sound id r is in
-      record {
-        found = r;
-        is = ap (kept_of s) gives.own ∙ is;
-        there = ap (λ (maps : Maps). is_some (module_in (overlay maps r.map) (root_of r.map.id))) (λ i. read_under s (gives.own i) r.holders)
-            ∙ module_there (read_under s id r.holders) r.map 0 gives.names.root;
-      }
-
-  abbrev IsGood : Standing → Type 0
-  IsGood st = (m : ModuleId) → st ≡ way.at m → IsThereAt s m
-
-  good_step : (krate : Crate) (before : List PlaceElement) (st : Standing) (e : PlaceElement) → IsGood st → IsGood (step s.tables s.sources.blocks s.kept krate before st e)
-  good_step krate before (way.at n) (element.Module name) good m is =
-      let child = to_child_at n.map (child_kept s.kept n name) m is in
-      let here = good n refl in
-      go here (kept_of s n.map) refl here.is child.0 child.1
-    where
-      go : (here : IsThereAt s n) → (o : Option Resolution) → kept_of s n.map ≡ o → o ≡ Some here.found → option_and_then (λ (r : Resolution). child_at r.map n.index name) (kept_of s n.map) ≡ Some m
-          → m.map ≡ n.map → IsThereAt s m
-      go here o s_is is_found child same =
-          let kept : kept_of s n.map ≡ Some here.found = s_is ∙ is_found in
-          let gives = kept_gives s sound n.map here.found kept in
-          let next : child_at here.found.map n.index name ≡ Some m =
-          ap (option_and_then (λ (r : Resolution). child_at r.map n.index name)) (sym kept) ∙ child in
-          record {
-            found = here.found;
-            is = ap (kept_of s) same ∙ kept;
-            there = ap (λ (maps : Maps). is_some (module_in (overlay maps here.found.map) m)) (λ i. read_under s (same i) here.found.holders)
-                ∙ child_there (read_under s n.map here.found.holders) here.found.map gives.names n.index name m next;
-          }
-  good_step krate before (way.at n) (element.Block id) good m is =
-      let own = to_block_at s.tables s.sources.blocks s.kept (block_below krate before id) m is in
-      subst (IsThereAt s) own.root (root_there (block_map krate own.number) own.found own.is)
-  good_step krate before (way.lacks id) (element.Module name) good m is = absurd (let no : ⊥ = cc in no)
-  good_step krate before (way.lacks id) (element.Block b) good m is = absurd (let no : ⊥ = cc in no)
-  good_step krate before way.stale (element.Module name) good m is = absurd (let no : ⊥ = cc in no)
-  good_step krate before way.stale (element.Block id) good m is = go (is_set s.sources.blocks (block_below krate before id)) is
-    where
-      go : (b : Bool) → cond b way.stale way.unset ≡ way.at m → IsThereAt s m
-      go true f = absurd (let no : ⊥ = cc in no)
-      go false f = absurd (let no : ⊥ = cc in no)
-  good_step krate before way.unset (element.Module name) good m is = absurd (let no : ⊥ = cc in no)
-  good_step krate before way.unset (element.Block b) good m is = absurd (let no : ⊥ = cc in no)
-
-  good_down : (krate : Crate) (before : List PlaceElement) (st : Standing) (steps : List PlaceElement) → IsGood st → IsGood (down s.tables s.sources.blocks s.kept krate before st steps)
-  good_down krate before st [] good = good
-  good_down krate before st (e ∷ more) good =
-      good_down krate (before ++ e ∷ []) (step s.tables s.sources.blocks s.kept krate before st e) more (good_step krate before st e good)
-
-  pub standing_there : (place : PlaceValue) (m : ModuleId) → standing_of s place ≡ way.at m → IsThereAt s m
-  standing_there place m is = go (kept_of s (crate_map place.krate)) refl m is
-    where
-      go : (o : Option Resolution) → kept_of s (crate_map place.krate) ≡ o → IsGood (from_crate s.tables s.sources.blocks s.kept o place)
-      go None e n f = absurd (let no : ⊥ = cc in no)
-      go (Some r) e = good_down place.krate [] (way.at (root_of r.map.id)) place.elements
-          (λ n f. subst (IsThereAt s) (let same : root_of r.map.id ≡ n = cc in same) (root_there (crate_map place.krate) r e))
-
-  pub place_there : (place : PlaceValue) (m : ModuleId) → module_of s place ≡ Some m → IsThereAt s m
-  place_there place m is = standing_there place m (at_module (standing_of s place) m is)
+-- so is one that a place names
+pub place_there : (s : SessionState) → IsSound s → (place : PlaceValue) (m : ModuleId) → module_of s place ≡ Some m → IsThereAt s m
+place_there s sound place m named =
+    let kept = module_there s sound place m (at_module (standing_of s place) m named) in
+    let read : Maps = read_under s m.map kept.found.holders in
+    let own : map_id.ghosts.eq m.map kept.found.map.id ≡ true = ap (λ (x : MapId). map_id.ghosts.eq m.map x) (kept_gives s sound m.map kept.found kept.is).own ∙ same_id m.map in
+    record {
+      found = kept.found;
+      is = kept.is;
+      module_ = kept.there;
+      there = ap (λ (b : Bool). is_some (option_and_then (λ (p : Placed). module_at p.map m.index) (cond b (Some (placed_in read kept.found.map)) (read m.map)))) own ∙ kept.there;
+    }
 
 -- ---- answers
 

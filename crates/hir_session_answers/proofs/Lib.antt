@@ -1,5 +1,6 @@
 pub mod LowerLaws
 pub mod CallLemmas
+pub mod Walks
 pub mod ReadMaps
 pub mod Defined
 pub mod LeftOut

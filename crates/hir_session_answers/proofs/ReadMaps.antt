@@ -1,25 +1,39 @@
 -- The maps that a place reads are those of places of which something is kept, and each of those stands further down.
 use Rattle.std.specs.Prelude.{is_some}
-use Rattle.std.proofs.Common.{◌≡◌, ◌∙◌, ap, sym, subst, refl, ℕ, suc, ◌+◌, ◌<◌, Bool, true, false, ◌||◌, Option, Some, None, option_map, List, [], ◌∷◌, length, arith}
+use Rattle.std.specs.List.{list_any}
+use Rattle.std.specs.Option.{option_and_then}
+use Rattle.std.proofs.Common.{◌≡◌, ◌∙◌, ap, sym, subst, refl, ℕ, zero, suc, ◌+◌, ◌<◌, Bool, true, false, not, ◌&&◌, ◌||◌, Option, Some, None, option_map, List, [], ◌∷◌, length, arith, Contains}
 use Rattle.hir_base.specs.contracts.ids.MapIdPartialEq.TheImpl as map_id
+use Rattle.hir_base.specs.declared.ast_id.BlockId.{BlockId}
 use Rattle.hir_base.specs.declared.ids.Crate.{Crate}
 use Rattle.hir_base.specs.declared.ids.MapId.{MapId}
 use Rattle.hir_base.specs.declared.ids.ModuleId.{ModuleId}
 use Rattle.hir_crate_graph.specs.CrateSet.{has_crate}
-use Rattle.hir_def_map.specs.Inner.PartLaws.{among-only}
+use Rattle.hir_collector_rules.specs.Derivation.{Ends}
+use Rattle.hir_collector_rules.specs.Start.{id_of as start_id, krate_of}
+use Rattle.hir_collector_rules.specs.Workspace.{dependencies_in}
+use Rattle.hir_collector_rules.specs.declared.source_database.Dependency.{Dependency}
+use Rattle.hir_def_collector_laws.specs.Whole.{StandsOnWhole}
+use Rattle.hir_def_map.specs.Inner.PartLaws.{among-only, among-there}
 use Rattle.hir_def_map.specs.WorldParts.{are_of_some, is_of_some}
 use Rattle.hir_def_map_rules.specs.Inner.OverlayLaws.{exact_map}
-use Rattle.hir_def_map_rules.specs.Overlay.{Maps, Placed, holders_under, overlay}
+use Rattle.hir_def_map_rules.specs.Overlay.{Maps, Placed, module_in, overlay}
+use Rattle.hir_def_map_rules.specs.References.{any_own_crate, is_holder_for, is_missing, test_crate}
+use Rattle.hir_def_map_rules.specs.State.{crate_map, module_at}
 use Rattle.hir_def_map_rules.specs.WellFormed.{AreWellFormed, Extends}
 use Rattle.hir_session_state.specs.Crates.{transitive_in}
-use Rattle.hir_session_state.specs.Kept.{Resolution, kept_in, placed_by}
-use Rattle.hir_session_state.specs.SessionState.{SessionState, finished_of, kept_of, read_under, IsSound}
+use Rattle.hir_scope.specs.ModuleTree.{same_crate}
+use Rattle.hir_session_state.specs.Kept.{Resolution, collected_of, placed_by}
+use Rattle.hir_session_state.specs.SessionState.{SessionState, finished_of, follows, is_marked, kept_of, read_under, workspace_of, IsResolutionOf, IsSound}
+use Rattle.hir_session_state.specs.Standing.{block_map}
 use Rattle.hir_session_state.proofs.Depending.{depended}
-use Rattle.hir_session_state.proofs.Holding.{crate_holders, first_holder, holder_kept}
-use Rattle.hir_session_state.proofs.Names.{Extends-behind, IsKeptWhole, holds, of_some, whole-among}
-use Rattle.hir_session_state.proofs.Standing.{kept_gives}
-use Rattle.hir_session_state.proofs.Truth.{clash, no_value, on_bool, one_value}
-use Rattle.hir_session_state.proofs.Worlds.{DependsOn-below, DependsOn-trans}
+use Rattle.hir_session_state.proofs.Following.{followed_crate}
+use Rattle.hir_session_state.proofs.Holding.{crate_holders, first_holder, holder_kept, in_own_crate, same_krate}
+use Rattle.hir_session_state.proofs.Names.{Extends-behind, holds, is_held_of_some, of_some, whole-among}
+use Rattle.hir_session_state.proofs.Resolving.{behind_unmarked, holds_listed, kept_there, kept_whole, stands_behind, stands_direct}
+use Rattle.hir_session_state.proofs.Standing.{kept_gives, unmarked}
+use Rattle.hir_session_state.proofs.Truth.{both_true, clash, no_value, on_bool, one_value}
+use Rattle.hir_session_state.proofs.Worlds.{AgreeOn-refl, DependsOn-below, DependsOn-trans}
 
 -- how far up a place stands: above all crates on which its crate does, and above the blocks around it
 abbrev pub rank : MapId → Resolution → ℕ
@@ -34,11 +48,7 @@ module _ (s : SessionState) (sound : IsSound s) where
       let p = kept_gives s sound id r is in
       let first = first_holder s id r p x xs e in
       let kept = holder_kept s id r p x first.0 in
-      on_bool (map_id.ghosts.eq x.map j)
-      (λ same. ap (λ (m : MapId). m.krate) (sym (exact_map x.map j same)) ∙ kept.krate)
-      (λ other.
-      let later : holds xs j ≡ true = sym (ap (λ (b : Bool). b || holds xs j) other) ∙ held in
-      held_krate xs x.map kept.found kept.is (first.1 kept.found kept.is) j later ∙ kept.krate)
+      same_krate s sound xs x kept.found kept.is (first.1 kept.found kept.is) j held ∙ kept.krate
 
   -- fewer modules hold such a map
   held_fewer : (hs : List ModuleId) (id : MapId) (r : Resolution) → kept_of s id ≡ Some r → r.holders ≡ hs → (j : MapId) → holds hs j ≡ true → (f : Resolution) → kept_of s j ≡ Some f
@@ -63,18 +73,6 @@ module _ (s : SessionState) (sound : IsSound s) where
   abbrev behind : ℕ → List Crate
   behind k = transitive_in s.crates k
 
-  whole : (id : MapId) (r : Resolution) → kept_in s.kept id ≡ Some r → IsKeptWhole behind s.kept id
-  whole id r is =
-      let p = kept_gives s sound id r is in
-      record {
-        found = r;
-        is = is;
-        own = p.own;
-        holders = p.holders ∙ ap (λ (x : MapId). holders_under (finished_of s) x r.map.holder) p.own;
-        names = p.names;
-        begins = p.reaches;
-      }
-
   module _ (id : MapId) (r : Resolution) (is : kept_of s id ≡ Some r) where
     abbrev read : Maps
     read = read_under s id r.holders
@@ -87,7 +85,7 @@ module _ (s : SessionState) (sound : IsSound s) where
 
     -- what a place reads names only what it reads
     pub read_whole : AreWellFormed read
-    read_whole = whole-among behind s.kept (behind id.krate.0) r.holders whole closed
+    read_whole = whole-among behind s.kept (behind id.krate.0) r.holders (kept_whole s sound) closed
 
     -- a map that it reads is kept, with all that is there beside what that reads
     pub record IsRead (j : MapId) (placed : Placed) : Type 0 where
@@ -129,7 +127,7 @@ module _ (s : SessionState) (sound : IsSound s) where
               found = found;
               is_kept = there;
               map = sym same;
-              extends = Extends-behind behind s.kept (behind id.krate.0) r.holders whole closed j (whole j found there) of
+              extends = Extends-behind behind s.kept (behind id.krate.0) r.holders (kept_whole s sound) closed j (kept_whole s sound j found there) of
                   (ap (λ (p : Placed). are_of_some (behind id.krate.0) r.holders p.holders) same ∙ held);
               lower = lower_there j found there of;
             }
@@ -141,8 +139,92 @@ module _ (s : SessionState) (sound : IsSound s) where
         go : (o : Option Placed) → read id ≡ o → read id ≡ None
         go None e = e
         go (Some placed) e =
-            let own = reads id placed e in
-            let same : own.found ≡ r = one_value (sym own.is_kept ∙ is) in
-            let lower : rank id own.found < rank id r = own.lower in
-            let equal : length own.found.holders ≡ length r.holders = ap (λ (x : Resolution). length x.holders) same in
+            let itself = reads id placed e in
+            let same : itself.found ≡ r = one_value (sym itself.is_kept ∙ is) in
+            let lower : rank id itself.found < rank id r = itself.lower in
+            let equal : length itself.found.holders ≡ length r.holders = ap (λ (x : Resolution). length x.holders) same in
             absurd (omega arith)
+
+    -- ---- what its run stood on
+
+    abbrev own : IsResolutionOf s id r
+    own = kept_gives s sound id r is
+
+    ended : Ends s.tables (workspace_of s) (finished_of s) own.from (collected_of r)
+    ended = own.resolved.ends (workspace_of s) (finished_of s) AgreeOn-refl
+
+    start_is : start_id own.from.start ≡ id
+    start_is = sym ended.own ∙ own.own
+
+    pub krate_is : krate_of own.from.start ≡ id.krate
+    krate_is = ap (λ (x : MapId). x.krate) start_is
+
+    -- the map of its crate isn't marked
+    own_crate_off : is_marked s (crate_map id.krate) ≡ false
+    own_crate_off = go id.block refl
+      where
+        off : is_marked s id ≡ false
+        off = unmarked s id r is
+
+        go : (o : Option BlockId) → id.block ≡ o → is_marked s (crate_map id.krate) ≡ false
+        go None of = let same : id ≡ crate_map id.krate = λ i. record { krate = id.krate; block = of i } in subst (λ (x : MapId). is_marked s x ≡ false) same off
+        go (Some b) of =
+            let same : id ≡ block_map id.krate b = λ i. record { krate = id.krate; block = of i } in
+            sound.closed id (crate_map id.krate) off (subst (λ (x : MapId). Contains (follows s x) (crate_map id.krate)) (sym same) (followed_crate s id.krate b))
+
+    behind_off : (c : Crate) → has_crate (behind id.krate.0) c ≡ true → is_marked s (crate_map c) ≡ false
+    behind_off c has = behind_unmarked s sound id.krate.0 own_crate_off c has
+
+    lies : (j : MapId) → holds r.holders j ≡ true → j.krate ≡ id.krate
+    lies j held = held_krate r.holders id r is refl j held
+
+    -- a map that may be read is
+    kept_read : (j : MapId) (f : Resolution) → kept_of s j ≡ Some f → is_of_some (behind id.krate.0) r.holders j ≡ true → are_of_some (behind id.krate.0) r.holders f.holders ≡ true → is_some (read j) ≡ true
+    kept_read j f there of held = ap (λ (o : Option Placed). is_some o) (among-there (behind id.krate.0) r.holders (finished_of s) j (placed_by f) of (ap (option_map placed_by) there) held)
+
+    own_crate_read : (b : BlockId) → id.block ≡ Some b → is_some (read (crate_map id.krate)) ≡ true
+    own_crate_read b of =
+        let f = kept_there s (crate_map id.krate) own_crate_off in
+        let alone : f.0.holders ≡ [] = crate_holders s (crate_map id.krate) f.0 (kept_gives s sound (crate_map id.krate) f.0 f.1) refl in
+        kept_read (crate_map id.krate) f.0 f.1 (is_held_of_some (behind id.krate.0) r.holders (crate_map id.krate) (in_own_crate s sound r.holders id r b is refl of))
+        (ap (are_of_some (behind id.krate.0) r.holders) alone)
+
+    own_crate_there : any_own_crate (is_missing read) id ≡ false
+    own_crate_there = go id.block refl
+      where
+        go : (o : Option BlockId) → id.block ≡ o → (is_some o && test_crate (is_missing read) id.krate) ≡ false
+        go None of = refl
+        go (Some b) of = ap not (own_crate_read b of)
+
+    -- so is its holder
+    holder_there : is_holder_for read id r.map.holder ≡ true
+    holder_there = go r.map.holder refl
+      where
+        go : (o : Option ModuleId) → r.map.holder ≡ o → is_holder_for read id o ≡ true
+        go None held = refl
+        go (Some h) held =
+            let kept = holder_kept s id r own h held in
+            let found : read h.map ≡ Some (placed_by kept.found) =
+            among-there (behind id.krate.0) r.holders (finished_of s) h.map (placed_by kept.found) (of_holders h (subst (λ (hs : List ModuleId). Contains hs h) (sym kept.holders) (zero, omega arith, refl)))
+            (ap (option_map placed_by) kept.is)
+            (all_read kept.found.holders (λ x among. of_holders x (subst (λ (hs : List ModuleId). Contains hs x) (sym kept.holders) (suc among.0, (let below : among.0 < length kept.found.holders = among.1 in omega arith), among.2)))) in
+            both_true (same_crate h.map.krate id.krate) (is_some (module_in read h)) kept.same
+            (ap (λ (o : Option Placed). is_some (option_and_then (λ (p : Placed). module_at p.map h.index) o)) found ∙ kept.module_)
+          where
+            of_holders : (x : ModuleId) → Contains r.holders x → is_of_some (behind id.krate.0) r.holders x.map ≡ true
+            of_holders x among = is_held_of_some (behind id.krate.0) r.holders x.map (holds_listed r.holders x among)
+
+            all_read : (xs : List ModuleId) → ((x : ModuleId) → Contains xs x → is_of_some (behind id.krate.0) r.holders x.map ≡ true) → are_of_some (behind id.krate.0) r.holders xs ≡ true
+            all_read [] each = refl
+            all_read (x ∷ xs) each = both_true (is_of_some (behind id.krate.0) r.holders x.map) (are_of_some (behind id.krate.0) r.holders xs) (each x (zero, omega arith, refl))
+                (all_read xs (λ y among. each y (suc among.0, (let below : among.0 < length xs = among.1 in omega arith), among.2)))
+
+    pub stood_on_whole : StandsOnWhole (workspace_of s) read own.from.start
+    stood_on_whole = record {
+      apart = ap read start_is ∙ own_apart;
+      behind = ap (λ (k : Crate). list_any (test_crate (is_missing read)) (behind k.0)) krate_is ∙ stands_behind s sound id.krate r.holders behind_off lies;
+      direct = ap (λ (k : Crate). list_any (λ (d : Dependency). test_crate (is_missing read) d.krate) (dependencies_in (workspace_of s) k)) krate_is
+          ∙ stands_direct s sound id.krate r.holders behind_off lies;
+      own_crate = ap (any_own_crate (is_missing read)) start_is ∙ own_crate_there;
+      held = (λ i. is_holder_for read (start_is i) (sym own.holder i)) ∙ holder_there;
+    }

@@ -1,5 +1,7 @@
 pub mod Naming
 pub mod Sound
+pub mod Growth
 pub mod Due
 pub mod Waiting
+pub mod Begun
 pub mod Verdicts

@@ -1,5 +1,5 @@
 -- Blocks in their turn: resolving one makes only deeper ones due.
-use Rattle.std.specs.Prelude.{is_none, cond, nat_lt, if◌then◌else◌}
+use Rattle.std.specs.Prelude.{is_none, cond, map, nat_lt, if◌then◌else◌}
 use Rattle.std.proofs.Common.{◌≡◌, ◌≢◌, ◌⊎◌, inl, inr, ¬◌, ℕ, zero, suc, ◌+◌, ◌<◌, ◌≤◌, Bool, true, false, IsTrue, List, [], ◌∷◌, ◌++◌, length, arith, refl, sym, subst, ◌∙◌, ap, Option, Some, None, option_map, Contains, append-nil, append_assoc}
 use Rattle.std.specs.Option.{option_and_then}
 use Rattle.std.specs.List.{AllByRecursion}
@@ -7,6 +7,7 @@ use Rattle.std.specs.List.Sorted.{IsStrictlySortedBy}
 use Rattle.std.specs.BTreeSet.{BTreeSet}
 use Rattle.std.specs.Cmp.{tied_itself}
 use Rattle.std.specs.Ordering.{Less, Ordering, is_le}
+use Rattle.std.proofs.lemmas.List.{map-append}
 use Rattle.std.proofs.lemmas.List.Elements.{Contains-append_left, Contains-append_right, Contains-append_cases}
 use Rattle.std.proofs.lemmas.Bool.{ltb-true}
 use Rattle.hir_base.specs.Place.{PlaceValue}
@@ -59,7 +60,7 @@ module _ (old new : SessionState) (sound : IsSound old) (grown : Grows old new) 
   same_mark : (id : MapId) → is_marked new id ≡ is_marked old id
   same_mark id = ap (λ (kept : Resolutions). is_none (kept_in kept id)) grown.kept
 
-  same_block : (b : BlockPlace) → block_kept new b ≡ block_kept old b
+  pub same_block : (b : BlockPlace) → block_kept new b ≡ block_kept old b
   same_block b = ap (λ (kept : Resolutions). kept_block new.tables kept b) grown.kept ∙ kept_block_grown old sound new.tables grown.tables b
 
   pub same_standing : (place : PlaceValue) → standing_of new place ≡ standing_of old place
@@ -401,6 +402,12 @@ module _ (from : SessionState) (before : List PlaceValue) (pending : BTreeSet Pe
     next = next_after now new t.sound grown p.place (turn_next now t.sound pending looked rest p t.split sorted t.all t.passed t.current b of due);
     stuck = stuck;
   }
+
+-- those that were looked at, as the loop has them
+pub in_turn-shown : {A : Type 0} (f : A → PendingBlock) (from : SessionState) (before : List PlaceValue) (xs : List A) (x : A) (pending : BTreeSet PendingBlock) (rest : List PendingBlock) (now : SessionState)
+    {done : List PlaceValue} → IsInTurn from before pending (map f xs ++ f x ∷ []) rest now done → IsInTurn from before pending (map f (xs ++ x ∷ [])) rest now done
+in_turn-shown f from before xs x pending rest now {done} t =
+    subst (λ (looked : List PendingBlock). IsInTurn from before pending looked rest now done) (sym (map-append f xs (x ∷ []))) t
 
 -- some may be left where a refresh ends early
 pub in_turn-partly : (from : SessionState) (before : List PlaceValue) (pending : BTreeSet PendingBlock) (looked rest : List PendingBlock) (now : SessionState) (done : List PlaceValue)

@@ -4,7 +4,8 @@ use Rattle.std.specs.Prelude.{IfSome, is_some}
 use Rattle.std.specs.BTreeMap.{insert_entry, is_at}
 use Rattle.std.specs.Cmp.{tied_itself}
 use Rattle.std.specs.Cmp.Lexicographic.{lists_ties, lists_total, pointwise, slice_cmp}
-use Rattle.std.specs.Map.{lookup}
+use Rattle.std.specs.List.{flat_map}
+use Rattle.std.specs.Map.{lookup, values_of}
 use Rattle.std.specs.Ordering.{is_eq, match_ordering}
 use Rattle.std.specs.declared.alloc.Global.{Global}
 use Rattle.std.specs.declared.vec.Vec.{Vec}
@@ -25,6 +26,7 @@ use Rattle.hir_item_tree.specs.Source.{SourceValue}
 use Rattle.hir_session_state.specs.Blocks.{Blocks, CrateBlocks, block_in, blocks_in, blocks_of, blocks_with, place_of_block, steps_cmp, steps_with, with_block, without_block, without_in}
 use Rattle.hir_session_state.proofs.Places.{exact_block}
 use Rattle.hir_session_state.proofs.Truth.{clash, no_value, on_bool, one_value}
+use Rattle.hir_session_sources.specs.BlockPlaces.{places_in, places_of}
 use Rattle.hir_session_sources.specs.BlockTables.{AreInPlace, ArePlacedIn, SetBlockValue, SetBlocks, SetTables, by_steps, left_by, of_crate, or_none, sources_by_crate, sources_of, steps_in, with_set, without_set, without_steps}
 use Rattle.hir_session_sources.proofs.Changing.{equal_crate}
 use Rattle.hir_session_sources.proofs.Lookups.{IsExact, at_same, lookup-insert_entry, lookup-keyed, lookup-valued, lookup-without, renamed-insert_entry, keyed-without, valued-insert_entry, valued-without}
@@ -205,6 +207,31 @@ in_place-left tables krate steps placed = go (lookup (is_at (crate_order.ghosts.
     go None e = placed
     go (Some own) e = in_place-insert tables krate (without_steps own steps) placed (placed-without krate own steps (placed-own krate tables placed own e))
 
+-- ---- all places
+
+-- those of a crate's blocks
+pub places_by_steps : (es : StepEntries) → map (λ (b : SetBlockValue). b.place) (values_of es) ≡ map (λ (e : List PlaceElement × SetBlockValue). e.1.place) (by_steps es)
+places_by_steps [] = refl
+places_by_steps (e ∷ es) = ap (λ (ps : List BlockPlace). e.1.place ∷ ps) (places_by_steps es)
+
+-- the roots of the blocks of a crate
+abbrev pub roots_of : SetBlocks → List PlaceValue
+roots_of own = map (λ e. place_of_block e.1.place) own
+
+roots-placed : (krate : Crate) (own : SetBlocks) → ArePlacedIn krate own → roots_of own ≡ places_in krate (sources_of own)
+roots-placed krate [] placed = refl
+roots-placed krate (e ∷ es) placed = λ i. placed.0 i ∷ roots-placed krate es placed.1 i
+
+pub all_roots : (tables : SetTables) → AreInPlace tables → flat_map roots_of (values_of tables) ≡ places_of (sources_by_crate tables)
+all_roots [] placed = refl
+all_roots (e ∷ es) placed = λ i. roots-placed e.0 e.1 placed.0 i ++ all_roots es placed.1 i
+
+-- more places, by the roots of the blocks
+pub more_roots : (ps : List BlockPlace) (own : SetBlocks) → map place_of_block (ps ++ map (λ (e : List PlaceElement × SetBlockValue). e.1.place) own) ≡ map place_of_block ps ++ roots_of own
+more_roots [] [] = refl
+more_roots [] (e ∷ es) = ap (λ (rs : List PlaceValue). place_of_block e.1.place ∷ rs) (more_roots [] es)
+more_roots (p ∷ ps) own = ap (λ (rs : List PlaceValue). place_of_block p ∷ rs) (more_roots ps own)
+
 -- ---- a block before an edit and after it
 
 -- in a list of blocks by crate that is exact, those of another crate stay
@@ -233,7 +260,7 @@ block_in-edited blocks p None q = go (lookup (is_at (crate_order.ghosts.cmp p.kr
         (λ on.
         let empty : block_in blocks q ≡ None =
         ap (λ (o : Option CrateBlocks). lookup (is_at (steps_cmp q.elements)) (blocks_of o)) (ap (λ (k : Crate). lookup (is_at (crate_order.ghosts.cmp k)) blocks) (sym (equal_crate p.krate q.krate on)) ∙ none) in
-        rw (on, empty) (on_bool (is_at (steps_cmp p.elements) q.elements) (λ at. rw at refl) (λ off. rw off refl)))
+        rw (on, empty) (on_bool (is_at (steps_cmp p.elements) q.elements) (λ here. rw here refl) (λ off. rw off refl)))
         (λ off. rw off refl)
     go (Some own) some =
         ap (lookup (is_at (steps_cmp q.elements))) (blocks_in-with blocks p.krate (steps_with own p.elements None) q.krate)

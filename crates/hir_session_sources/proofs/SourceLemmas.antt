@@ -77,7 +77,7 @@ same_place edit q same = subst (λ (p : SourcePlaceValue). is_place (place_of ed
   where
     go : (e : SourceEditValue) → is_place (place_of e) (place_of e) ≡ true
     go (of_file path new) = exact_paths.own path
-    go (of_block at new) = exact_blocks.own at
+    go (of_block place new) = exact_blocks.own place
     go (of_expansion key new) = exact_expansions.own key
 
 of_cond : (b : Bool) (x y : Option EntryValue) → source_in_entry (cond b x y) ≡ cond b (source_in_entry x) (source_in_entry y)

@@ -144,7 +144,7 @@ begins_sound inputs s few ordered is =
 
 -- the parts of a session that begins
 pub begins_with : (inputs : List CrateInput) (crates : List CrateValue) (tables : TablesValue) (sources : SourceTable) (kept : Resolutions)
-    → AreMade (map crate_input_view inputs) crates → AreRooted tables crates → sources ≡ record { files = []; entries = [] } → ((id : MapId) → kept_in kept id ≡ None)
+    → AreMade (map crate_input_view inputs) crates → AreRooted tables crates → sources ≡ record { files = []; blocks = []; entries = [] } → ((id : MapId) → kept_in kept id ≡ None)
     → (first : TablesValue) → first ≡ record { files = []; blocks = []; entries = []; calls = [] } → tables ≡ record first { files = tables.files }
     → Begins (map crate_input_view inputs) (record { crates = crates; tables = tables; sources = sources; kept = kept })
 begins_with inputs crates tables sources kept made rooted none is_kept first empty others = record {

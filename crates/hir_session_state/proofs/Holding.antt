@@ -21,7 +21,7 @@ use Rattle.hir_session_state.specs.SessionState.{SessionState, beginning_by, fin
 use Rattle.hir_session_state.proofs.Following.{followed_crate, followed_holder}
 use Rattle.hir_session_state.proofs.Names.{holds}
 use Rattle.hir_session_state.proofs.Standing.{IsBlockBegun, block_begun, crate_unheld, holder_begun, kept_gives}
-use Rattle.hir_session_state.proofs.Truth.{and_left, and_right, clash, no_value, on_bool, one_value, or_left, or_right}
+use Rattle.hir_session_state.proofs.Truth.{and_left, and_right, clash, no_value, on_bool, one_value, or_first, or_left, or_right}
 
 -- ---- one holder
 
@@ -44,8 +44,7 @@ module _ (s : SessionState) (id : MapId) (r : Resolution) (p : IsResolutionOf s 
       let there : is_holder_for (overlay read r.map) r.map.id (Some h) ≡ true = ap (is_holder_for (overlay read r.map) r.map.id) (sym held) ∙ p.names.held in
       let out : not (map_id.ghosts.eq h.map r.map.id) ≡ true = ap (is_held_outside r.map.id) (sym held) ∙ p.names.outside in
       let one : same_crate h.map.krate r.map.id.krate ≡ true = and_left (same_crate h.map.krate r.map.id.krate) (is_some (module_in (overlay read r.map) h)) there in
-      let other : is_some (module_in (overlay read r.map) h) ≡ true = and_right (same_crate h.map.krate r.map.id.krate) (is_some (module_in (overlay read r.map) h)) there in
-      (
+      let other : is_some (module_in (overlay read r.map) h) ≡ true = and_right (same_crate h.map.krate r.map.id.krate) (is_some (module_in (overlay read r.map) h)) there in (
         ap (λ (x : MapId). same_crate h.map.krate x.krate) (sym p.own) ∙ one,
         ap (λ (b : Bool). is_some (option_and_then (λ (q : Placed). module_at q.map h.index) (cond b (Some (placed_in read r.map)) (read h.map)))) (sym (off (map_id.ghosts.eq h.map r.map.id) out)) ∙ other,
       )
@@ -121,8 +120,7 @@ module _ (s : SessionState) (id : MapId) (r : Resolution) (p : IsResolutionOf s 
           let k = holder_kept g held in
           let both : g ∷ k.found.holders ≡ h ∷ hs = sym k.holders ∙ e in
           let same : g ≡ h = (cc) in
-          let rest : k.found.holders ≡ hs = (cc) in
-          (
+          let rest : k.found.holders ≡ hs = (cc) in (
             held ∙ ap (λ (x : ModuleId). Some x) same,
             λ f is. ap (λ (x : Resolution). x.holders) (one_value (sym is ∙ ap (λ (x : ModuleId). kept_of s x.map) (sym same) ∙ k.is)) ∙ rest,
           )
@@ -182,6 +180,17 @@ module _ (s : SessionState) (sound : IsSound s) where
       let first = first_of id r is x xs e in
       holders_hold {P = P} outwards xs x.map first.kept.found first.kept.is first.rest
       (outwards id x.map p (followed_holder s id first.block r x first.of is first.held)) h (n, omega arith, same)
+
+  -- all of them lie in maps of one crate
+  pub same_krate : (hs : List ModuleId) (h : ModuleId) (r : Resolution) → kept_of s h.map ≡ Some r → r.holders ≡ hs → (id : MapId) → holds (h ∷ hs) id ≡ true → id.krate ≡ h.map.krate
+  same_krate [] h r is e id lies = on_bool (map_id.ghosts.eq h.map id)
+      (λ same. sym (ap (λ (x : MapId). x.krate) (exact_map h.map id same)))
+      (λ other. clash (or_first (map_id.ghosts.eq h.map id) false lies other) refl)
+  same_krate (x ∷ xs) h r is e id lies = on_bool (map_id.ghosts.eq h.map id)
+      (λ same. sym (ap (λ (x : MapId). x.krate) (exact_map h.map id same)))
+      (λ other.
+      let first = first_of h.map r is x xs e in
+      same_krate xs x first.kept.found first.kept.is first.rest id (or_first (map_id.ghosts.eq h.map id) (holds (x ∷ xs) id) lies other) ∙ first.kept.krate)
 
   -- one of them lies in the map of the block's crate
   pub in_own_crate : (hs : List ModuleId) (id : MapId) (r : Resolution) (b : BlockId) → kept_of s id ≡ Some r → r.holders ≡ hs → id.block ≡ Some b → holds hs (crate_map id.krate) ≡ true

@@ -1,7 +1,11 @@
 -- Where the steps of a place lead stays while what is kept on the way does.
-use Rattle.std.proofs.Common.{◌≡◌, ◌≢◌, ◌∙◌, ap, sym, subst, refl, ℕ, zero, suc, ◌<◌, Bool, true, false, cond, is_some, Option, Some, None, option_map, List, [], ◌∷◌, ◌++◌, append_assoc, append-nil, arith, Contains}
+use Rattle.std.proofs.Common.{◌≡◌, ◌≢◌, ◌∙◌, ap, sym, subst, refl, ℕ, zero, suc, ◌<◌, Bool, true, false, cond, is_some, Option, Some, None, option_map, List, [], ◌∷◌, ◌++◌, length, not, append_assoc, append-nil, arith, Contains}
 use Rattle.std.specs.Option.{option_and_then}
-use Rattle.std.specs.Prelude.{is_none}
+use Rattle.std.specs.BTreeMap.{is_at}
+use Rattle.std.specs.Cmp.Lexicographic.{slice_cmp}
+use Rattle.std.specs.List.{list_any}
+use Rattle.std.specs.Ordering.{nat_cmp}
+use Rattle.std.specs.Prelude.{is_none, slice_get}
 use Rattle.hir_base.specs.Place.{PlaceValue}
 use Rattle.hir_base.specs.contracts.ids.MapIdPartialEq.TheImpl as map_id
 use Rattle.hir_base.specs.declared.ast_id.BlockId.{BlockId}
@@ -17,8 +21,13 @@ use Rattle.hir_base.specs.declared.place.BlockPlace.{BlockPlace}
 use Rattle.hir_base.specs.declared.place.PlaceElement.{PlaceElement}
 use Rattle.hir_base.specs.declared.place.PlaceElement.TheVariants as element
 use Rattle.hir_def_map_rules.specs.Diagnostics.{call_node}
-use Rattle.hir_def_map_rules.specs.Inner.OverlayLaws.{exact_map}
-use Rattle.hir_def_map_rules.specs.State.{ModuleValue, child_at, crate_map, module_at, root_of}
+use Rattle.hir_def_map_rules.specs.Inner.OverlayLaws.{exact_map, same_id}
+use Rattle.hir_def_map_rules.specs.Overlay.{Maps, Placed, module_in, overlay, placed_in}
+use Rattle.hir_def_map_rules.specs.References.{any_reference_in, is_missing, test_child}
+use Rattle.hir_def_map_rules.specs.declared.reference.Reference.TheVariants as named
+use Rattle.hir_def_map_rules.proofs.NoneOf.{none_at, none_found}
+use Rattle.hir_def_map_rules.proofs.Referred.{module_parts}
+use Rattle.hir_def_map_rules.specs.State.{ModuleValue, child_at, child_of, crate_map, module_at, root_of}
 use Rattle.hir_def_map_rules.specs.declared.origin.ModuleOrigin.{ModuleOrigin}
 use Rattle.hir_def_map_rules.specs.declared.origin.ModuleOrigin.TheVariants as origin
 use Rattle.hir_collector_rules.specs.Start.{Beginning, holder_of}
@@ -27,7 +36,7 @@ use Rattle.hir_session_state.specs.Blocks.{Blocks}
 use Rattle.hir_session_state.specs.Crates.{begins_in_block}
 use Rattle.hir_session_state.specs.Kept.{Resolution, Resolutions, kept_in}
 use Rattle.hir_session_state.specs.SourceTable.{SourceTable}
-use Rattle.hir_session_state.specs.SessionState.{SessionState, beginning_at, beginning_by, beginning_held, beginning_of, follows, holder_maps, is_marked, kept_of, module_of, standing_of, IsPlace, IsResolutionOf, IsSound}
+use Rattle.hir_session_state.specs.SessionState.{SessionState, beginning_at, beginning_by, beginning_held, beginning_of, follows, is_marked, kept_of, module_of, read_under, standing_of, IsPlace, IsResolutionOf, IsSound}
 use Rattle.hir_session_state.specs.SessionState.IsPlace.{of_block, of_crate}
 use Rattle.hir_session_state.specs.Standing.{Standing, block_below, block_map, block_number, child_kept, definition_file, down, file_of_module, file_of_origin, file_within, from_crate, is_set, kept_block, module_by, most_calls, standing_in, step, to_child, to_root}
 use Rattle.hir_session_state.specs.Standing.Standing.{at, lacks, stale, unset}
@@ -198,6 +207,106 @@ pub resolution_holder : (s : SessionState) (krate : Crate) (b : BlockId) (r : Re
     → r.map.holder ≡ Some (resolution_begun s krate b r p).holder
 resolution_holder s krate b r p = p.holder ∙ holder_begun s krate b p.from (resolution_begun s krate b r p)
 
+-- ---- what steps lead to is there
+
+-- a module is one of a map of the crate that is kept
+pub record IsModuleKept (s : SessionState) (krate : Crate) (m : ModuleId) : Type 0 where
+  pub own : m.map.krate ≡ krate
+  pub found : Resolution
+  pub is : kept_of s m.map ≡ Some found
+  pub there : is_some (module_at found.map m.index) ≡ true
+
+not_off : (b : Bool) → not b ≡ false → b ≡ true
+not_off true e = refl
+not_off false e = clash refl e
+
+-- the first of some modules
+first_there : (ms : List ModuleValue) → 0 < length ms → is_some (slice_get ms 0) ≡ true
+first_there [] low = absurd (omega arith)
+first_there (m ∷ ms) low = refl
+
+-- what a resolution may name
+abbrev named_by : SessionState → MapId → Resolution → Maps
+named_by s id r = overlay (read_under s id r.holders) r.map
+
+-- a child that lies in the map of a resolution is one of its modules
+child_there : (s : SessionState) (id : MapId) (r : Resolution) → IsResolutionOf s id r → (index : ℕ) (name : List ℕ) (c : ModuleId) → child_at r.map index name ≡ Some c → c.map ≡ id
+    → is_some (module_at r.map c.index) ≡ true
+child_there s id r p index name c child of = go (module_at r.map index) refl child
+  where
+    inside : is_some (module_in (named_by s id r) c) ≡ true → is_some (module_at r.map c.index) ≡ true
+    inside there =
+        let same : map_id.ghosts.eq c.map r.map.id ≡ true = ap (λ (x : MapId). map_id.ghosts.eq x r.map.id) (of ∙ sym p.own) ∙ same_id r.map.id in
+        sym (ap (λ (b : Bool). is_some (option_and_then (λ (q : Placed). module_at q.map c.index) (cond b (Some (placed_in (read_under s id r.holders) r.map)) (read_under s id r.holders c.map)))) same) ∙ there
+
+    go : (o : Option ModuleValue) → module_at r.map index ≡ o → child_of o name ≡ Some c → is_some (module_at r.map c.index) ≡ true
+    go None at e = no_value e
+    go (Some v) at e =
+        let none : any_reference_in (is_missing (named_by s id r)) v ≡ false = none_at (any_reference_in (is_missing (named_by s id r))) r.map.modules p.names.modules index v at in
+        let children : list_any (test_child (is_missing (named_by s id r))) v.children ≡ false = (module_parts (is_missing (named_by s id r)) v none).children in
+        let there : is_missing (named_by s id r) (named.Module c) ≡ false =
+        none_found (λ (x : ModuleId). is_missing (named_by s id r) (named.Module x)) (is_at (slice_cmp nat_cmp name)) v.children c children e in
+        inside (not_off (is_some (module_in (named_by s id r) c)) there)
+
+module _ (s : SessionState) (sound : IsSound s) where
+  pub step_kept : (krate : Crate) (before : List PlaceElement) (st : Standing) (e : PlaceElement) (m : ModuleId) → ((n : ModuleId) → st ≡ at n → IsModuleKept s krate n)
+      → step s.tables s.sources.blocks s.kept krate before st e ≡ at m → IsModuleKept s krate m
+  step_kept krate before (at n) (element.Module name) m from leads =
+      let start = from n refl in
+      let child = to_child_at n.map (child_kept s.kept n name) m leads in
+      let named_child : child_at start.found.map n.index name ≡ Some m =
+      sym (ap (λ (o : Option Resolution). option_and_then (λ (r : Resolution). child_at r.map n.index name) o) start.is) ∙ child.0 in
+      record {
+        own = ap (λ (x : MapId). x.krate) child.1 ∙ start.own;
+        found = start.found;
+        is = ap (kept_of s) child.1 ∙ start.is;
+        there = child_there s n.map start.found (kept_gives s sound n.map start.found start.is) n.index name m named_child child.1;
+      }
+  step_kept krate before (at n) (element.Block id) m from leads =
+      let p = to_block_at s.tables s.sources.blocks s.kept (block_below krate before id) m leads in
+      let gives = kept_gives s sound (block_map krate p.number) p.found p.is in
+      let own : m.map ≡ block_map krate p.number = sym (ap (λ (x : ModuleId). x.map) p.root) ∙ gives.own in
+      record {
+        own = ap (λ (x : MapId). x.krate) own;
+        found = p.found;
+        is = ap (kept_of s) own ∙ p.is;
+        there = ap (λ (x : ModuleId). is_some (module_at p.found.map x.index)) (sym p.root) ∙ first_there p.found.map.modules gives.names.root;
+      }
+  step_kept krate before (lacks id) (element.Module name) m from leads = absurd (let no : ⊥ = cc in no)
+  step_kept krate before (lacks id) (element.Block b) m from leads = absurd (let no : ⊥ = cc in no)
+  step_kept krate before stale (element.Module name) m from leads = absurd (let no : ⊥ = cc in no)
+  step_kept krate before stale (element.Block id) m from leads = not_below (is_set s.sources.blocks (block_below krate before id)) leads
+    where
+      not_below : (b : Bool) → cond b stale unset ≡ at m → IsModuleKept s krate m
+      not_below true f = absurd (let no : ⊥ = cc in no)
+      not_below false f = absurd (let no : ⊥ = cc in no)
+  step_kept krate before unset (element.Module name) m from leads = absurd (let no : ⊥ = cc in no)
+  step_kept krate before unset (element.Block b) m from leads = absurd (let no : ⊥ = cc in no)
+
+  down_kept : (krate : Crate) (before : List PlaceElement) (st : Standing) (steps : List PlaceElement) (m : ModuleId) → ((n : ModuleId) → st ≡ at n → IsModuleKept s krate n)
+      → down s.tables s.sources.blocks s.kept krate before st steps ≡ at m → IsModuleKept s krate m
+  down_kept krate before st [] m from leads = from m leads
+  down_kept krate before st (e ∷ more) m from leads =
+      down_kept krate (before ++ e ∷ []) (step s.tables s.sources.blocks s.kept krate before st e) more m (λ n is. step_kept krate before st e n from is) leads
+
+  -- the module to which the steps of a place lead
+  pub module_there : (place : PlaceValue) (m : ModuleId) → standing_of s place ≡ at m → IsModuleKept s place.krate m
+  module_there place m leads = go (kept_of s (crate_map place.krate)) refl leads
+    where
+      root_kept : (r : Resolution) → kept_of s (crate_map place.krate) ≡ Some r → (n : ModuleId) → at (root_of r.map.id) ≡ at n → IsModuleKept s place.krate n
+      root_kept r is n e =
+          let gives = kept_gives s sound (crate_map place.krate) r is in
+          subst (λ (x : ModuleId). IsModuleKept s place.krate x) (same_module e) (record {
+            own = ap (λ (x : MapId). x.krate) gives.own;
+            found = r;
+            is = ap (kept_of s) gives.own ∙ is;
+            there = first_there r.map.modules gives.names.root;
+          })
+
+      go : (o : Option Resolution) → kept_of s (crate_map place.krate) ≡ o → from_crate s.tables s.sources.blocks s.kept o place ≡ at m → IsModuleKept s place.krate m
+      go None is f = absurd (let no : ⊥ = cc in no)
+      go (Some r) is f = down_kept place.krate [] (at (root_of r.map.id)) place.elements m (root_kept r is) f
+
 -- ---- along a way in which what is kept stays
 
 module _ (s : SessionState) (sound : IsSound s) (Stays : MapId → Type 0) (outwards : (id d : MapId) → Stays id → Contains (follows s id) d → Stays d) where
@@ -267,92 +376,92 @@ module _ (s : SessionState) (sound : IsSound s) (Stays : MapId → Type 0) (outw
 
   module _ (T : TablesValue) (F : SourceTable) (K : Resolutions) (keeps : KeepsTables s.tables T) (same : (id : MapId) → Stays id → kept_in K id ≡ kept_of s id)
       (set : (b : BlockId) (place : BlockPlace) → block_at s.tables b ≡ Some place → Stays (block_map place.holder.krate b) → is_set s.sources.blocks place ≡ true → is_set F.blocks place ≡ true)
-      where
-    -- the session with other tables, sources and resolutions
-    abbrev other : SessionState
-    other = record { crates = s.crates; tables = T; sources = F; kept = K }
+    where
+      -- the session with other tables, sources and resolutions
+      abbrev other : SessionState
+      other = record { crates = s.crates; tables = T; sources = F; kept = K }
 
-    -- one step
-    step_stays : (krate : Crate) (before : List PlaceElement) (n : ModuleId) (e : PlaceElement) (m : ModuleId) → Stays n.map → next krate before (at n) e ≡ at m → Stays m.map
-        → step T F.blocks K krate before (at n) e ≡ at m
-    step_stays krate before n (element.Module name) m here leads there =
-        ap (λ (o : Option Resolution). to_child n.map (option_and_then (λ (r : Resolution). child_at r.map n.index name) o)) (same n.map here) ∙ leads
-    step_stays krate before n (element.Block id) m here leads there =
-        let place : BlockPlace = block_below krate before id in
-        let p = to_block_at s.tables s.sources.blocks s.kept place m leads in
-        let own : m.map ≡ block_map krate p.number = sym (ap (λ (x : ModuleId). x.map) p.root) ∙ (kept_gives s sound (block_map krate p.number) p.found p.is).own in
-        let stays : Stays (block_map krate p.number) = subst Stays own there in
-        block_step T F.blocks K place m (record {
-          set = set p.number place (number_means s.tables place p.number p.numbered) stays p.set;
-          number = p.number;
-          numbered = number_kept s.tables T keeps place p.number p.numbered;
-          found = p.found;
-          is = same (block_map krate p.number) stays ∙ p.is;
-          root = p.root;
-        })
+      -- one step
+      step_stays : (krate : Crate) (before : List PlaceElement) (n : ModuleId) (e : PlaceElement) (m : ModuleId) → Stays n.map → next krate before (at n) e ≡ at m → Stays m.map
+          → step T F.blocks K krate before (at n) e ≡ at m
+      step_stays krate before n (element.Module name) m here leads there =
+          ap (λ (o : Option Resolution). to_child n.map (option_and_then (λ (r : Resolution). child_at r.map n.index name) o)) (same n.map here) ∙ leads
+      step_stays krate before n (element.Block id) m here leads there =
+          let place : BlockPlace = block_below krate before id in
+          let p = to_block_at s.tables s.sources.blocks s.kept place m leads in
+          let own : m.map ≡ block_map krate p.number = sym (ap (λ (x : ModuleId). x.map) p.root) ∙ (kept_gives s sound (block_map krate p.number) p.found p.is).own in
+          let stays : Stays (block_map krate p.number) = subst Stays own there in
+          block_step T F.blocks K place m (record {
+            set = set p.number place (number_means s.tables place p.number p.numbered) stays p.set;
+            number = p.number;
+            numbered = number_kept s.tables T keeps place p.number p.numbered;
+            found = p.found;
+            is = same (block_map krate p.number) stays ∙ p.is;
+            root = p.root;
+          })
 
-    -- all steps
-    forth : (krate : Crate) (r : Resolution) (is_kept : kept_of s (crate_map krate) ≡ Some r) (before : List PlaceElement) (st : Standing) (more : List PlaceElement) (m : ModuleId)
-        → on krate [] (at (root_of r.map.id)) before ≡ st → on krate before st more ≡ at m → Stays m.map → down T F.blocks K krate before st more ≡ at m
-    forth krate r is_kept before st [] m is leads stays = leads
-    forth krate r is_kept before st (e ∷ more) m is leads stays =
-        let later = back krate r is_kept (before ++ e ∷ []) (next krate before st e) more m (one_more krate r is_kept before st e is) leads stays in
-        let here = back_step krate before st e later.module_ (reached krate r is_kept before st is) later.is later.stays in
-        let from : next krate before (at here.module_) e ≡ at later.module_ = ap (λ (x : Standing). next krate before x e) (sym here.is) ∙ later.is in
-        let first : step T F.blocks K krate before st e ≡ next krate before st e =
-        ap (λ (x : Standing). step T F.blocks K krate before x e) here.is ∙ step_stays krate before here.module_ e later.module_ here.stays from later.stays ∙ sym later.is in
-        ap (λ (x : Standing). down T F.blocks K krate (before ++ e ∷ []) x more) first
-        ∙ forth krate r is_kept (before ++ e ∷ []) (next krate before st e) more m (one_more krate r is_kept before st e is) leads stays
+      -- all steps
+      forth : (krate : Crate) (r : Resolution) (is_kept : kept_of s (crate_map krate) ≡ Some r) (before : List PlaceElement) (st : Standing) (more : List PlaceElement) (m : ModuleId)
+          → on krate [] (at (root_of r.map.id)) before ≡ st → on krate before st more ≡ at m → Stays m.map → down T F.blocks K krate before st more ≡ at m
+      forth krate r is_kept before st [] m is leads stays = leads
+      forth krate r is_kept before st (e ∷ more) m is leads stays =
+          let later = back krate r is_kept (before ++ e ∷ []) (next krate before st e) more m (one_more krate r is_kept before st e is) leads stays in
+          let here = back_step krate before st e later.module_ (reached krate r is_kept before st is) later.is later.stays in
+          let from : next krate before (at here.module_) e ≡ at later.module_ = ap (λ (x : Standing). next krate before x e) (sym here.is) ∙ later.is in
+          let first : step T F.blocks K krate before st e ≡ next krate before st e =
+          ap (λ (x : Standing). step T F.blocks K krate before x e) here.is ∙ step_stays krate before here.module_ e later.module_ here.stays from later.stays ∙ sym later.is in
+          ap (λ (x : Standing). down T F.blocks K krate (before ++ e ∷ []) x more) first
+          ∙ forth krate r is_kept (before ++ e ∷ []) (next krate before st e) more m (one_more krate r is_kept before st e is) leads stays
 
-    -- the steps of a place that lead into a map that stays lead there
-    pub standing_stays : (place : PlaceValue) (m : ModuleId) → standing_of s place ≡ at m → Stays m.map → standing_in T F.blocks K place ≡ at m
-    standing_stays place m leads stays = go (kept_of s (crate_map place.krate)) refl leads
-      where
-        go : (o : Option Resolution) → kept_of s (crate_map place.krate) ≡ o → from_crate s.tables s.sources.blocks s.kept o place ≡ at m → standing_in T F.blocks K place ≡ at m
-        go None is f = absurd (let no : ⊥ = cc in no)
-        go (Some r) is f =
-            let root = back place.krate r is [] (at (root_of r.map.id)) place.elements m refl f stays in
-            let first : root_of r.map.id ≡ root.module_ = same_module root.is in
-            let own : root.module_.map ≡ crate_map place.krate = sym (ap (λ (x : ModuleId). x.map) first) ∙ (kept_gives s sound (crate_map place.krate) r is).own in
-            ap (λ (o : Option Resolution). from_crate T F.blocks K o place) (same (crate_map place.krate) (subst Stays own root.stays) ∙ is)
-            ∙ forth place.krate r is [] (at (root_of r.map.id)) place.elements m refl f stays
+      -- the steps of a place that lead into a map that stays lead there
+      pub standing_stays : (place : PlaceValue) (m : ModuleId) → standing_of s place ≡ at m → Stays m.map → standing_in T F.blocks K place ≡ at m
+      standing_stays place m leads stays = go (kept_of s (crate_map place.krate)) refl leads
+        where
+          go : (o : Option Resolution) → kept_of s (crate_map place.krate) ≡ o → from_crate s.tables s.sources.blocks s.kept o place ≡ at m → standing_in T F.blocks K place ≡ at m
+          go None is f = absurd (let no : ⊥ = cc in no)
+          go (Some r) is f =
+              let root = back place.krate r is [] (at (root_of r.map.id)) place.elements m refl f stays in
+              let first : root_of r.map.id ≡ root.module_ = same_module root.is in
+              let own : root.module_.map ≡ crate_map place.krate = sym (ap (λ (x : ModuleId). x.map) first) ∙ (kept_gives s sound (crate_map place.krate) r is).own in
+              ap (λ (o : Option Resolution). from_crate T F.blocks K o place) (same (crate_map place.krate) (subst Stays own root.stays) ∙ is)
+              ∙ forth place.krate r is [] (at (root_of r.map.id)) place.elements m refl f stays
 
-    pub module_stays : (place : PlaceValue) (m : ModuleId) → module_of s place ≡ Some m → Stays m.map → module_of other place ≡ Some m
-    module_stays place m leads stays = ap module_by (standing_stays place m (at_module (standing_of s place) m leads) stays)
+      pub module_stays : (place : PlaceValue) (m : ModuleId) → module_of s place ≡ Some m → Stays m.map → module_of other place ≡ Some m
+      module_stays place m leads stays = ap module_by (standing_stays place m (at_module (standing_of s place) m leads) stays)
 
-    -- so does the file in which a module of such a map is written
-    pub definition_stays : (m : ModuleId) (file : EditionedFileId) → definition_file s.tables s.kept m ≡ Some file → Stays m.map → definition_file T K m ≡ Some file
-    definition_stays m file written stays =
-        ap (λ (o : Option Resolution). option_and_then (λ (r : Resolution). file_of_module T (module_at r.map m.index)) o) (same m.map stays)
-        ∙ go (kept_of s m.map) written
-      where
-        of_module : (o : Option ModuleValue) → file_of_module s.tables o ≡ Some file → file_of_module T o ≡ Some file
-        of_module None f = f
-        of_module (Some v) f = origin_file_kept s.tables T keeps v.origin file f
+      -- so does the file in which a module of such a map is written
+      pub definition_stays : (m : ModuleId) (file : EditionedFileId) → definition_file s.tables s.kept m ≡ Some file → Stays m.map → definition_file T K m ≡ Some file
+      definition_stays m file written stays =
+          ap (λ (o : Option Resolution). option_and_then (λ (r : Resolution). file_of_module T (module_at r.map m.index)) o) (same m.map stays)
+          ∙ go (kept_of s m.map) written
+        where
+          of_module : (o : Option ModuleValue) → file_of_module s.tables o ≡ Some file → file_of_module T o ≡ Some file
+          of_module None f = f
+          of_module (Some v) f = origin_file_kept s.tables T keeps v.origin file f
 
-        go : (o : Option Resolution) → option_and_then (λ (r : Resolution). file_of_module s.tables (module_at r.map m.index)) o ≡ Some file
-            → option_and_then (λ (r : Resolution). file_of_module T (module_at r.map m.index)) o ≡ Some file
-        go None f = no_value f
-        go (Some r) f = of_module (module_at r.map m.index) f
+          go : (o : Option Resolution) → option_and_then (λ (r : Resolution). file_of_module s.tables (module_at r.map m.index)) o ≡ Some file
+              → option_and_then (λ (r : Resolution). file_of_module T (module_at r.map m.index)) o ≡ Some file
+          go None f = no_value f
+          go (Some r) f = of_module (module_at r.map m.index) f
 
-    -- and what a run begins with whose holder lies in such a map
-    pub beginning_stays : (id : MapId) (from : Beginning) → beginning_of s id ≡ Some from → ((h : ModuleId) → holder_of from.start ≡ Some h → Stays h.map) → beginning_of other id ≡ Some from
-    beginning_stays id from begun held = go id.block begun
-      where
-        go : (o : Option BlockId) → beginning_by s id.krate o ≡ Some from → beginning_by other id.krate o ≡ Some from
-        go None e = e
-        go (Some b) e =
-            let p = block_begun s id.krate b from e in
-            let stays : Stays p.holder.map = held p.holder (holder_begun s id.krate b from p) in
-            begun_block other id.krate b from (record {
-              place = p.place;
-              means = keeps.blocks b.0 p.place p.means;
-              holder = p.holder;
-              held = module_stays p.place.holder p.holder p.held stays;
-              file = p.file;
-              written = definition_stays p.holder p.file p.written stays;
-              is = p.is;
-            })
+      -- and what a run begins with whose holder lies in such a map
+      pub beginning_stays : (id : MapId) (from : Beginning) → beginning_of s id ≡ Some from → ((h : ModuleId) → holder_of from.start ≡ Some h → Stays h.map) → beginning_of other id ≡ Some from
+      beginning_stays id from begun held = go id.block begun
+        where
+          go : (o : Option BlockId) → beginning_by s id.krate o ≡ Some from → beginning_by other id.krate o ≡ Some from
+          go None e = e
+          go (Some b) e =
+              let p = block_begun s id.krate b from e in
+              let stays : Stays p.holder.map = held p.holder (holder_begun s id.krate b from p) in
+              begun_block other id.krate b from (record {
+                place = p.place;
+                means = keeps.blocks b.0 p.place p.means;
+                holder = p.holder;
+                held = module_stays p.place.holder p.holder p.held stays;
+                file = p.file;
+                written = definition_stays p.holder p.file p.written stays;
+                is = p.is;
+              })
 
 -- ---- as tables grow
 

@@ -2,6 +2,7 @@
 use Rattle.std.specs.Coded.{Coded, codes}
 use Rattle.hir_wire.specs.Edits.{EntryValue}
 use Rattle.hir_session_state.specs.SourceCodes.{coded_source}
+use Rattle.hir_session_state.specs.Blocks.{Blocks}
 use Rattle.hir_session_state.specs.Entries.{Entries}
 use Rattle.hir_session_state.specs.SourceTable.{SourceTable}
 
@@ -13,6 +14,10 @@ coded_entry = hlevel (codes, coded_source)
 pub coded_entries : Coded Entries
 coded_entries = hlevel (codes, coded_source)
 
--- sources are stored as files and expansions
+-- blocks are stored as the lists of those of each crate
+pub coded_blocks : Coded Blocks
+coded_blocks = hlevel (codes, coded_source)
+
+-- sources are stored as files, blocks and expansions
 pub coded_table : Coded SourceTable
 coded_table = hlevel (codes, coded_source)

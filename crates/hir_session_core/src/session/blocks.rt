@@ -106,7 +106,11 @@ impl Session {
     }
 
     /// Removes a block, as the edit of that name does.
-    pub(super) fn remove_block(&mut self, alloc: Global, block: &BlockPlace) -> Result<(), EditError>
+    pub(super) fn remove_block(
+        &mut self,
+        alloc: Global,
+        block: &BlockPlace,
+    ) -> Result<(), EditError>
         ensures answer { Gives IsEditMemory result (verdict_of_block (length self.old.crates) block.now (Ok tt)) }
         ensures ok { OnOk result (Becomes self.old (edited self.old.sources (of_block block.now None)) self.new) }
         ensures err { OnErr result (self.new ≡ self.old) }

@@ -2,24 +2,24 @@
 //!
 //! Crates come first, by number, so that a run finds what it depends on. Once no crate is marked, blocks follow, an outer one
 //! before those within it: whether the module that holds a block is there is known once the blocks around it were resolved.
-ghost use Rattle.std.specs.Prelude.{◌≡◌, ◌≢◌, ¬◌, ℕ, ◌<◌, ◌≤◌, ◌++◌, ◌∷◌, [], true, false, length, None, Some, IfOk, IfSome, OnOk, OnErr, OnNone, Ok, Err};
+ghost use Rattle.std.specs.Prelude.{◌≡◌, ◌≢◌, ¬◌, ℕ, ◌<◌, ◌≤◌, ◌++◌, ◌∷◌, [], true, false, length, None, Some, IfOk, IfSome, IsSome, OnOk, OnErr, OnNone, Err};
 ghost use Rattle.hir_base.specs.Locations.{max_locations};
 ghost use Rattle.hir_base.specs.Place.{PlaceValue};
 ghost use Rattle.hir_base.specs.declared.place.BlockPlace.{BlockPlace};
 ghost use Rattle.hir_collector_rules.specs.Derivation.{IsOverlong, collected_view};
-ghost use Rattle.hir_tables.specs.Tables.{block_at};
+ghost use Rattle.hir_tables.specs.Tables.{block_at, file_at};
 ghost use Rattle.hir_session_state.specs.Blocks.{place_of_block};
 ghost use Rattle.hir_session_state.specs.Crates.{begins_in_block, id_of};
 ghost use Rattle.hir_session_state.specs.Changes.{Refreshes, RefreshesPartly};
 ghost use Rattle.hir_session_state.specs.Due.{root_place, Grows, HasOverlongRun, IsDueBlock, IsStuckAt, Resolved};
-ghost use Rattle.hir_session_state.specs.SessionState.{SessionState, Resolution, beginning_of, block_kept, finished_of, is_marked, module_of, workspace_of, IsPlace, IsResolutionOf, IsSound};
-ghost use Rattle.hir_session_state.specs.Standing.{block_map, block_number, is_set};
+ghost use Rattle.hir_session_state.specs.SessionState.{SessionState, Resolution, beginning_of, finished_of, is_marked, module_of, workspace_of, IsPlace, IsResolutionOf, IsSound};
+ghost use Rattle.hir_session_state.specs.Standing.{block_map, block_number, definition_file};
 ghost use Rattle.hir_session_core.specs.Progress.{held_in, AreCratesCurrent, AreFollowedCurrent, HasResolved, IsBlockResolved, IsRefreshed};
 ghost use Rattle.hir_session_answers.specs.Status.{status_of};
 ghost use Rattle.hir_wire.specs.declared.reply.Status.TheVariants as status;
 
 use super::Session;
-use hir_base::ast_id::BlockId;
+use hir_base::ast_id::{BlockId, EditionedFileId};
 use hir_base::ids::{Crate, MapId, ModuleId};
 use hir_base::locations::LocationsError;
 use hir_base::place::{BlockPlace, Place};
@@ -47,15 +47,14 @@ fn note(alloc: Global, done: &mut Vec<Place>, k: u32) -> Result<(), AllocError>
 
 impl Session {
     /// Keeps what a run came to for a marked place, of which what it depends on is current.
-    fn keep_found(&mut self, id: MapId, found: Collected) -> Result<(), RefreshError>
+    fn keep_found(&mut self, id: MapId, found: Collected) -> Result<(), AllocError>
         requires place { IsPlace self.old id }
         requires marked { is_marked self.old id ≡ true }
         requires found { IsResolutionOf self.old id (held_in self.old (collected_view found)) }
         requires behind { AreFollowedCurrent self.old id found.map.holder }
-        ensures ok { OnOk result ((r : Resolution) × Resolved self.old id r self.new) }
+        ensures ok { OnOk result (Resolved self.old id (held_in self.old (collected_view found)) self.new) }
         ensures sound { IsSound self.new }
-        ensures many { result ≡ Err RefreshError.TooMany → ⊥ }
-        ensures err { OnErr result (Grows self.old self.new) }
+        ensures err { OnErr result (self.new ≡ self.old) }
     {
         self.askers.note(&self.tables, &found.asked, id)?;
         self.kept.keep(found)?;
@@ -92,7 +91,8 @@ impl Session {
         ensures err { OnErr result (Grows self.old self.new) }
     {
         let found = self.found_at(alloc, k)?;
-        self.keep_found(MapId::of_crate(Crate(k)), found)
+        self.keep_found(MapId::of_crate(Crate(k)), found)?;
+        Ok(())
     }
 
     /// Resolves the marked crates, in order, and lists them.
@@ -127,12 +127,23 @@ impl Session {
         }
     }
 
+    /// The file in which a module of a current map is written, or the outermost call around it.
+    fn file_of(&self, m: ModuleId) -> Option<EditionedFileId>
+        ensures is { IfSome result (λ file. definition_file self.now.tables self.now.kept m ≡ Some file) }
+        ensures numbered { IfSome result (λ file. IsSome (file_at self.now.tables file.file_id)) }
+    {
+        let file = definition_file_at(&self.tables, &self.kept, m)?;
+        self.tables.file(file.file_id)?;
+        Some(file)
+    }
+
     /// What a run gives for a block, beside the maps of its crate and of the module that holds it.
     fn found_in(&mut self, alloc: Global, at: HeldBlock) -> Result<Collected, RefreshError>
         requires place { IsPlace self.old (block_map at.krate at.block) }
         requires marked { is_marked self.old (block_map at.krate at.block) ≡ true }
         requires begun { beginning_of self.old (block_map at.krate at.block)
             ≡ Some (begins_in_block at.krate at.block at.holder at.file at.id) }
+        requires numbered { IsSome (file_at self.old.tables at.file.file_id) }
         requires behind { AreFollowedCurrent self.old (block_map at.krate at.block) (Some at.holder) }
         ensures grown { Grows self.old self.new }
         ensures found { IfOk result (λ r. IsResolutionOf self.new (block_map at.krate at.block) (held_in self.new (collected_view r))) }
@@ -150,6 +161,7 @@ impl Session {
         requires marked { is_marked self.old (block_map at.krate at.block) ≡ true }
         requires begun { beginning_of self.old (block_map at.krate at.block)
             ≡ Some (begins_in_block at.krate at.block at.holder at.file at.id) }
+        requires numbered { IsSome (file_at self.old.tables at.file.file_id) }
         requires behind { AreFollowedCurrent self.old (block_map at.krate at.block) (Some at.holder) }
         ensures ok { OnOk result ((r : Resolution) × Resolved self.old (block_map at.krate at.block) r self.new) }
         ensures sound { IsSound self.new }
@@ -162,7 +174,8 @@ impl Session {
             krate: at.krate,
             block: Some(at.block),
         };
-        self.keep_found(id, found)
+        self.keep_found(id, found)?;
+        Ok(())
     }
 
     /// Gives a block that is due its number, and resolves it in the module that holds it.
@@ -183,9 +196,8 @@ impl Session {
         let krate = block.holder.krate();
         let id = block.id;
         let number = self.number_of(block)?;
-        // What holds a module of a finished map stands in a file, or in what a call in a file expands to, through calls that come
-        // before one another.
-        let Some(file) = definition_file_at(&self.tables, &self.kept, holder) else {
+        // A module of a current map is written in a file that has a number, or in what calls in one expand to.
+        let Some(file) = self.file_of(holder) else {
             return Err(RefreshError::Memory);
         };
         let at = HeldBlock {
