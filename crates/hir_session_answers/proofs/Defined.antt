@@ -217,12 +217,13 @@ module _ (tables : TablesValue) (w : Workspace) (all : Maps) (from : Beginning) 
       elim (tree_by tables w all from ends.last (record { krate = krate; id = record { file = Macro c; block = None } }) (ends.caused _ asked)) [
         | of_start is ↦ absurd (let wrong : ⊥ = (let both : Macro c ≡ File begun.root = ap (λ (k : TreeKey). k.id.file) is ∙ begun.tree in cc) in wrong)
         | of_a_file other edition id is ↦ absurd (let wrong : ⊥ = (let both : Macro c ≡ File (record { file_id = id; edition = edition }) = ap (λ (k : TreeKey). k.id.file) is in cc) in wrong)
-        | of_a_call at passed of is ↦ by_call at passed of (ap (λ (k : TreeKey). k.id.file) is)
+        | of_a_call at passed of is ↦ by_call (λ other held block. found n other held block) at passed of (ap (λ (k : TreeKey). k.id.file) is)
       ]
     where
-      by_call : (at : State) → IsPassed tables w all from ends.last at → (of : IsOfCall tables w (read_by w all from.start) at (keys.Tree (record { krate = krate; id = record { file = Macro c; block = None } })))
+      by_call : ((other : Crate) (held : HirFileId) (block : Option BlockId) → Contains answer.asked (keys.Tree (record { krate = other; id = record { file = held; block = block } }))
+          → (block ≡ None → most_calls held ≤ n) → HasFile tables n held) → (at : State) → IsPassed tables w all from ends.last at → (of : IsOfCall tables w (read_by w all from.start) at (keys.Tree (record { krate = krate; id = record { file = Macro c; block = None } })))
           → Macro of.seen.id ≡ Macro c → HasFile tables (suc n) (Macro c)
-      by_call at passed of same =
+      by_call next at passed of same =
           let d : MacroDirective = of.call in
           let is : of.seen.id ≡ c = cc in
           let call : call_at tables c ≡ Some (call_loc d of.seen.entry) = ap (call_at tables) (sym is) ∙ of.numbered.call in
@@ -233,12 +234,12 @@ module _ (tables : TablesValue) (w : Workspace) (all : Maps) (from : Beginning) 
           let block : (call_node (call_kind d)).block ≡ d.site.tree.block = ap (λ (x : AstId). x.block) node ∙ written.block in
           let below : IsPlacedBelow tables c.0 (call_node (call_kind d)) = placed.calls c.0 (call_loc d of.seen.entry) call in
           let within : c.0 ≤ n = (let bound : suc c.0 ≤ suc n = low refl in omega arith) in
-          let next = found n answer.map.id.krate d.site.tree.file d.site.tree.block written.asked
+          let outer = next answer.map.id.krate d.site.tree.file d.site.tree.block written.asked
               (λ none. few_calls n c.0 d.site.tree.file within (λ m e. below.earlier m (file ∙ e) (block ∙ none))) in
           record {
-            root = next.root;
-            is = ap (option_and_then (λ (x : MacroCallLoc). file_within n tables (call_node x.kind).file_id)) call ∙ ap (file_within n tables) file ∙ next.is;
-            means = next.means;
+            root = outer.root;
+            is = ap (option_and_then (λ (x : MacroCallLoc). file_within n tables (call_node x.kind).file_id)) call ∙ ap (file_within n tables) file ∙ outer.is;
+            means = outer.means;
           }
 
   -- and each module
