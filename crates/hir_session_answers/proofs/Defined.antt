@@ -228,14 +228,14 @@ module _ (tables : TablesValue) (w : Workspace) (all : Maps) (from : Beginning) 
           let is : of.seen.id ≡ c = cc in
           let call : call_at tables c ≡ Some (call_loc d of.seen.entry) = ap (call_at tables) (sym is) ∙ of.numbered.call in
           let written = written_at tables w answer d d.kind
-              (calls_are_written tables w all from answer ends d (standing ends.last.core.calls of.place d (call_stays passed.after of.place d of.expands.called.due.waiting.call))).0.by in
+          (calls_are_written tables w all from answer ends d (standing ends.last.core.calls of.place d (call_stays passed.after of.place d of.expands.called.due.waiting.call))).0.by in
           let node : call_node (call_kind d) ≡ d.ast_id = node_by d.ast_id d.kind in
           let file : (call_node (call_kind d)).file_id ≡ d.site.tree.file = ap (λ (x : AstId). x.file_id) node ∙ written.file in
           let block : (call_node (call_kind d)).block ≡ d.site.tree.block = ap (λ (x : AstId). x.block) node ∙ written.block in
           let below : IsPlacedBelow tables c.0 (call_node (call_kind d)) = placed.calls c.0 (call_loc d of.seen.entry) call in
           let within : c.0 ≤ n = (let bound : suc c.0 ≤ suc n = low refl in omega arith) in
           let outer = next answer.map.id.krate d.site.tree.file d.site.tree.block written.asked
-              (λ none. few_calls n c.0 d.site.tree.file within (λ m e. below.earlier m (file ∙ e) (block ∙ none))) in
+          (λ none. few_calls n c.0 d.site.tree.file within (λ m e. below.earlier m (file ∙ e) (block ∙ none))) in
           record {
             root = outer.root;
             is = ap (option_and_then (λ (x : MacroCallLoc). file_within n tables (call_node x.kind).file_id)) call ∙ ap (file_within n tables) file ∙ outer.is;
@@ -293,7 +293,7 @@ defined_there s sound m r is there = go (module_at r.map m.index) refl there
         let gives = kept_gives s sound m.map r is in
         let ended : Ends s.tables (workspace_of s) (finished_of s) gives.from (collected_of r) = gives.resolved.ends (workspace_of s) (finished_of s) AgreeOn-refl in
         let origin = module_written s.tables (workspace_of s) (finished_of s) gives.from (collected_of r) ended gives.meant sound.calls (of_file_begun s m.map gives.from gives.begun) m.index v e
-            (below_length r.map.modules m.index v e) in
+        (below_length r.map.modules m.index v e) in
         record {
           root = origin.root;
           is = ap (option_and_then (λ (x : Resolution). file_of_module s.tables (module_at x.map m.index))) is ∙ ap (file_of_module s.tables) e ∙ origin.is;
