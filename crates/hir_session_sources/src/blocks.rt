@@ -175,11 +175,7 @@ fn set_of_crate(
 }
 
 /// Removes a block of a crate.
-fn remove_of_crate(
-    blocks: &mut BTreeMap<Crate, CrateBlocks>,
-    krate: Crate,
-    steps: &[PlaceElement],
-)
+fn remove_of_crate(blocks: &mut BTreeMap<Crate, CrateBlocks>, krate: Crate, steps: &[PlaceElement])
     ensures value { blocks.new.entries ≡ without_set blocks.old.entries krate steps.now }
 {
     match blocks.get_mut(&krate) {
