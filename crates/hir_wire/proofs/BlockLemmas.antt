@@ -1,11 +1,11 @@
 -- What the items of a block's place mean.
-use Rattle.std.proofs.Common.{◌≡◌, List, [], ◌∷◌, ◌++◌, Some, refl, ap, ◌∙◌}
-use Rattle.serde_json.specs.Data.{Data, Items, item}
+use Rattle.std.proofs.Common.{◌≡◌, List, [], ◌∷◌, ◌++◌, length, Some, Err, refl, ap}
+use Rattle.serde_json.specs.Data.{item}
 use Rattle.serde_json.specs.View.{view, items_view}
 use Rattle.serde_json.specs.declared.value.Value.{Value}
-use Rattle.hir_base.specs.declared.place.BlockPlace.{BlockPlace}
+use Rattle.hir_wire.specs.declared.read_error.ReadError.TheVariants.{Command}
 use Rattle.hir_wire.specs.Paths.{place_of_items, block_step_of, block_place_of_items, items_before_last, last_item}
-use Rattle.hir_wire.specs.Reading.{Reading, made, paired, if_there}
+use Rattle.hir_wire.specs.Reading.{made, paired, graver}
 
 before_last-pushed : (vs : List Value) (v : Value) → items_before_last (items_view (vs ++ v ∷ [])) ≡ items_view vs
 before_last-pushed [] v = refl
@@ -23,3 +23,9 @@ pub block_place-pushed : (all vs : List Value) (v : Value) → all ≡ vs ++ v �
     ≡ made (λ p. record { holder = p.0; id = p.1 }) (paired (place_of_items (items_view vs)) (block_step_of (view v)))
 unfolding block_place_of_items
 block_place-pushed all vs v is = rw (is, before_last-pushed vs v, last_item-pushed vs v) refl
+
+-- no step leads to no block
+pub block_place-none : (all : List Value) → length all ≡ 0 → block_place_of_items (items_view all) ≡ Err Command
+unfolding block_place_of_items graver
+block_place-none [] none = refl
+block_place-none (v ∷ vs) none = absurd cc
