@@ -2,13 +2,13 @@
 //!
 //! They are found by a crate and the steps to a block, which takes no memory; each is kept with its place, by which its number
 //! is found.
-ghost use Rattle.std.specs.Prelude.{◌≡◌, ◌∷◌, [], not, filter, map, IfOk, IfSome, OnOk, OnErr, option_map};
+ghost use Rattle.std.specs.Prelude.{◌≡◌, ◌∷◌, [], not, filter, map, is_some, IfOk, IfSome, OnOk, OnErr, option_map};
 ghost use Rattle.std.specs.BTreeMap.{is_at, insert_entry};
 ghost use Rattle.std.specs.Map.{lookup};
 ghost use Rattle.hir_base.specs.contracts.ids.CrateOrd.TheImpl as crate_order;
 ghost use Rattle.hir_item_tree.specs.Source.{source_view};
 ghost use Rattle.hir_session_state.specs.Blocks.{block_in, place_of_block, steps_cmp, with_block, without_block};
-ghost use Rattle.hir_session_sources.specs.BlockTables.{ArePlacedIn, by_steps, left_by, or_none, sources_of, steps_in, with_set, without_set, without_steps};
+ghost use Rattle.hir_session_sources.specs.BlockTables.{ArePlacedIn, by_steps, has_place, left_by, or_none, sources_of, steps_in, with_set, without_set, without_steps};
 ghost use Rattle.hir_session_sources.specs.BlockPlaces.{places_of};
 
 use hir_base::ids::Crate;
@@ -104,6 +104,18 @@ impl CrateBlocks {
         self.by_steps.get(steps)
     }
 
+    /// Whether a place is that of one of the blocks. They are gone over, since the steps by which one is found would take memory.
+    fn has(&self, place: &BlockPlace) -> bool
+        ensures value { result ≡ has_place (map (λ e. e.1.place) self.now) place.now }
+    {
+        for block in self.by_steps.values() {
+            if *block.place() == *place {
+                return true;
+            }
+        }
+        false
+    }
+
     fn set(&mut self, steps: Vec<PlaceElement>, block: SetBlock) -> Result<(), AllocError>
         ensures ok { OnOk result (self.new ≡ insert_entry steps_cmp self.old steps.items block) }
         ensures err { OnErr result (self.new ≡ self.old) }
@@ -175,11 +187,7 @@ fn set_of_crate(
 }
 
 /// Removes a block of a crate.
-fn remove_of_crate(
-    blocks: &mut BTreeMap<Crate, CrateBlocks>,
-    krate: Crate,
-    steps: &[PlaceElement],
-)
+fn remove_of_crate(blocks: &mut BTreeMap<Crate, CrateBlocks>, krate: Crate, steps: &[PlaceElement])
     ensures value { blocks.new.entries ≡ without_set blocks.old.entries krate steps.now }
 {
     match blocks.get_mut(&krate) {
@@ -246,6 +254,16 @@ impl Blocks {
             own.add_places(&mut places)?;
         }
         Ok(places)
+    }
+
+    /// Whether a block is there.
+    pub fn has(&self, place: &BlockPlace) -> bool
+        ensures value { result ≡ is_some (block_in self.now (place_of_block place.now)) }
+    {
+        match self.own(place.holder.krate()) {
+            Some(own) => own.has(place),
+            None => false,
+        }
     }
 
     /// The source of a block, if it is there. The steps to it take memory.
