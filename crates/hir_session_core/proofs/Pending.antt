@@ -1,6 +1,6 @@
 -- How the blocks are collected of which nothing is kept.
-use Rattle.std.specs.Prelude.{is_none, is_some, map}
-use Rattle.std.proofs.Common.{◌≡◌, ◌∙◌, ◌⊎◌, inl, inr, zero, suc, ◌<◌, Bool, true, false, ◌&&◌, cond, List, [], ◌∷◌, ◌++◌, length, arith, refl, ap, sym, subst, Option, Some, None, Contains}
+use Rattle.std.specs.Prelude.{is_none, is_some, map, IfSome, OnNone}
+use Rattle.std.proofs.Common.{◌≡◌, ◌∙◌, ◌⊎◌, inl, inr, zero, suc, ◌<◌, Bool, true, false, ◌&&◌, cond, List, [], ◌∷◌, ◌++◌, length, arith, refl, ap, sym, subst, Option, Some, None, option_map, Contains}
 use Rattle.std.specs.BTreeMap.{is_at}
 use Rattle.std.specs.BTreeSet.{BTreeSet, insert_key}
 use Rattle.std.specs.Cmp.{second_so}
@@ -15,11 +15,12 @@ use Rattle.hir_base.specs.contracts.place.PlacePartialEq.TheImpl as place_eq
 use Rattle.hir_base.specs.declared.ids.Crate.{Crate}
 use Rattle.hir_base.specs.declared.place.BlockPlace.{BlockPlace}
 use Rattle.hir_base.specs.declared.place.PlaceElement.{PlaceElement}
-use Rattle.hir_session_state.specs.Blocks.{Blocks, CrateBlocks, blocks_of, place_of_block, steps_cmp}
+use Rattle.hir_item_tree.specs.Source.{SourceValue}
+use Rattle.hir_session_state.specs.Blocks.{Blocks, CrateBlocks, block_in, blocks_of, place_of_block, steps_cmp}
 use Rattle.hir_session_state.specs.SessionState.{Resolution, SessionState, block_kept}
 use Rattle.hir_session_state.specs.Standing.{is_set}
 use Rattle.hir_session_state.proofs.Places.{exact_block}
-use Rattle.hir_session_state.proofs.Truth.{clash, on_bool}
+use Rattle.hir_session_state.proofs.Truth.{clash, no_value, on_bool, one_value}
 use Rattle.hir_session_sources.specs.BlockPlaces.{places_in, places_of}
 use Rattle.hir_session_sources.specs.BlockTables.{steps_in}
 use Rattle.hir_session_sources.proofs.BlockLemmas.{exact_crates, exact_steps, same_root}
@@ -36,6 +37,22 @@ in_tail y xs x (n, below, is) = (suc n, omega arith, is)
 head_or_tail : {A : Type 0} (y : A) (xs : List A) (x : A) → Contains (y ∷ xs) x → (y ≡ x) ⊎ Contains xs x
 head_or_tail y xs x (zero, below, is) = inl is
 head_or_tail y xs x (suc n, below, is) = inr (n, omega arith, is)
+
+pub marked_none : {A : Type 0} (o : Option A) → is_none o ≡ true → o ≡ None
+marked_none None e = refl
+marked_none (Some x) e = clash e refl
+
+pub on_some : {A : Type 0} {P Q : A → Type 0} (o : Option A) → ((x : A) → P x → Q x) → IfSome o P → IfSome o Q
+on_some None f h = tt
+on_some (Some x) f h = f x h
+
+pub on_both : {A : Type 0} {P Q R : A → Type 0} (o : Option A) → IfSome o P → IfSome o Q → ((x : A) → P x → Q x → R x) → IfSome o R
+on_both None p q f = tt
+on_both (Some x) p q f = f x p q
+
+pub where_none : {A B C : Type 0} (o : Option A) → OnNone o B → (B → C) → OnNone o C
+where_none None h f = f h
+where_none (Some x) h f = tt
 
 -- ---- all blocks that are set
 
@@ -70,6 +87,25 @@ set_listed blocks b there = among_all b.holder.krate (place_of_block b).elements
     go : (o : Option CrateBlocks) → lookup (is_at (crate_order.ghosts.cmp b.holder.krate)) blocks ≡ o → found_in (place_of_block b).elements o ≡ true
     go None none = clash there (ap (λ (o : Option CrateBlocks). is_some (lookup (is_at (steps_cmp (place_of_block b).elements)) (blocks_of o))) none)
     go (Some own) some = sym (ap (λ (o : Option CrateBlocks). is_some (lookup (is_at (steps_cmp (place_of_block b).elements)) (blocks_of o))) some) ∙ there
+
+-- ---- a block that is looked up by the steps to it
+
+pub found_set : (blocks : Blocks) (b : BlockPlace) (at : PlaceValue) → Some (place_of_block b) ≡ option_map (λ (_ : SourceValue). at) (block_in blocks at)
+    → (is_set blocks b ≡ true) × (place_of_block b ≡ at)
+found_set blocks b at is = go (block_in blocks at) refl is
+  where
+    go : (o : Option SourceValue) → block_in blocks at ≡ o → Some (place_of_block b) ≡ option_map (λ (_ : SourceValue). at) o → (is_set blocks b ≡ true) × (place_of_block b ≡ at)
+    go None e f = no_value (sym f)
+    go (Some source) e f =
+        let root : place_of_block b ≡ at = one_value f in
+        (ap (λ (p : PlaceValue). is_some (block_in blocks p)) root ∙ ap (λ (o : Option SourceValue). is_some o) e, root)
+
+pub found_none : (blocks : Blocks) (at : PlaceValue) → None ≡ option_map (λ (_ : SourceValue). at) (block_in blocks at) → (b : BlockPlace) → place_of_block b ≡ at → is_set blocks b ≡ false
+found_none blocks at is b root = ap (λ (p : PlaceValue). is_some (block_in blocks p)) root ∙ go (block_in blocks at) is
+  where
+    go : (o : Option SourceValue) → None ≡ option_map (λ (_ : SourceValue). at) o → is_some o ≡ false
+    go None f = refl
+    go (Some source) f = no_value f
 
 -- ---- pending blocks in their order
 

@@ -1,7 +1,7 @@
 //! Blocks that wait to be resolved.
 ghost use Rattle.std.specs.Prelude.{◌≡◌, IfOk, OnOk, is_none};
 ghost use Rattle.hir_session_state.specs.Blocks.{place_of_block};
-ghost use Rattle.hir_session_state.specs.SessionState.{block_kept};
+ghost use Rattle.hir_session_state.specs.SessionState.{block_kept, is_marked};
 ghost use Rattle.hir_session_core.specs.Progress.{pending_of, with_pending, HasAllPending};
 
 use super::Session;
@@ -34,18 +34,24 @@ impl PendingBlock {
 }
 
 impl Session {
-    /// Whether nothing is kept of a block.
+    /// Whether nothing is kept of a place.
+    pub(super) fn is_marked(&self, id: MapId) -> bool
+        ensures value { result ≡ is_marked self.now id }
+    {
+        self.kept.get(id).is_none()
+    }
+
+    /// Whether nothing is kept of a block: it has no number, or nothing stands under that.
     pub(super) fn is_block_marked(&self, block: &BlockPlace) -> bool
         ensures value { result ≡ is_none (block_kept self.now block.now) }
     {
-        let Some(number) = self.tables.block_number(block) else {
-            return true;
-        };
-        let id = MapId {
-            krate: block.holder.krate(),
-            block: Some(number),
-        };
-        self.kept.get(id).is_none()
+        match self.tables.block_number(block) {
+            Some(number) => self.is_marked(MapId {
+                krate: block.holder.krate(),
+                block: Some(number),
+            }),
+            None => true,
+        }
     }
 
     /// Puts a block among those that are left, where nothing is kept of it.
