@@ -179,7 +179,9 @@ fn remove_of_crate(blocks: &mut BTreeMap<Crate, CrateBlocks>, krate: Crate, step
     ensures value { blocks.new.entries ≡ without_set blocks.old.entries krate steps.now }
 {
     match blocks.get_mut(&krate) {
-        Some(own) => own.remove(steps),
+        Some(own) => {
+            own.remove(steps);
+        }
         None => {}
     }
 }
@@ -261,7 +263,8 @@ impl Blocks {
         let steps = steps_to(alloc, &place)?;
         let krate = place.holder.krate();
         let block = SetBlock { place, source };
-        set_of_crate(&mut self.by_crate, alloc, krate, steps, block)
+        set_of_crate(&mut self.by_crate, alloc, krate, steps, block)?;
+        Ok(())
     }
 
     /// Removes a block. The steps to it take memory.
