@@ -217,28 +217,29 @@ module _ (tables : TablesValue) (w : Workspace) (all : Maps) (from : Beginning) 
       elim (tree_by tables w all from ends.last (record { krate = krate; id = record { file = Macro c; block = None } }) (ends.caused _ asked)) [
         | of_start is ↦ absurd (let wrong : ⊥ = (let both : Macro c ≡ File begun.root = ap (λ (k : TreeKey). k.id.file) is ∙ begun.tree in cc) in wrong)
         | of_a_file other edition id is ↦ absurd (let wrong : ⊥ = (let both : Macro c ≡ File (record { file_id = id; edition = edition }) = ap (λ (k : TreeKey). k.id.file) is in cc) in wrong)
-        | of_a_call at passed of is ↦ by_call at passed of (ap (λ (k : TreeKey). k.id.file) is)
+        | of_a_call at passed of is ↦ by_call (λ other held block. found n other held block) at passed of (ap (λ (k : TreeKey). k.id.file) is)
       ]
     where
-      by_call : (at : State) → IsPassed tables w all from ends.last at → (of : IsOfCall tables w (read_by w all from.start) at (keys.Tree (record { krate = krate; id = record { file = Macro c; block = None } })))
+      by_call : ((other : Crate) (held : HirFileId) (block : Option BlockId) → Contains answer.asked (keys.Tree (record { krate = other; id = record { file = held; block = block } }))
+          → (block ≡ None → most_calls held ≤ n) → HasFile tables n held) → (at : State) → IsPassed tables w all from ends.last at → (of : IsOfCall tables w (read_by w all from.start) at (keys.Tree (record { krate = krate; id = record { file = Macro c; block = None } })))
           → Macro of.seen.id ≡ Macro c → HasFile tables (suc n) (Macro c)
-      by_call at passed of same =
+      by_call next at passed of same =
           let d : MacroDirective = of.call in
           let is : of.seen.id ≡ c = cc in
           let call : call_at tables c ≡ Some (call_loc d of.seen.entry) = ap (call_at tables) (sym is) ∙ of.numbered.call in
           let written = written_at tables w answer d d.kind
-              (calls_are_written tables w all from answer ends d (standing ends.last.core.calls of.place d (call_stays passed.after of.place d of.expands.called.due.waiting.call))).0.by in
+          (calls_are_written tables w all from answer ends d (standing ends.last.core.calls of.place d (call_stays passed.after of.place d of.expands.called.due.waiting.call))).0.by in
           let node : call_node (call_kind d) ≡ d.ast_id = node_by d.ast_id d.kind in
           let file : (call_node (call_kind d)).file_id ≡ d.site.tree.file = ap (λ (x : AstId). x.file_id) node ∙ written.file in
           let block : (call_node (call_kind d)).block ≡ d.site.tree.block = ap (λ (x : AstId). x.block) node ∙ written.block in
           let below : IsPlacedBelow tables c.0 (call_node (call_kind d)) = placed.calls c.0 (call_loc d of.seen.entry) call in
           let within : c.0 ≤ n = (let bound : suc c.0 ≤ suc n = low refl in omega arith) in
-          let next = found n answer.map.id.krate d.site.tree.file d.site.tree.block written.asked
-              (λ none. few_calls n c.0 d.site.tree.file within (λ m e. below.earlier m (file ∙ e) (block ∙ none))) in
+          let outer = next answer.map.id.krate d.site.tree.file d.site.tree.block written.asked
+          (λ none. few_calls n c.0 d.site.tree.file within (λ m e. below.earlier m (file ∙ e) (block ∙ none))) in
           record {
-            root = next.root;
-            is = ap (option_and_then (λ (x : MacroCallLoc). file_within n tables (call_node x.kind).file_id)) call ∙ ap (file_within n tables) file ∙ next.is;
-            means = next.means;
+            root = outer.root;
+            is = ap (option_and_then (λ (x : MacroCallLoc). file_within n tables (call_node x.kind).file_id)) call ∙ ap (file_within n tables) file ∙ outer.is;
+            means = outer.means;
           }
 
   -- and each module
@@ -292,7 +293,7 @@ defined_there s sound m r is there = go (module_at r.map m.index) refl there
         let gives = kept_gives s sound m.map r is in
         let ended : Ends s.tables (workspace_of s) (finished_of s) gives.from (collected_of r) = gives.resolved.ends (workspace_of s) (finished_of s) AgreeOn-refl in
         let origin = module_written s.tables (workspace_of s) (finished_of s) gives.from (collected_of r) ended gives.meant sound.calls (of_file_begun s m.map gives.from gives.begun) m.index v e
-            (below_length r.map.modules m.index v e) in
+        (below_length r.map.modules m.index v e) in
         record {
           root = origin.root;
           is = ap (option_and_then (λ (x : Resolution). file_of_module s.tables (module_at x.map m.index))) is ∙ ap (file_of_module s.tables) e ∙ origin.is;

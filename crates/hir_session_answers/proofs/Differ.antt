@@ -339,8 +339,8 @@ module _ {from to : SessionState} (place : PlaceValue) (path : Path) (shadow : S
         let r : Resolution = there.found in
         let kept : kept_of to m.map ≡ Some r = same.kept m.map itself ∙ there.is in
         let all = subst (λ (read : Maps). answer_in to.tables (overlay read r.map) r.local m path shadow style ≡ answer_in from.tables (overlay read r.map) r.local m path shadow style)
-            (sym (read_kept from m.map r there.is))
-            (kept_answer from.tables to.tables same.tables (maps_behind from m.map r) r.local m path shadow style (whole runs answers leads from sound m r there.is there.there path shadow style)) in
+        (sym (read_kept from m.map r there.is))
+        (kept_answer from.tables to.tables same.tables (maps_behind from m.map r) r.local m path shadow style (whole runs answers leads from sound m r there.is there.there path shadow style)) in
         let over : answer_at to (Some m) path shadow style ≡ answer_at from (Some m) path shadow style =
         ap (λ (o : Option Resolution). answer_from to.tables (read_of to m.map) o m path shadow style) kept
         ∙ ap (λ (read : Maps). answer_from to.tables read (Some r) m path shadow style) (same_read_of m.map r sound there.is same)

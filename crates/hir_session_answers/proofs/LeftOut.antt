@@ -352,10 +352,9 @@ module _ (tables : TablesValue) (placed : AreCallsPlaced tables) where
       within : c.0 ≤ n
       within = let below : suc c.0 ≤ suc n = low refl in omega arith
 
-      abbrev Next : Type 0
-      Next = (held : HirFileId) (block : Option BlockId) → (block ≡ None → most_calls held ≤ n) → IsSome (source_of_tree tables (record { file = held; block = block })) → is_some (source_within n tables held block) ≡ true
-
-      of_call : (call : MacroCallLoc) → call_at tables c ≡ Some call → Next → is_some (option_and_then inside (call_at tables c)) ≡ true
+      of_call : (call : MacroCallLoc) → call_at tables c ≡ Some call
+          → ((held : HirFileId) (block : Option BlockId) → (block ≡ None → most_calls held ≤ n) → IsSome (source_of_tree tables (record { file = held; block = block })) → is_some (source_within n tables held block) ≡ true)
+          → is_some (option_and_then inside (call_at tables c)) ≡ true
       of_call call e next =
           let node : AstId = call_node call.kind in
           let own : IsPlacedBelow tables c.0 node = placed.calls c.0 call e in
@@ -364,7 +363,8 @@ module _ (tables : TablesValue) (placed : AreCallsPlaced tables) where
           subst (λ (o : Option MacroCallLoc). is_some (option_and_then inside o) ≡ true) (sym e)
           (mapped_some (and_call (source_call call.kind)) (source_within n tables node.file_id node.block) ∙ there)
 
-      go : (o : Option MacroCallLoc) → call_at tables c ≡ o → IsSome (option_map expansion (option_and_then (λ (call : MacroCallLoc). entry_at tables call.entry) o)) → Next
+      go : (o : Option MacroCallLoc) → call_at tables c ≡ o → IsSome (option_map expansion (option_and_then (λ (call : MacroCallLoc). entry_at tables call.entry) o))
+          → ((held : HirFileId) (block : Option BlockId) → (block ≡ None → most_calls held ≤ n) → IsSome (source_of_tree tables (record { file = held; block = block })) → is_some (source_within n tables held block) ≡ true)
           → is_some (option_and_then inside (call_at tables c)) ≡ true
       go None e h next = absurd (let wrong : ⊥ = cc in wrong)
       go (Some call) e h next = of_call call e next

@@ -88,9 +88,9 @@ stands runs answers leads s place path shadow style a sound h = go (module_of s 
         let given : answer_in s.tables (overlay (read_of s m.map) r.map) r.local m path shadow style ≡ a =
         same_answer (sym (ap (λ (o : Option Resolution). answer_from s.tables (read_of s m.map) o m path shadow style) there.is) ∙ e) in
         let all : LeavesNothingOut (resolution_of (overlay (read_of s m.map) r.map) (asking_of r.local shadow style) m path).resolved_def
-            (answer_in s.tables (overlay (read_of s m.map) r.map) r.local m path shadow style) =
+        (answer_in s.tables (overlay (read_of s m.map) r.map) r.local m path shadow style) =
         subst (λ (read : Maps). LeavesNothingOut (resolution_of (overlay read r.map) (asking_of r.local shadow style) m path).resolved_def
-            (answer_in s.tables (overlay read r.map) r.local m path shadow style)) (sym (read_kept s m.map r there.is))
+        (answer_in s.tables (overlay read r.map) r.local m path shadow style)) (sym (read_kept s m.map r there.is))
         (whole runs answers leads s sound m r there.is there.there path shadow style) in
         record {
           asked_from = m;

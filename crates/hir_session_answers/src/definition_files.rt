@@ -39,7 +39,8 @@ fn file_of(tables: &Tables, origin: ModuleOrigin) -> Option<EditionedFileId>
         ModuleOrigin::CrateRoot { definition } => Some(definition),
         ModuleOrigin::File { definition, .. } => Some(definition),
         ModuleOrigin::Inline {
-            definition_tree_id, ..
+            definition_tree_id,
+            ..
         } => outermost_file(tables, definition_tree_id.file),
         ModuleOrigin::BlockExpr { block, .. } => outermost_file(tables, block.file_id),
     }

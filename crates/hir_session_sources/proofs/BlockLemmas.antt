@@ -5,7 +5,8 @@ use Rattle.std.specs.BTreeMap.{insert_entry, is_at}
 use Rattle.std.specs.Cmp.{tied_itself}
 use Rattle.std.specs.Cmp.Lexicographic.{lists_ties, lists_total, pointwise, slice_cmp}
 use Rattle.std.specs.List.{flat_map}
-use Rattle.std.specs.Map.{lookup, values_of}
+use Rattle.std.specs.List.Sorted.{IsStrictlySortedBy}
+use Rattle.std.specs.Map.{keys_of, lookup, set_value, values_of}
 use Rattle.std.specs.Ordering.{is_eq, match_ordering}
 use Rattle.std.specs.declared.alloc.Global.{Global}
 use Rattle.std.specs.declared.vec.Vec.{Vec}
@@ -30,7 +31,7 @@ use Rattle.hir_session_state.proofs.Truth.{clash, no_value, on_bool, one_value}
 use Rattle.hir_session_sources.specs.BlockPlaces.{places_in, places_of}
 use Rattle.hir_session_sources.specs.BlockTables.{AreInPlace, ArePlacedIn, SetBlockValue, SetBlocks, SetTables, by_steps, has_place, left_by, of_crate, or_none, sources_by_crate, sources_of, steps_in, with_set, without_set, without_steps}
 use Rattle.hir_session_sources.proofs.Changing.{equal_crate}
-use Rattle.hir_session_sources.proofs.Lookups.{IsExact, at_same, lookup-insert_entry, lookup-keyed, lookup-valued, lookup-without, renamed-insert_entry, keyed-without, valued-insert_entry, valued-without}
+use Rattle.hir_session_sources.proofs.Lookups.{IsExact, at_same, insert_entry-there, lookup-insert_entry, lookup-keyed, lookup-valued, lookup-without, renamed-insert_entry, keyed-without, valued-insert_entry, valued-without}
 
 -- ---- steps, places and crates that are tied are the same
 
@@ -135,6 +136,32 @@ sources-left tables place steps is =
         valued-insert_entry sources_of crate_order.ghosts.cmp tables place.holder.krate (without_steps own steps)
         ∙ ap (λ (left : CrateBlocks). insert_entry crate_order.ghosts.cmp (sources_by_crate tables) place.holder.krate left)
         (valued-without source (is_at (steps_cmp steps)) own ∙ ap (λ (xs : List PlaceElement). steps_with (sources_of own) xs None) is)
+
+-- ---- a table that is written over
+
+-- where the crate has a table
+pub set_there : (krate : Crate) (old new : SetTables) (own now : SetBlocks) (steps : List PlaceElement) (b : SetBlockValue) → IsStrictlySortedBy crate_order.ghosts.cmp (keys_of old)
+    → Some own ≡ lookup (is_at (crate_order.ghosts.cmp krate)) old → new ≡ set_value (is_at (crate_order.ghosts.cmp krate)) old now → now ≡ insert_entry steps_cmp own steps b
+    → new ≡ with_set old krate steps b
+set_there krate old new own now steps b sorted there written is =
+    written ∙ sym (insert_entry-there crate_order.ghosts.cmp crates_total old krate now own sorted (sym there))
+    ∙ ap (λ (x : SetBlocks). insert_entry crate_order.ghosts.cmp old krate x) (is ∙ ap (λ (o : Option SetBlocks). insert_entry steps_cmp (or_none o) steps b) there)
+
+-- and where it gets one
+pub set_first : (krate : Crate) (old mid new : SetTables) (fresh now : SetBlocks) (steps : List PlaceElement) (b : SetBlockValue) → None ≡ lookup (is_at (crate_order.ghosts.cmp krate)) old
+    → mid ≡ old → new ≡ insert_entry crate_order.ghosts.cmp mid krate now → now ≡ insert_entry steps_cmp fresh steps b → fresh ≡ [] → new ≡ with_set old krate steps b
+set_first krate old mid new fresh now steps b none same written is empty =
+    written
+    ∙ (λ i. insert_entry crate_order.ghosts.cmp (same i) krate (is i))
+    ∙ ap (λ (x : SetBlocks). insert_entry crate_order.ghosts.cmp old krate (insert_entry steps_cmp x steps b)) (empty ∙ ap or_none none)
+
+-- where one of its blocks is removed
+pub left_there : (krate : Crate) (old new : SetTables) (own now : SetBlocks) (steps : List PlaceElement) → IsStrictlySortedBy crate_order.ghosts.cmp (keys_of old)
+    → Some own ≡ lookup (is_at (crate_order.ghosts.cmp krate)) old → new ≡ set_value (is_at (crate_order.ghosts.cmp krate)) old now → now ≡ without_steps own steps → new ≡ without_set old krate steps
+left_there krate old new own now steps sorted there written is =
+    written ∙ sym (insert_entry-there crate_order.ghosts.cmp crates_total old krate now own sorted (sym there))
+    ∙ ap (λ (x : SetBlocks). insert_entry crate_order.ghosts.cmp old krate x) is
+    ∙ ap (left_by old krate steps) there
 
 -- ---- their places
 

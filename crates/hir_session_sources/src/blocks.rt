@@ -40,7 +40,7 @@ impl Model for SetBlock {
 /// The blocks of a crate, by the steps to each.
 #[derive(Drop)]
 pub struct CrateBlocks {
-    by_steps: BTreeMap<Vec<PlaceElement>, SetBlock>,
+    blocks: BTreeMap<Vec<PlaceElement>, SetBlock>,
 }
 
 impl Model for CrateBlocks {
@@ -51,7 +51,7 @@ impl Model for CrateBlocks {
 
     ghost coded = { coded_set_blocks };
 
-    ghost view = { λ b. by_steps b.by_steps.entries };
+    ghost view = { λ b. by_steps b.blocks.entries };
 }
 
 /// The blocks that are there, by crate.
@@ -94,14 +94,14 @@ impl CrateBlocks {
         ensures value { result ≡ [] }
     {
         CrateBlocks {
-            by_steps: BTreeMap::new(alloc),
+            blocks: BTreeMap::new(alloc),
         }
     }
 
     fn get(&self, steps: &[PlaceElement]) -> Option<&SetBlock>
         ensures value { option_map (λ b. b.now) result ≡ lookup (is_at (steps_cmp steps.now)) self.now }
     {
-        self.by_steps.get(steps)
+        self.blocks.get(steps)
     }
 
     /// Whether a place is that of one of the blocks. They are gone over, since the steps by which one is found would take memory.
@@ -120,21 +120,21 @@ impl CrateBlocks {
         ensures ok { OnOk result (self.new ≡ insert_entry steps_cmp self.old steps.items block) }
         ensures err { OnErr result (self.new ≡ self.old) }
     {
-        self.by_steps.insert(steps, block)?;
+        self.blocks.insert(steps, block)?;
         Ok(())
     }
 
     fn remove(&mut self, steps: &[PlaceElement])
         ensures value { self.new ≡ without_steps self.old steps.now }
     {
-        self.by_steps.remove(steps);
+        self.blocks.remove(steps);
     }
 
     /// Puts the places of the blocks behind others.
     fn add_places<'a>(&'a self, places: &mut Vec<&'a BlockPlace>) -> Result<(), AllocError>
         ensures ok { OnOk result (map (λ p. p.now) places.new.items ≡ map (λ p. p.now) places.old.items ++ map (λ e. e.1.place) self.now) }
     {
-        for block in self.by_steps.values() {
+        for block in self.blocks.values() {
             places.push(block.place())?;
         }
         Ok(())
@@ -191,7 +191,9 @@ fn remove_of_crate(blocks: &mut BTreeMap<Crate, CrateBlocks>, krate: Crate, step
     ensures value { blocks.new.entries ≡ without_set blocks.old.entries krate steps.now }
 {
     match blocks.get_mut(&krate) {
-        Some(own) => own.remove(steps),
+        Some(own) => {
+            own.remove(steps);
+        }
         None => {}
     }
 }
@@ -283,7 +285,8 @@ impl Blocks {
         let steps = steps_to(alloc, &place)?;
         let krate = place.holder.krate();
         let block = SetBlock { place, source };
-        set_of_crate(&mut self.by_crate, alloc, krate, steps, block)
+        set_of_crate(&mut self.by_crate, alloc, krate, steps, block)?;
+        Ok(())
     }
 
     /// Removes a block. The steps to it take memory.
