@@ -1,6 +1,6 @@
 -- Back over one step: what the next item declares is what it lists, and what the items that come next in it declare; and what an
 -- expansion declares is what its items do, which come next, or the item that goes on.
-use Rattle.std.proofs.Common.{◌≡◌, ◌∙◌, ◌<◌, ◌≤◌, ◌⊎◌, inl, inr, ◌+◌, ℕ, zero, suc, drop, slice_get, List, [], ◌∷◌, ◌++◌, length, ◌||◌, Bool, true, false, Option, None, Some, map as list_map, refl, sym, ap, subst, arith, Contains, append-nil}
+use Rattle.std.proofs.Common.{◌≡◌, ◌∙◌, ◌<◌, ◌≤◌, ◌⊎◌, inl, inr, ◌+◌, ℕ, zero, suc, drop, slice_get, List, [], ◌∷◌, ◌++◌, length, ◌||◌, Bool, true, false, Option, None, Some, map as list_map, refl, sym, ap, subst, arith, Contains, append-nil, if◌then◌else◌}
 use Rattle.std.proofs.lemmas.List.Elements.{Contains-append_right}
 use Rattle.either.specs.declared.Either.TheVariants as either
 use Rattle.hir_base.specs.Cfg.{Cfg}
@@ -99,7 +99,7 @@ no_map : (c : Collected) (condition : Cfg) → c.disabled ≡ Some condition →
 no_map c condition e = ap is_enabled_by e
 
 items_enabled : (edition : Edition) (id : FileId) (tree : Tree) → is_enabled tree.attributes ≡ true → items_of (file_tree edition id) tree ≡ tree.items
-items_enabled edition id tree e = rw e refl
+items_enabled edition id tree e = ap (λ (b : Bool). if b then tree.items else no_items) e
 
 module _ (tables : TablesValue) (w : Workspace) (finished : Maps) (from : Beginning) (answer : CollectedValue) (last : Core) where
   -- ---- what one item declares

@@ -1,5 +1,5 @@
 -- A run leaves maps that name only what is there.
-use Rattle.std.specs.Prelude.{◌≡◌, ℕ, zero, suc, ◌<◌, List, [], ◌∷◌, ◌++◌, length, Bool, true, false, ◌&&◌, not, is_some, Option, None, Some, cond, map as list_map, option_and_then, option_map, slice_get}
+use Rattle.std.specs.Prelude.{◌≡◌, ℕ, zero, suc, ◌<◌, List, [], ◌∷◌, ◌++◌, length, Bool, true, false, ◌&&◌, ◌||◌, not, is_some, Option, None, Some, cond, map as list_map, option_and_then, option_map, slice_get}
 use Rattle.std.specs.List.{list_any}
 use Rattle.std.proofs.Common.{ap, refl, subst, sym, ◌∙◌, arith}
 use Rattle.std.specs.Cmp.{second_so}
@@ -539,7 +539,7 @@ own_crate_more one other more id e = go (is_some id.block) e
 root_refers : (test : Reference → Bool) (start : Start) → test_of test (option_map named.Module (holder_of start)) ≡ false
     → list_any (any_reference_in test) (new_module (origin_of start) (visibility_of start) None ∷ []) ≡ false
 root_refers test (starts.Crate krate root) e = refl
-root_refers test (starts.Block krate block holder at) e = rw e refl
+root_refers test (starts.Block krate block holder at) e = ap (λ (b : Bool). (b || false) || false) e
 
 -- the root module alone
 module _ (finished : Maps) (crate_data : CrateData) (start : Start) where
