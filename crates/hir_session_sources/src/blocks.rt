@@ -108,7 +108,7 @@ impl CrateBlocks {
     fn has(&self, place: &BlockPlace) -> bool
         ensures value { result ≡ has_place (map (λ e. e.1.place) self.now) place.now }
     {
-        for block in self.by_steps.values() {
+        for block in self.blocks.values() {
             if *block.place() == *place {
                 return true;
             }
