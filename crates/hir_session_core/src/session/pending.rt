@@ -64,7 +64,8 @@ impl Session {
         ensures ok { OnOk result (pending.new.keys ≡ with_pending self.now block.now pending.old.keys) }
     {
         if self.is_block_marked(block) {
-            pending.insert(PendingBlock::new(alloc, block)?)?;
+            let one = PendingBlock::new(alloc, block)?;
+            pending.insert(one)?;
         }
         Ok(())
     }
