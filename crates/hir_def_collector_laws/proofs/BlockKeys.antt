@@ -1,5 +1,5 @@
 -- A crate's run asks for nothing of a block: all that it comes upon is written in trees of files and of expansions.
-use Rattle.std.specs.Prelude.{◌≡◌, ◌&&◌, ◌||◌, ℕ, List, [], ◌∷◌, ◌++◌, Bool, true, false, is_some, Option, None, Some, cond, option_map}
+use Rattle.std.specs.Prelude.{◌≡◌, ◌||◌, ℕ, List, [], ◌∷◌, ◌++◌, Bool, true, false, is_some, Option, None, Some, cond, option_map}
 use Rattle.std.specs.List.{list_any}
 use Rattle.std.proofs.Common.{◌+◌, ◌<◌, zero, suc, Contains, ap, refl, subst, sym, ◌∙◌, arith}
 use Rattle.hir_base.specs.ModPath.{Path}
@@ -29,7 +29,6 @@ use Rattle.hir_tables.specs.Tables.{TablesValue}
 use Rattle.hir_collector_rules.specs.Attributes.{attr_id, item_node}
 use Rattle.hir_collector_rules.specs.Calls.{by_style, called_macro, error_of, path_of_call, style_of, suited, suits}
 use Rattle.hir_collector_rules.specs.Changes.{Change, lists, makes, gives_variants, begins_paths, reaches, awaits, ends, settles, changes_imports, adds_textual, takes_textual, defines, describes, helps, lists_derive, exports, uses_macros, tells, goes_on, act}
-use Rattle.hir_collector_rules.specs.Derivation.{CollectedValue, Ends}
 use Rattle.hir_collector_rules.specs.ItemIds.{macro_rules_id, module_id}
 use Rattle.hir_collector_rules.specs.Keys.{Environment, environment, map_keys}
 use Rattle.hir_collector_rules.specs.ModuleFiles.{LookedAt, Tried, file_readings, tried_in}

@@ -1,7 +1,7 @@
 -- A block that is due begins in the module that holds it.
 use Rattle.std.specs.Prelude.{is_none, slice_get}
 use Rattle.std.specs.Option.{IsSome, option_and_then}
-use Rattle.std.proofs.Common.{◌≡◌, ◌∙◌, ◌⊎◌, inl, inr, ap, sym, subst, refl, ℕ, zero, suc, ◌<◌, ◌≤◌, true, false, List, [], ◌∷◌, ◌++◌, length, Option, Some, None, option_map, Result, Ok, Err, IsErrAnd, OnErr, arith, Contains}
+use Rattle.std.proofs.Common.{◌≡◌, ◌∙◌, ◌⊎◌, inl, inr, ap, sym, subst, refl, ℕ, zero, suc, ◌<◌, ◌≤◌, true, false, List, [], ◌∷◌, ◌++◌, length, Option, Some, None, option_map, Result, Ok, Err, IsErrAnd, OnErr, arith}
 use Rattle.hir_base.specs.Locations.{max_locations}
 use Rattle.hir_base.specs.declared.ast_id.BlockId.{BlockId}
 use Rattle.hir_base.specs.declared.ast_id.EditionedFileId.{EditionedFileId}
@@ -29,7 +29,7 @@ use Rattle.hir_collector_rules.specs.Start.{Beginning, holder_of, root_site}
 use Rattle.hir_session_state.specs.Blocks.{place_of_block}
 use Rattle.hir_session_state.specs.Crates.{CrateValue, begins_in_block, id_of}
 use Rattle.hir_session_state.specs.Due.{Grows, IsDueBlock, IsStuckAt, Resolved}
-use Rattle.hir_session_state.specs.Due.IsStuckAt.{numbered_out, overlong}
+use Rattle.hir_session_state.specs.Due.IsStuckAt.{overlong}
 use Rattle.hir_session_state.specs.Kept.{Resolution, held, kept_in}
 use Rattle.hir_session_state.specs.SessionState.{SessionState, beginning_of, finished_of, is_marked, kept_of, module_of, standing_of, workspace_of, IsPlace, IsResolved, IsResolutionOf, IsSound}
 use Rattle.hir_session_state.specs.SessionState.IsPlace.{of_block, of_crate}

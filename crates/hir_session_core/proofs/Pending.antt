@@ -1,6 +1,6 @@
 -- How the blocks are collected of which nothing is kept.
-use Rattle.std.specs.Prelude.{is_none, is_some, map, IfSome, OnNone}
-use Rattle.std.proofs.Common.{◌≡◌, ◌∙◌, ◌⊎◌, inl, inr, zero, suc, ◌<◌, Bool, true, false, ◌&&◌, cond, List, [], ◌∷◌, ◌++◌, length, arith, refl, ap, sym, subst, Option, Some, None, option_map, Contains}
+use Rattle.std.specs.Prelude.{is_none, is_some, IfSome, OnNone}
+use Rattle.std.proofs.Common.{◌≡◌, ◌∙◌, ◌⊎◌, inl, inr, zero, suc, ◌<◌, Bool, true, false, ◌&&◌, cond, List, [], ◌∷◌, arith, refl, ap, sym, subst, Option, Some, None, option_map, Contains}
 use Rattle.std.specs.BTreeMap.{is_at}
 use Rattle.std.specs.BTreeSet.{BTreeSet, insert_key}
 use Rattle.std.specs.Cmp.{second_so}

@@ -1,6 +1,6 @@
 -- Blocks in their turn: resolving one makes only deeper ones due.
 use Rattle.std.specs.Prelude.{is_none, cond, map, nat_lt, if◌then◌else◌}
-use Rattle.std.proofs.Common.{◌≡◌, ◌≢◌, ◌⊎◌, inl, inr, ¬◌, ℕ, zero, suc, ◌+◌, ◌<◌, ◌≤◌, Bool, true, false, IsTrue, List, [], ◌∷◌, ◌++◌, length, arith, refl, sym, subst, ◌∙◌, ap, Option, Some, None, option_map, Contains, append-nil, append_assoc}
+use Rattle.std.proofs.Common.{◌≡◌, ◌≢◌, inl, inr, ¬◌, ℕ, zero, suc, ◌+◌, ◌<◌, ◌≤◌, Bool, true, false, IsTrue, List, [], ◌∷◌, ◌++◌, length, arith, refl, sym, subst, ◌∙◌, ap, Option, Some, None, option_map, Contains, append-nil, append_assoc}
 use Rattle.std.specs.Option.{option_and_then}
 use Rattle.std.specs.List.{AllByRecursion}
 use Rattle.std.specs.List.Sorted.{IsStrictlySortedBy}
@@ -8,7 +8,7 @@ use Rattle.std.specs.BTreeSet.{BTreeSet}
 use Rattle.std.specs.Cmp.{tied_itself}
 use Rattle.std.specs.Ordering.{Less, Ordering, is_le}
 use Rattle.std.proofs.lemmas.List.{map-append}
-use Rattle.std.proofs.lemmas.List.Elements.{Contains-append_left, Contains-append_right, Contains-append_cases}
+use Rattle.std.proofs.lemmas.List.Elements.{Contains-append_right, Contains-append_cases}
 use Rattle.std.proofs.lemmas.Bool.{ltb-true}
 use Rattle.hir_base.specs.Place.{PlaceValue}
 use Rattle.hir_base.specs.contracts.ids.MapIdPartialEq.TheImpl as map_id
@@ -22,14 +22,14 @@ use Rattle.hir_base.specs.declared.place.PlaceElement.TheVariants as element
 use Rattle.hir_def_map_rules.specs.State.{child_at, crate_map, root_of}
 use Rattle.hir_tables.specs.Tables.{block_at}
 use Rattle.hir_wire.specs.declared.reply.Status.TheVariants as status
-use Rattle.hir_session_state.specs.Blocks.{Blocks, block_cmp, nesting_of, place_of_block}
+use Rattle.hir_session_state.specs.Blocks.{block_cmp, nesting_of, place_of_block}
 use Rattle.hir_session_state.specs.Crates.{CrateValue, id_of}
-use Rattle.hir_session_state.specs.Due.{Grows, HasOverlongRun, IsDueBlock, IsDueCrate, IsNext, IsStuckAt, Resolved}
+use Rattle.hir_session_state.specs.Due.{Grows, HasOverlongRun, IsDueBlock, IsDueCrate, IsNext, IsStuckAt}
 use Rattle.hir_session_state.specs.Due.IsNext.{crate as next_crate, block as next_block}
 use Rattle.hir_session_state.specs.Kept.{Resolution, Resolutions, kept_in}
-use Rattle.hir_session_state.specs.SessionState.{SessionState, block_kept, is_marked, kept_of, module_of, standing_of, IsSound}
+use Rattle.hir_session_state.specs.SessionState.{SessionState, block_kept, is_marked, kept_of, standing_of, IsSound}
 use Rattle.hir_session_state.specs.SourceTable.{SourceTable}
-use Rattle.hir_session_state.specs.Standing.{Standing, block_below, block_map, block_number, child_kept, down, from_crate, is_set, kept_block, module_by, place_of_map, step, to_child, to_root}
+use Rattle.hir_session_state.specs.Standing.{Standing, block_below, block_map, block_number, child_kept, down, from_crate, is_set, kept_block, module_by, step, to_child, to_root}
 use Rattle.hir_session_state.specs.Standing.Standing.{at, lacks, stale, unset}
 use Rattle.hir_session_state.proofs.Places.{block_total, nesting_below, no_deeper, number_means}
 use Rattle.hir_session_state.proofs.Standing.{down-append, kept_block_grown, kept_gives, standing_grown, to_block_at, to_child_at, unmarked}

@@ -1,10 +1,8 @@
 -- The map in which the module lies is shown.
-use Rattle.std.proofs.Common.{◌≡◌, ◌∙◌, ap, sym, subst, ℕ, List, Option, Ok, string_bytes}
-use Rattle.hir_base.specs.declared.ids.ModuleId.{ModuleId}
+use Rattle.std.proofs.Common.{◌∙◌, ap, sym, ℕ, List, Ok}
 use Rattle.hir_def_map_rules.specs.Dump.{dump_of}
 use Rattle.hir_def_map_rules.specs.Overlay.{Maps, overlay}
-use Rattle.hir_session_answers.specs.Dumps.{dump_around, dump_from, dump_kept}
-use Rattle.hir_session_state.specs.Kept.{Resolution, finished_by, resolution_of}
+use Rattle.hir_session_answers.specs.Dumps.{dump_around, dump_from}
 use Rattle.hir_session_state.specs.SessionState.{SessionState, finished_of, kept_of}
 use Rattle.hir_session_state.specs.Standing.{module_by}
 use Rattle.hir_session_core.proofs.session.Session.dump_kept.Goals as goal

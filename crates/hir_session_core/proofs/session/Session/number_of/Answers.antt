@@ -1,5 +1,5 @@
 -- A block that has no number gets the next one; nothing is kept under that.
-use Rattle.std.proofs.Common.{◌≡◌, ◌∙◌, sym, subst}
+use Rattle.std.proofs.Common.{sym}
 use Rattle.hir_session_state.proofs.Asking.{kept_meant, noted_grown}
 use Rattle.hir_session_answers.proofs.LowerLaws.{answers_stand, asked_keys_have_meaning, looks_stand}
 use Rattle.hir_session_state.proofs.Resolving.{grown_of, grown_sound}
