@@ -65,7 +65,7 @@ no_block (Some b) e = absurd (let wrong : ⊥ = cc in wrong)
 
 abbrev Blockless : List Key → Type 0
 Blockless [] = Unit {0}
-Blockless (key ∷ more) = (block_of_key key ≡ None) × Blockless more
+Blockless (key ∷ others) = (block_of_key key ≡ None) × Blockless others
 
 both : (xs ys : List Key) → Blockless xs → Blockless ys → Blockless (xs ++ ys)
 both [] ys f g = g
@@ -85,8 +85,8 @@ of_files krate edition [] = tt
 of_files krate edition (t ∷ ts) = go t.file (of_files krate edition ts)
   where
     go : (o : Option LookedAt) → Blockless (keys_read (file_readings krate edition ts)) → Blockless (keys_read (file_readings krate edition (record t { file = o } ∷ ts)))
-    go None more = more
-    go (Some f) more = (refl, more)
+    go None others = others
+    go (Some f) others = (refl, others)
 
 of_text : (makro : MacroId) → on_macro in_blocks makro ≡ false → block_of_macro makro ≡ None
 of_text (macros.Macro2Id id) e = no_block id.loc.block e
@@ -273,27 +273,27 @@ module _ (answers : PathsAnswerFromSources) (paths : PathsLeadToWhatIsThere) (fi
 -- it begins with the tree of a file
 first_blockless : (finished : Maps) → HoldsNowhere in_blocks finished → (tables : TablesValue) (w : Workspace) (from : Beginning) (start : Start) → block_of start ≡ None → from.tree.block ≡ None
     → IsBlockless (start_of tables w finished (holders_by finished start) (record from { start = start }))
-first_blockless finished nowhere tables w from (starts.Crate krate root) own none = record {
+first_blockless finished nowhere tables w from (starts.Crate krate root) own fileless = record {
   sourced = first_sourced in_blocks finished nowhere tables w (holders_by finished (starts.Crate krate root)) (record from { start = starts.Crate krate root }) tt
-      (ap (λ (o : Option BlockId). is_some o) none);
-  asked = (none, tt);
+      (ap (λ (o : Option BlockId). is_some o) fileless);
+  asked = (fileless, tt);
   calls = refl;
 }
-first_blockless finished nowhere tables w from (starts.Block krate block holder at) own none = absurd (let wrong : ⊥ = cc in wrong)
+first_blockless finished nowhere tables w from (starts.Block krate block holder at) own fileless = absurd (let wrong : ⊥ = cc in wrong)
 
 begins_clear : (finished : Maps) (start : Start) (tree : TreeId) → block_of start ≡ None → BeginsClear in_blocks finished start tree
 begins_clear finished (starts.Crate krate root) tree own = tt
 begins_clear finished (starts.Block krate block holder at) tree own = absurd (let wrong : ⊥ = cc in wrong)
 
 pub none_asked : PathsAnswerFromSources → PathsLeadToWhatIsThere → CratesAskForNoBlock
-none_asked answers paths tables w all from answer whole stands e own none nowhere =
+none_asked answers paths tables w all from answer whole stands e own fileless nowhere =
     let finished : Maps = read_by w all from.start in
     let holders : List ModuleId = holders_by all from.start in
     let begun : State = begin_of tables w all from in
     let names : NamesWhatIsThere finished begun = begins paths finished whole tables w holders from stands in
     let no_holders : holders_by all from.start ≡ holders_by finished from.start = no_holder all finished from.start own in
     let first : IsBlockless begun =
-    subst (λ (hs : List ModuleId). IsBlockless (start_of tables w finished hs from)) (sym no_holders) (first_blockless finished nowhere tables w from from.start own none) in
+    subst (λ (hs : List ModuleId). IsBlockless (start_of tables w finished hs from)) (sym no_holders) (first_blockless finished nowhere tables w from from.start own fileless) in
     let last : IsBlockless e.last = all_blockless answers paths finished whole nowhere (environment tables w) begun e.last (in_range-start tables w finished holders from) names first e.derived in
     let asked : Blockless answer.asked =
     subst Blockless (sym e.asked_is) (both e.last.core.asked (map_keys (transitive_dependencies_in w (krate_of from.start))) last.asked (of_maps (transitive_dependencies_in w (krate_of from.start)))) in (

@@ -46,7 +46,7 @@ module _ (m : Map) (local : Local) (id : MapId) (ne : id ≢ m.id) where
             or_right (test_of (lies_in id) (option_map named.Module m.holder)) _
             (or_right (list_any (test_extern (lies_in id)) local) _
             (elim other [
-              | inl of_crate ↦ or_left (list_any (test_crate (lies_in id)) m.crate_data.dependencies) (any_own_crate (lies_in id) m.id) of_crate
+              | inl depended ↦ or_left (list_any (test_crate (lies_in id)) m.crate_data.dependencies) (any_own_crate (lies_in id) m.id) depended
               | inr own ↦ or_right (list_any (test_crate (lies_in id)) m.crate_data.dependencies) (any_own_crate (lies_in id) m.id) own
             ]))
       ])))
