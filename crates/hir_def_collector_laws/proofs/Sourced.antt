@@ -591,7 +591,8 @@ module _ (t : SourceTest) where
           (tt, (tt, (neither (t.holder d.site.tree.file d.site.tree.block) false (none_at (on_call t) s.core.calls f.calls i d may.waiting.call) refl, tt)))
       brings_none (resolves_imports rule) may read = imports_bring rule may
 
-      sourced-Step : (env : Environment) (new : State) → Step env finished s new → AreClear t new → IsSourced t new
+      -- a step brings nothing of which the test holds, where it holds of no source that was asked for
+      pub sourced-Step : (env : Environment) (new : State) → Step env finished s new → AreClear t new → IsSourced t new
       sourced-Step env new step clear =
           let read : (key : TreeKey) → Contains (keys_read (reads s step.rule)) (keys.Tree key) → t.holder key.id.file key.id.block ≡ false =
           λ key h. clear key (subst (λ (ks : List Key). Contains ks (keys.Tree key)) (sym (asked-Step step)) (Contains-append_right s.core.asked (keys_read (reads s step.rule)) (keys.Tree key) h)) in
@@ -629,7 +630,7 @@ module _ (t : SourceTest) where
   start_begins finished crate_data ds (starts.Crate krate root) tree clear = local_begins crate_data [] ds refl
   start_begins finished crate_data ds (starts.Block krate block by at) tree clear = clear.1
 
-  first_sourced : (finished : Maps) → HoldsNowhere t finished → (tables : TablesValue) (w : Workspace) (holders : List ModuleId) (from : Beginning) → BeginsClear t finished from.start from.tree
+  pub first_sourced : (finished : Maps) → HoldsNowhere t finished → (tables : TablesValue) (w : Workspace) (holders : List ModuleId) (from : Beginning) → BeginsClear t finished from.start from.tree
       → t.holder from.tree.file from.tree.block ≡ false → IsSourced t (start_of tables w finished holders from)
   first_sourced finished nowhere tables w holders from clear written =
       let tree = root_tree tables w from in

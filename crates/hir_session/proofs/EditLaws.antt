@@ -3,7 +3,6 @@ use Rattle.std.specs.Prelude.{cond, is_none, is_some}
 use Rattle.std.specs.Option.{option_and_then}
 use Rattle.std.proofs.Common.{◌≡◌, ◌≢◌, ℕ, Bool, true, false, nat_lt, if◌then◌else◌, length, Option, Some, None, refl, sym, subst, ap, ◌∙◌, Contains, List, [], ◌∷◌, ◌++◌, option_map}
 use Rattle.hir_base.specs.CfgOptions.{is_set}
-use Rattle.hir_base.specs.ModPath.{Path}
 use Rattle.hir_base.specs.Place.{PlaceValue}
 use Rattle.hir_base.specs.declared.ast_id.EntryId.{EntryId}
 use Rattle.hir_base.specs.declared.ast_id.BlockId.{BlockId}
@@ -32,11 +31,9 @@ use Rattle.hir_collector_rules.specs.Keys.{Look, look, of_entry, of_input, of_ma
 use Rattle.hir_collector_rules.specs.declared.source_database.Key.{Key}
 use Rattle.hir_collector_rules.specs.declared.source_database.Key.TheVariants as keys
 use Rattle.hir_wire.specs.Edits.{EditValue, EntryValue, set_file, remove_file, set_block, remove_block, set_expansion, remove_expansion}
-use Rattle.hir_wire.specs.declared.command.Shadow.{Shadow}
-use Rattle.hir_wire.specs.declared.command.MacroStyle.{MacroStyle}
 use Rattle.hir_wire.specs.declared.reply.Status.TheVariants as status
 use Rattle.hir_session_answers.specs.Status.{status_by, status_of}
-use Rattle.hir_session_answers.specs.Answers.{answer_at, answer_by, answer_from, answer_of}
+use Rattle.hir_session_answers.specs.Answers.{answer_at, answer_by, answer_from}
 use Rattle.hir_session_state.specs.Blocks.{block_in, place_of_block}
 use Rattle.hir_session_state.specs.Crates.{crate_in, options_in, transitive_in}
 use Rattle.hir_session_state.specs.Entries.{entry_at, look_of, source_of as source_in_entry}
@@ -44,7 +41,7 @@ use Rattle.hir_session_state.specs.Files.{file_at}
 use Rattle.hir_session_state.specs.KeySources.{key_place, key_tree}
 use Rattle.hir_session_state.specs.SessionState.{SessionState, Resolution, finished_of, follows, is_marked, kept_of, module_of, read_of, standing_of, workspace_of, IsSound}
 use Rattle.hir_session_state.specs.Kept.{kept_in, placed_by}
-use Rattle.hir_session_state.specs.Standing.{Standing, block_below, block_map, block_number, child_kept, down, from_crate, is_set as is_block_set, kept_block, module_by, step, to_child, to_root}
+use Rattle.hir_session_state.specs.Standing.{Standing, block_below, block_map, block_number, down, from_crate, is_set as is_block_set, kept_block, module_by, step, to_child, to_root}
 use Rattle.hir_session_state.specs.Standing.Standing.{at, lacks, stale, unset}
 use Rattle.hir_session_state.specs.SourceEdits.{SourceEditValue, IsSeenAlike, edit_of, edited, of_block, of_expansion, of_file, place_of, source_by}
 use Rattle.hir_session_state.specs.SourceTable.{SourceTable, front_in, source_at, tree_under, workspace_in}

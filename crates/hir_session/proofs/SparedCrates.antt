@@ -3,32 +3,28 @@ use Rattle.std.proofs.Common.{◌≡◌, ◌≢◌, ◌∙◌, ap, sym, subst, r
 use Rattle.hir_base.specs.declared.ast_id.BlockId.{BlockId}
 use Rattle.hir_base.specs.declared.ast_id.HirFileId.{HirFileId}
 use Rattle.hir_base.specs.declared.ast_id.HirFileId.TheVariants as syntax
-use Rattle.hir_base.specs.declared.ids.Crate.{Crate}
 use Rattle.hir_base.specs.declared.ids.MapId.{MapId}
 use Rattle.hir_base.specs.declared.macro_kind.MacroId.TheVariants as macros
 use Rattle.hir_base.specs.declared.place.BlockPlace.{BlockPlace}
 use Rattle.hir_item_tree.specs.Source.{SourceValue}
-use Rattle.hir_tables.specs.SourcePlaces.{ExpansionValue, SourcePlaceValue, block, expansion, file}
+use Rattle.hir_tables.specs.SourcePlaces.{ExpansionValue, block, expansion, file}
 use Rattle.hir_tables.specs.Tables.{TablesValue, entry_at, expansion_of, file_at, source_under}
-use Rattle.hir_def_map_rules.specs.Overlay.{Maps, Placed}
+use Rattle.hir_def_map_rules.specs.Overlay.{Placed}
 use Rattle.hir_def_map_rules.specs.Sources.{HoldsNowhere, HoldsNowhereIn}
-use Rattle.hir_def_map_rules.specs.State.{crate_map}
 use Rattle.hir_collector_rules.specs.Derivation.{Ends}
 use Rattle.hir_collector_rules.specs.Start.{Beginning}
-use Rattle.hir_collector_rules.specs.Workspace.{Workspace}
 use Rattle.hir_collector_rules.specs.declared.source_database.Key.{Key}
 use Rattle.hir_collector_rules.specs.declared.source_database.Key.TheVariants as keys
-use Rattle.hir_crate_graph.specs.CrateSet.{has_crate}
 use Rattle.hir_def_collector_laws.specs.BlockKeys.{CratesAskForNoBlock, block_of_key, in_blocks}
-use Rattle.hir_wire.specs.Edits.{EditValue, set_file, remove_file, set_block, remove_block, set_expansion, remove_expansion}
-use Rattle.hir_session_state.specs.Changes.{Applies, Becomes}
+use Rattle.hir_wire.specs.Edits.{set_file, remove_file, set_block, remove_block, set_expansion, remove_expansion}
+use Rattle.hir_session_state.specs.Changes.{Becomes}
 use Rattle.hir_session_state.specs.Crates.{beginning_in, id_of, transitive_in}
 use Rattle.hir_session_state.specs.Kept.{collected_of, placed_by}
 use Rattle.hir_session_state.specs.KeySources.{key_place}
 use Rattle.hir_session_state.specs.Marks.{IsTouched}
 use Rattle.hir_session_state.specs.Marks.IsTouched.{before, asked_for}
 use Rattle.hir_session_state.specs.SessionState.{SessionState, Resolution, finished_of, follows, is_marked, kept_of, read_under, workspace_of, IsSound}
-use Rattle.hir_session_state.specs.SourceEdits.{SourceEditValue, edit_of, edited, of_block}
+use Rattle.hir_session_state.specs.SourceEdits.{edited, of_block}
 use Rattle.hir_session_state.specs.SourceTable.{workspace_in}
 use Rattle.hir_session_state.specs.Spread.{Spread}
 use Rattle.hir_session_state.specs.Spread.Spread.{here, depends}
@@ -41,7 +37,7 @@ use Rattle.hir_session_state.proofs.Standing.{kept_gives, unmarked}
 use Rattle.hir_session_state.proofs.Truth.{clash, no_value, on_bool, one_value}
 use Rattle.hir_session_state.proofs.Worlds.{AgreeOn-refl, DependsOn-below}
 use Rattle.hir_session_sources.proofs.SourceLemmas.{look-apart}
-use Rattle.hir_session.specs.Laws.{BlockEditsSpareTheCrate, edits_block}
+use Rattle.hir_session.specs.Laws.{BlockEditsSpareTheCrate}
 
 -- ---- keys
 

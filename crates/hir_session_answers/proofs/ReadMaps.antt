@@ -123,12 +123,16 @@ module _ (s : SessionState) (sound : IsSound s) where
         go None there f of held = no_value f
         go (Some found) there f of held =
             let same : placed_by found ≡ placed = one_value f in
+            let w = kept_whole s sound j found there in
+            let one : found ≡ w.found = one_value (sym there ∙ w.is) in
+            let held_too : are_of_some (behind id.krate.0) r.holders w.found.holders ≡ true =
+            ap (λ (x : Resolution). are_of_some (behind id.krate.0) r.holders x.holders) (sym one) ∙ ap (λ (p : Placed). are_of_some (behind id.krate.0) r.holders p.holders) same ∙ held in
             record {
               found = found;
               is_kept = there;
               map = sym same;
-              extends = Extends-behind behind s.kept (behind id.krate.0) r.holders (kept_whole s sound) closed j (kept_whole s sound j found there) of
-                  (ap (λ (p : Placed). are_of_some (behind id.krate.0) r.holders p.holders) same ∙ held);
+              extends = subst (λ (x : Resolution). Extends (overlay (read_under s j x.holders) x.map) read) (sym one)
+                  (Extends-behind behind s.kept (behind id.krate.0) r.holders (kept_whole s sound) closed j w of held_too);
               lower = lower_there j found there of;
             }
 

@@ -1,7 +1,7 @@
 -- A block that is due begins in the module that holds it.
 use Rattle.std.specs.Prelude.{is_none, slice_get}
 use Rattle.std.specs.Option.{IsSome, option_and_then}
-use Rattle.std.proofs.Common.{◌≡◌, ◌∙◌, ◌⊎◌, inl, inr, ap, sym, subst, refl, ℕ, zero, suc, ◌<◌, ◌≤◌, true, false, List, [], ◌∷◌, ◌++◌, length, Option, Some, None, option_map, arith, Contains}
+use Rattle.std.proofs.Common.{◌≡◌, ◌∙◌, ◌⊎◌, inl, inr, ap, sym, subst, refl, ℕ, zero, suc, ◌<◌, ◌≤◌, true, false, List, [], ◌∷◌, ◌++◌, length, Option, Some, None, option_map, Result, Ok, Err, IsErrAnd, OnErr, arith}
 use Rattle.hir_base.specs.Locations.{max_locations}
 use Rattle.hir_base.specs.declared.ast_id.BlockId.{BlockId}
 use Rattle.hir_base.specs.declared.ast_id.EditionedFileId.{EditionedFileId}
@@ -11,6 +11,8 @@ use Rattle.hir_base.specs.declared.ids.Crate.{Crate}
 use Rattle.hir_base.specs.declared.ids.MapId.{MapId}
 use Rattle.hir_base.specs.declared.ids.ModuleId.{ModuleId}
 use Rattle.hir_base.specs.declared.place.BlockPlace.{BlockPlace}
+use Rattle.hir_base.specs.declared.locations.LocationsError.{LocationsError}
+use Rattle.hir_base.specs.declared.locations.LocationsError.TheVariants as number_error
 use Rattle.hir_tables.specs.SourcePlaces.{block}
 use Rattle.hir_tables.specs.Tables.{KeepsTables, TablesValue, block_at, file_at}
 use Rattle.hir_tables.specs.Interning.{Interns, IsFull}
@@ -27,11 +29,14 @@ use Rattle.hir_collector_rules.specs.Start.{Beginning, holder_of, root_site}
 use Rattle.hir_session_state.specs.Blocks.{place_of_block}
 use Rattle.hir_session_state.specs.Crates.{CrateValue, begins_in_block, id_of}
 use Rattle.hir_session_state.specs.Due.{Grows, IsDueBlock, IsStuckAt, Resolved}
-use Rattle.hir_session_state.specs.Due.IsStuckAt.{numbered_out, overlong}
+use Rattle.hir_session_state.specs.Due.IsStuckAt.{overlong}
 use Rattle.hir_session_state.specs.Kept.{Resolution, held, kept_in}
 use Rattle.hir_session_state.specs.SessionState.{SessionState, beginning_of, finished_of, is_marked, kept_of, module_of, standing_of, workspace_of, IsPlace, IsResolved, IsResolutionOf, IsSound}
 use Rattle.hir_session_state.specs.SessionState.IsPlace.{of_block, of_crate}
 use Rattle.hir_session_state.specs.SourceTable.{SourceTable}
+use Rattle.hir_session_state.specs.Refusals.{refresh_error_of_number}
+use Rattle.hir_session_state.specs.declared.error.RefreshError.{RefreshError}
+use Rattle.hir_session_state.specs.declared.error.RefreshError.TheVariants as refresh_error
 use Rattle.hir_session_state.specs.Standing.{block_map, block_number, definition_file, is_set, module_by}
 use Rattle.hir_session_state.proofs.Holders.{ends_held}
 use Rattle.hir_session_state.proofs.Places.{has_block_number, number_kept, number_means}
@@ -61,6 +66,29 @@ none_left t b full = (go (block_number t b) refl, (let count : length t.blocks �
     go None is = refl
     go (Some id) is = absurd (full.absent (id.0, number_means t b id is))
 
+-- why a number isn't given
+pub no_number : (given : Result BlockId LocationsError) (told : Result BlockId RefreshError) (e : LocationsError) → given ≡ Err e → IsErrAnd told (λ x. x ≡ refresh_error_of_number e)
+    → told ≡ Err refresh_error.TooMany → given ≡ Err number_error.TooMany
+no_number given (Ok x) e was h is = absurd h
+no_number given (Err x) number_error.TooMany was h is = was
+no_number given (Err x) number_error.Memory was h is = absurd (let wrong : ⊥ = cc in wrong)
+
+-- the same number is given
+pub given_again : {m n : BlockId} → Ok {E = LocationsError} n ≡ Ok m → n ≡ m
+given_again e = cc
+
+-- what holds where a call is refused
+pub at_err : {A T E : Type 0} {r : Result T E} {e : E} → r ≡ Err e → OnErr r A → A
+at_err {A} {T} {E} {r} {e} is h = go r is h
+  where
+    go : (x : Result T E) → x ≡ Err e → OnErr x A → A
+    go (Ok y) f k = absurd (let wrong : ⊥ = cc in wrong)
+    go (Err y) f k = k
+
+pub where_err : {A C T E : Type 0} (r : Result T E) → OnErr r A → (A → C) → OnErr r C
+where_err (Ok x) h f = tt
+where_err (Err e) h f = f h
+
 -- ---- a run begins where it began
 
 module _ (old new : SessionState) (sound : IsSound old) (grown : Grows old new) where
@@ -82,11 +110,11 @@ module _ (old new : SessionState) (sound : IsSound old) (grown : Grows old new) 
 -- ---- a block that is due
 
 -- its run may begin
-pub record IsReady (s : SessionState) (b : BlockPlace) (number : BlockId) (holder : ModuleId) (file : EditionedFileId) : Type 0 where
-  pub place : IsPlace s (block_map b.holder.krate number)
-  pub marked : is_marked s (block_map b.holder.krate number) ≡ true
-  pub begun : beginning_of s (block_map b.holder.krate number) ≡ Some (begins_in_block b.holder.krate number holder file b.id)
-  pub behind : AreFollowedCurrent s (block_map b.holder.krate number) (Some holder)
+pub record IsReady (s : SessionState) (krate : Crate) (b : BlockPlace) (number : BlockId) (holder : ModuleId) (file : EditionedFileId) : Type 0 where
+  pub place : IsPlace s (block_map krate number)
+  pub marked : is_marked s (block_map krate number) ≡ true
+  pub begun : beginning_of s (block_map krate number) ≡ Some (begins_in_block krate number holder file b.id)
+  pub behind : AreFollowedCurrent s (block_map krate number) (Some holder)
 
 module _ (old mid : SessionState) (sound : IsSound old) (grown : Grows old mid) (b : BlockPlace) (holder : ModuleId) (number : BlockId) (current : AreCratesCurrent old) (due : IsDueBlock old b)
     (held : module_of old b.holder ≡ Some holder) (means : block_at mid.tables number ≡ Some b) (numbered : block_number mid.tables b ≡ Some number) where
@@ -112,8 +140,8 @@ module _ (old mid : SessionState) (sound : IsSound old) (grown : Grows old mid) 
       sym (ap (option_and_then (λ (n : BlockId). kept_in mid.kept (block_map b.holder.krate n))) numbered)
       ∙ same_block old mid sound grown b ∙ due.marked
 
-  pub ready : (file : EditionedFileId) → definition_file mid.tables mid.kept holder ≡ Some file → IsReady mid b number holder file
-  ready file written = record {
+  pub ready : (krate : Crate) → krate ≡ b.holder.krate → (file : EditionedFileId) → definition_file mid.tables mid.kept holder ≡ Some file → IsReady mid krate b number holder file
+  ready krate same file written = subst (λ (k : Crate). IsReady mid k b number holder file) (sym same) (record {
     place = of_block number b refl means refl (subst (λ (cs : List CrateValue). b.holder.krate.0 < length cs) (sym grown.crates) within)
         (ap (λ (t : SourceTable). is_set t.blocks b) grown.sources ∙ due.set);
     marked = ap (λ (o : Option Resolution). is_none o) none_kept;
@@ -127,7 +155,7 @@ module _ (old mid : SessionState) (sound : IsSound old) (grown : Grows old mid) 
       is = refl;
     });
     behind = follows_current;
-  }
+  })
     where
       follows_current : AreFollowedCurrent mid own (Some holder)
       follows_current d (zero, below, is) = subst (λ (x : MapId). is_marked mid x ≡ false) is (grown_mark old mid grown (id_of b.holder.krate.0) ∙ current b.holder.krate.0 within)
@@ -135,23 +163,25 @@ module _ (old mid : SessionState) (sound : IsSound old) (grown : Grows old mid) 
       follows_current d (suc (suc n), below, is) = absurd (let past : suc (suc n) < 2 = below in omega arith)
 
   -- where it was resolved
-  pub block_resolved : (new : SessionState) (r : Resolution) → Resolved mid own r new → IsBlockResolved old b new
-  block_resolved new r is = record {
-    number = number;
-    numbered = number_kept mid.tables new.tables is.tables b number numbered;
-    found = r;
-    marked = sym (grown_mark old mid grown own) ∙ ap (λ (o : Option Resolution). is_none o) none_kept;
-    resolved = resolved_later old mid new own r grown is;
-  }
+  pub block_resolved : (krate : Crate) → krate ≡ b.holder.krate → (new : SessionState) (r : Resolution) → Resolved mid (block_map krate number) r new → IsBlockResolved old b new
+  block_resolved krate same new r resolved_so =
+      let is : Resolved mid own r new = subst (λ (k : Crate). Resolved mid (block_map k number) r new) same resolved_so in
+      record {
+        number = number;
+        numbered = number_kept mid.tables new.tables is.tables b number numbered;
+        found = r;
+        marked = sym (grown_mark old mid grown own) ∙ ap (λ (o : Option Resolution). is_none o) none_kept;
+        resolved = resolved_later old mid new own r grown is;
+      }
 
   -- where its run was given up
-  pub block_stuck : (new : SessionState) (file : EditionedFileId) → definition_file mid.tables mid.kept holder ≡ Some file → Grows mid new
-      → IsOverlong new.tables (workspace_of new) (finished_of new) (begins_in_block b.holder.krate number holder file b.id) → IsStuckAt new (place_of_block b)
-  block_stuck new file written later over =
+  pub block_stuck : (krate : Crate) → krate ≡ b.holder.krate → (new : SessionState) (file : EditionedFileId) → definition_file mid.tables mid.kept holder ≡ Some file → Grows mid new
+      → IsOverlong new.tables (workspace_of new) (finished_of new) (begins_in_block krate number holder file b.id) → IsStuckAt new (place_of_block b)
+  block_stuck krate same new file written later over =
       overlong own (begins_in_block b.holder.krate number holder file b.id)
       (ap (option_map place_of_block) (later.tables.blocks number.0 b means))
-      (grown_begun mid new grown.sound later b.holder.krate number (begins_in_block b.holder.krate number holder file b.id) (ready file written).begun)
-      over
+      (grown_begun mid new grown.sound later b.holder.krate number (begins_in_block b.holder.krate number holder file b.id) (ready b.holder.krate refl file written).begun)
+      (subst (λ (k : Crate). IsOverlong new.tables (workspace_of new) (finished_of new) (begins_in_block k number holder file b.id)) same over)
 
 -- ---- a run
 

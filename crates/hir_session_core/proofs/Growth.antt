@@ -1,6 +1,6 @@
 -- What stays of a session as its tables grow.
 use Rattle.std.specs.Prelude.{is_none}
-use Rattle.std.proofs.Common.{◌≡◌, ◌≢◌, ◌∙◌, ap, sym, subst, refl, ◌<◌, Bool, true, false, List, length, Option, Some, None, Contains}
+use Rattle.std.proofs.Common.{◌≡◌, ◌∙◌, ap, sym, subst, refl, ◌<◌, List, length, Option, Some, None, Contains}
 use Rattle.hir_base.specs.declared.ast_id.BlockId.{BlockId}
 use Rattle.hir_base.specs.declared.ids.MapId.{MapId}
 use Rattle.hir_base.specs.declared.ids.ModuleId.{ModuleId}
@@ -8,7 +8,7 @@ use Rattle.hir_tables.proofs.Growth.{KeepsTables-trans}
 use Rattle.hir_session_state.specs.Crates.{CrateValue}
 use Rattle.hir_session_state.specs.Due.{Grows, Resolved}
 use Rattle.hir_session_state.specs.Kept.{Resolution, Resolutions, kept_in}
-use Rattle.hir_session_state.specs.SessionState.{SessionState, kept_of, is_marked, IsPlace}
+use Rattle.hir_session_state.specs.SessionState.{SessionState, is_marked, IsPlace}
 use Rattle.hir_session_state.specs.SessionState.IsPlace.{of_block, of_crate}
 use Rattle.hir_session_state.specs.SourceTable.{SourceTable}
 use Rattle.hir_session_state.specs.Standing.{is_set}

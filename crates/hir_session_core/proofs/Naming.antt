@@ -2,7 +2,7 @@
 use Rattle.std.specs.Prelude.{is_some, map}
 use Rattle.std.specs.BTreeMap.{is_at}
 use Rattle.std.specs.List.{list_any}
-use Rattle.std.proofs.Common.{◌≡◌, ◌≢◌, ◌⊎◌, inl, inr, ◌<◌, Bool, true, false, ◌&&◌, not, List, Option, Some, None, option_map, arith, refl, sym, ap, ◌∙◌, subst, Contains}
+use Rattle.std.proofs.Common.{◌≡◌, ◌≢◌, ◌⊎◌, inl, inr, ◌<◌, true, not, List, Option, Some, None, option_map, arith, sym, ap, ◌∙◌, subst, Contains}
 use Rattle.std.proofs.lemmas.List.Folds.{list_any_at}
 use Rattle.hir_base.specs.declared.ast_id.BlockId.{BlockId}
 use Rattle.hir_base.specs.declared.ids.Crate.{Crate}
@@ -14,12 +14,11 @@ use Rattle.hir_def_map_rules.specs.Inner.OverlayLaws.{same_id}
 use Rattle.hir_def_map_rules.specs.References.{lies_in, any_reference_in, refers_to, any_own_crate, any_reference, prelude_reference, test_crate, test_extern, test_of}
 use Rattle.hir_def_map_rules.specs.State.{Local, Map, crate_map}
 use Rattle.hir_def_map_rules.specs.WellFormed.{is_held_outside}
-use Rattle.hir_def_map_rules.specs.declared.reference.Reference.{Reference}
 use Rattle.hir_def_map_rules.specs.declared.reference.Reference.TheVariants as named
 use Rattle.hir_collector_rules.specs.Derivation.{Ends}
 use Rattle.hir_collector_rules.specs.Start.{krate_of}
 use Rattle.hir_crate_graph.specs.CrateSet.{has_crate}
-use Rattle.hir_session_state.specs.Crates.{id_of, transitive_in}
+use Rattle.hir_session_state.specs.Crates.{transitive_in}
 use Rattle.hir_session_state.specs.Kept.{collected_of}
 use Rattle.hir_session_state.specs.SessionState.{SessionState, Resolution, workspace_of, finished_of, follows, kept_of, IsPlace, IsResolutionOf, IsSound}
 use Rattle.hir_session_state.specs.SessionState.IsPlace.{of_block, of_crate}
@@ -47,7 +46,7 @@ module _ (m : Map) (local : Local) (id : MapId) (ne : id ≢ m.id) where
             or_right (test_of (lies_in id) (option_map named.Module m.holder)) _
             (or_right (list_any (test_extern (lies_in id)) local) _
             (elim other [
-              | inl of_crate ↦ or_left (list_any (test_crate (lies_in id)) m.crate_data.dependencies) (any_own_crate (lies_in id) m.id) of_crate
+              | inl depended ↦ or_left (list_any (test_crate (lies_in id)) m.crate_data.dependencies) (any_own_crate (lies_in id) m.id) depended
               | inr own ↦ or_right (list_any (test_crate (lies_in id)) m.crate_data.dependencies) (any_own_crate (lies_in id) m.id) own
             ]))
       ])))

@@ -40,14 +40,14 @@ use Rattle.hir_session_state.specs.Marks.{IsTouched}
 use Rattle.hir_session_state.specs.Marks.IsTouched.{before, asked_for}
 use Rattle.hir_session_state.specs.EditedSources.{AreHit}
 use Rattle.hir_session_state.specs.Changes.{Becomes}
-use Rattle.hir_session_state.specs.Due.{Grows, Resolved}
+use Rattle.hir_session_state.specs.Due.{Resolved}
 use Rattle.hir_session_state.proofs.Depending.{depended}
 use Rattle.hir_session_state.proofs.Following.{behind_block, dependency_behind, followed, followed_crate, followed_holder, spread_on}
 use Rattle.hir_session_state.proofs.Holding.{first_holder, held_block, holder_kept, holders_hold}
 use Rattle.hir_session_state.proofs.Ids.{of_number, on_id}
 use Rattle.hir_session_state.proofs.Names.{among-names, holds}
 use Rattle.hir_session_state.proofs.Standing.{beginning_stays, block_begun, kept_gives, unmarked}
-use Rattle.hir_session_state.proofs.Truth.{clash, no_value, on_bool, one_value}
+use Rattle.hir_session_state.proofs.Truth.{clash, on_bool, one_value}
 use Rattle.hir_session_state.proofs.Worlds.{AgreeOn-refl, DependsOn-holds, IsKeptBehind, IsResolutionOf-stays, kept_behind}
 use Rattle.hir_session_core.specs.Progress.{follows_under, AreFollowedCurrent}
 use Rattle.hir_session_core.proofs.Naming.{kept_ended, names-behind}

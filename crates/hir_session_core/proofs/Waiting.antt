@@ -1,6 +1,6 @@
 -- Blocks in their turn: resolving one makes only deeper ones due.
 use Rattle.std.specs.Prelude.{is_none, cond, map, nat_lt, if◌then◌else◌}
-use Rattle.std.proofs.Common.{◌≡◌, ◌≢◌, ◌⊎◌, inl, inr, ¬◌, ℕ, zero, suc, ◌+◌, ◌<◌, ◌≤◌, Bool, true, false, IsTrue, List, [], ◌∷◌, ◌++◌, length, arith, refl, sym, subst, ◌∙◌, ap, Option, Some, None, option_map, Contains, append-nil, append_assoc}
+use Rattle.std.proofs.Common.{◌≡◌, ◌≢◌, inl, inr, ¬◌, ℕ, zero, suc, ◌+◌, ◌<◌, ◌≤◌, Bool, true, false, IsTrue, List, [], ◌∷◌, ◌++◌, length, arith, refl, sym, subst, ◌∙◌, ap, Option, Some, None, option_map, Contains, append-nil, append_assoc}
 use Rattle.std.specs.Option.{option_and_then}
 use Rattle.std.specs.List.{AllByRecursion}
 use Rattle.std.specs.List.Sorted.{IsStrictlySortedBy}
@@ -8,7 +8,7 @@ use Rattle.std.specs.BTreeSet.{BTreeSet}
 use Rattle.std.specs.Cmp.{tied_itself}
 use Rattle.std.specs.Ordering.{Less, Ordering, is_le}
 use Rattle.std.proofs.lemmas.List.{map-append}
-use Rattle.std.proofs.lemmas.List.Elements.{Contains-append_left, Contains-append_right, Contains-append_cases}
+use Rattle.std.proofs.lemmas.List.Elements.{Contains-append_right, Contains-append_cases}
 use Rattle.std.proofs.lemmas.Bool.{ltb-true}
 use Rattle.hir_base.specs.Place.{PlaceValue}
 use Rattle.hir_base.specs.contracts.ids.MapIdPartialEq.TheImpl as map_id
@@ -22,14 +22,14 @@ use Rattle.hir_base.specs.declared.place.PlaceElement.TheVariants as element
 use Rattle.hir_def_map_rules.specs.State.{child_at, crate_map, root_of}
 use Rattle.hir_tables.specs.Tables.{block_at}
 use Rattle.hir_wire.specs.declared.reply.Status.TheVariants as status
-use Rattle.hir_session_state.specs.Blocks.{Blocks, block_cmp, nesting_of, place_of_block}
+use Rattle.hir_session_state.specs.Blocks.{block_cmp, nesting_of, place_of_block}
 use Rattle.hir_session_state.specs.Crates.{CrateValue, id_of}
-use Rattle.hir_session_state.specs.Due.{Grows, HasOverlongRun, IsDueBlock, IsDueCrate, IsNext, IsStuckAt, Resolved}
+use Rattle.hir_session_state.specs.Due.{Grows, HasOverlongRun, IsDueBlock, IsDueCrate, IsNext, IsStuckAt}
 use Rattle.hir_session_state.specs.Due.IsNext.{crate as next_crate, block as next_block}
 use Rattle.hir_session_state.specs.Kept.{Resolution, Resolutions, kept_in}
-use Rattle.hir_session_state.specs.SessionState.{SessionState, block_kept, is_marked, kept_of, module_of, standing_of, IsSound}
+use Rattle.hir_session_state.specs.SessionState.{SessionState, block_kept, is_marked, kept_of, standing_of, IsSound}
 use Rattle.hir_session_state.specs.SourceTable.{SourceTable}
-use Rattle.hir_session_state.specs.Standing.{Standing, block_below, block_map, block_number, child_kept, down, from_crate, is_set, kept_block, module_by, place_of_map, step, to_child, to_root}
+use Rattle.hir_session_state.specs.Standing.{Standing, block_below, block_map, block_number, child_kept, down, from_crate, is_set, kept_block, module_by, step, to_child, to_root}
 use Rattle.hir_session_state.specs.Standing.Standing.{at, lacks, stale, unset}
 use Rattle.hir_session_state.proofs.Places.{block_total, nesting_below, no_deeper, number_means}
 use Rattle.hir_session_state.proofs.Standing.{down-append, kept_block_grown, kept_gives, standing_grown, to_block_at, to_child_at, unmarked}
@@ -321,8 +321,8 @@ module _ (s : SessionState) (sound : IsSound s) (pending : BTreeSet PendingBlock
 
   -- what wasn't due and comes before isn't due then either
   turn_passed : (new : SessionState) (b : BlockPlace) → place_of_block b ≡ p.place → IsBlockResolved s b new → AreNotDue new (before ++ p ∷ [])
-  turn_passed new b of at c among due = elim (Contains-append_cases before (p ∷ []) (pending_of (place_of_block c)) among) [
-    | inl early ↦ passed c early (was_due s new sound b at c (no_deeper c b (in_order c b (subst (λ (x : PendingBlock). pending_cmp (pending_of (place_of_block c)) x ≡ Less)
+  turn_passed new b of came c among due = elim (Contains-append_cases before (p ∷ []) (pending_of (place_of_block c)) among) [
+    | inl early ↦ passed c early (was_due s new sound b came c (no_deeper c b (in_order c b (subst (λ (x : PendingBlock). pending_cmp (pending_of (place_of_block c)) x ≡ Less)
         (own_turn ∙ sym (of_place b p.place of)) (sorted_before pending_cmp before p after ordered (pending_of (place_of_block c)) early)))) due)
     | inr last ↦ itself last
   ]
@@ -330,7 +330,7 @@ module _ (s : SessionState) (sound : IsSound s) (pending : BTreeSet PendingBlock
       itself : Contains (p ∷ []) (pending_of (place_of_block c)) → ⊥
       itself (zero, within, is) =
           let same : c ≡ b = same_root c b (sym (own_place (pending_of (place_of_block c)) p.place (sym own_turn ∙ is)) ∙ sym of) in
-          not_due s new sound b at (subst (λ (x : BlockPlace). IsDueBlock new x) same due)
+          not_due s new sound b came (subst (λ (x : BlockPlace). IsDueBlock new x) same due)
       itself (suc n, within, is) = absurd (omega arith)
 
   turn_left : ((b : BlockPlace) → place_of_block b ≡ p.place → ¬ IsDueBlock s b) → AreNotDue s (before ++ p ∷ [])
@@ -384,15 +384,15 @@ module _ (from : SessionState) (before : List PlaceValue) (pending : BTreeSet Pe
         passed = turn_left now t.sound pending looked rest p t.split sorted t.all t.passed t.current none;
         current = t.current;
       }))
-  in_turn-more new after (resolved b of due at sound more) =
-      subst (λ (ps : List PlaceValue). IsInTurn from before pending (looked ++ p ∷ []) rest new ps) (sym more) (record {
+  in_turn-more new after (resolved b of due came sound longer) =
+      subst (λ (ps : List PlaceValue). IsInTurn from before pending (looked ++ p ∷ []) rest new ps) (sym longer) (record {
         split = split_behind;
         so_far = λ first h. resolved_more p.place new (t.so_far first h) sound (turn_next now t.sound pending looked rest p t.split sorted t.all t.passed t.current b of due)
-            (subst (λ (place : PlaceValue). IsResolvedAt now place new) of (at_place now new t.sound b at));
+            (subst (λ (place : PlaceValue). IsResolvedAt now place new) of (at_place now new t.sound b came));
         sound = sound;
-        all = still_pending now new t.sound b at pending t.all;
-        passed = turn_passed now t.sound pending looked rest p t.split sorted t.all t.passed t.current new b of at;
-        current = crates_still now new t.sound b at t.current;
+        all = still_pending now new t.sound b came pending t.all;
+        passed = turn_passed now t.sound pending looked rest p t.split sorted t.all t.passed t.current new b of came;
+        current = crates_still now new t.sound b came t.current;
       })
 
   -- the run for one was given up

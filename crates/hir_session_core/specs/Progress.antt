@@ -1,6 +1,6 @@
 -- How far has a refresh come? No public clause speaks of this.
-use Rattle.std.specs.Prelude.{◌≡◌, ¬◌, ℕ, ◌<◌, true, false, List, [], ◌∷◌, ◌++◌, length, Option, Some, None, Contains}
-use Rattle.std.specs.BTreeSet.{BTreeSet}
+use Rattle.std.specs.Prelude.{◌≡◌, ¬◌, ℕ, ◌<◌, cond, is_none, true, false, List, [], ◌∷◌, ◌++◌, length, Option, Some, None, Contains}
+use Rattle.std.specs.BTreeSet.{BTreeSet, insert_key}
 use Rattle.hir_base.specs.Place.{PlaceValue}
 use Rattle.hir_base.specs.declared.ast_id.BlockId.{BlockId}
 use Rattle.hir_base.specs.declared.ids.MapId.{MapId}
@@ -15,6 +15,7 @@ use Rattle.hir_session_state.specs.Due.{IsDueBlock, IsNext, Resolved}
 use Rattle.hir_session_state.specs.Kept.{Resolution, held}
 use Rattle.hir_session_state.specs.SessionState.{SessionState, block_kept, finished_of, holder_maps, is_marked, kept_of, IsSound}
 use Rattle.hir_session_state.specs.Standing.{block_map, block_number, is_set, place_of_map}
+use Rattle.hir_session_core.specs.contracts.session.pending.PendingBlockOrd.TheImpl as pending_order
 use Rattle.hir_session_core.specs.declared.session.pending.PendingBlock.{PendingBlock}
 use Rattle.hir_tables.specs.Tables.{KeepsTables}
 
@@ -60,6 +61,10 @@ pub record IsBlockResolved (old : SessionState) (b : BlockPlace) (new : SessionS
 -- a block among those that are left
 abbrev pub pending_of : PlaceValue → PendingBlock
 pending_of place = record { nesting = nesting_of place.elements; place = place }
+
+-- those that are left with this block, where nothing is kept of it
+abbrev pub with_pending : SessionState → BlockPlace → List PendingBlock → List PendingBlock
+with_pending s b keys = cond (is_none (block_kept s b)) (insert_key pending_order.ghosts.cmp keys (pending_of (place_of_block b))) keys
 
 -- each block that is set and of which nothing is kept is among them
 pub record HasAllPending (s : SessionState) (pending : BTreeSet PendingBlock) : Type 0 where

@@ -5,7 +5,8 @@ use Rattle.std.specs.BTreeMap.{insert_entry, is_at}
 use Rattle.std.specs.Cmp.{tied_itself}
 use Rattle.std.specs.Cmp.Lexicographic.{lists_ties, lists_total, pointwise, slice_cmp}
 use Rattle.std.specs.List.{flat_map}
-use Rattle.std.specs.Map.{lookup, values_of}
+use Rattle.std.specs.List.Sorted.{IsStrictlySortedBy}
+use Rattle.std.specs.Map.{keys_of, lookup, set_value, values_of}
 use Rattle.std.specs.Ordering.{is_eq, match_ordering}
 use Rattle.std.specs.declared.alloc.Global.{Global}
 use Rattle.std.specs.declared.vec.Vec.{Vec}
@@ -15,6 +16,7 @@ use Rattle.hir_base.specs.contracts.ids.CrateOrd.TheImpl as crate_order
 use Rattle.hir_base.specs.contracts.ids.CrateOrd.TheImpl.Laws.{total-law as crates_total}
 use Rattle.hir_base.specs.contracts.place.BlockPlaceOrd.TheImpl as block_order
 use Rattle.hir_base.specs.contracts.place.BlockPlaceOrd.TheImpl.Laws.{total-law as blocks_total, matches_eq-law as blocks_tie}
+use Rattle.hir_base.specs.contracts.place.BlockPlacePartialEq.TheImpl as block_eq
 use Rattle.hir_base.specs.contracts.place.PlaceElementOrd.TheImpl as element_order
 use Rattle.hir_base.specs.contracts.place.PlaceElementOrd.TheImpl.Laws.{total-law as elements_total, matches_eq-law as elements_tie}
 use Rattle.hir_base.specs.contracts.place.PlaceElementPartialEq.TheImpl as element_eq
@@ -27,9 +29,9 @@ use Rattle.hir_session_state.specs.Blocks.{Blocks, CrateBlocks, block_in, blocks
 use Rattle.hir_session_state.proofs.Places.{exact_block}
 use Rattle.hir_session_state.proofs.Truth.{clash, no_value, on_bool, one_value}
 use Rattle.hir_session_sources.specs.BlockPlaces.{places_in, places_of}
-use Rattle.hir_session_sources.specs.BlockTables.{AreInPlace, ArePlacedIn, SetBlockValue, SetBlocks, SetTables, by_steps, left_by, of_crate, or_none, sources_by_crate, sources_of, steps_in, with_set, without_set, without_steps}
+use Rattle.hir_session_sources.specs.BlockTables.{AreInPlace, ArePlacedIn, SetBlockValue, SetBlocks, SetTables, by_steps, has_place, left_by, of_crate, or_none, sources_by_crate, sources_of, steps_in, with_set, without_set, without_steps}
 use Rattle.hir_session_sources.proofs.Changing.{equal_crate}
-use Rattle.hir_session_sources.proofs.Lookups.{IsExact, at_same, lookup-insert_entry, lookup-keyed, lookup-valued, lookup-without, renamed-insert_entry, keyed-without, valued-insert_entry, valued-without}
+use Rattle.hir_session_sources.proofs.Lookups.{IsExact, at_same, insert_entry-there, lookup-insert_entry, lookup-keyed, lookup-valued, lookup-without, renamed-insert_entry, keyed-without, valued-insert_entry, valued-without}
 
 -- ---- steps, places and crates that are tied are the same
 
@@ -135,6 +137,32 @@ sources-left tables place steps is =
         ∙ ap (λ (left : CrateBlocks). insert_entry crate_order.ghosts.cmp (sources_by_crate tables) place.holder.krate left)
         (valued-without source (is_at (steps_cmp steps)) own ∙ ap (λ (xs : List PlaceElement). steps_with (sources_of own) xs None) is)
 
+-- ---- a table that is written over
+
+-- where the crate has a table
+pub set_there : (krate : Crate) (old new : SetTables) (own now : SetBlocks) (steps : List PlaceElement) (b : SetBlockValue) → IsStrictlySortedBy crate_order.ghosts.cmp (keys_of old)
+    → Some own ≡ lookup (is_at (crate_order.ghosts.cmp krate)) old → new ≡ set_value (is_at (crate_order.ghosts.cmp krate)) old now → now ≡ insert_entry steps_cmp own steps b
+    → new ≡ with_set old krate steps b
+set_there krate old new own now steps b sorted there written is =
+    written ∙ sym (insert_entry-there crate_order.ghosts.cmp crates_total old krate now own sorted (sym there))
+    ∙ ap (λ (x : SetBlocks). insert_entry crate_order.ghosts.cmp old krate x) (is ∙ ap (λ (o : Option SetBlocks). insert_entry steps_cmp (or_none o) steps b) there)
+
+-- and where it gets one
+pub set_first : (krate : Crate) (old mid new : SetTables) (fresh now : SetBlocks) (steps : List PlaceElement) (b : SetBlockValue) → None ≡ lookup (is_at (crate_order.ghosts.cmp krate)) old
+    → mid ≡ old → new ≡ insert_entry crate_order.ghosts.cmp mid krate now → now ≡ insert_entry steps_cmp fresh steps b → fresh ≡ [] → new ≡ with_set old krate steps b
+set_first krate old mid new fresh now steps b none same written is empty =
+    written
+    ∙ (λ i. insert_entry crate_order.ghosts.cmp (same i) krate (is i))
+    ∙ ap (λ (x : SetBlocks). insert_entry crate_order.ghosts.cmp old krate (insert_entry steps_cmp x steps b)) (empty ∙ ap or_none none)
+
+-- where one of its blocks is removed
+pub left_there : (krate : Crate) (old new : SetTables) (own now : SetBlocks) (steps : List PlaceElement) → IsStrictlySortedBy crate_order.ghosts.cmp (keys_of old)
+    → Some own ≡ lookup (is_at (crate_order.ghosts.cmp krate)) old → new ≡ set_value (is_at (crate_order.ghosts.cmp krate)) old now → now ≡ without_steps own steps → new ≡ without_set old krate steps
+left_there krate old new own now steps sorted there written is =
+    written ∙ sym (insert_entry-there crate_order.ghosts.cmp crates_total old krate now own sorted (sym there))
+    ∙ ap (λ (x : SetBlocks). insert_entry crate_order.ghosts.cmp old krate x) is
+    ∙ ap (left_by old krate steps) there
+
 -- ---- their places
 
 placed-found : (krate : Crate) (steps : List PlaceElement) (own : SetBlocks) → ArePlacedIn krate own → (b : SetBlockValue) → lookup (is_at (steps_cmp steps)) own ≡ Some b
@@ -231,6 +259,29 @@ pub more_roots : (ps : List BlockPlace) (own : SetBlocks) → map place_of_block
 more_roots [] [] = refl
 more_roots [] (e ∷ es) = ap (λ (rs : List PlaceValue). place_of_block e.1.place ∷ rs) (more_roots [] es)
 more_roots (p ∷ ps) own = ap (λ (rs : List PlaceValue). place_of_block p ∷ rs) (more_roots ps own)
+
+-- ---- whether a block is there
+
+-- a place is among those of a crate's blocks where its steps lead to one
+pub placed_has : (krate : Crate) (own : SetBlocks) → ArePlacedIn krate own → (b : BlockPlace) → b.holder.krate ≡ krate
+    → has_place (map (λ (e : List PlaceElement × SetBlockValue). e.1.place) own) b ≡ is_some (lookup (is_at (steps_cmp (place_of_block b).elements)) own)
+placed_has krate [] placed b of = refl
+placed_has krate (e ∷ es) placed b of = on_bool (block_eq.ghosts.eq e.1.place b)
+    (λ on.
+    let steps : (place_of_block b).elements ≡ e.0 = ap (λ (p : PlaceValue). p.elements) (ap place_of_block (sym (exact_block e.1.place b on)) ∙ placed.0) in
+    let here : is_at (steps_cmp (place_of_block b).elements) e.0 ≡ true = at_same steps_cmp exact_steps (place_of_block b).elements e.0 steps in
+    rw (on, here) refl)
+    (λ off. rw off (placed_has krate es placed.1 b of ∙ on_bool (is_at (steps_cmp (place_of_block b).elements) e.0)
+    (λ here.
+    let steps : (place_of_block b).elements ≡ e.0 = exact_steps.same (place_of_block b).elements e.0 here in
+    let root : place_of_block e.1.place ≡ place_of_block b = placed.0 ∙ sym (λ i. steps_in (of i) (steps i)) in
+    clash (subst (λ (x : BlockPlace). block_eq.ghosts.eq x b ≡ true) (sym (same_root e.1.place b root)) (blocks_tie b b ∙ exact_blocks.own b)) off)
+    (λ other. rw other refl)))
+
+-- one that has a source
+pub there_of : {A B : Type 0} (f : A → B) (o : Option A) → is_some o ≡ is_some (option_map f o)
+there_of f None = refl
+there_of f (Some x) = refl
 
 -- ---- a block before an edit and after it
 

@@ -1,11 +1,13 @@
 -- How are blocks stored? No public clause speaks of this.
-use Rattle.std.specs.Prelude.{◌≡◌, not, List, [], ◌∷◌, filter, map, Option, Some, None}
+use Rattle.std.specs.Prelude.{◌≡◌, Bool, not, List, [], ◌∷◌, filter, map, Option, Some, None}
 use Rattle.std.specs.BTreeMap.{is_at, insert_entry}
+use Rattle.std.specs.List.{list_any}
 use Rattle.std.specs.Map.{lookup}
 use Rattle.std.specs.declared.alloc.Global.{Global}
 use Rattle.std.specs.declared.vec.Vec.{Vec}
 use Rattle.hir_base.specs.Place.{PlaceValue}
 use Rattle.hir_base.specs.contracts.ids.CrateOrd.TheImpl as crate_order
+use Rattle.hir_base.specs.contracts.place.BlockPlacePartialEq.TheImpl as block_eq
 use Rattle.hir_base.specs.declared.ids.Crate.{Crate}
 use Rattle.hir_base.specs.declared.place.BlockPlace.{BlockPlace}
 use Rattle.hir_base.specs.declared.place.PlaceElement.{PlaceElement}
@@ -48,6 +50,10 @@ ArePlacedIn krate (e ∷ es) = (place_of_block e.1.place ≡ steps_in krate e.0)
 abbrev pub AreInPlace : SetTables → Type 0
 AreInPlace [] = Unit {0}
 AreInPlace (e ∷ es) = ArePlacedIn e.0 e.1 × AreInPlace es
+
+-- whether a place is among these
+abbrev pub has_place : List BlockPlace → BlockPlace → Bool
+has_place places b = list_any (λ p. block_eq.ghosts.eq p b) places
 
 -- ---- changes
 

@@ -2,13 +2,13 @@
 //!
 //! They are found by a crate and the steps to a block, which takes no memory; each is kept with its place, by which its number
 //! is found.
-ghost use Rattle.std.specs.Prelude.{◌≡◌, ◌∷◌, [], not, filter, map, IfOk, IfSome, OnOk, OnErr, option_map};
+ghost use Rattle.std.specs.Prelude.{◌≡◌, ◌∷◌, [], not, filter, map, is_some, IfOk, IfSome, OnOk, OnErr, option_map};
 ghost use Rattle.std.specs.BTreeMap.{is_at, insert_entry};
 ghost use Rattle.std.specs.Map.{lookup};
 ghost use Rattle.hir_base.specs.contracts.ids.CrateOrd.TheImpl as crate_order;
 ghost use Rattle.hir_item_tree.specs.Source.{source_view};
 ghost use Rattle.hir_session_state.specs.Blocks.{block_in, place_of_block, steps_cmp, with_block, without_block};
-ghost use Rattle.hir_session_sources.specs.BlockTables.{ArePlacedIn, by_steps, left_by, or_none, sources_of, steps_in, with_set, without_set, without_steps};
+ghost use Rattle.hir_session_sources.specs.BlockTables.{ArePlacedIn, by_steps, has_place, left_by, or_none, sources_of, steps_in, with_set, without_set, without_steps};
 ghost use Rattle.hir_session_sources.specs.BlockPlaces.{places_of};
 
 use hir_base::ids::Crate;
@@ -40,7 +40,7 @@ impl Model for SetBlock {
 /// The blocks of a crate, by the steps to each.
 #[derive(Drop)]
 pub struct CrateBlocks {
-    by_steps: BTreeMap<Vec<PlaceElement>, SetBlock>,
+    blocks: BTreeMap<Vec<PlaceElement>, SetBlock>,
 }
 
 impl Model for CrateBlocks {
@@ -51,7 +51,7 @@ impl Model for CrateBlocks {
 
     ghost coded = { coded_set_blocks };
 
-    ghost view = { λ b. by_steps b.by_steps.entries };
+    ghost view = { λ b. by_steps b.blocks.entries };
 }
 
 /// The blocks that are there, by crate.
@@ -94,35 +94,47 @@ impl CrateBlocks {
         ensures value { result ≡ [] }
     {
         CrateBlocks {
-            by_steps: BTreeMap::new(alloc),
+            blocks: BTreeMap::new(alloc),
         }
     }
 
     fn get(&self, steps: &[PlaceElement]) -> Option<&SetBlock>
         ensures value { option_map (λ b. b.now) result ≡ lookup (is_at (steps_cmp steps.now)) self.now }
     {
-        self.by_steps.get(steps)
+        self.blocks.get(steps)
+    }
+
+    /// Whether a place is that of one of the blocks. They are gone over, since the steps by which one is found would take memory.
+    fn has(&self, place: &BlockPlace) -> bool
+        ensures value { result ≡ has_place (map (λ e. e.1.place) self.now) place.now }
+    {
+        for block in self.blocks.values() {
+            if *block.place() == *place {
+                return true;
+            }
+        }
+        false
     }
 
     fn set(&mut self, steps: Vec<PlaceElement>, block: SetBlock) -> Result<(), AllocError>
         ensures ok { OnOk result (self.new ≡ insert_entry steps_cmp self.old steps.items block) }
         ensures err { OnErr result (self.new ≡ self.old) }
     {
-        self.by_steps.insert(steps, block)?;
+        self.blocks.insert(steps, block)?;
         Ok(())
     }
 
     fn remove(&mut self, steps: &[PlaceElement])
         ensures value { self.new ≡ without_steps self.old steps.now }
     {
-        self.by_steps.remove(steps);
+        self.blocks.remove(steps);
     }
 
     /// Puts the places of the blocks behind others.
     fn add_places<'a>(&'a self, places: &mut Vec<&'a BlockPlace>) -> Result<(), AllocError>
         ensures ok { OnOk result (map (λ p. p.now) places.new.items ≡ map (λ p. p.now) places.old.items ++ map (λ e. e.1.place) self.now) }
     {
-        for block in self.by_steps.values() {
+        for block in self.blocks.values() {
             places.push(block.place())?;
         }
         Ok(())
@@ -179,7 +191,9 @@ fn remove_of_crate(blocks: &mut BTreeMap<Crate, CrateBlocks>, krate: Crate, step
     ensures value { blocks.new.entries ≡ without_set blocks.old.entries krate steps.now }
 {
     match blocks.get_mut(&krate) {
-        Some(own) => own.remove(steps),
+        Some(own) => {
+            own.remove(steps);
+        }
         None => {}
     }
 }
@@ -244,6 +258,16 @@ impl Blocks {
         Ok(places)
     }
 
+    /// Whether a block is there.
+    pub fn has(&self, place: &BlockPlace) -> bool
+        ensures value { result ≡ is_some (block_in self.now (place_of_block place.now)) }
+    {
+        match self.own(place.holder.krate()) {
+            Some(own) => own.has(place),
+            None => false,
+        }
+    }
+
     /// The source of a block, if it is there. The steps to it take memory.
     pub fn at(&self, place: &BlockPlace) -> Result<Option<&Source>, AllocError>
         ensures value { IfOk result (λ found. option_map (λ s. source_view s.now) found ≡ block_in self.now (place_of_block place.now)) }
@@ -261,7 +285,8 @@ impl Blocks {
         let steps = steps_to(alloc, &place)?;
         let krate = place.holder.krate();
         let block = SetBlock { place, source };
-        set_of_crate(&mut self.by_crate, alloc, krate, steps, block)
+        set_of_crate(&mut self.by_crate, alloc, krate, steps, block)?;
+        Ok(())
     }
 
     /// Removes a block. The steps to it take memory.

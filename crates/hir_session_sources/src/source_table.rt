@@ -1,5 +1,5 @@
 //! The sources of a session.
-ghost use Rattle.std.specs.Prelude.{◌≡◌, [], None, Some, IfOk, OnOk, OnErr, option_map};
+ghost use Rattle.std.specs.Prelude.{◌≡◌, [], None, Some, is_some, IfOk, OnOk, OnErr, option_map};
 ghost use Rattle.hir_item_tree.specs.Source.{source_view};
 ghost use Rattle.hir_tables.specs.SourcePlaces.{expansion_value, source_value};
 ghost use Rattle.hir_wire.specs.Edits.{entry_view};
@@ -71,6 +71,17 @@ impl SourceTable {
             SourcePlace::File(path) => Ok(self.files.get(path)),
             SourcePlace::Block(place) => self.blocks.at(place),
             SourcePlace::Expansion(key) => Ok(source_in(self.entries.get(key))),
+        }
+    }
+
+    /// Whether there is a source at a place.
+    pub fn has(&self, place: SourcePlace<'_>) -> bool
+        ensures value { result ≡ is_some (source_at self.now (source_value place.entry)) }
+    {
+        match place {
+            SourcePlace::File(path) => self.files.get(path).is_some(),
+            SourcePlace::Block(place) => self.blocks.has(place),
+            SourcePlace::Expansion(key) => self.entries.get(key).is_some(),
         }
     }
 

@@ -1,5 +1,5 @@
 -- The modules that hold a block are kept, and what is kept of a block knows them all.
-use Rattle.std.proofs.Common.{◌≡◌, ◌∙◌, ◌⊎◌, inl, inr, ap, sym, subst, refl, ℕ, zero, suc, ◌<◌, Bool, true, false, not, ◌&&◌, ◌||◌, cond, is_some, Option, Some, None, option_map, List, [], ◌∷◌, length, arith, Contains}
+use Rattle.std.proofs.Common.{◌≡◌, ◌∙◌, ap, sym, subst, refl, zero, suc, ◌<◌, Bool, true, false, not, ◌&&◌, ◌||◌, cond, is_some, Option, Some, None, option_map, List, [], ◌∷◌, arith, Contains}
 use Rattle.std.specs.Option.{option_and_then}
 use Rattle.hir_base.specs.contracts.ids.MapIdPartialEq.TheImpl as map_id
 use Rattle.hir_base.specs.declared.ast_id.BlockId.{BlockId}
@@ -13,12 +13,11 @@ use Rattle.hir_def_map_rules.specs.Overlay.{Maps, Placed, holders_of, holders_un
 use Rattle.hir_def_map_rules.specs.References.{is_holder_for}
 use Rattle.hir_def_map_rules.specs.State.{crate_map, module_at}
 use Rattle.hir_def_map_rules.specs.WellFormed.{is_held_outside}
-use Rattle.hir_collector_rules.specs.Start.{Beginning, holder_of, holders_by}
+use Rattle.hir_collector_rules.specs.Start.{Beginning, holders_by}
 use Rattle.hir_session_state.specs.Crates.{transitive_in}
 use Rattle.hir_session_state.specs.Kept.{Resolution, placed_by}
-use Rattle.hir_session_state.specs.Standing.{block_map}
 use Rattle.hir_session_state.specs.SessionState.{SessionState, beginning_by, finished_of, follows, kept_of, read_under, IsResolutionOf, IsSound}
-use Rattle.hir_session_state.proofs.Following.{followed_crate, followed_holder}
+use Rattle.hir_session_state.proofs.Following.{followed_holder}
 use Rattle.hir_session_state.proofs.Names.{holds}
 use Rattle.hir_session_state.proofs.Standing.{IsBlockBegun, block_begun, crate_unheld, holder_begun, kept_gives}
 use Rattle.hir_session_state.proofs.Truth.{and_left, and_right, clash, no_value, on_bool, one_value, or_first, or_left, or_right}

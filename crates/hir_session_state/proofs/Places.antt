@@ -1,5 +1,5 @@
 -- Places of blocks: their numbers, and their order.
-use Rattle.std.proofs.Common.{◌≡◌, ◌≢◌, ◌∙◌, ap, ap₂, sym, subst, refl, ℕ, zero, suc, ◌+◌, ◌<◌, ◌≤◌, Bool, true, false, IsTrue, cond, Option, Some, None, List, [], ◌∷◌, ◌++◌, ◌||◌, nat_eq, zero-add, arith}
+use Rattle.std.proofs.Common.{◌≡◌, ◌≢◌, ◌∙◌, ap, ap₂, sym, subst, refl, ℕ, zero, suc, ◌+◌, ◌<◌, ◌≤◌, Bool, true, false, IsTrue, cond, Some, List, [], ◌∷◌, ◌++◌, ◌||◌, nat_eq, zero-add, arith}
 use Rattle.std.specs.List.{list_any}
 use Rattle.std.specs.Prelude.{nat_lt, slice_get}
 use Rattle.std.specs.Cmp.{IsTotalOrder, first_so, second_so, nat_cmp_total, on_total, then_total, unsigned_Decides}

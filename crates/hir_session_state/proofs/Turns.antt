@@ -1,5 +1,5 @@
 -- The resolution of a block makes only blocks due that lie within it.
-use Rattle.std.proofs.Common.{◌≡◌, ◌≢◌, ◌⊎◌, ◌∙◌, inl, inr, ap, sym, subst, refl, ℕ, suc, ◌+◌, ◌<◌, ◌≤◌, Bool, true, false, cond, Option, Some, None, List, [], ◌∷◌, ◌++◌, append_assoc, arith}
+use Rattle.std.proofs.Common.{◌≡◌, ◌≢◌, ◌⊎◌, ◌∙◌, inl, inr, ap, sym, subst, refl, suc, ◌+◌, ◌<◌, cond, Option, Some, None, List, [], ◌∷◌, ◌++◌, append_assoc, arith}
 use Rattle.std.specs.Option.{option_and_then}
 use Rattle.hir_base.specs.Place.{PlaceValue}
 use Rattle.hir_base.specs.declared.ast_id.BlockId.{BlockId}
@@ -17,8 +17,8 @@ use Rattle.hir_session_state.specs.SessionState.{SessionState, kept_of, module_o
 use Rattle.hir_session_state.specs.Standing.{Standing, block_below, block_map, block_number, down, from_crate, is_set, module_by, standing_in, step, to_child, to_root}
 use Rattle.hir_session_state.specs.Standing.Standing.{at, lacks, stale, unset}
 use Rattle.hir_session_state.proofs.Ids.{on_id}
-use Rattle.hir_session_state.proofs.Places.{nesting_below, nesting_first, number_means}
-use Rattle.hir_session_state.proofs.Standing.{IsModuleKept, at_module, kept_gives, module_there, step_kept}
+use Rattle.hir_session_state.proofs.Places.{nesting_below, number_means}
+use Rattle.hir_session_state.proofs.Standing.{IsModuleKept, module_there, step_kept}
 use Rattle.hir_session_state.proofs.Truth.{no_value, one_value}
 
 -- steps add blocks

@@ -2,7 +2,6 @@
 use Rattle.std.specs.Coded.{Coded, codes}
 use Rattle.hir_wire.specs.Edits.{EntryValue}
 use Rattle.hir_session_state.specs.SourceCodes.{coded_source}
-use Rattle.hir_session_state.specs.Blocks.{Blocks}
 use Rattle.hir_session_state.specs.Entries.{Entries}
 use Rattle.hir_session_state.specs.SourceTable.{SourceTable}
 
@@ -13,10 +12,6 @@ coded_entry = hlevel (codes, coded_source)
 -- expansions are stored as the list of what they depend on, and of themselves
 pub coded_entries : Coded Entries
 coded_entries = hlevel (codes, coded_source)
-
--- blocks are stored as the lists of those of each crate
-pub coded_blocks : Coded Blocks
-coded_blocks = hlevel (codes, coded_source)
 
 -- sources are stored as files, blocks and expansions
 pub coded_table : Coded SourceTable

@@ -6,6 +6,7 @@ ghost use Rattle.hir_session_state.specs.Blocks.{place_of_block};
 ghost use Rattle.hir_session_state.specs.Changes.{Becomes};
 ghost use Rattle.hir_session_state.specs.Refusals.{verdict_of_block, verdict_of_source, verdict_with_steps, IsEditMemory};
 ghost use Rattle.hir_session_state.specs.SourceEdits.{edited, of_block};
+ghost use Rattle.hir_session_core.specs.BlockVerdicts.{told_with_steps};
 
 use super::{Session, check_source};
 use hir_base::place::BlockPlace;
@@ -16,17 +17,25 @@ use hir_session_state::error::EditError;
 use hir_session_state::steps::check_with_steps;
 use std::alloc::{AllocError, Global};
 
+/// What is told where this came of the check of a source, with the steps to its block.
+fn told_with_steps(block: &BlockPlace, verdict: Result<(), EditError>) -> Result<(), EditError>
+    ensures value { result ≡ told_with_steps (place_of_block block.now).elements verdict }
+{
+    match verdict {
+        Err(EditError::Memory) => verdict,
+        Err(EditError::UnknownCrate | EditError::TooLarge(_) | EditError::DuplicateId { .. })
+        | Ok(()) => check_with_steps(block, verdict),
+    }
+}
+
 /// Whether a source has each id once, and is within the limits with the steps to its block.
 fn check_block(alloc: Global, block: &BlockPlace, source: &Source) -> Result<(), EditError>
     ensures accepted { OnOk result (verdict_with_steps (place_of_block block.now).elements (verdict_of_source (source_view source.now)) ≡ Ok tt) }
     ensures refused { IfErr result (λ e. IsEditMemory e
         ⊎ (verdict_with_steps (place_of_block block.now).elements (verdict_of_source (source_view source.now)) ≡ Err e)) }
 {
-    match check_source(alloc, source) {
-        Ok(()) => check_with_steps(block, Ok(())),
-        Err(EditError::Memory) => Err(EditError::Memory),
-        Err(error) => check_with_steps(block, Err(error)),
-    }
+    let verdict = check_source(alloc, source);
+    told_with_steps(block, verdict)
 }
 
 impl Session {

@@ -1,8 +1,8 @@
 //! Blocks that wait to be resolved.
-ghost use Rattle.std.specs.Prelude.{◌≡◌, IfOk, Some, None, is_none};
+ghost use Rattle.std.specs.Prelude.{◌≡◌, IfOk, OnOk, is_none};
 ghost use Rattle.hir_session_state.specs.Blocks.{place_of_block};
-ghost use Rattle.hir_session_state.specs.SessionState.{block_kept};
-ghost use Rattle.hir_session_core.specs.Progress.{pending_of, HasAllPending};
+ghost use Rattle.hir_session_state.specs.SessionState.{block_kept, is_marked};
+ghost use Rattle.hir_session_core.specs.Progress.{pending_of, with_pending, HasAllPending};
 
 use super::Session;
 use hir_base::ids::MapId;
@@ -34,18 +34,40 @@ impl PendingBlock {
 }
 
 impl Session {
-    /// Whether nothing is kept of a block.
+    /// Whether nothing is kept of a place.
+    pub(super) fn is_marked(&self, id: MapId) -> bool
+        ensures value { result ≡ is_marked self.now id }
+    {
+        self.kept.get(id).is_none()
+    }
+
+    /// Whether nothing is kept of a block: it has no number, or nothing stands under that.
     pub(super) fn is_block_marked(&self, block: &BlockPlace) -> bool
         ensures value { result ≡ is_none (block_kept self.now block.now) }
     {
-        let Some(number) = self.tables.block_number(block) else {
-            return true;
-        };
-        let id = MapId {
-            krate: block.holder.krate(),
-            block: Some(number),
-        };
-        self.kept.get(id).is_none()
+        match self.tables.block_number(block) {
+            Some(number) => self.is_marked(MapId {
+                krate: block.holder.krate(),
+                block: Some(number),
+            }),
+            None => true,
+        }
+    }
+
+    /// Puts a block among those that are left, where nothing is kept of it.
+    fn add_pending(
+        &self,
+        alloc: Global,
+        pending: &mut BTreeSet<PendingBlock>,
+        block: &BlockPlace,
+    ) -> Result<(), AllocError>
+        ensures ok { OnOk result (pending.new.keys ≡ with_pending self.now block.now pending.old.keys) }
+    {
+        if self.is_block_marked(block) {
+            let one = PendingBlock::new(alloc, block)?;
+            pending.insert(one)?;
+        }
+        Ok(())
     }
 
     /// The blocks that are set and of which nothing is kept, in the order in which they are resolved.
@@ -53,11 +75,11 @@ impl Session {
         ensures all { IfOk result (HasAllPending self.now) }
     {
         let mut pending = BTreeSet::new(alloc);
-        let blocks = self.inputs.sources().blocks().places()?;
-        for block in &blocks {
-            if self.is_block_marked(block) {
-                pending.insert(PendingBlock::new(alloc, block)?)?;
-            }
+        let places = self.inputs.sources().blocks().places()?;
+        let mut left = places.as_slice();
+        'next: while let [block, others @ ..] = left {
+            self.add_pending(alloc, &mut pending, *block)?;
+            left = others;
         }
         Ok(pending)
     }

@@ -40,14 +40,21 @@ use hir_wire::reply::Status;
 use std::alloc::Global;
 
 impl Session {
+    /// The map that is kept of a place.
+    fn map_kept(&self, id: MapId) -> Option<&DefMap>
+        ensures value { option_map (λ m. m.now) result ≡ option_map (λ r. r.map) (kept_of self.now id) }
+    {
+        match self.kept.get(id) {
+            Some(found) => Some(found.map),
+            None => None,
+        }
+    }
+
     /// The map of a crate, unless the crate is stale or unknown.
     pub fn def_map(&self, krate: Crate) -> Option<&DefMap>
         ensures value { option_map (λ m. m.now) result ≡ option_map (λ r. r.map) (kept_of self.now (id_of krate.0)) }
     {
-        match self.kept.get(MapId::of_crate(krate)) {
-            Some(found) => Some(found.map),
-            None => None,
-        }
+        self.map_kept(MapId::of_crate(krate))
     }
 
     /// Where the steps of a place lead, in what is kept.
@@ -70,9 +77,8 @@ impl Session {
         ensures value { option_map (λ m. m.now) result
             ≡ option_map (λ r. r.map) (option_and_then (λ m. kept_of self.now m.map) (module_of self.now place.now)) }
     {
-        let at = self.standing(place).module()?;
-        match self.kept.get(at.map) {
-            Some(found) => Some(found.map),
+        match self.standing(place).module() {
+            Some(at) => self.map_kept(at.map),
             None => None,
         }
     }

@@ -2,7 +2,7 @@
 //!
 //! Crates come first, by number, so that a run finds what it depends on. Once no crate is marked, blocks follow, an outer one
 //! before those within it: whether the module that holds a block is there is known once the blocks around it were resolved.
-ghost use Rattle.std.specs.Prelude.{◌≡◌, ◌≢◌, ¬◌, ℕ, ◌<◌, ◌≤◌, ◌++◌, ◌∷◌, [], true, false, length, None, Some, IfOk, IfSome, IsSome, OnOk, OnErr, OnNone, Err};
+ghost use Rattle.std.specs.Prelude.{◌≡◌, ◌≢◌, ¬◌, ℕ, ◌<◌, ◌≤◌, ◌++◌, ◌∷◌, [], true, false, length, None, Some, IfOk, IfSome, IsSome, OnOk, OnErr, OnSome, OnNone, Err};
 ghost use Rattle.hir_base.specs.Locations.{max_locations};
 ghost use Rattle.hir_base.specs.Place.{PlaceValue};
 ghost use Rattle.hir_base.specs.declared.place.BlockPlace.{BlockPlace};
@@ -13,7 +13,7 @@ ghost use Rattle.hir_session_state.specs.Crates.{begins_in_block, id_of};
 ghost use Rattle.hir_session_state.specs.Changes.{Refreshes, RefreshesPartly};
 ghost use Rattle.hir_session_state.specs.Due.{root_place, Grows, HasOverlongRun, IsDueBlock, IsStuckAt, Resolved};
 ghost use Rattle.hir_session_state.specs.SessionState.{SessionState, Resolution, beginning_of, finished_of, is_marked, module_of, workspace_of, IsPlace, IsResolutionOf, IsSound};
-ghost use Rattle.hir_session_state.specs.Standing.{block_map, block_number, definition_file};
+ghost use Rattle.hir_session_state.specs.Standing.{block_map, block_number, definition_file, is_set};
 ghost use Rattle.hir_session_core.specs.Progress.{held_in, AreCratesCurrent, AreFollowedCurrent, HasResolved, IsBlockResolved, IsRefreshed};
 ghost use Rattle.hir_session_answers.specs.Status.{status_of};
 ghost use Rattle.hir_wire.specs.declared.reply.Status.TheVariants as status;
@@ -21,7 +21,6 @@ ghost use Rattle.hir_wire.specs.declared.reply.Status.TheVariants as status;
 use super::Session;
 use hir_base::ast_id::{BlockId, EditionedFileId};
 use hir_base::ids::{Crate, MapId, ModuleId};
-use hir_base::locations::LocationsError;
 use hir_base::place::{BlockPlace, Place};
 use hir_collector_rules::collected::Collected;
 use hir_session_answers::definition_files::definition_file_at;
@@ -45,6 +44,14 @@ fn note(alloc: Global, done: &mut Vec<Place>, k: u32) -> Result<(), AllocError>
     Ok(())
 }
 
+/// Puts a place at the end.
+fn note_place(done: &mut Vec<Place>, place: &Place) -> Result<(), AllocError>
+    ensures ok { OnOk result (done.new.items ≡ done.old.items ++ place.now ∷ []) }
+{
+    done.push(place.clone()?)?;
+    Ok(())
+}
+
 impl Session {
     /// Keeps what a run came to for a marked place, of which what it depends on is current.
     fn keep_found(&mut self, id: MapId, found: Collected) -> Result<(), AllocError>
@@ -65,7 +72,7 @@ impl Session {
     fn is_marked_at(&self, k: u32) -> bool
         ensures value { result ≡ is_marked self.now (id_of k) }
     {
-        self.kept.get(MapId::of_crate(Crate(k))).is_none()
+        self.is_marked(MapId::of_crate(Crate(k)))
     }
 
     /// What a run gives for a crate, beside the maps of those before it.
@@ -120,11 +127,8 @@ impl Session {
         ensures many { result ≡ Err RefreshError.TooMany
             → (block_number self.new.tables block ≡ None) × (max_locations ≤ length self.new.tables.blocks) }
     {
-        match self.tables.intern_block(block) {
-            Ok(number) => Ok(number),
-            Err(LocationsError::TooMany) => Err(RefreshError::TooMany),
-            Err(LocationsError::Memory) => Err(RefreshError::Memory),
-        }
+        let number = self.tables.intern_block(block)?;
+        Ok(number)
     }
 
     /// The file in which a module of a current map is written, or the outermost call around it.
@@ -133,8 +137,10 @@ impl Session {
         ensures numbered { IfSome result (λ file. IsSome (file_at self.now.tables file.file_id)) }
     {
         let file = definition_file_at(&self.tables, &self.kept, m)?;
-        self.tables.file(file.file_id)?;
-        Some(file)
+        match self.tables.file(file.file_id) {
+            Some(_) => Some(file),
+            None => None,
+        }
     }
 
     /// What a run gives for a block, beside the maps of its crate and of the module that holds it.
@@ -196,18 +202,50 @@ impl Session {
         let krate = block.holder.krate();
         let id = block.id;
         let number = self.number_of(block)?;
-        // A module of a current map is written in a file that has a number, or in what calls in one expand to.
-        let Some(file) = self.file_of(holder) else {
-            return Err(RefreshError::Memory);
-        };
-        let at = HeldBlock {
-            krate,
-            block: number,
-            holder,
-            file,
-            id,
-        };
-        self.resolve_in(alloc, at)
+        match self.file_of(holder) {
+            Some(file) => self.resolve_in(
+                alloc,
+                HeldBlock {
+                    krate,
+                    block: number,
+                    holder,
+                    file,
+                    id,
+                },
+            ),
+            // A module of a current map is written in a file that has a number, or in what calls in one expand to.
+            None => Err(RefreshError::Memory),
+        }
+    }
+
+    /// A block with the module that holds it, if it is marked.
+    fn due_in<'a>(&self, place: &'a BlockPlace, holder: ModuleId) -> Option<DueBlock<'a>>
+        requires set { is_set self.now.sources.blocks place.now ≡ true }
+        requires held { module_of self.now place.now.holder ≡ Some holder }
+        ensures place { IfSome result (λ due. due.place.now ≡ place.now) }
+        ensures holder { IfSome result (λ due. due.holder ≡ holder) }
+        ensures due { OnSome result (IsDueBlock self.now place.now) }
+        ensures none { OnNone result (¬ IsDueBlock self.now place.now) }
+    {
+        if self.is_block_marked(place) {
+            Some(DueBlock { place, holder })
+        } else {
+            None
+        }
+    }
+
+    /// A block that is set, if it is due.
+    fn due_block<'a>(&self, place: &'a BlockPlace) -> Option<DueBlock<'a>>
+        requires set { is_set self.now.sources.blocks place.now ≡ true }
+        ensures place { IfSome result (λ due. due.place.now ≡ place.now) }
+        ensures due { OnSome result (IsDueBlock self.now place.now) }
+        ensures held { IfSome result (λ due. module_of self.now place.now.holder ≡ Some due.holder) }
+        ensures none { OnNone result (¬ IsDueBlock self.now place.now) }
+    {
+        match self.standing(&place.holder).module() {
+            Some(holder) => self.due_in(place, holder),
+            None => None,
+        }
     }
 
     /// The block whose root a place names, if it is due.
@@ -217,13 +255,15 @@ impl Session {
         ensures held { IfSome result (λ due. module_of self.now due.place.now.holder ≡ Some due.holder) }
         ensures none { OnNone result ((b : BlockPlace) → place_of_block b ≡ root.now → ¬ IsDueBlock self.now b) }
     {
-        let blocks = self.inputs.sources().blocks();
-        let place = blocks.place(root.krate(), root.elements())?;
-        if !self.is_block_marked(place) {
-            return None;
+        match self
+            .inputs
+            .sources()
+            .blocks()
+            .place(root.krate(), root.elements())
+        {
+            Some(place) => self.due_block(place),
+            None => None,
         }
-        let holder = self.standing(&place.holder).module()?;
-        Some(DueBlock { place, holder })
     }
 
     /// Resolves the block whose root a place names, if it is due, and lists it.
@@ -239,13 +279,15 @@ impl Session {
         ensures many { result ≡ Err RefreshError.TooMany
             → (b : BlockPlace) × (place_of_block b ≡ root.now) × IsDueBlock self.old b × IsStuckAt self.new root.now }
     {
-        let Some(due) = self.due_at(root) else {
-            return Ok(());
-        };
-        let block = copied_place(due.place)?;
-        let holder = due.holder;
-        done.push(root.clone()?)?;
-        self.resolve_block(alloc, block, holder)
+        match self.due_at(root) {
+            Some(due) => {
+                let block = copied_place(due.place)?;
+                let holder = due.holder;
+                note_place(done, root)?;
+                self.resolve_block(alloc, block, holder)
+            }
+            None => Ok(()),
+        }
     }
 
     /// Resolves the blocks that are marked and set and whose holding place is there, an outer one before those within it, and

@@ -1,5 +1,5 @@
 -- The run read the maps of the crates on which its crate depends, each of which is current and names only what is there.
-use Rattle.std.proofs.Common.{◌≡◌, ◌<◌, length, refl, subst, sym, List, Err}
+use Rattle.std.proofs.Common.{◌≡◌, ◌<◌, length, refl, subst, sym, Err}
 use Rattle.hir_def_map_rules.specs.Overlay.{Maps}
 use Rattle.hir_collector_rules.specs.Derivation.{IsOverlong}
 use Rattle.hir_session_state.specs.Crates.{beginning_in, id_of}

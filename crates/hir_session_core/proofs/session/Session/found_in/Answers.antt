@@ -1,12 +1,10 @@
 -- The run read the maps of its crate and of what holds it, each of which is current and names only what is there.
-use Rattle.std.proofs.Common.{◌≡◌, ◌∙◌, ap, sym, subst, zero, arith, Option, Some, None, Err}
-use Rattle.std.specs.Option.{IsSome}
+use Rattle.std.proofs.Common.{◌≡◌, sym, subst, arith, Err}
 use Rattle.hir_def_map_rules.specs.Overlay.{Maps}
 use Rattle.hir_collector_rules.specs.Derivation.{IsOverlong}
 use Rattle.hir_session_state.specs.Crates.{begins_in_block}
 use Rattle.hir_session_state.specs.Inputs.{InputsValue, workspace_by}
 use Rattle.hir_session_state.specs.Kept.{finished_by}
-use Rattle.hir_session_state.specs.SessionState.{SessionState, IsSound}
 use Rattle.hir_session_state.specs.declared.error.RefreshError.TheVariants as refresh_error
 use Rattle.hir_session_state.proofs.Asking.{kept_meant, noted_grown}
 use Rattle.hir_session_answers.proofs.LowerLaws.{answers_stand, asked_keys_have_meaning, looks_stand, runs_name}

@@ -5,7 +5,7 @@ use Rattle.hir_collector_rules.specs.Derivation.{collected_view}
 use Rattle.hir_session_state.specs.Askers.{is_asker}
 use Rattle.hir_session_state.specs.Due.{Resolved}
 use Rattle.hir_session_state.specs.Kept.{kept_in}
-use Rattle.hir_session_state.specs.SessionState.{SessionState, IsPlace, IsResolutionOf, IsSound, is_marked}
+use Rattle.hir_session_state.specs.SessionState.{SessionState, IsPlace, IsResolutionOf, is_marked}
 use Rattle.hir_session_core.specs.Progress.{held_in, AreFollowedCurrent}
 use Rattle.hir_session_state.proofs.Asking.{noted_kept, noted_more}
 use Rattle.hir_session_state.proofs.Resolving.{may_join}

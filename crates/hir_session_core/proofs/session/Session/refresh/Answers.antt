@@ -1,7 +1,4 @@
 -- Crates first, and then blocks.
-use Rattle.std.proofs.Common.{subst}
-use Rattle.hir_session_state.specs.SessionState.{SessionState, IsSound}
-use Rattle.hir_session_core.proofs.Due.{passed_on, resolved_none}
 use Rattle.hir_session_core.proofs.Waiting.{nowhere_stale, refreshes_all}
 use Rattle.hir_session_core.proofs.session.Session.refresh.Goals as goal
 

@@ -1,11 +1,11 @@
 -- Each pending block in turn isn't due, or is the next that is.
-use Rattle.std.proofs.Common.{◌∙◌, sym, subst, ap, List, [], ◌++◌, append-nil, map}
+use Rattle.std.proofs.Common.{sym, subst, List, []}
 use Rattle.hir_scope.proofs.Rewrites.{on_err}
 use Rattle.hir_session_state.specs.SessionState.{SessionState}
 use Rattle.hir_session_core.specs.Progress.{AreCratesCurrent, HasAllPending}
 use Rattle.hir_session_core.specs.declared.session.pending.PendingBlock.{PendingBlock}
-use Rattle.hir_session_core.proofs.Due.{grows_not, passed_on, resolves_grown}
-use Rattle.hir_session_core.proofs.Waiting.{IsInTurn, in_turn-start, in_turn-more, in_turn-partly, in_turn-stuck, in_turn-end, in_turn-shown}
+use Rattle.hir_session_core.proofs.Due.{grows_not, resolves_grown}
+use Rattle.hir_session_core.proofs.Waiting.{IsInTurn, in_turn-start, in_turn-more, in_turn-partly, in_turn-end, in_turn-shown}
 use Rattle.hir_session_core.proofs.session.Session.refresh_blocks.Goals as goal
 
 pub loop-block-init : goal.loop-block-init

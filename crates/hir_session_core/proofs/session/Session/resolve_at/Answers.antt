@@ -1,7 +1,6 @@
 -- All that the crate depends on comes before it.
-use Rattle.std.proofs.Common.{◌≡◌, ◌∙◌, ap, sym, subst, refl, false, length, List, ℕ, ◌<◌}
+use Rattle.std.proofs.Common.{◌∙◌, sym, subst, refl, length, List, ◌<◌}
 use Rattle.hir_session_state.specs.Crates.{CrateValue, id_of}
-use Rattle.hir_session_state.specs.SessionState.{SessionState, IsSound}
 use Rattle.hir_session_state.specs.SessionState.IsPlace.{of_crate}
 use Rattle.hir_session_core.proofs.Growth.{grown_mark, resolved_later}
 use Rattle.hir_session_core.proofs.Sound.{followed_crates}

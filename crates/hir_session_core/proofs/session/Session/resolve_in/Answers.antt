@@ -1,5 +1,5 @@
 -- What the run came to is kept.
-use Rattle.std.proofs.Common.{◌≡◌, ◌∙◌, sym, subst, Option}
+use Rattle.std.proofs.Common.{◌∙◌, sym, subst, Option}
 use Rattle.hir_base.specs.declared.ids.ModuleId.{ModuleId}
 use Rattle.hir_session_state.specs.Standing.{block_map}
 use Rattle.hir_session_core.specs.Progress.{AreFollowedCurrent}

@@ -9,6 +9,6 @@ use Rattle.hir_session_sources.proofs.blocks.CrateBlocks.get.Goals as goal
 
 pub returns : goal.returns
 returns c = record {
-  value = c.get.ensures.value ∙ found_by_steps c.args.steps.now c.self.inside.by_steps.entries
+  value = c.get.ensures.value ∙ found_by_steps c.args.steps.now c.self.inside.blocks.entries
       ∙ ap (λ (own : SetBlocks). lookup (is_at (steps_cmp c.args.steps.now)) own) c.self.view_is;
 }

@@ -9,5 +9,5 @@ use Rattle.hir_session_sources.proofs.blocks.CrateBlocks.set.Goals as goal
 pub returns-clause-ok : goal.returns-clause-ok
 returns-clause-ok c =
     ap by_steps c.in_ok-insert.ensures.entries
-    ∙ set_by_steps c.self.inside.by_steps.entries c.args.steps c.args.block
+    ∙ set_by_steps c.self.inside.blocks.entries c.args.steps c.args.block
     ∙ ap (λ (own : SetBlocks). insert_entry steps_cmp own c.args.steps.items c.args.block) c.self.view_is
