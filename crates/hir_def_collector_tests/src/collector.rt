@@ -767,10 +767,7 @@ fn in_block(alloc: Global) -> Result<Collected, Fail> {
 /// The map in which a struct stands that a name stands for.
 fn map_of(alloc: Global, map: &DefMap, name: &str) -> Result<MapId, Fail> {
     match entry(alloc, map, name)?.types.ok_or("a type")?.def {
-        ModuleDefId::AdtId(AdtId::StructId(id)) => match id.loc.container {
-            ItemContainerId::ModuleId(module) => Ok(module.map),
-            _ => Err("in a module")?,
-        },
+        ModuleDefId::AdtId(AdtId::StructId(id)) => Ok(id.loc.container.map),
         _ => Err("a struct")?,
     }
 }

@@ -1,6 +1,6 @@
 -- The maps that a place follows: those of the crates on which its crate depends, or of a block that of its crate and that in which its holder lies.
 use Rattle.std.specs.Prelude.{map}
-use Rattle.std.proofs.Common.{◌≡◌, ◌∙◌, ◌⊎◌, inl, inr, ℕ, zero, suc, ◌<◌, false, Option, Some, None, List, [], ◌∷◌, length, arith, refl, ap, sym, subst, Contains}
+use Rattle.std.proofs.Common.{◌≡◌, ◌⊎◌, inl, inr, ℕ, zero, suc, ◌<◌, false, Option, Some, None, List, [], ◌∷◌, length, arith, refl, ap, sym, subst, Contains}
 use Rattle.hir_base.specs.declared.ast_id.BlockId.{BlockId}
 use Rattle.hir_base.specs.declared.ids.Crate.{Crate}
 use Rattle.hir_base.specs.declared.ids.MapId.{MapId}

@@ -1,5 +1,5 @@
 -- The modules that hold a block are kept, and what is kept of a block knows them all.
-use Rattle.std.proofs.Common.{◌≡◌, ◌∙◌, ◌⊎◌, inl, inr, ap, sym, subst, refl, ℕ, zero, suc, ◌<◌, Bool, true, false, not, ◌&&◌, ◌||◌, cond, is_some, Option, Some, None, option_map, List, [], ◌∷◌, length, arith, Contains}
+use Rattle.std.proofs.Common.{◌≡◌, ◌∙◌, ap, sym, subst, refl, zero, suc, ◌<◌, Bool, true, false, not, ◌&&◌, ◌||◌, cond, is_some, Option, Some, None, option_map, List, [], ◌∷◌, arith, Contains}
 use Rattle.std.specs.Option.{option_and_then}
 use Rattle.hir_base.specs.contracts.ids.MapIdPartialEq.TheImpl as map_id
 use Rattle.hir_base.specs.declared.ast_id.BlockId.{BlockId}
@@ -13,12 +13,11 @@ use Rattle.hir_def_map_rules.specs.Overlay.{Maps, Placed, holders_of, holders_un
 use Rattle.hir_def_map_rules.specs.References.{is_holder_for}
 use Rattle.hir_def_map_rules.specs.State.{crate_map, module_at}
 use Rattle.hir_def_map_rules.specs.WellFormed.{is_held_outside}
-use Rattle.hir_collector_rules.specs.Start.{Beginning, holder_of, holders_by}
+use Rattle.hir_collector_rules.specs.Start.{Beginning, holders_by}
 use Rattle.hir_session_state.specs.Crates.{transitive_in}
 use Rattle.hir_session_state.specs.Kept.{Resolution, placed_by}
-use Rattle.hir_session_state.specs.Standing.{block_map}
 use Rattle.hir_session_state.specs.SessionState.{SessionState, beginning_by, finished_of, follows, kept_of, read_under, IsResolutionOf, IsSound}
-use Rattle.hir_session_state.proofs.Following.{followed_crate, followed_holder}
+use Rattle.hir_session_state.proofs.Following.{followed_holder}
 use Rattle.hir_session_state.proofs.Names.{holds}
 use Rattle.hir_session_state.proofs.Standing.{IsBlockBegun, block_begun, crate_unheld, holder_begun, kept_gives}
 use Rattle.hir_session_state.proofs.Truth.{and_left, and_right, clash, no_value, on_bool, one_value, or_first, or_left, or_right}
@@ -44,8 +43,7 @@ module _ (s : SessionState) (id : MapId) (r : Resolution) (p : IsResolutionOf s 
       let there : is_holder_for (overlay read r.map) r.map.id (Some h) ≡ true = ap (is_holder_for (overlay read r.map) r.map.id) (sym held) ∙ p.names.held in
       let out : not (map_id.ghosts.eq h.map r.map.id) ≡ true = ap (is_held_outside r.map.id) (sym held) ∙ p.names.outside in
       let one : same_crate h.map.krate r.map.id.krate ≡ true = and_left (same_crate h.map.krate r.map.id.krate) (is_some (module_in (overlay read r.map) h)) there in
-      let other : is_some (module_in (overlay read r.map) h) ≡ true = and_right (same_crate h.map.krate r.map.id.krate) (is_some (module_in (overlay read r.map) h)) there in
-      (
+      let other : is_some (module_in (overlay read r.map) h) ≡ true = and_right (same_crate h.map.krate r.map.id.krate) (is_some (module_in (overlay read r.map) h)) there in (
         ap (λ (x : MapId). same_crate h.map.krate x.krate) (sym p.own) ∙ one,
         ap (λ (b : Bool). is_some (option_and_then (λ (q : Placed). module_at q.map h.index) (cond b (Some (placed_in read r.map)) (read h.map)))) (sym (off (map_id.ghosts.eq h.map r.map.id) out)) ∙ other,
       )
@@ -121,8 +119,7 @@ module _ (s : SessionState) (id : MapId) (r : Resolution) (p : IsResolutionOf s 
           let k = holder_kept g held in
           let both : g ∷ k.found.holders ≡ h ∷ hs = sym k.holders ∙ e in
           let same : g ≡ h = (cc) in
-          let rest : k.found.holders ≡ hs = (cc) in
-          (
+          let rest : k.found.holders ≡ hs = (cc) in (
             held ∙ ap (λ (x : ModuleId). Some x) same,
             λ f is. ap (λ (x : Resolution). x.holders) (one_value (sym is ∙ ap (λ (x : ModuleId). kept_of s x.map) (sym same) ∙ k.is)) ∙ rest,
           )

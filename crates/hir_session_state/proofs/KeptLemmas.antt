@@ -20,7 +20,7 @@ use Rattle.hir_def_map_rules.specs.Overlay.{Maps, Placed, holders_or, holders_un
 use Rattle.hir_def_map.specs.World.{finished_in, placed_of}
 use Rattle.hir_session_state.specs.declared.runs.KeptRun.{KeptRun}
 use Rattle.hir_session_state.specs.Kept.{Resolution, Resolutions, finished_by, held, kept_in, names_in, names_of, entry_with, placed_by, resolution_at, resolution_from, resolutions_in, AreForgotten}
-use Rattle.hir_session_state.proofs.Ids.{equal_id, on_id, other_id, own_id}
+use Rattle.hir_session_state.proofs.Ids.{equal_id, other_id}
 use Rattle.hir_session_state.proofs.Truth.{both_true, clash, on_bool, on_same}
 
 abbrev pub Store : Type 0

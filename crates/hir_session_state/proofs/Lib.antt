@@ -7,7 +7,8 @@ pub mod Following
 pub mod Names
 pub mod Standing
 pub mod Holding
-mod Holders
+pub mod Holders
+pub mod Turns
 pub mod Worlds
 pub mod Resolving
 pub mod NumberLemmas

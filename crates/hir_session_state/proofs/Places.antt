@@ -1,5 +1,6 @@
 -- Places of blocks: their numbers, and their order.
-use Rattle.std.proofs.Common.{◌≡◌, ◌≢◌, ◌∙◌, ap, ap₂, sym, subst, refl, ℕ, zero, suc, ◌+◌, ◌<◌, ◌≤◌, Bool, true, false, IsTrue, cond, Option, Some, None, List, [], ◌∷◌, ◌++◌, nat_eq, arith}
+use Rattle.std.proofs.Common.{◌≡◌, ◌≢◌, ◌∙◌, ap, ap₂, sym, subst, refl, ℕ, zero, suc, ◌+◌, ◌<◌, ◌≤◌, Bool, true, false, IsTrue, cond, Some, List, [], ◌∷◌, ◌++◌, ◌||◌, nat_eq, zero-add, arith}
+use Rattle.std.specs.List.{list_any}
 use Rattle.std.specs.Prelude.{nat_lt, slice_get}
 use Rattle.std.specs.Cmp.{IsTotalOrder, first_so, second_so, nat_cmp_total, on_total, then_total, unsigned_Decides}
 use Rattle.std.specs.Cmp.Lexicographic.{pointwise, bytes_decides}
@@ -91,9 +92,11 @@ numbered_from n (b ∷ bs) place id e = go (block_eq.ghosts.eq b place) refl e
 -- and a block with a number has one
 has_number : (n : ℕ) (bs : List BlockPlace) (place : BlockPlace) (at : ℕ) → slice_get bs at ≡ Some place → (id : BlockId) × (number_from n bs place ≡ Some id)
 has_number n [] place at e = no_value e
-has_number n (b ∷ bs) place zero e =
-    (block_id n, ap (λ (t : Bool). cond t (Some (block_id n)) (number_from (n + 1) bs place))
-    (subst (λ (x : BlockPlace). block_eq.ghosts.eq b x ≡ true) (one_value e) (own_block b)))
+has_number n (b ∷ bs) place zero e = (
+  block_id n,
+  ap (λ (t : Bool). cond t (Some (block_id n)) (number_from (n + 1) bs place))
+      (subst (λ (x : BlockPlace). block_eq.ghosts.eq b x ≡ true) (one_value e) (own_block b)),
+)
 has_number n (b ∷ bs) place (suc at) e = go (block_eq.ghosts.eq b place) (has_number (n + 1) bs place at e)
   where
     go : (t : Bool) → (id : BlockId) × (number_from (n + 1) bs place ≡ Some id) → (id : BlockId) × (cond t (Some (block_id n)) (number_from (n + 1) bs place) ≡ Some id)
@@ -145,6 +148,24 @@ pub nesting_below : (steps : List PlaceElement) (id : SyntaxId) → nesting_of (
 nesting_below [] id = refl
 nesting_below (element.Module name ∷ more) id = nesting_below more id
 nesting_below (element.Block b ∷ more) id = ap suc (nesting_below more id)
+
+-- how many blocks the first of some steps adds
+pub nesting_first : (e : PlaceElement) (more : List PlaceElement) → nesting_of (e ∷ more) ≡ nesting_of (e ∷ []) + nesting_of more
+nesting_first (element.Module name) more = sym (zero-add (nesting_of more))
+nesting_first (element.Block id) more = omega arith
+
+-- a test of elements and of one behind them
+pub any_behind : (test : PlaceElement → Bool) (steps : List PlaceElement) (e : PlaceElement) → list_any test (steps ++ e ∷ []) ≡ (list_any test steps || test e)
+any_behind test [] e = go (test e)
+  where
+    go : (b : Bool) → (b || false) ≡ b
+    go true = refl
+    go false = refl
+any_behind test (x ∷ steps) e = go (test x) (any_behind test steps e)
+  where
+    go : (b : Bool) → list_any test (steps ++ e ∷ []) ≡ (list_any test steps || test e) → (b || list_any test (steps ++ e ∷ [])) ≡ ((b || list_any test steps) || test e)
+    go true rest = refl
+    go false rest = rest
 
 -- what comes first by a number has none above the other's
 first_le : (m n : ℕ) (x : Ordering) → IsTrue (is_le (ordering_then (nat_cmp m n) x)) → m ≤ n

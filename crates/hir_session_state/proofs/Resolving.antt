@@ -1,11 +1,10 @@
 -- What a run gives for a place is its resolution, where all on which the place stands is current.
 use Rattle.std.specs.Prelude.{is_none, is_some, map}
-use Rattle.std.proofs.Common.{◌≡◌, ◌⊎◌, inl, inr, ℕ, zero, suc, ◌<◌, Bool, true, false, ◌&&◌, ◌||◌, List, [], ◌∷◌, length, arith, not, cond, Option, Some, None, option_map, refl, sym, ap, ◌∙◌, subst, Contains, eq-eqb}
+use Rattle.std.proofs.Common.{◌≡◌, inl, inr, ℕ, zero, suc, ◌<◌, Bool, true, false, ◌&&◌, List, [], ◌∷◌, length, arith, not, cond, Option, Some, None, option_map, refl, sym, ap, ◌∙◌, subst, Contains, eq-eqb}
 use Rattle.std.specs.List.{list_any}
 use Rattle.std.specs.Option.{IsSome, option_and_then}
 use Rattle.hir_base.specs.contracts.ids.MapIdPartialEq.TheImpl as map_id
 use Rattle.hir_base.specs.declared.ast_id.BlockId.{BlockId}
-use Rattle.hir_base.specs.declared.ast_id.FileId.{FileId}
 use Rattle.hir_base.specs.declared.ids.Crate.{Crate}
 use Rattle.hir_base.specs.declared.ids.MapId.{MapId}
 use Rattle.hir_base.specs.declared.ids.ModuleId.{ModuleId}
@@ -15,7 +14,7 @@ use Rattle.hir_tables.specs.SourcePlaces.{file}
 use Rattle.hir_tables.specs.Tables.{KeepsTables, TablesValue, file_at}
 use Rattle.hir_def_map.specs.Inner.PartLaws.{among-only, among-there}
 use Rattle.hir_def_map.specs.WorldParts.{among, are_of_some, is_of_some}
-use Rattle.hir_def_map_rules.specs.Inner.OverlayLaws.{exact_map, same_id}
+use Rattle.hir_def_map_rules.specs.Inner.OverlayLaws.{same_id}
 use Rattle.hir_def_map_rules.specs.Overlay.{Maps, Placed, holders_of, holders_under, module_in, overlay}
 use Rattle.hir_def_map_rules.specs.References.{is_missing, is_well_formed, test_crate}
 use Rattle.hir_def_map_rules.specs.State.{crate_map, module_at}

@@ -1,5 +1,5 @@
 -- Where the steps of a place lead stays while what is kept on the way does.
-use Rattle.std.proofs.Common.{◌≡◌, ◌≢◌, ◌∙◌, ap, sym, subst, refl, ℕ, zero, suc, ◌<◌, Bool, true, false, cond, is_some, Option, Some, None, option_map, List, [], ◌∷◌, ◌++◌, length, not, append_assoc, append-nil, arith, Contains}
+use Rattle.std.proofs.Common.{◌≡◌, ◌∙◌, ap, sym, subst, refl, ℕ, zero, suc, ◌<◌, Bool, true, false, cond, is_some, Option, Some, None, option_map, List, [], ◌∷◌, ◌++◌, length, not, append_assoc, append-nil, arith, Contains}
 use Rattle.std.specs.Option.{option_and_then}
 use Rattle.std.specs.BTreeMap.{is_at}
 use Rattle.std.specs.Cmp.Lexicographic.{slice_cmp}
@@ -249,7 +249,7 @@ child_there s id r p index name c child of = go (module_at r.map index) refl chi
         inside (not_off (is_some (module_in (named_by s id r) c)) there)
 
 module _ (s : SessionState) (sound : IsSound s) where
-  step_kept : (krate : Crate) (before : List PlaceElement) (st : Standing) (e : PlaceElement) (m : ModuleId) → ((n : ModuleId) → st ≡ at n → IsModuleKept s krate n)
+  pub step_kept : (krate : Crate) (before : List PlaceElement) (st : Standing) (e : PlaceElement) (m : ModuleId) → ((n : ModuleId) → st ≡ at n → IsModuleKept s krate n)
       → step s.tables s.sources.blocks s.kept krate before st e ≡ at m → IsModuleKept s krate m
   step_kept krate before (at n) (element.Module name) m from leads =
       let start = from n refl in
@@ -376,92 +376,92 @@ module _ (s : SessionState) (sound : IsSound s) (Stays : MapId → Type 0) (outw
 
   module _ (T : TablesValue) (F : SourceTable) (K : Resolutions) (keeps : KeepsTables s.tables T) (same : (id : MapId) → Stays id → kept_in K id ≡ kept_of s id)
       (set : (b : BlockId) (place : BlockPlace) → block_at s.tables b ≡ Some place → Stays (block_map place.holder.krate b) → is_set s.sources.blocks place ≡ true → is_set F.blocks place ≡ true)
-      where
-    -- the session with other tables, sources and resolutions
-    abbrev other : SessionState
-    other = record { crates = s.crates; tables = T; sources = F; kept = K }
+    where
+      -- the session with other tables, sources and resolutions
+      abbrev other : SessionState
+      other = record { crates = s.crates; tables = T; sources = F; kept = K }
 
-    -- one step
-    step_stays : (krate : Crate) (before : List PlaceElement) (n : ModuleId) (e : PlaceElement) (m : ModuleId) → Stays n.map → next krate before (at n) e ≡ at m → Stays m.map
-        → step T F.blocks K krate before (at n) e ≡ at m
-    step_stays krate before n (element.Module name) m here leads there =
-        ap (λ (o : Option Resolution). to_child n.map (option_and_then (λ (r : Resolution). child_at r.map n.index name) o)) (same n.map here) ∙ leads
-    step_stays krate before n (element.Block id) m here leads there =
-        let place : BlockPlace = block_below krate before id in
-        let p = to_block_at s.tables s.sources.blocks s.kept place m leads in
-        let own : m.map ≡ block_map krate p.number = sym (ap (λ (x : ModuleId). x.map) p.root) ∙ (kept_gives s sound (block_map krate p.number) p.found p.is).own in
-        let stays : Stays (block_map krate p.number) = subst Stays own there in
-        block_step T F.blocks K place m (record {
-          set = set p.number place (number_means s.tables place p.number p.numbered) stays p.set;
-          number = p.number;
-          numbered = number_kept s.tables T keeps place p.number p.numbered;
-          found = p.found;
-          is = same (block_map krate p.number) stays ∙ p.is;
-          root = p.root;
-        })
+      -- one step
+      step_stays : (krate : Crate) (before : List PlaceElement) (n : ModuleId) (e : PlaceElement) (m : ModuleId) → Stays n.map → next krate before (at n) e ≡ at m → Stays m.map
+          → step T F.blocks K krate before (at n) e ≡ at m
+      step_stays krate before n (element.Module name) m here leads there =
+          ap (λ (o : Option Resolution). to_child n.map (option_and_then (λ (r : Resolution). child_at r.map n.index name) o)) (same n.map here) ∙ leads
+      step_stays krate before n (element.Block id) m here leads there =
+          let place : BlockPlace = block_below krate before id in
+          let p = to_block_at s.tables s.sources.blocks s.kept place m leads in
+          let own : m.map ≡ block_map krate p.number = sym (ap (λ (x : ModuleId). x.map) p.root) ∙ (kept_gives s sound (block_map krate p.number) p.found p.is).own in
+          let stays : Stays (block_map krate p.number) = subst Stays own there in
+          block_step T F.blocks K place m (record {
+            set = set p.number place (number_means s.tables place p.number p.numbered) stays p.set;
+            number = p.number;
+            numbered = number_kept s.tables T keeps place p.number p.numbered;
+            found = p.found;
+            is = same (block_map krate p.number) stays ∙ p.is;
+            root = p.root;
+          })
 
-    -- all steps
-    forth : (krate : Crate) (r : Resolution) (is_kept : kept_of s (crate_map krate) ≡ Some r) (before : List PlaceElement) (st : Standing) (more : List PlaceElement) (m : ModuleId)
-        → on krate [] (at (root_of r.map.id)) before ≡ st → on krate before st more ≡ at m → Stays m.map → down T F.blocks K krate before st more ≡ at m
-    forth krate r is_kept before st [] m is leads stays = leads
-    forth krate r is_kept before st (e ∷ more) m is leads stays =
-        let later = back krate r is_kept (before ++ e ∷ []) (next krate before st e) more m (one_more krate r is_kept before st e is) leads stays in
-        let here = back_step krate before st e later.module_ (reached krate r is_kept before st is) later.is later.stays in
-        let from : next krate before (at here.module_) e ≡ at later.module_ = ap (λ (x : Standing). next krate before x e) (sym here.is) ∙ later.is in
-        let first : step T F.blocks K krate before st e ≡ next krate before st e =
-        ap (λ (x : Standing). step T F.blocks K krate before x e) here.is ∙ step_stays krate before here.module_ e later.module_ here.stays from later.stays ∙ sym later.is in
-        ap (λ (x : Standing). down T F.blocks K krate (before ++ e ∷ []) x more) first
-        ∙ forth krate r is_kept (before ++ e ∷ []) (next krate before st e) more m (one_more krate r is_kept before st e is) leads stays
+      -- all steps
+      forth : (krate : Crate) (r : Resolution) (is_kept : kept_of s (crate_map krate) ≡ Some r) (before : List PlaceElement) (st : Standing) (more : List PlaceElement) (m : ModuleId)
+          → on krate [] (at (root_of r.map.id)) before ≡ st → on krate before st more ≡ at m → Stays m.map → down T F.blocks K krate before st more ≡ at m
+      forth krate r is_kept before st [] m is leads stays = leads
+      forth krate r is_kept before st (e ∷ more) m is leads stays =
+          let later = back krate r is_kept (before ++ e ∷ []) (next krate before st e) more m (one_more krate r is_kept before st e is) leads stays in
+          let here = back_step krate before st e later.module_ (reached krate r is_kept before st is) later.is later.stays in
+          let from : next krate before (at here.module_) e ≡ at later.module_ = ap (λ (x : Standing). next krate before x e) (sym here.is) ∙ later.is in
+          let first : step T F.blocks K krate before st e ≡ next krate before st e =
+          ap (λ (x : Standing). step T F.blocks K krate before x e) here.is ∙ step_stays krate before here.module_ e later.module_ here.stays from later.stays ∙ sym later.is in
+          ap (λ (x : Standing). down T F.blocks K krate (before ++ e ∷ []) x more) first
+          ∙ forth krate r is_kept (before ++ e ∷ []) (next krate before st e) more m (one_more krate r is_kept before st e is) leads stays
 
-    -- the steps of a place that lead into a map that stays lead there
-    pub standing_stays : (place : PlaceValue) (m : ModuleId) → standing_of s place ≡ at m → Stays m.map → standing_in T F.blocks K place ≡ at m
-    standing_stays place m leads stays = go (kept_of s (crate_map place.krate)) refl leads
-      where
-        go : (o : Option Resolution) → kept_of s (crate_map place.krate) ≡ o → from_crate s.tables s.sources.blocks s.kept o place ≡ at m → standing_in T F.blocks K place ≡ at m
-        go None is f = absurd (let no : ⊥ = cc in no)
-        go (Some r) is f =
-            let root = back place.krate r is [] (at (root_of r.map.id)) place.elements m refl f stays in
-            let first : root_of r.map.id ≡ root.module_ = same_module root.is in
-            let own : root.module_.map ≡ crate_map place.krate = sym (ap (λ (x : ModuleId). x.map) first) ∙ (kept_gives s sound (crate_map place.krate) r is).own in
-            ap (λ (o : Option Resolution). from_crate T F.blocks K o place) (same (crate_map place.krate) (subst Stays own root.stays) ∙ is)
-            ∙ forth place.krate r is [] (at (root_of r.map.id)) place.elements m refl f stays
+      -- the steps of a place that lead into a map that stays lead there
+      pub standing_stays : (place : PlaceValue) (m : ModuleId) → standing_of s place ≡ at m → Stays m.map → standing_in T F.blocks K place ≡ at m
+      standing_stays place m leads stays = go (kept_of s (crate_map place.krate)) refl leads
+        where
+          go : (o : Option Resolution) → kept_of s (crate_map place.krate) ≡ o → from_crate s.tables s.sources.blocks s.kept o place ≡ at m → standing_in T F.blocks K place ≡ at m
+          go None is f = absurd (let no : ⊥ = cc in no)
+          go (Some r) is f =
+              let root = back place.krate r is [] (at (root_of r.map.id)) place.elements m refl f stays in
+              let first : root_of r.map.id ≡ root.module_ = same_module root.is in
+              let own : root.module_.map ≡ crate_map place.krate = sym (ap (λ (x : ModuleId). x.map) first) ∙ (kept_gives s sound (crate_map place.krate) r is).own in
+              ap (λ (o : Option Resolution). from_crate T F.blocks K o place) (same (crate_map place.krate) (subst Stays own root.stays) ∙ is)
+              ∙ forth place.krate r is [] (at (root_of r.map.id)) place.elements m refl f stays
 
-    pub module_stays : (place : PlaceValue) (m : ModuleId) → module_of s place ≡ Some m → Stays m.map → module_of other place ≡ Some m
-    module_stays place m leads stays = ap module_by (standing_stays place m (at_module (standing_of s place) m leads) stays)
+      pub module_stays : (place : PlaceValue) (m : ModuleId) → module_of s place ≡ Some m → Stays m.map → module_of other place ≡ Some m
+      module_stays place m leads stays = ap module_by (standing_stays place m (at_module (standing_of s place) m leads) stays)
 
-    -- so does the file in which a module of such a map is written
-    pub definition_stays : (m : ModuleId) (file : EditionedFileId) → definition_file s.tables s.kept m ≡ Some file → Stays m.map → definition_file T K m ≡ Some file
-    definition_stays m file written stays =
-        ap (λ (o : Option Resolution). option_and_then (λ (r : Resolution). file_of_module T (module_at r.map m.index)) o) (same m.map stays)
-        ∙ go (kept_of s m.map) written
-      where
-        of_module : (o : Option ModuleValue) → file_of_module s.tables o ≡ Some file → file_of_module T o ≡ Some file
-        of_module None f = f
-        of_module (Some v) f = origin_file_kept s.tables T keeps v.origin file f
+      -- so does the file in which a module of such a map is written
+      pub definition_stays : (m : ModuleId) (file : EditionedFileId) → definition_file s.tables s.kept m ≡ Some file → Stays m.map → definition_file T K m ≡ Some file
+      definition_stays m file written stays =
+          ap (λ (o : Option Resolution). option_and_then (λ (r : Resolution). file_of_module T (module_at r.map m.index)) o) (same m.map stays)
+          ∙ go (kept_of s m.map) written
+        where
+          of_module : (o : Option ModuleValue) → file_of_module s.tables o ≡ Some file → file_of_module T o ≡ Some file
+          of_module None f = f
+          of_module (Some v) f = origin_file_kept s.tables T keeps v.origin file f
 
-        go : (o : Option Resolution) → option_and_then (λ (r : Resolution). file_of_module s.tables (module_at r.map m.index)) o ≡ Some file
-            → option_and_then (λ (r : Resolution). file_of_module T (module_at r.map m.index)) o ≡ Some file
-        go None f = no_value f
-        go (Some r) f = of_module (module_at r.map m.index) f
+          go : (o : Option Resolution) → option_and_then (λ (r : Resolution). file_of_module s.tables (module_at r.map m.index)) o ≡ Some file
+              → option_and_then (λ (r : Resolution). file_of_module T (module_at r.map m.index)) o ≡ Some file
+          go None f = no_value f
+          go (Some r) f = of_module (module_at r.map m.index) f
 
-    -- and what a run begins with whose holder lies in such a map
-    pub beginning_stays : (id : MapId) (from : Beginning) → beginning_of s id ≡ Some from → ((h : ModuleId) → holder_of from.start ≡ Some h → Stays h.map) → beginning_of other id ≡ Some from
-    beginning_stays id from begun held = go id.block begun
-      where
-        go : (o : Option BlockId) → beginning_by s id.krate o ≡ Some from → beginning_by other id.krate o ≡ Some from
-        go None e = e
-        go (Some b) e =
-            let p = block_begun s id.krate b from e in
-            let stays : Stays p.holder.map = held p.holder (holder_begun s id.krate b from p) in
-            begun_block other id.krate b from (record {
-              place = p.place;
-              means = keeps.blocks b.0 p.place p.means;
-              holder = p.holder;
-              held = module_stays p.place.holder p.holder p.held stays;
-              file = p.file;
-              written = definition_stays p.holder p.file p.written stays;
-              is = p.is;
-            })
+      -- and what a run begins with whose holder lies in such a map
+      pub beginning_stays : (id : MapId) (from : Beginning) → beginning_of s id ≡ Some from → ((h : ModuleId) → holder_of from.start ≡ Some h → Stays h.map) → beginning_of other id ≡ Some from
+      beginning_stays id from begun held = go id.block begun
+        where
+          go : (o : Option BlockId) → beginning_by s id.krate o ≡ Some from → beginning_by other id.krate o ≡ Some from
+          go None e = e
+          go (Some b) e =
+              let p = block_begun s id.krate b from e in
+              let stays : Stays p.holder.map = held p.holder (holder_begun s id.krate b from p) in
+              begun_block other id.krate b from (record {
+                place = p.place;
+                means = keeps.blocks b.0 p.place p.means;
+                holder = p.holder;
+                held = module_stays p.place.holder p.holder p.held stays;
+                file = p.file;
+                written = definition_stays p.holder p.file p.written stays;
+                is = p.is;
+              })
 
 -- ---- as tables grow
 

@@ -1,5 +1,5 @@
 -- What do the calls of a session change?
-use Rattle.std.specs.Prelude.{◌≡◌, ¬◌, true, false, List}
+use Rattle.std.specs.Prelude.{◌≡◌, true, false, List}
 use Rattle.hir_base.specs.Place.{PlaceValue}
 use Rattle.hir_base.specs.declared.ids.MapId.{MapId}
 use Rattle.hir_wire.specs.Edits.{EditValue}

@@ -1,6 +1,6 @@
 -- What is due, and what stands behind an answer?
-use Rattle.std.specs.Prelude.{◌≡◌, ◌≢◌, ¬◌, IsTrue, ℕ, ◌<◌, ◌≤◌, true, List, [], ◌∷◌, None, Some, length, Contains}
-use Rattle.std.specs.Cmp.{is_le}
+use Rattle.std.specs.Prelude.{◌≡◌, ◌≢◌, IsTrue, ℕ, ◌<◌, ◌≤◌, true, List, [], ◌∷◌, None, Some, length, Contains}
+use Rattle.std.specs.Ordering.{is_le}
 use Rattle.hir_base.specs.Locations.{max_locations}
 use Rattle.hir_base.specs.Place.{PlaceValue}
 use Rattle.hir_base.specs.declared.ids.MapId.{MapId}

@@ -1,5 +1,5 @@
 -- What is handed in beside the crates?
-use Rattle.std.specs.Prelude.{ℕ, nat_eq, cond, List, Option, None, map}
+use Rattle.std.specs.Prelude.{ℕ, nat_eq, cond, List, Option, map}
 use Rattle.std.specs.Cmp.Lexicographic.{pointwise}
 use Rattle.hir_base.specs.CfgOptions.{is_set}
 use Rattle.hir_item_tree.specs.Attributes.{Attributes, no_attributes}

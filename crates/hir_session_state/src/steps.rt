@@ -41,19 +41,28 @@ fn has_high_index(step: &PlaceElement) -> bool
     }
 }
 
-/// Whether an id in the steps to a block has an index above those that ids may have.
-fn any_high_index(place: &BlockPlace) -> bool
-    ensures value { result ≡ list_any has_high_index (place_of_block place.now).elements }
+/// Whether an id in some steps has an index above those that ids may have.
+fn any_high_index(steps: &[PlaceElement]) -> bool
+    ensures value { result ≡ list_any has_high_index steps.now }
 {
-    for step in place.holder.elements() {
+    for step in steps {
         if has_high_index(step) {
             return true;
         }
     }
-    is_high(place.id)
+    false
+}
+
+/// The same of the steps to a block.
+#[tactic(auto, using(crate::proofs::Places::any_behind))]
+fn leads_through_high_index(place: &BlockPlace) -> bool
+    ensures value { result ≡ list_any has_high_index (place_of_block place.now).elements }
+{
+    any_high_index(place.holder.elements()) || is_high(place.id)
 }
 
 /// Whether a block is in more others than there may be in one another.
+#[tactic(auto, using(crate::proofs::Places::nesting_below))]
 fn is_too_deep(place: &BlockPlace) -> bool
     ensures value { result ≡ nat_lt 16 (nesting_of (place_of_block place.now).elements) }
 {
@@ -81,8 +90,8 @@ fn passes_before_index(verdict: Result<(), EditError>) -> bool
 {
     match verdict {
         Err(EditError::TooLarge(limit)) => is_before_index(limit),
-        Err(EditError::UnknownCrate | EditError::DuplicateId { .. } | EditError::Memory)
-        | Ok(()) => false,
+        Err(EditError::UnknownCrate | EditError::DuplicateId { .. } | EditError::Memory) | Ok(()) =>
+            false,
     }
 }
 
@@ -91,22 +100,19 @@ fn passes_limit(verdict: Result<(), EditError>) -> bool
 {
     match verdict {
         Err(EditError::TooLarge(_)) => true,
-        Err(EditError::UnknownCrate | EditError::DuplicateId { .. } | EditError::Memory)
-        | Ok(()) => false,
+        Err(EditError::UnknownCrate | EditError::DuplicateId { .. } | EditError::Memory) | Ok(()) =>
+            false,
     }
 }
 
 /// What an edit of a block is refused for, where this is said of its source. Of several limits the first is told.
-pub fn check_with_steps(
-    place: &BlockPlace,
-    verdict: Result<(), EditError>,
-) -> Result<(), EditError>
+pub fn check_with_steps(place: &BlockPlace, verdict: Result<(), EditError>) -> Result<(), EditError>
     ensures value { result ≡ verdict_with_steps (place_of_block place.now).elements verdict }
 {
     if passes_before_index(verdict) {
         return verdict;
     }
-    if any_high_index(place) {
+    if leads_through_high_index(place) {
         return Err(EditError::TooLarge(Limit::Index));
     }
     if passes_limit(verdict) {

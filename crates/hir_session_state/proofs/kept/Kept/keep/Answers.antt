@@ -1,5 +1,5 @@
 -- What was found is complete and names only what is kept, so it joins the maps, and stands where nothing was kept.
-use Rattle.std.proofs.Common.{◌≡◌, ◌≢◌, ◌∙◌, ap, sym, subst, Some, false}
+use Rattle.std.proofs.Common.{◌≡◌, ◌∙◌, ap, subst, Some, false}
 use Rattle.std.specs.BTreeMap.{is_at}
 use Rattle.hir_base.specs.declared.ids.MapId.{MapId}
 use Rattle.hir_base.specs.contracts.ids.MapIdOrd.TheImpl as map_order
