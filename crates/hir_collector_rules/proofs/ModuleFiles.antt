@@ -186,11 +186,11 @@ pub none_there_behind : (w : Workspace) (krate : Crate) (declaring : Option (Lis
     → NoneIsThereBefore w krate declaring (c ∷ cs) (suc place)
 none_there_behind w krate declaring c cs place gone before = λ m d below at. go m d below at
   where
-    abbrev IsGone : Candidate → Type 0
-    IsGone d = option_map_or (λ path. (w.tree krate (file path)).present) (named_by declaring d) false ≡ false
-
-    go : (m : ℕ) (d : Candidate) → m < suc place → slice_get (c ∷ cs) m ≡ Some d → IsGone d
-    go zero d below at = let same : c ≡ d = cc in subst IsGone same gone
+    go : (m : ℕ) (d : Candidate) → m < suc place → slice_get (c ∷ cs) m ≡ Some d
+        → option_map_or (λ path. (w.tree krate (file path)).present) (named_by declaring d) false ≡ false
+    go zero d below at =
+        let same : c ≡ d = cc in
+        subst (λ (x : Candidate). option_map_or (λ path. (w.tree krate (file path)).present) (named_by declaring x) false ≡ false) same gone
     go (suc m) d below at = before m d (omega arith) at
 
 module _ (tables : TablesValue) (w : Workspace) (finished : Maps) (krate : Crate) (edition : Edition) (declaring : Option (List ℕ)) where
