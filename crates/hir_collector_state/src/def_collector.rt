@@ -648,10 +648,11 @@ impl DefCollector {
         ensures noted { OnOk result (IsNoted self.old self.new) }
         ensures many { result ≡ Err CollectError.TooMany → RestsTooFar (core_in self.old) }
     {
-        if self.settled == self.calls.len() {
+        let there = self.calls.len();
+        if self.settled == there {
             return Ok(());
         }
-        self.settled = self.calls.len();
+        self.settled = there;
         self.tick()
     }
 
