@@ -17,6 +17,7 @@ ghost use Rattle.hir_collector_rules.specs.State.{at_rest, core_in, core_with_im
 ghost use Rattle.hir_collector_rules.specs.ItemIds.{container_of, module_id};
 ghost use Rattle.hir_collector_rules.specs.Items.{own_visibility};
 ghost use Rattle.hir_collector_rules.specs.Calls.{IsWaiting};
+ghost use Rattle.hir_collector_rules.specs.CallMoves.{Rested, RestsTooFar};
 ghost use Rattle.hir_collector_rules.specs.TreeReads.{head_of};
 ghost use Rattle.hir_collector_rules.specs.Imports.{crate_named, dependency_named, extern_after};
 ghost use Rattle.hir_collector_rules.specs.Macros.{macros_brought, other_scope, textual_at, with_macros_used, with_textual_macro, with_textual_scope};
@@ -641,14 +642,17 @@ impl DefCollector {
         end(&mut self.fates, i, fate);
     }
 
-    /// Imports rest: all calls that there are may be tried from now on.
+    /// Imports rest: all calls that there are may be tried from now on, which is a step where some could not be before.
     pub fn rest(&mut self) -> Result<(), CollectError>
-        ensures ok { OnOk result (core_in self.new ≡ counted (with_settled (core_in self.old))) }
-        ensures below { OnOk result ((core_in self.old).count < STEP_LIMIT) }
+        ensures ok { OnOk result (Rested (core_in self.old) (core_in self.new)) }
         ensures noted { OnOk result (IsNoted self.old self.new) }
-        ensures many { result ≡ Err CollectError.TooMany → STEP_LIMIT ≤ (core_in self.old).count }
+        ensures many { result ≡ Err CollectError.TooMany → RestsTooFar (core_in self.old) }
     {
-        self.settled = self.calls.len();
+        let there = self.calls.len();
+        if self.settled == there {
+            return Ok(());
+        }
+        self.settled = there;
         self.tick()
     }
 
