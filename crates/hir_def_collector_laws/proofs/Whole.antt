@@ -620,7 +620,7 @@ module _ (paths : PathsLeadToWhatIsThere) (finished : Maps) (whole : AreWellForm
   -- so is a prelude of its own, and none is needed
   own_prelude_there : (map : Map) (local : Local) → finished map.id ≡ None → HasNoDanglingReference (overlay finished map) map → HasNoDanglingExtern (overlay finished map) local → (start : Start)
       → test_of (is_missing (overlay finished map)) (prelude_reference (own_prelude finished map local start)) ≡ false
-  own_prelude_there map local apart names begins (starts.Crate krate root) = prelude_there map local apart names begins
+  own_prelude_there map local apart names begins (starts.Crate krate _) = prelude_there map local apart names begins
   own_prelude_there map local apart names begins (starts.Block krate block holder at) = refl
 
   -- and so are the crates that paths of a finished map may begin with
