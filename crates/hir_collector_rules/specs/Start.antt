@@ -69,9 +69,9 @@ origin_of (starts.Crate krate root) = origins.CrateRoot root
 origin_of (starts.Block krate block holder at) = origins.BlockExpr block at
 
 -- who sees the root module: of a block what sees into the module that holds it
-abbrev pub visibility_of : Start → Visibility
-visibility_of (starts.Crate krate root) = visibilities.Public
-visibility_of (starts.Block krate block holder at) = visibilities.Module holder Implicit
+abbrev pub root_visibility : Start → Visibility
+root_visibility (starts.Crate krate root) = visibilities.Public
+root_visibility (starts.Block krate block holder at) = visibilities.Module holder Implicit
 
 -- the map that is made
 abbrev pub id_of : Start → MapId
@@ -132,7 +132,7 @@ start_local finished crate_data dependencies (starts.Block krate block holder at
 
 -- the map with its root module alone
 abbrev pub root_map : CrateData → Start → Map
-root_map crate_data start = empty_map (krate_of start) crate_data (new_module (origin_of start) (visibility_of start) None) (block_of start)
+root_map crate_data start = empty_map (krate_of start) crate_data (new_module (origin_of start) (root_visibility start) None) (block_of start)
 
 -- the prelude module; a block has none of its own
 abbrev pub own_prelude : Maps → Map → Local → Start → Option (ModuleId × Option UseId)

@@ -1,6 +1,6 @@
 //! Where a run begins, and why one is given up.
 ghost use Rattle.std.specs.Prelude.{◌≡◌};
-ghost use Rattle.hir_collector_rules.specs.Start.{block_of, id_of, krate_of, origin_of, visibility_of};
+ghost use Rattle.hir_collector_rules.specs.Start.{block_of, id_of, krate_of, origin_of, root_visibility};
 
 use hir_base::ast_id::{BlockId, EditionedFileId, InFile, SyntaxId};
 use hir_base::ids::{Crate, MapId, ModuleId};
@@ -81,7 +81,7 @@ impl Start {
 
     /// Who sees the root module: of a block what sees into the module that holds it.
     pub fn visibility(self) -> Visibility
-        ensures value { result ≡ visibility_of self }
+        ensures value { result ≡ root_visibility self }
     {
         match self {
             Start::Crate { .. } => Visibility::Public,

@@ -34,7 +34,7 @@ use Rattle.hir_collector_rules.specs.Workspace.{Workspace}
 use Rattle.hir_collector_rules.specs.Imports.{extern_after}
 use Rattle.hir_collector_rules.specs.ItemIds.{module_id}
 use Rattle.hir_collector_rules.specs.Macros.{textual_at, with_macros_used}
-use Rattle.hir_collector_rules.specs.Start.{began, origin_of, root_site, visibility_of}
+use Rattle.hir_collector_rules.specs.Start.{began, origin_of, root_site, root_visibility}
 use Rattle.hir_collector_rules.specs.State.{Core, State, at_rest, import_state, ticked}
 use Rattle.hir_collector_rules.specs.Changes.{Change, lists, makes, gives_variants, begins_paths, reaches, awaits, ends, settles, changes_imports, adds_textual, takes_textual, defines, describes, helps, lists_derive, exports, uses_macros, tells, goes_on, act, on_map, perform, with_builtin_derive}
 use Rattle.hir_collector_rules.specs.Steps.{Rule, drops_item, awaits_attribute, lists_derives, faults_derive, exports_macro, reaches_call, rests, expands_call, drops_call, drops_reached, derives_builtin, skips_attribute, falls_back, defines_rules, defines_macro, closes_module, declares_item, declares_enum, lists_constant, lists_impl, opens_module, opens_file, drops_file, misses_file, enters_block, reaches_imports, reaches_crate, resolves_imports, May, acts, after, asking, Step, Steps, none, more}
@@ -339,5 +339,5 @@ ready_start tables w finished transitive holders start id c there steps = ready_
       inside = in_range-begun tables w finished transitive holders start id;
       fated = refl;
       meant = meant-begun tables w finished transitive holders start id there;
-      in_order = root_in_order (began tables w finished transitive holders start id).core.map (new_module (origin_of start) (visibility_of start) None) refl refl;
+      in_order = root_in_order (began tables w finished transitive holders start id).core.map (new_module (origin_of start) (root_visibility start) None) refl refl;
     }

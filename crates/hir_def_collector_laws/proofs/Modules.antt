@@ -27,7 +27,7 @@ use Rattle.hir_collector_rules.specs.Derivation.{CollectedValue, leftover_report
 use Rattle.hir_collector_rules.specs.Ended.{ended}
 use Rattle.hir_collector_rules.specs.Keys.{environment}
 use Rattle.hir_collector_rules.specs.Reports.{with_diagnostics}
-use Rattle.hir_collector_rules.specs.Start.{Beginning, holders_by, is_declared, krate_of, origin_of, read_by, root_site, root_tree, start_of, tree_visits, visibility_of}
+use Rattle.hir_collector_rules.specs.Start.{Beginning, holders_by, is_declared, krate_of, origin_of, read_by, root_site, root_tree, start_of, tree_visits, root_visibility}
 use Rattle.hir_collector_rules.specs.State.{Core, State, Task, visits_over}
 use Rattle.hir_collector_rules.specs.Steps.{Rule, drops_item, awaits_attribute, lists_derives, faults_derive, exports_macro, reaches_call, rests, expands_call, drops_call, drops_reached, derives_builtin, skips_attribute, falls_back, defines_rules, defines_macro, closes_module, declares_item, declares_enum, lists_constant, lists_impl, opens_module, opens_file, drops_file, misses_file, enters_block, reaches_imports, reaches_crate, resolves_imports, May, Step, Steps, acts, after, asking, keys_read, more, none, reads}
 use Rattle.hir_collector_rules.specs.Workspace.{Workspace}
@@ -205,7 +205,7 @@ module _ (tables : TablesValue) (w : Workspace) (finished : Maps) (from : Beginn
     root_lists : ListsItsItems tables w finished from answer end (expanded_in q.es) 0
     root_lists =
         let low : 0 < 1 = omega arith in
-        let root : StaysAt (module_at answer.map 0) (new_module (origin_of from.start) (visibility_of from.start) None) = at.stays 0 _ refl in
+        let root : StaysAt (module_at answer.map 0) (new_module (origin_of from.start) (root_visibility from.start) None) = at.stays 0 _ refl in
         record {
           value = root.value;
           there = root.there;

@@ -1,5 +1,5 @@
 -- Where is written what a run binds?
-use Rattle.std.specs.Prelude.{◌≡◌, ◌×◌, false, List, Some, Contains, option_map}
+use Rattle.std.specs.Prelude.{◌≡◌, false, List, Some, Contains, option_map}
 use Rattle.hir_base.specs.declared.ids.ModuleId.{ModuleId}
 use Rattle.hir_def_map_rules.specs.Closed.{ModuleIsThere}
 use Rattle.hir_def_map_rules.specs.WellFormed.{AreWellFormed}

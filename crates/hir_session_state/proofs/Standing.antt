@@ -240,9 +240,9 @@ child_there s id r p index name c child of = go (module_at r.map index) refl chi
         sym (ap (λ (b : Bool). is_some (option_and_then (λ (q : Placed). module_at q.map c.index) (cond b (Some (placed_in (read_under s id r.holders) r.map)) (read_under s id r.holders c.map)))) same) ∙ there
 
     go : (o : Option ModuleValue) → module_at r.map index ≡ o → child_of o name ≡ Some c → is_some (module_at r.map c.index) ≡ true
-    go None at e = no_value e
-    go (Some v) at e =
-        let none : any_reference_in (is_missing (named_by s id r)) v ≡ false = none_at (any_reference_in (is_missing (named_by s id r))) r.map.modules p.names.modules index v at in
+    go None is e = no_value e
+    go (Some v) is e =
+        let none : any_reference_in (is_missing (named_by s id r)) v ≡ false = none_at (any_reference_in (is_missing (named_by s id r))) r.map.modules p.names.modules index v is in
         let children : list_any (test_child (is_missing (named_by s id r))) v.children ≡ false = (module_parts (is_missing (named_by s id r)) v none).children in
         let there : is_missing (named_by s id r) (named.Module c) ≡ false =
         none_found (λ (x : ModuleId). is_missing (named_by s id r) (named.Module x)) (is_at (slice_cmp nat_cmp name)) v.children c children e in

@@ -143,8 +143,8 @@ file_around t file = file_within (most_calls file) t file
 -- the file in which the items of a module are written, or the outermost call around them
 abbrev pub file_of_origin : TablesValue → ModuleOrigin → Option EditionedFileId
 file_of_origin t (origin.CrateRoot file) = Some file
-file_of_origin t (origin.File is_mod_rs at tree file) = Some file
-file_of_origin t (origin.Inline tree at) = file_around t tree.file
+file_of_origin t (origin.File is_mod_rs declared tree file) = Some file
+file_of_origin t (origin.Inline tree declared) = file_around t tree.file
 file_of_origin t (origin.BlockExpr id block) = file_around t block.file_id
 
 abbrev pub file_of_module : TablesValue → Option ModuleValue → Option EditionedFileId

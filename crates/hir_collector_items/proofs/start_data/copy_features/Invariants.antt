@@ -1,5 +1,5 @@
 -- What was copied and what is left are all.
-use Rattle.std.proofs.Common.{◌≡◌, ◌×◌, ◌++◌, length}
+use Rattle.std.proofs.Common.{◌≡◌, ◌++◌, length}
 use Rattle.std.specs.Cmp.Lexicographic.{slice_cmp}
 use Rattle.std.specs.List.Sorted.{IsStrictlySortedBy}
 use Rattle.std.specs.Ordering.{nat_cmp}

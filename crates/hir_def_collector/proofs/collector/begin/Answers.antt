@@ -11,7 +11,7 @@ use Rattle.hir_def_map.specs.WorldParts.{part_of}
 use Rattle.hir_collector_rules.specs.Workspace.{ConfigValue, Workspace, config_view, crate_in}
 use Rattle.hir_collector_rules.specs.Calls.{IsMeantAt}
 use Rattle.hir_collector_rules.specs.Keys.{environment, source_in}
-use Rattle.hir_collector_rules.specs.Start.{core_of, exports_macros, krate_of, origin_of, root_site, tree_key, tree_visits, visibility_of}
+use Rattle.hir_collector_rules.specs.Start.{core_of, exports_macros, krate_of, origin_of, root_site, tree_key, tree_visits, root_visibility}
 use Rattle.hir_collector_rules.specs.State.{Core, State, at_rest, core_in, joined}
 use Rattle.hir_collector_rules.specs.Steps.{Steps, none}
 use Rattle.hir_collector_rules.specs.Derivation.{IsSpent}
@@ -63,7 +63,7 @@ returns-then-is_none-clause-ready g c =
     ∙ ap (λ (t : Tree). core_of part t (exports_macros c.args.start (crate_in w (krate_of c.args.start))) (w.config (krate_of c.args.start)) transitive holders c.args.start c.args.id) tree in
     ready_empty tables part (core_in c.in_ok-run.run') (ap (λ (r : Core). r.globs) is) (ap (λ (r : Core). r.reached) is) (ap (λ (r : Core). r.taken) is) (ap (λ (r : Core). r.calls) is) (ap (λ (r : Core). r.fates) is)
     (subst (λ (r : Core). IsInOrder r.map) (sym is)
-    (root_in_order (core_of part source.tree (exports_macros c.args.start (crate_in w (krate_of c.args.start))) (w.config (krate_of c.args.start)) transitive holders c.args.start c.args.id).map (new_module (origin_of c.args.start) (visibility_of c.args.start) None) refl refl))
+    (root_in_order (core_of part source.tree (exports_macros c.args.start (crate_in w (krate_of c.args.start))) (w.config (krate_of c.args.start)) transitive holders c.args.start c.args.id).map (new_module (origin_of c.args.start) (root_visibility c.args.start) None) refl refl))
 
 pub returns-then-is_none-clause-idle : goal.returns-then-is_none-clause-idle
 returns-then-is_none-clause-idle g c = λ gone env.
