@@ -1,6 +1,7 @@
 -- One step further down a place.
 use Rattle.std.specs.Prelude.{is_some}
-use Rattle.std.proofs.Common.{◌≡◌, ◌∙◌, ap, sym, refl, Bool, true, false, Option, Some, None, option_map, List, [], ◌∷◌, ◌++◌, ℕ}
+use Rattle.std.proofs.Common.{◌≡◌, ◌∙◌, ap, sym, refl, Bool, true, false, Option, Some, None, option_map, List, [], ◌∷◌, ◌++◌, ℕ, ◌+◌, ◌<◌, length, get_or, take}
+use Rattle.std.proofs.lemmas.List.{take_more}
 use Rattle.hir_base.specs.Place.{PlaceValue}
 use Rattle.hir_base.specs.declared.ast_id.SyntaxId.{SyntaxId}
 use Rattle.hir_base.specs.declared.ids.Crate.{Crate}
@@ -77,6 +78,15 @@ module _ (tables : TablesValue) (blocks : Blocks) (kept : Resolutions) (krate : 
   one_further root xs ys e st next so_far is leads =
       leads ∙ ap (λ (x : Standing). step tables blocks kept krate xs x e) so_far
       ∙ sym (ap (λ (zs : List PlaceElement). down tables blocks kept krate [] (way.at root) zs) is ∙ down-append tables blocks kept krate [] (way.at root) xs (e ∷ []))
+
+  -- one more turn of the walk
+  pub turn : (root : ModuleId) (steps : List PlaceElement) (i : ℕ) (e : PlaceElement) (st next : Standing) → i < length steps → e ≡ get_or steps i e
+      → st ≡ down tables blocks kept krate [] (way.at root) (take i steps)
+      → ((before : List PlaceElement) → take (i + 1) steps ≡ before ++ e ∷ [] → next ≡ step tables blocks kept krate before st e)
+      → next ≡ down tables blocks kept krate [] (way.at root) (take (i + 1) steps)
+  turn root steps i e st next within is so_far leads =
+      let more : take (i + 1) steps ≡ take i steps ++ e ∷ [] = take_more steps i e within ∙ ap (λ (x : PlaceElement). take i steps ++ x ∷ []) (sym is) in
+      one_further root (take i steps) (take (i + 1) steps) e st next so_far more (leads (take i steps) more)
 
 -- the number that a block has, as the tables find it
 pub number_found : (tables : TablesValue) (place : BlockPlace) (o : Option BlockId) → ((id : BlockId) → (o ≡ Some id) ↔ (block_at tables id ≡ Some place)) → HasEachOnce tables
