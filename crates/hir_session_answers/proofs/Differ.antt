@@ -41,7 +41,7 @@ use Rattle.hir_session_state.specs.SessionState.IsPlace.{of_block, of_crate}
 use Rattle.hir_session_state.specs.Spread.{Spread}
 use Rattle.hir_session_state.specs.Spread.Spread.{here, depends}
 use Rattle.hir_session_state.specs.Standing.{Standing, block_below, block_map, child_kept, down, from_crate, is_set, kept_block, map_by, module_by, step, to_child, to_root}
-use Rattle.hir_session_state.specs.Standing.Standing as way
+use Rattle.hir_session_state.specs.Standing.{Standing as way}
 use Rattle.hir_session_state.specs.Marks.{IsAltered, IsTouched}
 use Rattle.hir_session_state.specs.Marks.IsTouched.{before, asked_for}
 use Rattle.hir_session_state.specs.Due.{IsBehind, IsAskedBehind}
@@ -299,7 +299,7 @@ module _ {from to : SessionState} (id : MapId) (sound : IsSound from) (same : Is
       go : (o : Option Resolution) → kept_of from (crate_map place.krate) ≡ o → from_crate from.tables from.sources.blocks from.kept o place ≡ way.lacks j → standing_of to place ≡ way.lacks j
       go None is_kept f = absurd (let no : ⊥ = cc in no)
       go (Some r) is_kept f = elim (lacking from.tables from.sources.blocks from.kept place.krate [] (way.at (root_of r.map.id)) place.elements j f) [
-        | inl no ↦ absurd (let wrong : ⊥ = cc in wrong)
+        | inl never ↦ absurd (let wrong : ⊥ = cc in wrong)
         | inr at ↦
             let own : at.at_last.map ≡ j = lacks_child at.at_last.map (child_kept from.kept at.at_last at.name) j at.lacks in
             let leads : standing_of from (record { krate = place.krate; elements = at.first }) ≡ way.at at.at_last =
@@ -368,7 +368,7 @@ ends_unmarked s sound place id ends = go (standing_of s place) refl ends
     lacking_in : (j : MapId) (o : Option Resolution) → kept_of s (crate_map place.krate) ≡ o → from_crate s.tables s.sources.blocks s.kept o place ≡ way.lacks j → is_marked s j ≡ false
     lacking_in j None is_kept f = absurd (let no : ⊥ = cc in no)
     lacking_in j (Some r) is_kept f = elim (lacking s.tables s.sources.blocks s.kept place.krate [] (way.at (root_of r.map.id)) place.elements j f) [
-      | inl no ↦ absurd (let wrong : ⊥ = cc in wrong)
+      | inl never ↦ absurd (let wrong : ⊥ = cc in wrong)
       | inr at ↦
           let own : at.at_last.map ≡ j = lacks_child at.at_last.map (child_kept s.kept at.at_last at.name) j at.lacks in
           subst (λ (x : MapId). is_marked s x ≡ false) own

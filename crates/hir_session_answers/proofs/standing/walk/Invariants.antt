@@ -1,6 +1,6 @@
 use Rattle.std.proofs.Common.{◌≡◌, take, []}
 use Rattle.hir_session_state.specs.Standing.{down}
-use Rattle.hir_session_state.specs.Standing.Standing as way
+use Rattle.hir_session_state.specs.Standing.{Standing as way}
 use Rattle.hir_session_answers.specs.Walking.{standing_value}
 use Rattle.hir_session_answers.proofs.standing.walk.Given as goal
 
