@@ -7,4 +7,5 @@ pub mod AnswersStand
 pub mod TreeText
 pub mod Diagnostics
 pub mod DiagnosticsStand
+pub mod Dumps
 pub mod Histories

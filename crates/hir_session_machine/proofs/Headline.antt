@@ -24,7 +24,7 @@ use Rattle.hir_def_map_rules.specs.Closed.{PathsLeadToWhatIsThere}
 use Rattle.hir_def_map_rules.specs.Sources.{PathsAnswerFromSources}
 use Rattle.hir_session_state.specs.Due.{IsAskedBehind}
 use Rattle.hir_session_machine.specs.Machine.{MachineState, first_state, query_reply, Moves, AnswersCommand, AnswersLine}
-use Rattle.hir_session_machine.specs.Machine.Moves.{applies, refuses, refreshes, refreshes_partly, resolves, tells, shows, shows_none, lists}
+use Rattle.hir_session_machine.specs.Machine.Moves.{applies, refuses, refreshes, refreshes_partly, resolves, tells, shows, shows_none, dumps, dumps_none, lists}
 use Rattle.hir_session_machine.specs.Machine.AnswersCommand.{finds_no_memory, begins, refuses_session, comes_too_soon, comes_too_late, calls}
 use Rattle.hir_session_machine.specs.Machine.AnswersLine.{finds_no_memory_for_line, reads_no_command, carries_out}
 use Rattle.hir_session_machine.specs.AnsweredLines.{AnswersWithin, AnswersInput, AnswersLines}
@@ -68,6 +68,8 @@ answered_by_call {s} {a = a} {place = place} {path = path} {shadow = shadow} {st
 answered_by_call asks (tells at is_status same told) = absurd (let wrong : ⊥ = cc in wrong)
 answered_by_call asks (shows krate page text is_tree same found told) = absurd (let wrong : ⊥ = cc in wrong)
 answered_by_call asks (shows_none krate page why is_tree same refused told) = absurd (let wrong : ⊥ = cc in wrong)
+answered_by_call asks (dumps at text is_dump same found told) = absurd (let wrong : ⊥ = cc in wrong)
+answered_by_call asks (dumps_none at why is_dump same refused told) = absurd (let wrong : ⊥ = cc in wrong)
 answered_by_call asks (lists krate is_list same told) = absurd (let wrong : ⊥ = cc in wrong)
 
 answered_by_command : {old new : MachineState} {c : CommandValue} {a : Answer} {place : PlaceValue} {path : Path} {shadow : Shadow} {style : Option MacroStyle}
@@ -123,6 +125,8 @@ kept_by_call {from} {k = k} read same (resolves at path shadow style is_resolve 
 kept_by_call {from} {k = k} read same (tells at is_status still told) = inl (subst (λ (x : SessionState). IsSame from x k) (sym still) same)
 kept_by_call {from} {k = k} read same (shows krate path text is_tree still found told) = inl (subst (λ (x : SessionState). IsSame from x k) (sym still) same)
 kept_by_call {from} {k = k} read same (shows_none krate path why is_tree still refused told) = inl (subst (λ (x : SessionState). IsSame from x k) (sym still) same)
+kept_by_call {from} {k = k} read same (dumps at text is_dump still found told) = inl (subst (λ (x : SessionState). IsSame from x k) (sym still) same)
+kept_by_call {from} {k = k} read same (dumps_none at why is_dump still refused told) = inl (subst (λ (x : SessionState). IsSame from x k) (sym still) same)
 kept_by_call {from} {k = k} read same (lists krate is_list still told) = inl (subst (λ (x : SessionState). IsSame from x k) (sym still) same)
 
 -- nothing changed

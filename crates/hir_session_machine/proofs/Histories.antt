@@ -9,7 +9,7 @@ use Rattle.hir_session_state.specs.Refusals.{first_out_of_order, is_too_deep, is
 use Rattle.hir_session_state.proofs.Truth.{on_bool}
 use Rattle.hir_session_sources.proofs.Start.{begins_sound}
 use Rattle.hir_session_machine.specs.Machine.{MachineState, Moves, AnswersCommand, AnswersLine}
-use Rattle.hir_session_machine.specs.Machine.Moves.{applies, refuses, refreshes, refreshes_partly, resolves, tells, shows, shows_none, lists}
+use Rattle.hir_session_machine.specs.Machine.Moves.{applies, refuses, refreshes, refreshes_partly, resolves, tells, shows, shows_none, dumps, dumps_none, lists}
 use Rattle.hir_session_machine.specs.Machine.AnswersCommand.{finds_no_memory, begins, refuses_session, comes_too_soon, comes_too_late, calls}
 use Rattle.hir_session_machine.specs.Machine.AnswersLine.{finds_no_memory_for_line, reads_no_command, carries_out}
 use Rattle.hir_lines.specs.declared.open_line.TheConstants.{LINE_LIMIT}
@@ -28,6 +28,8 @@ after_call {from} h (resolves at path shadow style is_resolve same told) = subst
 after_call {from} h (tells at is_status same told) = subst (λ (x : SessionState). History from x) (sym same) h
 after_call {from} h (shows krate path text is_tree same found told) = subst (λ (x : SessionState). History from x) (sym same) h
 after_call {from} h (shows_none krate path why is_tree same refused told) = subst (λ (x : SessionState). History from x) (sym same) h
+after_call {from} h (dumps at text is_dump same found told) = subst (λ (x : SessionState). History from x) (sym same) h
+after_call {from} h (dumps_none at why is_dump same refused told) = subst (λ (x : SessionState). History from x) (sym same) h
 after_call {from} h (lists krate is_list same told) = subst (λ (x : SessionState). History from x) (sym same) h
 
 -- a session is there, and its history goes on

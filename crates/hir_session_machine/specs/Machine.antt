@@ -5,7 +5,7 @@ use Rattle.hir_base.specs.ModPath.{Path}
 use Rattle.hir_base.specs.Place.{PlaceValue}
 use Rattle.hir_base.specs.declared.ids.Crate.{Crate}
 use Rattle.hir_wire.specs.Edits.{EditValue}
-use Rattle.hir_wire.specs.CommandValue.{CommandValue, CrateInputValue, crates, diagnostics, edit, refresh, resolve, status, tree}
+use Rattle.hir_wire.specs.CommandValue.{CommandValue, CrateInputValue, crates, diagnostics, dump, edit, refresh, resolve, status, tree}
 use Rattle.hir_wire.specs.Commands.{reading_of}
 use Rattle.hir_wire.specs.declared.answer.Answer.{Answer}
 use Rattle.hir_wire.specs.declared.diagnostic.Diagnostic.{Diagnostic}
@@ -36,6 +36,7 @@ use Rattle.hir_session_answers.specs.Status.{status_of}
 use Rattle.hir_session_answers.specs.Answers.{answer_of}
 use Rattle.hir_session_answers.specs.TreeText.{tree_text_of}
 use Rattle.hir_session_answers.specs.Diagnostics.{diagnostics_of}
+use Rattle.hir_session_answers.specs.Dumps.{dump_at}
 
 -- ---- replies
 
@@ -115,6 +116,12 @@ pub data Moves (s : SessionState) (c : CommandValue) (answer : Reply) (t : Sessi
   -- or there is none
   shows_none : (krate : Crate) (path : List ℕ) (why : TreeTextError) → c ≡ tree krate path → t ≡ s
       → tree_text_of s krate path ≡ Err why → answer ≡ tree_text_reply why → Moves s c answer t
+  -- the scopes of the map in which a place lies are shown
+  dumps : (at : PlaceValue) (text : String Global) → c ≡ dump at → t ≡ s
+      → dump_at s at ≡ Ok (string_bytes text) → answer ≡ reply.Text text → Moves s c answer t
+  -- or they aren't
+  dumps_none : (at : PlaceValue) (why : QueryError) → c ≡ dump at → t ≡ s
+      → dump_at s at ≡ Err why → answer ≡ query_error_reply why → Moves s c answer t
   -- what couldn't be resolved in a crate is told
   lists : (krate : Crate) → c ≡ diagnostics krate → t ≡ s → answer ≡ diagnostics_reply (diagnostics_of s krate) → Moves s c answer t
 
@@ -135,6 +142,7 @@ makes_session (edit e) = false
 makes_session refresh = false
 makes_session (resolve at path shadow style) = false
 makes_session (status at) = false
+makes_session (dump at) = false
 makes_session (tree krate path) = false
 makes_session (diagnostics krate) = false
 

@@ -1,6 +1,6 @@
 //! What answers lines: a session, or none before the first that is made.
 ghost use Rattle.std.specs.Prelude.{◌≡◌, map, false, None, Some, Option};
-ghost use Rattle.hir_wire.specs.CommandValue.{command_view, crate_input_view, crates as makes, edit as edits, refresh as refreshes, resolve as resolves, tree as asks_for_tree, diagnostics as asks_for_diagnostics};
+ghost use Rattle.hir_wire.specs.CommandValue.{command_view, crate_input_view, crates as makes, edit as edits, refresh as refreshes, resolve as resolves, tree as asks_for_tree, diagnostics as asks_for_diagnostics, dump as asks_for_dump};
 ghost use Rattle.hir_wire.specs.Edits.{edit_view};
 ghost use Rattle.hir_wire.specs.Replies.{is_fixed};
 ghost use Rattle.hir_wire.specs.declared.reply.Reply.TheVariants as reply;
@@ -160,6 +160,16 @@ fn shown(alloc: Global, session: &Session, krate: Crate, file: &FilePath) -> Rep
     }
 }
 
+/// The scopes of the map in which a place lies.
+fn dumped(alloc: Global, session: &Session, at: &Place) -> Reply
+    ensures step { AnswersCommand (Some session.now) (asks_for_dump at.now) result (Some session.now) }
+{
+    match session.dump(alloc, at) {
+        Ok(text) => Reply::Text(text),
+        Err(error) => reply_to_query(error),
+    }
+}
+
 /// What couldn't be resolved in a crate.
 fn listed(alloc: Global, session: &Session, krate: Crate) -> Reply
     ensures step { AnswersCommand (Some session.now) (asks_for_diagnostics krate) result (Some session.now) }
@@ -188,6 +198,7 @@ fn called(alloc: Global, session: &mut Session, command: Command) -> Reply
         } => answered(alloc, session, &at, &path, shadow, sub),
         Command::Tree { krate, file } => shown(alloc, session, krate, &file),
         Command::Diagnostics { krate } => listed(alloc, session, krate),
+        Command::Dump { at } => dumped(alloc, session, &at),
         Command::Status { at } => Reply::Status(session.status(&at)),
     }
 }

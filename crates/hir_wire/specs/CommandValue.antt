@@ -37,6 +37,7 @@ pub data CommandValue : Type 0 where
   refresh : CommandValue
   resolve : PlaceValue → Path → Shadow → Option MacroStyle → CommandValue
   status : PlaceValue → CommandValue
+  dump : PlaceValue → CommandValue
   -- of a crate
   diagnostics : Crate → CommandValue
   -- of a crate, and a file
@@ -49,5 +50,6 @@ command_view (command.Edit e) = edit (edit_view e)
 command_view command.Refresh = refresh
 command_view (command.Resolve at path shadow sub) = resolve at path shadow sub
 command_view (command.Status at) = status at
+command_view (command.Dump at) = dump at
 command_view (command.Diagnostics krate) = diagnostics krate
 command_view (command.Tree krate file) = tree krate file

@@ -14,7 +14,7 @@ use Rattle.hir_wire.specs.declared.read.line.Verb.{Verb}
 use Rattle.hir_wire.specs.declared.read.line.Verb.TheVariants as verb
 use Rattle.hir_wire.specs.declared.read_error.ReadError.TheVariants.{Json, Command}
 use Rattle.hir_wire.specs.Attributes.{attributes_of}
-use Rattle.hir_wire.specs.CommandValue.{CommandValue, CrateInputValue, crates, diagnostics, edit, refresh, resolve, status, tree}
+use Rattle.hir_wire.specs.CommandValue.{CommandValue, CrateInputValue, crates, diagnostics, dump, edit, refresh, resolve, status, tree}
 use Rattle.hir_wire.specs.Conditions.{option_of}
 use Rattle.hir_wire.specs.Edits.{set_file, remove_file, set_expansion, remove_expansion}
 use Rattle.hir_wire.specs.Expansions.{entry_in, key_of}
@@ -85,8 +85,9 @@ verb_of_word word =
     (if bytes_eq word (codes "refresh") then Some verb.Refresh else
     (if bytes_eq word (codes "resolve") then Some verb.Resolve else
     (if bytes_eq word (codes "status") then Some verb.Status else
+    (if bytes_eq word (codes "dump") then Some verb.Dump else
     (if bytes_eq word (codes "diagnostics") then Some verb.Diagnostics else
-    (if bytes_eq word (codes "tree") then Some verb.Tree else None)))))))))
+    (if bytes_eq word (codes "tree") then Some verb.Tree else None))))))))))
 
 -- the file and the source of an edit
 unfoldable pub set_file_in : Members → Reading CommandValue
@@ -117,6 +118,7 @@ fields_of verb.RemoveExpansion ms = made (λ key. edit (remove_expansion key)) (
 fields_of verb.Refresh ms = Ok refresh
 fields_of verb.Resolve ms = resolve_in ms
 fields_of verb.Status ms = made status (required place_of (codes "at") ms)
+fields_of verb.Dump ms = made dump (required place_of (codes "at") ms)
 fields_of verb.Diagnostics ms = made diagnostics (required crate_of (codes "crate") ms)
 fields_of verb.Tree ms = tree_in ms
 

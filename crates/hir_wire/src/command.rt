@@ -117,6 +117,10 @@ pub enum Command {
     Status {
         at: Place,
     },
+    /// The scopes of the map in which a module lies.
+    Dump {
+        at: Place,
+    },
     /// What couldn't be resolved in a crate.
     Diagnostics {
         krate: Crate,

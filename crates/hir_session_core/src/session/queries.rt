@@ -12,6 +12,7 @@ ghost use Rattle.hir_wire.specs.declared.reply.Status.TheVariants as status;
 ghost use Rattle.hir_session_state.specs.Crates.{id_of};
 ghost use Rattle.hir_session_answers.specs.Answers.{answer_kept, answer_of};
 ghost use Rattle.hir_session_answers.specs.AnswersStand.{AnswersStand};
+ghost use Rattle.hir_session_answers.specs.Dumps.{dump_at, dump_kept};
 ghost use Rattle.hir_session_answers.specs.TreeText.{tree_text_of};
 
 use super::Session;
@@ -135,6 +136,35 @@ impl Session {
     {
         match self.status(place) {
             Status::Current => self.answer_kept(alloc, place, path, shadow, style),
+            Status::Stale => Err(QueryError::StalePlace),
+            Status::Unknown => Err(QueryError::UnknownPlace),
+        }
+    }
+
+    /// The scopes of the map that is kept for a place.
+    fn dump_kept(&self, alloc: Global, place: &Place) -> Result<String, QueryError>
+        ensures text { IfOk result (λ text. dump_kept self.now place.now ≡ Ok (string_bytes text)) }
+        ensures refused { IfErr result (λ e. IsQueryMemory e ⊎ (dump_kept self.now place.now ≡ Err e)) }
+    {
+        let Some(found) = self.kept.get(MapId::of_crate(place.krate())) else {
+            return Err(QueryError::UnknownPlace);
+        };
+        match module_below_root(found.map, place.elements()) {
+            Some(_) => {
+                let text = found.map.dump(alloc, self.kept.world())?;
+                Ok(text)
+            }
+            None => Err(QueryError::UnknownPlace),
+        }
+    }
+
+    /// The modules of the whole map in which a place lies as text, each with its path and its scope.
+    pub fn dump(&self, alloc: Global, place: &Place) -> Result<String, QueryError>
+        ensures text { IfOk result (λ text. dump_at self.now place.now ≡ Ok (string_bytes text)) }
+        ensures refused { IfErr result (λ e. IsQueryMemory e ⊎ (dump_at self.now place.now ≡ Err e)) }
+    {
+        match self.status(place) {
+            Status::Current => self.dump_kept(alloc, place),
             Status::Stale => Err(QueryError::StalePlace),
             Status::Unknown => Err(QueryError::UnknownPlace),
         }

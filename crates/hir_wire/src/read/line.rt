@@ -26,6 +26,7 @@ pub enum Verb {
     Refresh,
     Resolve,
     Status,
+    Dump,
     Diagnostics,
     Tree,
 }
@@ -45,6 +46,7 @@ impl Word for Verb {
             "refresh" => Some(Verb::Refresh),
             "resolve" => Some(Verb::Resolve),
             "status" => Some(Verb::Status),
+            "dump" => Some(Verb::Dump),
             "diagnostics" => Some(Verb::Diagnostics),
             "tree" => Some(Verb::Tree),
             _ => None,
@@ -168,6 +170,16 @@ fn read_status(alloc: Global, members: &Map<String, Value>) -> Result<Command, R
     }
 }
 
+fn read_dump(alloc: Global, members: &Map<String, Value>) -> Result<Command, ReadError>
+    ensures value { Reads command_view
+        (fields_of Verb.Dump (members_view members.now.entries)) result }
+{
+    match required(alloc, members, "at") {
+        Ok(at) => Ok(Command::Dump { at }),
+        Err(error) => Err(error),
+    }
+}
+
 fn read_diagnostics(alloc: Global, members: &Map<String, Value>) -> Result<Command, ReadError>
     ensures value { Reads command_view
         (fields_of Verb.Diagnostics (members_view members.now.entries)) result }
@@ -208,6 +220,7 @@ fn read_verb_fields(
         Verb::Refresh => Ok(Command::Refresh),
         Verb::Resolve => read_resolve(alloc, members),
         Verb::Status => read_status(alloc, members),
+        Verb::Dump => read_dump(alloc, members),
         Verb::Diagnostics => read_diagnostics(alloc, members),
         Verb::Tree => read_tree(alloc, members),
     }

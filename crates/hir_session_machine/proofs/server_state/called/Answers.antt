@@ -27,5 +27,8 @@ returns-in-Tree-clause-step c = rw c.in-Tree.is c.shown.ensures.step
 pub returns-in-Diagnostics-clause-step : goal.returns-in-Diagnostics-clause-step
 returns-in-Diagnostics-clause-step c = rw c.in-Diagnostics.is c.listed.ensures.step
 
+pub returns-in-Dump-clause-step : goal.returns-in-Dump-clause-step
+returns-in-Dump-clause-step c = rw c.in-Dump.is c.dumped.ensures.step
+
 pub returns-clause-step : goal.returns-clause-step
 returns-clause-step c = rw c.in-Status.is (calls _ _ refl (tells _ refl refl (ap (λ (s : Status). reply.Status s) c.status.ensures.value)) refl)

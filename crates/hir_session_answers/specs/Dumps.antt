@@ -1,0 +1,32 @@
+-- What does a dump show?
+use Rattle.std.specs.Prelude.{ℕ, List, Option, None, Some, Result, Ok, Err}
+use Rattle.hir_base.specs.Place.{PlaceValue}
+use Rattle.hir_base.specs.declared.ids.ModuleId.{ModuleId}
+use Rattle.hir_def_map_rules.specs.Dump.{dump_of}
+use Rattle.hir_def_map_rules.specs.Overlay.{Maps, overlay}
+use Rattle.hir_wire.specs.declared.reply.Status.{Status}
+use Rattle.hir_wire.specs.declared.reply.Status.TheVariants as status
+use Rattle.hir_session_state.specs.declared.error.QueryError.{QueryError}
+use Rattle.hir_session_state.specs.declared.error.QueryError.TheVariants as error
+use Rattle.hir_session_state.specs.SessionState.{SessionState, Resolution, finished_of, kept_of}
+use Rattle.hir_session_answers.specs.Status.{map_of, module_of, status_of}
+
+-- the scopes of the map that is kept, beside finished maps, where it has the module
+abbrev pub dump_from : Maps → Option Resolution → Option ModuleId → Result (List ℕ) QueryError
+dump_from finished None m = Err error.UnknownPlace
+dump_from finished (Some r) None = Err error.UnknownPlace
+dump_from finished (Some r) (Some m) = Ok (dump_of (overlay finished r.map) r.map.id)
+
+-- the scopes of the whole map in which the place lies
+abbrev pub dump_kept : SessionState → PlaceValue → Result (List ℕ) QueryError
+dump_kept s place = dump_from (finished_of s) (kept_of s (map_of place)) (module_of s place)
+
+-- the text, where the place's answers stand so
+abbrev pub dump_by : Status → Result (List ℕ) QueryError → Result (List ℕ) QueryError
+dump_by status.Current text = text
+dump_by status.Stale text = Err error.StalePlace
+dump_by status.Unknown text = Err error.UnknownPlace
+
+-- the scopes of the whole map in which a place lies, or why they aren't shown
+abbrev pub dump_at : SessionState → PlaceValue → Result (List ℕ) QueryError
+dump_at s place = dump_by (status_of s place) (dump_kept s place)

@@ -1,0 +1,18 @@
+-- The scopes are shown, or it is told why they are not; nothing changes.
+use Rattle.std.proofs.Common.{ap, inl, inr, refl, ◌∙◌}
+use Rattle.hir_session_state.specs.declared.error.QueryError.{QueryError}
+use Rattle.hir_session_machine.specs.Machine.{query_error_reply}
+use Rattle.hir_session_machine.specs.Machine.Moves.{dumps, dumps_none}
+use Rattle.hir_session_machine.specs.Machine.AnswersCommand.{calls, finds_no_memory}
+use Rattle.hir_session_machine.proofs.server_state.dumped.Goals as goal
+
+pub returns-in-Ok : goal.returns-in-Ok
+returns-in-Ok c = record { step = calls _ _ refl (dumps _ _ refl refl c.in-Ok.ensures.text refl) refl }
+
+pub returns-in-Err : goal.returns-in-Err
+returns-in-Err c = record {
+  step = elim c.in-Err.ensures.refused [
+    | inl memory ↦ finds_no_memory (c.reply_to_query.ensures.value ∙ ap (λ (e : QueryError). query_error_reply e) memory) refl
+    | inr refused ↦ calls _ _ refl (dumps_none _ _ refl refl refused c.reply_to_query.ensures.value) refl
+  ];
+}
