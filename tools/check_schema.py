@@ -25,7 +25,7 @@ LONGEST, DEEPEST, MOST_CRATES = 16_777_216, 127, 10_000
 # what each command is answered where it is carried out, in $defs/reply/$defs
 ANSWERS = {
     "crates": "done", "set file": "done", "remove file": "done", "set expansion": "done", "remove expansion": "done",
-    "refresh": "places", "resolve": "answer", "diagnostics": "diagnostics", "status": "status", "tree": "page",
+    "refresh": "places", "resolve": "answer", "diagnostics": "diagnostics", "dump": "dump", "status": "status", "tree": "page",
 }
 # replies of hir_wire_rows that no session gives
 UNGIVEN = ("answer", "list", "refuse")
