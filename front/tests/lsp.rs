@@ -779,30 +779,58 @@ fn a_program_that_dies() {
     assert_eq!(client.end(), 1);
 }
 
-/// An editor at work, where Neovim is installed.
-#[test]
-fn neovim() {
-    let folder = market();
+/// Runs a script in Neovim without a screen, behind a configuration. None where Neovim isn't installed.
+fn in_neovim(folder: &Path, configuration: &str, script: &str) -> Option<(String, String)> {
+    let server = Path::new(env!("CARGO_BIN_EXE_cargo-nogsimat"));
+    let path = std::env::var_os("PATH").unwrap_or_default();
+    let path =
+        std::env::join_paths(server.parent().map(Path::to_owned).into_iter().chain(std::env::split_paths(&path)));
     let made = Command::new("nvim")
-        .args(["--headless", "-u", "NONE", "-i", "NONE", "-n", "-c"])
-        .arg(format!("luafile {}", own("tests/lsp/neovim.lua").display()))
-        .env("SERVER", env!("CARGO_BIN_EXE_cargo-nogsimat"))
-        .env("FOLDER", folder.path().canonicalize().unwrap())
-        .env("XDG_STATE_HOME", folder.path().join("state"))
-        .env("XDG_CACHE_HOME", folder.path().join("cache"))
+        .args(["--headless", "-u", configuration, "-i", "NONE", "-n", "-c"])
+        .arg(format!("luafile {}", own(script).display()))
+        .env("SERVER", server)
+        .env("PATH", path.unwrap())
+        .env("FOLDER", folder.canonicalize().unwrap())
+        .env("XDG_STATE_HOME", folder.join("state"))
+        .env("XDG_CACHE_HOME", folder.join("cache"))
         .output();
     let Ok(made) = made else {
         eprintln!("nvim isn't installed: not tried");
+        return None;
+    };
+    let errors = String::from_utf8_lossy(&made.stderr).into_owned();
+    let told = String::from_utf8_lossy(&made.stdout).replace('\r', "");
+    assert!(made.status.success(), "{told}{errors}");
+    Some((told, errors))
+}
+
+/// An editor at work.
+#[test]
+fn neovim() {
+    let folder = market();
+    let Some((told, errors)) = in_neovim(folder.path(), "NONE", "tests/lsp/neovim.lua") else {
         return;
     };
-    let told = String::from_utf8_lossy(&made.stdout).replace('\r', "");
     let path = own("tests/lsp/neovim.txt");
     if std::env::var_os("UPDATE").is_some() {
         std::fs::write(&path, &*told).unwrap();
     }
-    let errors = String::from_utf8_lossy(&made.stderr);
     assert_eq!(told, std::fs::read_to_string(&path).unwrap_or_default(), "{errors}");
-    assert!(made.status.success(), "{errors}");
+}
+
+/// The lines of the readme for Neovim 0.7, which newer ones still take.
+#[test]
+fn neovim_with_the_configuration_of_the_readme() {
+    let readme = std::fs::read_to_string(own("README.md")).unwrap();
+    let (_, behind) = readme.split_once("```lua\n").unwrap();
+    let (lines, _) = behind.split_once("```").unwrap();
+    let folder = market();
+    let configuration = folder.path().join("init.lua");
+    std::fs::write(&configuration, lines).unwrap();
+    let made = in_neovim(folder.path(), configuration.to_str().unwrap(), "tests/lsp/configured.lua");
+    if let Some((told, errors)) = made {
+        assert_eq!(told, "client: nogsimat\ndiagnostics: 1\ngd: price.rs:2\n", "{errors}");
+    }
 }
 
 #[test]
