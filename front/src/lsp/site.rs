@@ -1,9 +1,9 @@
 //! Paths as they stand in a text, and which of them begin with a name of a body: a local variable, a generic
-//! parameter, an item within the body. Those are no names of modules, and nothing is asked for them.
+//! parameter, an item of a block that the program doesn't have. Nothing is asked for them.
 
 use std::collections::HashSet;
 
-use crate::report::{around, is_body, path_before, Context};
+use crate::report::{is_body, path_before, Context};
 use crate::syntax::{angle, plain, Item, ItemKind};
 use crate::token::{Delimiter, Kind, Span, Token};
 use crate::unit::is_builtin;
@@ -13,8 +13,6 @@ use crate::unit::is_builtin;
 pub struct Site {
     pub path: String,
     pub context: Context,
-    /// The names of the inline modules around it.
-    pub modules: Vec<String>,
     pub span: Span,
     /// Whether the path goes on behind the word.
     pub goes_on: bool,
@@ -29,15 +27,15 @@ const KEYWORDS: [&str; 37] = [
     "struct", "trait", "true", "type", "unsafe", "use", "where", "while", "yield",
 ];
 
-/// The words of a text that are wanted and stand in a path. `items` are those of the text.
-pub fn sites(tokens: &[Token], items: &[Item], wanted: &dyn Fn(&str, Span) -> bool) -> Vec<Site> {
-    let mut finder = Finder { items, wanted, levels: Vec::new(), made: Vec::new() };
+/// The words of a text that are wanted and stand in a path. In `blocks` the program knows the items.
+pub fn sites(tokens: &[Token], blocks: &[Span], wanted: &dyn Fn(&str, Span) -> bool) -> Vec<Site> {
+    let mut finder = Finder { blocks, wanted, levels: Vec::new(), made: Vec::new() };
     finder.list(tokens, Some(Context::Plain));
     finder.made
 }
 
 struct Finder<'a, 'w> {
-    items: &'a [Item],
+    blocks: &'w [Span],
     wanted: &'w dyn Fn(&str, Span) -> bool,
     levels: Vec<Level<'a>>,
     made: Vec<Site>,
@@ -116,9 +114,7 @@ impl<'a> Finder<'a, '_> {
         if hides && !is_alias {
             return None;
         }
-        let mut modules = Vec::new();
-        around(self.items, list[number].span.start, &mut modules);
-        Some(Site { path, context, modules, span: list[number].span, goes_on })
+        Some(Site { path, context, span: list[number].span, goes_on })
     }
 
     fn is_in_macro(&self) -> bool {
@@ -174,13 +170,17 @@ impl<'a> Finder<'a, '_> {
     /// What the bodies and the items around the word name.
     fn locals(&self) -> Locals {
         let mut locals = Locals::default();
+        let mut is_known = false;
         for (list, number) in &self.levels {
             generics(list, *number, &mut locals);
             if locals.is_in_body {
-                block_items(list, &mut locals);
+                if !is_known {
+                    block_items(list, &mut locals);
+                }
                 bindings(list, *number, &mut locals);
             }
             locals.is_in_body |= is_body(list, *number);
+            is_known = self.blocks.contains(&list[*number].span);
         }
         locals
     }
@@ -481,8 +481,17 @@ mod tests {
     use super::*;
     use crate::token::{on_a_thread, tokens_of, Hash};
 
+    /// Where the blocks of these items stand.
+    fn spans_of(items: &[Item]) -> Vec<Span> {
+        fn of(blocks: &[std::sync::Arc<crate::syntax::Block>]) -> Vec<Span> {
+            let inner = |it: &crate::syntax::Block| [vec![it.span], spans_of(&it.items), of(&it.blocks)].concat();
+            blocks.iter().flat_map(|it| inner(it)).collect()
+        }
+        items.iter().flat_map(|it| of(&it.blocks)).collect()
+    }
+
     /// What stands at each `«word»` of a text: its path, or nothing.
-    fn found(text: &str) -> Vec<Option<String>> {
+    fn found(text: &str, is_known: bool) -> Vec<Option<String>> {
         let mut plain_text = String::new();
         let mut marks = Vec::new();
         for (at, part) in text.split('«').enumerate() {
@@ -495,15 +504,21 @@ mod tests {
         }
         let tokens = on_a_thread(|| tokens_of(&plain_text)).unwrap();
         let unit = crate::syntax::unit_of(&tokens, Hash::default()).unwrap();
+        let blocks = if is_known { spans_of(&unit.items) } else { Vec::new() };
         let at = |mark| {
-            let made = sites(&tokens, &unit.items, &|_, span: Span| span.start == mark);
+            let made = sites(&tokens, &blocks, &|_, span: Span| span.start == mark);
             made.into_iter().next().map(|it| it.path)
         };
         marks.into_iter().map(at).collect()
     }
 
     fn all(text: &str, wanted: &[&str]) {
-        let found = found(text);
+        check(text, false, wanted);
+    }
+
+    /// With the blocks that the program knows, or without.
+    fn check(text: &str, is_known: bool, wanted: &[&str]) {
+        let found = found(text, is_known);
         let found: Vec<&str> = found.iter().map(|it| it.as_deref().unwrap_or("-")).collect();
         assert_eq!(found, wanted, "{text}");
     }
@@ -571,6 +586,17 @@ mod tests {
             &["a::b::c", "-", "-", "-", "S"],
         );
         all("fn f() { use a::*; «b»; crate::«c»; }", &["-", "crate::c"]);
+    }
+
+    #[test]
+    fn items_of_blocks_that_the_program_knows() {
+        let text = "fn f() { fn g() {} «g»(); use a::{b, c as d}; «b»::x; «d»::«y»; use h::*; «i»; crate::«j»; }";
+        check(text, false, &["-", "-", "-", "-", "-", "crate::j"]);
+        check(text, true, &["g", "b", "d", "d::y", "i", "crate::j"]);
+        // Local variables hide items all the same, and blocks in what a macro is called with aren't known.
+        check("fn f(x: u8) { struct S; let g = 1; «x»; «g»; «S»; { let S = 1; S; } }", true, &["-", "-", "S"]);
+        check("fn f() { m! { { struct S; «S»; } } { struct T; «T»; { «T» } } }", true, &["-", "T", "T"]);
+        check("fn f<T>() { struct S; «T»; «S»; fn g<S>() { «S» } }", true, &["-", "S", "-"]);
     }
 
     #[test]
