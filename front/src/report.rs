@@ -8,6 +8,7 @@ use anyhow::{bail, Result};
 use serde::Serialize;
 use serde_json::Value;
 
+use crate::lsp::site::is_local;
 use crate::syntax::{plain, Item, ItemKind, UseTree};
 use crate::token::{on_a_thread, tokens_of, Delimiter, Kind, Position, Span, Token};
 use crate::unit::{place_json, quoted, steps_of, Detail, Step};
@@ -899,7 +900,16 @@ impl Workspace {
             bail!("no path stands at {}:{}:{}", file.display(), at.line, at.column);
         };
         let around = self.block_at(krate, &key, at).map(|it| it.1.block.span.start);
+        let blocks: Vec<Span> = self.blocks_of(krate, &key).iter().map(|it| it.1.block.span).collect();
         place.extend(steps_of(&inner));
+        let is_local = on_a_thread(|| tokens_of(&text).is_ok_and(|it| is_local(&it, &blocks, at)));
+        if is_local {
+            let note = "a local name (a variable, a parameter, `Self` or an item of the body), a field or a method: \
+                        these aren't looked up";
+            let module = self.place_text(krate, &place);
+            let notes = vec![note.to_owned()];
+            return Ok(Answer { path: found.path, module, meanings: Vec::new(), stopped_at: None, notes });
+        }
         let mut answer = self.answer(krate, &place, &found.path, found.context)?;
         if found.block.is_some() && found.block != around {
             answer.notes.push("the body around it has items of its own, which aren't looked at".to_owned());

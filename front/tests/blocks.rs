@@ -257,7 +257,7 @@ fn paths_in_blocks_are_asked_there() {
     // Where a block is refused, the module around it is asked, and that is told.
     let text = TEXT.replace("Inner", "Refused");
     std::fs::write(&file, &text).unwrap();
-    space.update(&[file.clone()]).unwrap();
+    space.update(std::slice::from_ref(&file)).unwrap();
     assert_eq!(place_json(krate, &space.place_of(krate, &key, at(8, 6))), format!("[{krate}]"));
     let answer = space.answer_at(&file, at(8, 6)).unwrap();
     assert_eq!(answer.notes.len(), 1, "{answer:?}");

@@ -14,7 +14,7 @@ use super::{key_of_uri, place_of, Failure, Server};
 use crate::report::{place_at, Context, Meaning, Place};
 use crate::syntax::{plain, Item, ItemKind, Shape};
 use crate::token::{on_a_thread, tokens_of, Position, Span};
-use crate::unit::{place_json, steps_of, Detail, Node, Step};
+use crate::unit::{place_json, steps_of, Built, Detail, Node, Step};
 use crate::workspace::{Key, Workspace};
 
 /// What stands at a place.
@@ -40,20 +40,29 @@ fn sites_of(text: &str, blocks: &[Span], wanted: impl Fn(&str, Span) -> bool + S
     on_a_thread(|| tokens_of(text).map(|it| sites(&it, blocks, &wanted)).unwrap_or_default())
 }
 
-/// The nodes of a file in a crate with those of its blocks, each with the unit that it is a node of, and its place.
-fn nodes_of<'a>(space: &'a Workspace, krate: u32, key: &Key) -> Vec<(&'a Node, Value, Vec<Step>)> {
+/// What a file or a block is to the program: its nodes, how the program names it, and its place.
+struct Source<'a> {
+    built: &'a Built,
+    name: Value,
+    place: Vec<Step>,
+}
+
+impl Source<'_> {
+    /// The place in which a node is declared.
+    fn place_of(&self, node: &Node) -> Vec<Step> {
+        let modules = node.modules.iter().map(|it| Step::Module(it.to_string()));
+        self.place.iter().cloned().chain(modules).collect()
+    }
+}
+
+/// A file in a crate, and its blocks.
+fn sources<'a>(space: &'a Workspace, krate: u32, key: &Key) -> Vec<Source<'a>> {
     let module = space.module_of(krate, key).map_or(Vec::new(), steps_of);
-    let own = space.built(key).map(|it| (&**it, json!(&**key), module));
-    let blocks = space.blocks_of(krate, key).into_iter().map(|(place, it)| {
-        let unit = serde_json::from_str(&place_json(krate, &place)).unwrap_or_default();
-        (&*it.built, unit, place)
-    });
     let mut made = Vec::new();
-    for (built, unit, place) in own.into_iter().chain(blocks) {
-        for node in &built.nodes {
-            let modules = node.modules.iter().map(|it| Step::Module(it.to_string()));
-            made.push((node, unit.clone(), place.iter().cloned().chain(modules).collect()));
-        }
+    made.extend(space.built(key).map(|it| Source { built: it, name: json!(&**key), place: module }));
+    for (place, it) in space.blocks_of(krate, key) {
+        let name = serde_json::from_str(&place_json(krate, &place)).unwrap_or_default();
+        made.push(Source { built: &it.built, name, place });
     }
     made
 }
@@ -113,8 +122,11 @@ impl<W: Write> Server<W> {
             text.as_str().get(start..end).is_some_and(|it| plain(it) == &*node.name)
         };
         let is_own = |it: &Node| is_declaration(it) && contains(it.span) && is_named(it);
-        if let Some((node, unit, place)) = nodes_of(space, krate, key).into_iter().find(|it| is_own(it.0)) {
-            return Some((Found::Node(Box::new(node.clone()), unit), Scope { krate, place }));
+        for source in sources(space, krate, key) {
+            if let Some(node) = source.built.nodes.iter().find(|it| is_own(it)) {
+                let place = source.place_of(node);
+                return Some((Found::Node(Box::new(node.clone()), source.name), Scope { krate, place }));
+            }
         }
         space.parsed(key)?;
         let blocks = spans_of_blocks(space, krate, key);
@@ -136,9 +148,9 @@ impl<W: Write> Server<W> {
     fn own_meanings(&mut self, node: &Node, unit: &Value, key: &Key, scope: &Scope) -> Result<Vec<Meaning>> {
         let mut path = node.name.to_string();
         if let (Some(at), Some(space)) = (node.of, &self.space) {
-            let all = nodes_of(space, scope.krate, key);
-            let of = all.iter().filter(|it| it.1 == *unit).nth(at);
-            path = of.map_or(path.clone(), |it| format!("{}::{path}", it.0.name));
+            let source = sources(space, scope.krate, key).into_iter().find(|it| it.name == *unit);
+            let of = source.and_then(|it| it.built.nodes.get(at));
+            path = of.map_or(path.clone(), |it| format!("{}::{path}", it.name));
         }
         let place = place_at(key, node.span);
         let context = if node.kind == "MacroRules" { Context::Call } else { Context::Import };
@@ -353,10 +365,12 @@ impl<W: Write> Server<W> {
         let mut bound = Vec::new();
         for key in files {
             for krate in space.crates_of(key) {
-                for (node, _, place) in nodes_of(space, krate, key) {
+                let all = sources(space, krate, key);
+                for (source, node) in all.iter().flat_map(|it| it.built.nodes.iter().map(move |node| (it, node))) {
                     let Detail::Use(leaves) = &node.detail else {
                         continue;
                     };
+                    let place = source.place_of(node);
                     for leaf in leaves {
                         let last = leaf.path.rsplit("::").next().unwrap_or_default();
                         if let Some(name) = leaf.binds.as_ref().filter(|it| names.contains(last) && ***it != *last) {

@@ -5,7 +5,7 @@ use std::collections::HashSet;
 
 use crate::report::{is_body, path_before, Context};
 use crate::syntax::{angle, plain, Item, ItemKind};
-use crate::token::{Delimiter, Kind, Span, Token};
+use crate::token::{Delimiter, Kind, Position, Span, Token};
 use crate::unit::is_builtin;
 
 /// A word that stands in a path, and the path up to it.
@@ -29,9 +29,17 @@ const KEYWORDS: [&str; 37] = [
 
 /// The words of a text that are wanted and stand in a path. In `blocks` the program knows the items.
 pub fn sites(tokens: &[Token], blocks: &[Span], wanted: &dyn Fn(&str, Span) -> bool) -> Vec<Site> {
-    let mut finder = Finder { blocks, wanted, levels: Vec::new(), made: Vec::new() };
+    let mut finder = Finder { blocks, wanted, levels: Vec::new(), made: Vec::new(), has_local: false };
     finder.list(tokens, Some(Context::Plain));
     finder.made
+}
+
+/// Whether a word of the text is none that modules or blocks know, see [`Word::Local`].
+pub fn is_local(tokens: &[Token], blocks: &[Span], at: Position) -> bool {
+    let wanted = |_: &str, span: Span| span.start <= at && at <= span.end;
+    let mut finder = Finder { blocks, wanted: &wanted, levels: Vec::new(), made: Vec::new(), has_local: false };
+    finder.list(tokens, Some(Context::Plain));
+    finder.has_local
 }
 
 struct Finder<'a, 'w> {
@@ -39,6 +47,16 @@ struct Finder<'a, 'w> {
     wanted: &'w dyn Fn(&str, Span) -> bool,
     levels: Vec<Level<'a>>,
     made: Vec<Site>,
+    has_local: bool,
+}
+
+/// What a word is that may stand in a path.
+enum Word {
+    Site(Site),
+    /// A local variable, a parameter, a field, a method, or a path that begins with a generic parameter, `Self` or an
+    /// item of a block that the program doesn't have.
+    Local,
+    None,
 }
 
 impl<'a> Finder<'a, '_> {
@@ -48,8 +66,11 @@ impl<'a> Finder<'a, '_> {
             match &token.kind {
                 Kind::Ident(word) if (self.wanted)(plain(word), token.span) => {
                     self.levels.push((list, number));
-                    let site = context.and_then(|it| self.site(it));
-                    self.made.extend(site);
+                    match context.map_or(Word::None, |it| self.word(it)) {
+                        Word::Site(it) => self.made.push(it),
+                        Word::Local => self.has_local = true,
+                        Word::None => {}
+                    }
                     self.levels.pop();
                 }
                 Kind::Group(delimiter, inner) => {
@@ -63,28 +84,40 @@ impl<'a> Finder<'a, '_> {
         }
     }
 
-    fn site(&self, context: Context) -> Option<Site> {
-        let (list, number) = *self.levels.last()?;
-        let word = list[number].word()?;
+    fn word(&self, context: Context) -> Word {
+        let Some((list, number)) = self.levels.last().copied() else {
+            return Word::None;
+        };
+        let Some(word) = list[number].word() else {
+            return Word::None;
+        };
         let before = |by: usize| number.checked_sub(by).map(|it| &list[it]);
         let next = list.get(number + 1);
         let is_in_macro = self.is_in_macro();
-        if KEYWORDS.contains(&word) || before(1).is_some_and(|it| it.is(".") || it.is("$") && word != "crate") {
-            return None;
+        if word == "Self" || before(1).is_some_and(|it| it.is(".")) {
+            return Word::Local;
         }
-        if before(1).is_some_and(|it| it.is("#")) || is_declared(list, number) {
-            return None;
+        if KEYWORDS.contains(&word) || before(1).is_some_and(|it| it.is("#") || it.is("$") && word != "crate") {
+            return Word::None;
+        }
+        if is_declared(list, number) {
+            let is_bound = ["let", "ref", "mut"].iter().any(|it| before(1).is_some_and(|token| token.is_word(it)));
+            return if is_bound { Word::Local } else { Word::None };
         }
         let goes_on = next.is_some_and(|it| it.is("::"));
         let in_use = self.levels.iter().position(|(list, number)| is_in_use(list, *number));
         if in_use.is_none() && self.is_label(list, number) {
-            return None;
+            return Word::Local;
         }
         let is_alias = in_use.is_some() && before(1).is_some_and(|it| it.is_word("as"));
-        let mut path = if is_alias { plain(word).to_owned() } else { path_before(list, number)? };
-        if let (Some(at), false) = (in_use, is_alias) {
-            path = self.in_use_tree(at, path)?;
-        }
+        let path = match in_use {
+            _ if is_alias => Some(plain(word).to_owned()),
+            Some(at) => path_before(list, number).and_then(|it| self.in_use_tree(at, it)),
+            None => path_before(list, number),
+        };
+        let Some(path) = path else {
+            return Word::None;
+        };
         let is_call = next.is_some_and(|it| it.is("!"))
             && list.get(number + 2).is_some_and(|it| matches!(it.kind, Kind::Group(..)) || it.word().is_some());
         let context = match (is_call, in_use, context) {
@@ -95,26 +128,29 @@ impl<'a> Finder<'a, '_> {
         };
         let first = path.split("::").next().unwrap_or_default();
         let is_single = !path.contains("::") && !goes_on;
-        if first == "Self" || (is_in_macro && first != "crate") {
-            return None;
+        if is_in_macro && first != "crate" {
+            return Word::None;
+        }
+        if first == "Self" {
+            return Word::Local;
         }
         let in_brackets =
             self.levels.iter().rev().nth(1).is_some_and(|it| it.0[it.1].group(Delimiter::Bracket).is_some());
         if context == Context::Attribute && is_single && is_builtin(first) && in_brackets {
-            return None;
+            return Word::None;
         }
         let locals = self.locals();
         if locals.types.contains(first) || (is_single && context == Context::Plain && locals.values.contains(first)) {
-            return None;
+            return Word::Local;
         }
         if is_single && first == "self" && in_use.is_none() && locals.is_in_body {
-            return None;
+            return Word::Local;
         }
         let hides = locals.has_glob && !matches!(first, "crate" | "self" | "super" | "");
         if hides && !is_alias {
-            return None;
+            return Word::None;
         }
-        Some(Site { path, context, span: list[number].span, goes_on })
+        Word::Site(Site { path, context, span: list[number].span, goes_on })
     }
 
     fn is_in_macro(&self) -> bool {
@@ -597,6 +633,18 @@ mod tests {
         check("fn f(x: u8) { struct S; let g = 1; «x»; «g»; «S»; { let S = 1; S; } }", true, &["-", "-", "S"]);
         check("fn f() { m! { { struct S; «S»; } } { struct T; «T»; { «T» } } }", true, &["-", "T", "T"]);
         check("fn f<T>() { struct S; «T»; «S»; fn g<S>() { «S» } }", true, &["-", "S", "-"]);
+    }
+
+    #[test]
+    fn words_that_are_local() {
+        let text = "fn f<T>(x: u8) { let y = x; S { z: y.v() }; Self::w; T::a; m::x; b!(y); use c::x; }";
+        let tokens = on_a_thread(|| tokens_of(text)).unwrap();
+        let local: Vec<&str> = text
+            .match_indices(|it: char| it.is_alphanumeric())
+            .filter(|it| is_local(&tokens, &[], Position { line: 1, column: it.0 as u32 + 1 }))
+            .map(|it| it.1)
+            .collect();
+        assert_eq!(local.concat(), "TxyxzyvSelfwTay");
     }
 
     #[test]
