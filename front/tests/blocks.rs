@@ -76,7 +76,7 @@ impl Package {
     }
 }
 
-fn number(space: &Workspace) -> u32 {
+fn number_of(space: &Workspace) -> u32 {
     space.crates.all.iter().position(|it| it.is_asked).unwrap() as u32
 }
 
@@ -102,7 +102,7 @@ fn nothing_is_handed_in_where_the_program_takes_no_blocks() {
     // The commands that come in are kept.
     let program = program::find(None).unwrap();
     let space = package.open_with(&package.script(&format!("tee -a \"$folder/log\" | {}", program.display())));
-    let krate = number(&space);
+    let krate = number_of(&space);
     let given = package.given(&["set block", "remove block"]);
     let takes_blocks =
         space.block_at(krate, &key_of(&package.file()).unwrap(), Position { line: 3, column: 9 }).is_some();
@@ -116,7 +116,7 @@ fn nothing_is_handed_in_where_the_program_takes_no_blocks() {
 fn each_block_is_handed_in_at_its_place() {
     let package = Package::new(TEXT);
     let space = package.open();
-    let krate = number(&space);
+    let krate = number_of(&space);
     let mut given = package.given(&["set block"]);
     // Whether the program takes blocks.
     assert_eq!(given.remove(0)["at"][0], space.crates.all.len());
@@ -213,7 +213,7 @@ fn macros_of_blocks() {
 fn paths_in_blocks_are_asked_there() {
     let package = Package::new(TEXT);
     let mut space = package.open();
-    let (krate, file) = (number(&space), package.file());
+    let (krate, file) = (number_of(&space), package.file());
     let key = key_of(&file).unwrap();
     let at = |line, column| Position { line, column };
     // The block of `f`, the one in it, and the enum's.
@@ -269,7 +269,7 @@ fn paths_in_blocks_are_asked_there() {
 fn an_editor_in_blocks() {
     let package = Package::new(TEXT);
     let space = package.open();
-    let (krate, key) = (number(&space), key_of(&package.file()).unwrap());
+    let (krate, key) = (number_of(&space), key_of(&package.file()).unwrap());
     let inside = Position { line: 8, column: 5 };
     let place = place_json(krate, &space.place_of(krate, &key, inside));
     let id = space.block_at(krate, &key, inside).unwrap().1.built.nodes[0].id;
@@ -325,4 +325,77 @@ fn an_editor_in_blocks() {
         let text = results[&id]["contents"]["value"].as_str().unwrap();
         assert_eq!(text, "struct `one::f::Inner`\n\nvisible: pub\n\nas: type, value");
     }
+}
+
+/// Numbers that look random, the same each time.
+struct Dice(u64);
+
+impl Dice {
+    fn below(&mut self, most: usize) -> usize {
+        self.0 = self.0.wrapping_mul(6_364_136_223_846_793_005).wrapping_add(1_442_695_040_888_963_407);
+        (self.0 >> 33) as usize % most
+    }
+}
+
+/// What a session hands in is the same after edits as what one does that begins with the edited text.
+#[test]
+fn random_edits_beside_a_fresh_session() {
+    const LINES: [&str; 14] = [
+        "fn f() { struct S#; }",
+        "fn f#() { use a::b#; { fn h() { enum E { A# } } } { const C: u8 = #; } }",
+        "macro_rules! mm { ($n:ident) => { struct $n; let x = 1; use a::x#; } }",
+        "macro_rules! mm { ($n:ident) => { $n + # } }",
+        "fn g#() { macro_rules! l { () => { mod q { trait T# {} } } } l!(); mm!(T#); mm! { U } let z = mm!(V); }",
+        "mod m# { fn f() { type T = u8; mm!(W); } }",
+        "impl X { fn f() { static S#: u8 = 1; mm!(W#); } }",
+        "trait T { fn f() { extern crate a#; } const C: u8 = { union U# { a: u8 } 1 }; }",
+        "#[cfg(none)] fn d() { struct S#; } #[cfg(not(none))] fn d() { struct R#; }",
+        "mm!(Q#);",
+        "struct P#;",
+        "// # é",
+        "fn f() { let x = #; unknown!(x); }",
+        "fn g() { m!{ struct S; } mm!(M#); mod deep { mm!(N#); } }",
+    ];
+    let package = Package::new("");
+    let mut space = package.open();
+    let mut dice = Dice(38);
+    let mut lines: Vec<String> = Vec::new();
+    let mut most = 0;
+    for number in 0..160 {
+        let line = LINES[dice.below(LINES.len())].replace("#[", "\0[").replace('#', &dice.below(9).to_string());
+        let line = line.replace('\0', "#");
+        let at = dice.below(lines.len() + 1);
+        match dice.below(4) {
+            0 if at < lines.len() => drop(lines.remove(at)),
+            1 if at < lines.len() => lines[at] = line,
+            _ => lines.insert(at, line),
+        }
+        if lines.len() > 12 {
+            lines.remove(0);
+        }
+        let text = lines.join("\n");
+        space.update_text(&package.file(), &text).unwrap();
+        if number % 5 != 0 {
+            continue;
+        }
+        let other = Package::new(&text);
+        let fresh = other.open();
+        let set = |space: &Workspace, root: &Path| -> Vec<String> {
+            let root = root.to_str().unwrap().trim_start_matches('/').to_owned();
+            let lines = space.session().into_iter().filter(|it| it.starts_with("{\"do\":\"set "));
+            lines
+                .map(|it| it.replace(&root, "DIR"))
+                .filter(|it| it.contains("DIR") || it.contains("set block"))
+                .collect()
+        };
+        let (made, wanted) = (set(&space, &package.root), set(&fresh, &other.root));
+        assert_eq!(made, wanted, "after edit {number}:\n{text}");
+        most = most.max(wanted.len());
+        // Each block is found where it stands.
+        let (krate, key) = (number_of(&fresh), key_of(&other.file()).unwrap());
+        for (place, it) in fresh.blocks_of(krate, &key) {
+            assert_eq!(fresh.block_at(krate, &key, it.block.span.start).unwrap().0, place, "{text}");
+        }
+    }
+    assert!(most > 12, "{most} units at most");
 }
