@@ -509,7 +509,13 @@ impl Walk<'_> {
                 let question = (place.to_vec(), call.path.text.clone());
                 self.looked_up.insert(question.clone());
                 let known = self.space.states[self.krate as usize].reached.get(&question).cloned();
-                match known.unwrap_or_else(|| self.space.likely(self.krate, question)) {
+                let found = match known {
+                    Some(it) => it,
+                    // The program doesn't tell that a call of a block is absent.
+                    None if self.in_block => self.space.likely_or_asked(self.krate, question),
+                    None => self.space.likely(self.krate, question),
+                };
+                match found {
                     Some(it) => it,
                     None => return,
                 }
@@ -973,6 +979,19 @@ impl Workspace {
         let found = states.filter_map(|it| it.exported.get(name)).next().cloned()?;
         self.states[krate as usize].reached.insert(question, Some(found.clone()));
         Some(found)
+    }
+
+    /// The macro that a path most likely reaches, else the one that the program says. Where that is none it is asked
+    /// again when the crate is resolved.
+    fn likely_or_asked(&mut self, krate: u32, question: (Vec<String>, String)) -> Option<Target> {
+        let likely = self.likely(krate, question.clone());
+        if likely.is_some() {
+            return likely;
+        }
+        let reply = self.program.ask(macro_question(krate, &question.0, &question.1, "bang"));
+        let found = reply.ok().and_then(|it| self.target(&it["ok"]["macros"]["def"]));
+        self.states[krate as usize].reached.insert(question, found.clone());
+        found
     }
 
     fn expansion_key(&self, caller: u32, call: &Call, target: &Target) -> String {

@@ -209,6 +209,28 @@ fn macros_of_blocks() {
     assert_eq!(package.told(), ["C", "inner"]);
 }
 
+/// A macro that a path reaches is asked for where a call of a block isn't in textual scope.
+#[test]
+fn macros_that_paths_reach() {
+    let package = Package::new(
+        "mod a { macro_rules! make { ($n:ident) => { struct $n; } } pub(crate) use make; }
+         fn f() { struct S; a::make!(T); a::other!(U); }",
+    );
+    let space = package.open();
+    assert_eq!(package.told(), ["", "S"]);
+    let (krate, key) = (number_of(&space), key_of(&package.file()).unwrap());
+    let id = space.built(&key).unwrap().nodes.iter().find(|it| it.kind == "MacroRules").unwrap().id;
+    let definition = json!({"crate": krate, "id": [id.0, id.1], "in": [&*key], "kind": "MacroRules"});
+    let reply = json!({"ok": {"macros": {"def": definition, "import": null, "vis": "pub"}, "stop": null}});
+    let question =
+        format!("{{\"do\":\"resolve\",\"at\":[{krate}],\"path\":\"a::make\",\"shadow\":\"module\",\"sub\":\"bang\"}}");
+    std::fs::write(package.root.join("answers"), format!("{question}\n{reply}\n")).unwrap();
+    // The crate is resolved, so the paths that reach nothing yet are asked again.
+    std::fs::write(package.root.join("due"), format!("{{\"ok\":[[{krate}]]}}\n")).unwrap();
+    package.open();
+    assert_eq!(package.told(), ["", "S", "S T"]);
+}
+
 #[test]
 fn paths_in_blocks_are_asked_there() {
     let package = Package::new(TEXT);
@@ -375,7 +397,7 @@ fn random_edits_beside_a_fresh_session() {
         }
         let text = lines.join("\n");
         space.update_text(&package.file(), &text).unwrap();
-        if number % 5 != 0 {
+        if number % 8 != 0 {
             continue;
         }
         let other = Package::new(&text);
