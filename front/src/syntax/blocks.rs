@@ -1,5 +1,6 @@
 //! The blocks of bodies that have items of their own.
 
+use std::borrow::Cow;
 use std::sync::Arc;
 
 use super::{is_qualifier, Call, Cursor, Item, ItemKind, Unit, Visibility, Where};
@@ -60,7 +61,8 @@ fn is_of_expression(word: &str) -> bool {
 
 /// What stands in a pair of braces, which may also be no block: no item begins in a `match`, a structure or a list.
 fn block(tokens: &[Token], span: Span) -> Block {
-    let tokens = opened(tokens);
+    let has_fragments = tokens.iter().any(|it| it.group(Delimiter::None).is_some());
+    let tokens = if has_fragments { Cow::Owned(opened(tokens)) } else { Cow::Borrowed(tokens) };
     let mut cursor = Cursor::new(&tokens, span);
     let mut made = Block { items: Vec::new(), blocks: Vec::new(), span };
     cursor.attributes(true);
