@@ -12,10 +12,10 @@ use std::time::Instant;
 use anyhow::{bail, Context as _, Result};
 use cargo_nogsimat::package::{Crates, Wanted};
 use cargo_nogsimat::program;
-use cargo_nogsimat::report::{modules_at, path_at};
+use cargo_nogsimat::report::path_at;
 use cargo_nogsimat::token::Position;
-use cargo_nogsimat::unit::quoted;
-use cargo_nogsimat::workspace::{key_of, place_json, Workspace};
+use cargo_nogsimat::unit::{place_json, quoted};
+use cargo_nogsimat::workspace::{key_of, Workspace};
 use clap::Parser;
 use serde_json::Value;
 
@@ -259,12 +259,10 @@ fn main() -> Result<ExitCode> {
             continue;
         }
         let key = key_of(&cli.path.join(&it.file))?;
-        let Some(mut module) = space.module_of(number, &key).map(<[_]>::to_vec) else {
+        if space.module_of(number, &key).is_none() {
             *left_out.entry("in a file that is no module's").or_default() += 1;
             continue;
-        };
-        let items = &space.parsed(&key).context("its files are read")?.unit.items;
-        module.extend(modules_at(items, it.at));
+        }
         let mut wanted = it.wanted.clone();
         let is_associated = it.kind.starts_with("Assoc");
         if is_associated {
@@ -289,7 +287,7 @@ fn main() -> Result<ExitCode> {
         let shadow = if it.is_import { ",\"shadow\":\"module\"" } else { "" };
         asks.push(format!(
             "{{\"do\":\"resolve\",\"at\":{},\"path\":{}{shadow}}}",
-            place_json(number, &module),
+            place_json(number, &space.place_of(number, &key, it.at)),
             quoted(&path)
         ));
         asked.push((it, key, wanted, is_associated, path));
@@ -324,7 +322,9 @@ fn main() -> Result<ExitCode> {
         }
         let text = std::fs::read_to_string(&it.file).unwrap_or_default();
         let items = &space.parsed(key).context("its files are read")?.unit.items;
-        let in_block = path_at(&text, items, it.at).is_some_and(|it| it.0.in_block);
+        let around = space.block_at(number, key, it.at).map(|it| it.1.block.span.start);
+        let block = path_at(&text, items, it.at).and_then(|it| it.0.block);
+        let in_block = block.is_some() && block != around;
         let cause = match (in_block, found.is_empty()) {
             (true, _) => "in a body that has items of its own",
             (false, true) => "nothing found",

@@ -12,11 +12,11 @@ use std::collections::{BTreeMap, HashMap, HashSet, VecDeque};
 use std::io::{BufReader, Read, Write};
 use std::panic::{catch_unwind, AssertUnwindSafe};
 use std::path::{Path, PathBuf};
-use std::sync::mpsc::{channel, Receiver};
+use std::sync::mpsc::{channel, Receiver, Sender};
 use std::sync::Arc;
 use std::time::{Duration, Instant};
 
-use anyhow::{Context as _, Result};
+use anyhow::{anyhow, Context as _, Result};
 use serde_json::{json, Value};
 
 use crate::package::{Crates, Wanted};
@@ -38,33 +38,46 @@ pub struct Settings {
     pub expansions: Option<PathBuf>,
 }
 
+/// What the server waits for.
+enum Event {
+    Read(message::Read),
+    /// What goes on while a package is opened, by the number of the opening.
+    Progress(u32, String),
+    Opened(u32, Box<Result<Opened>>),
+}
+
+/// The resolver's program, and the session with it.
+type Opened = (PathBuf, Workspace);
+
 /// Serves until the editor ends it or the input ends. Answers whether the editor had asked to shut down.
 pub fn serve(settings: Settings, input: impl Read + Send + 'static, output: impl Write) -> Result<bool> {
-    let (send, messages) = channel();
+    let (send, events) = channel();
+    let reads = send.clone();
     std::thread::spawn(move || {
         let mut input = BufReader::new(input);
         loop {
             let read = message::read(&mut input);
             let is_end = matches!(read, message::Read::End);
-            if send.send(read).is_err() || is_end {
+            if reads.send(Event::Read(read)).is_err() || is_end {
                 return;
             }
         }
     });
-    let mut server = Server::new(settings, output);
-    let mut queue = VecDeque::new();
+    let mut server = Server::new(settings, output, send, events);
     loop {
-        drain(&messages, &mut queue);
-        server.cancel(&mut queue)?;
-        if queue.is_empty() {
+        while let Ok(it) = server.events.try_recv() {
+            server.keep(it);
+        }
+        server.cancel()?;
+        if server.queue.is_empty() {
             server.guarded(|it| it.flush())?;
-            match messages.recv() {
-                Ok(it) => queue.push_back(it),
+            match server.events.recv() {
+                Ok(it) => server.keep(it),
                 Err(_) => break,
             }
             continue;
         }
-        match queue.pop_front() {
+        match server.queue.pop_front() {
             Some(message::Read::Message(it)) => {
                 if it["method"] == "exit" {
                     break;
@@ -78,10 +91,6 @@ pub fn serve(settings: Settings, input: impl Read + Send + 'static, output: impl
         }
     }
     Ok(server.phase == Phase::ShutDown)
-}
-
-fn drain(messages: &Receiver<message::Read>, queue: &mut VecDeque<message::Read>) {
-    queue.extend(messages.try_iter());
 }
 
 #[derive(Clone, Copy, PartialEq, Eq)]
@@ -106,6 +115,10 @@ struct Document {
 struct Server<W: Write> {
     settings: Settings,
     output: W,
+    events: Receiver<Event>,
+    send: Sender<Event>,
+    /// The messages that aren't done yet.
+    queue: VecDeque<message::Read>,
     phase: Phase,
     /// The folder as the editor names it, and where it is.
     folder: Option<(PathBuf, PathBuf)>,
@@ -125,6 +138,9 @@ struct Server<W: Write> {
     restarts: Vec<Instant>,
     has_nested_symbols: bool,
     registers_watchers: bool,
+    shows_progress: bool,
+    /// How often a package was opened.
+    openings: u32,
 }
 
 /// More often than this within a minute the program isn't started again.
@@ -136,10 +152,13 @@ const INFO: u32 = 3;
 const LOG: u32 = 4;
 
 impl<W: Write> Server<W> {
-    fn new(settings: Settings, output: W) -> Server<W> {
+    fn new(settings: Settings, output: W, send: Sender<Event>, events: Receiver<Event>) -> Server<W> {
         Server {
             settings,
             output,
+            events,
+            send,
+            queue: VecDeque::new(),
             phase: Phase::New,
             folder: None,
             space: None,
@@ -153,6 +172,15 @@ impl<W: Write> Server<W> {
             restarts: Vec::new(),
             has_nested_symbols: false,
             registers_watchers: false,
+            shows_progress: false,
+            openings: 0,
+        }
+    }
+
+    /// Keeps a message for later. What an opening tells that nobody waits for is passed over.
+    fn keep(&mut self, event: Event) {
+        if let Event::Read(it) = event {
+            self.queue.push_back(it);
         }
     }
 
@@ -169,7 +197,8 @@ impl<W: Write> Server<W> {
     }
 
     /// Answers the requests that are still queued and that were cancelled.
-    fn cancel(&mut self, queue: &mut VecDeque<message::Read>) -> Result<()> {
+    fn cancel(&mut self) -> Result<()> {
+        let queue = &mut self.queue;
         let mut cancelled = Vec::new();
         let mut at = 0;
         while at < queue.len() {
@@ -286,6 +315,7 @@ impl<W: Write> Server<W> {
         self.has_nested_symbols =
             can["textDocument"]["documentSymbol"]["hierarchicalDocumentSymbolSupport"] == json!(true);
         self.registers_watchers = can["workspace"]["didChangeWatchedFiles"]["dynamicRegistration"] == json!(true);
+        self.shows_progress = can["window"]["workDoneProgress"] == json!(true);
         json!({
             "capabilities": {
                 "positionEncoding": "utf-16",
@@ -425,13 +455,27 @@ impl<W: Write> Server<W> {
             return Ok(());
         };
         let start = Instant::now();
-        let opened = program::find(self.settings.program.as_deref()).and_then(|program| {
-            self.program = program;
-            let crates = Crates::read(&Wanted { path, ..self.settings.wanted.clone() })?;
-            Workspace::open(crates, &self.program, self.settings.expansions.as_deref(), |_, _, _| {})
+        self.openings += 1;
+        let number = self.openings;
+        let (send, settings) = (self.send.clone(), self.settings.clone());
+        std::thread::spawn(move || {
+            let told = send.clone();
+            let progress = move |what: &str, done: usize, of: usize| {
+                let _ = told.send(Event::Progress(number, progress_text(what, done, of)));
+            };
+            let work = || -> Result<Opened> {
+                let program = program::find(settings.program.as_deref())?;
+                let crates = Crates::read(&Wanted { path, ..settings.wanted.clone() })?;
+                let space = Workspace::open(crates, &program, settings.expansions.as_deref(), progress)?;
+                Ok((program, space))
+            };
+            let opened = catch_unwind(AssertUnwindSafe(work));
+            let opened =
+                opened.unwrap_or_else(|_| Err(anyhow!("something went wrong (see the server's standard error)")));
+            let _ = send.send(Event::Opened(number, Box::new(opened)));
         });
-        match opened {
-            Ok(space) => {
+        match self.wait_for(number)? {
+            Ok((program, space)) => {
                 let counts = space.counts();
                 let text = format!(
                     "Nogsimat: {} crates, {} files, {} nodes read in {} ms; {}",
@@ -441,7 +485,7 @@ impl<W: Write> Server<W> {
                     start.elapsed().as_millis(),
                     space.crates.std
                 );
-                self.space = Some(space);
+                (self.program, self.space) = (program, Some(space));
                 for it in self.documents.values_mut() {
                     (it.is_dirty, it.good) = (true, None);
                 }
@@ -449,6 +493,48 @@ impl<W: Write> Server<W> {
             }
             Err(error) => self.show(ERROR, &format!("Nogsimat: {error:#}. A save tries again")),
         }
+    }
+
+    /// Waits until the package is opened, and shows the editor how that goes. Messages that come meanwhile are kept;
+    /// cancelled requests are answered at once.
+    fn wait_for(&mut self, number: u32) -> Result<Result<Opened>> {
+        let token = format!("nogsimat/open/{number}");
+        let mut is_shown = false;
+        if self.shows_progress {
+            self.send(&json!({
+                "jsonrpc": "2.0", "id": token, "method": "window/workDoneProgress/create", "params": {"token": token},
+            }))?;
+        }
+        loop {
+            match self.events.recv().context("the server holds a sender itself")? {
+                Event::Read(message::Read::Message(it)) if it["method"].is_null() && it["id"] == token => {
+                    // Where the editor refuses, nothing may be shown by this token.
+                    is_shown = self.shows_progress && it.get("result").is_some();
+                    if is_shown {
+                        let value = json!({"kind": "begin", "title": "Nogsimat", "message": "reading the package"});
+                        self.progress(&token, value)?;
+                    }
+                }
+                Event::Read(it) => {
+                    self.queue.push_back(it);
+                    self.cancel()?;
+                }
+                Event::Progress(of, text) if is_shown && of == number => {
+                    self.progress(&token, json!({"kind": "report", "message": text}))?;
+                }
+                Event::Opened(of, it) if of == number => {
+                    if is_shown {
+                        self.progress(&token, json!({"kind": "end"}))?;
+                    }
+                    return Ok(*it);
+                }
+                Event::Progress(..) | Event::Opened(..) => {}
+            }
+        }
+    }
+
+    fn progress(&mut self, token: &str, value: Value) -> Result<()> {
+        self.send(&notification("$/progress", json!({"token": token, "value": value})))
     }
 
     /// Does the work with the session. Where the program died it is started again with the present files, and the work
@@ -709,6 +795,15 @@ impl<W: Write> Server<W> {
         let path = path_of_key(key);
         let moved = self.folder.as_ref().and_then(|(named, is)| Some(named.join(path.strip_prefix(is).ok()?)));
         uri_of_path(&moved.unwrap_or(path))
+    }
+}
+
+/// What goes on while a package is opened, in words.
+fn progress_text(what: &str, done: usize, of: usize) -> String {
+    match what {
+        "reading" => format!("reading, {done} files"),
+        "resolving" => format!("resolving, round {done}"),
+        _ => format!("{what} {done} of {of}"),
     }
 }
 

@@ -9,6 +9,7 @@ use cargo_nogsimat::package::{Crates, Wanted};
 use cargo_nogsimat::program::{self, VARIABLE};
 use cargo_nogsimat::report::{Answer, Context, Diagnostic, Report, Texts};
 use cargo_nogsimat::token::Position;
+use cargo_nogsimat::unit::Step;
 use cargo_nogsimat::workspace::Workspace;
 use clap::{Args, Parser, Subcommand};
 use indicatif::{ProgressBar, ProgressStyle};
@@ -312,7 +313,7 @@ fn resolve(path: &str, at: &str, options: &Options) -> Result<ExitCode> {
     let Some(krate) = found else {
         bail!("there is no crate `{first}` here; give a module as `crate::a` or `name_of_a_crate::a`");
     };
-    let module: Vec<String> = names.collect();
+    let module: Vec<Step> = names.map(Step::Module).collect();
     let context = if path.ends_with('!') { Context::Call } else { Context::Plain };
     say(&space.answer(krate as u32, &module, path.trim_end_matches('!'), context)?, options.json)
 }

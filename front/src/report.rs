@@ -8,10 +8,11 @@ use anyhow::{bail, Result};
 use serde::Serialize;
 use serde_json::Value;
 
+use crate::lsp::site::is_local;
 use crate::syntax::{plain, Item, ItemKind, UseTree};
 use crate::token::{on_a_thread, tokens_of, Delimiter, Kind, Position, Span, Token};
-use crate::unit::{quoted, Detail};
-use crate::workspace::{key_of, path_of_key, place_json, Located, NotRun, PastItem, Workspace};
+use crate::unit::{place_json, quoted, steps_of, Detail, Step};
+use crate::workspace::{key_of, path_of_key, Located, NotRun, PastItem, Workspace};
 
 /// A place in a file.
 #[derive(Clone, PartialEq, Eq, PartialOrd, Ord, Hash, Debug, Serialize)]
@@ -83,7 +84,7 @@ pub fn place_at(key: &str, span: Span) -> Place {
 
 /// The command that asks what a path names.
 pub fn question(krate: u32, module: &[String], path: &str) -> String {
-    format!("{{\"do\":\"resolve\",\"at\":{},\"path\":{}}}", place_json(krate, module), quoted(path))
+    format!("{{\"do\":\"resolve\",\"at\":{},\"path\":{}}}", place_json(krate, &steps_of(module)), quoted(path))
 }
 
 /// An import that isn't resolved, while it is looked into.
@@ -373,6 +374,9 @@ impl Workspace {
         if definition["kind"] == "CrateRoot" {
             return Some((krate, Vec::new()));
         }
+        if definition["kind"] == "BlockExpr" {
+            return self.block_names(&definition["in"][0].to_string());
+        }
         let located = self.locate(krate, definition)?;
         let mut module = located.module;
         module.push(located.node.name.to_string());
@@ -644,8 +648,8 @@ pub enum Context {
 pub struct FoundPath {
     pub path: String,
     pub context: Context,
-    /// Whether a body with items of its own stands around it.
-    pub in_block: bool,
+    /// Where the innermost block begins that has items of its own, if one stands around it.
+    pub block: Option<Position>,
 }
 
 /// What a path names in one namespace.
@@ -875,8 +879,9 @@ pub fn path_at(text: &str, items: &[Item], at: Position) -> Option<(FoundPath, V
             }
         }
         let body = lists.iter().position(|(list, number)| is_body(list, *number));
-        let in_block = body.is_some_and(|it| lists[it + 1..].iter().any(|it| has_items(it.0)));
-        Some(FoundPath { path, context, in_block })
+        let innermost = body.and_then(|it| (it + 1..lists.len()).rev().find(|it| has_items(lists[*it].0)));
+        let block = innermost.map(|it| lists[it - 1].0[lists[it - 1].1].span.start);
+        Some(FoundPath { path, context, block })
     })?;
     Some((found, modules))
 }
@@ -889,23 +894,49 @@ impl Workspace {
         let Some(krate) = self.crates_of(&key).first().copied() else {
             bail!("{} is no file of these crates", file.display());
         };
-        let parsed = self.parsed(&key).cloned();
-        let items = parsed.as_ref().map_or(&[][..], |it| &it.unit.items);
         let text = std::fs::read_to_string(&path)?;
+        let (mut place, items) = self.place_and_items(krate, &key, at);
         let Some((found, inner)) = path_at(&text, items, at) else {
             bail!("no path stands at {}:{}:{}", file.display(), at.line, at.column);
         };
-        let mut module = self.module_of(krate, &key).unwrap_or(&[]).to_vec();
-        module.extend(inner);
-        let mut answer = self.answer(krate, &module, &found.path, found.context)?;
-        if found.in_block {
+        let around = self.block_at(krate, &key, at).map(|it| it.1.block.span.start);
+        let blocks: Vec<Span> = self.blocks_of(krate, &key).iter().map(|it| it.1.block.span).collect();
+        place.extend(steps_of(&inner));
+        let is_local = on_a_thread(|| tokens_of(&text).is_ok_and(|it| is_local(&it, &blocks, at)));
+        if is_local {
+            let note = "a local name (a variable, a parameter, `Self` or an item of the body), a field or a method: \
+                        these aren't looked up";
+            let module = self.place_text(krate, &place);
+            let notes = vec![note.to_owned()];
+            return Ok(Answer { path: found.path, module, meanings: Vec::new(), stopped_at: None, notes });
+        }
+        let mut answer = self.answer(krate, &place, &found.path, found.context)?;
+        if found.block.is_some() && found.block != around {
             answer.notes.push("the body around it has items of its own, which aren't looked at".to_owned());
         }
         Ok(answer)
     }
 
+    /// The module of a file or the block in it that stands around a position, and its items.
+    fn place_and_items(&self, krate: u32, key: &str, at: Position) -> (Vec<Step>, &[Item]) {
+        match self.block_at(krate, key, at) {
+            Some((place, it)) => (place, &it.block.items),
+            None => {
+                let items = self.parsed(key).map_or(&[][..], |it| &it.unit.items);
+                (self.module_of(krate, key).map_or(Vec::new(), steps_of), items)
+            }
+        }
+    }
+
+    /// The place in which a path is looked up that stands at a position of a file.
+    pub fn place_of(&self, krate: u32, key: &str, at: Position) -> Vec<Step> {
+        let (mut place, items) = self.place_and_items(krate, key, at);
+        place.extend(steps_of(&modules_at(items, at)));
+        place
+    }
+
     /// The command that asks what a path names as it stands in a context.
-    pub fn question_in(&self, krate: u32, module: &[String], path: &str, context: Context) -> String {
+    pub fn question_in(&self, krate: u32, place: &[Step], path: &str, context: Context) -> String {
         let is_old = self.crates.all[krate as usize].edition == "2015" && context == Context::Import;
         let asked = match is_old {
             true => {
@@ -921,17 +952,17 @@ impl Workspace {
             Context::Import => ",\"shadow\":\"module\"",
             Context::Plain => "",
         };
-        let place = place_json(krate, module);
+        let place = place_json(krate, place);
         format!("{{\"do\":\"resolve\",\"at\":{place},\"path\":{}{more}}}", quoted(&asked))
     }
 
-    pub fn answer(&mut self, krate: u32, module: &[String], path: &str, context: Context) -> Result<Answer> {
-        let reply = self.ask(self.question_in(krate, module, path, context))?;
+    pub fn answer(&mut self, krate: u32, place: &[Step], path: &str, context: Context) -> Result<Answer> {
+        let reply = self.ask(self.question_in(krate, place, path, context))?;
         match reply["error"].as_str() {
             None => {}
             Some("unknown place") => bail!(
                 "there is no module {}; where a condition leaves it out, --test, --features or --cfg may set that",
-                self.module_text(krate, module)
+                self.place_text(krate, place)
             ),
             Some("command") => bail!("`{path}` is no path"),
             Some(it) => bail!("the program can't answer: {it}"),
@@ -953,11 +984,24 @@ impl Workspace {
         let stopped_at = stop.and_then(|it| names.get(it).cloned());
         Ok(Answer {
             path: path.to_owned(),
-            module: self.module_text(krate, module),
+            module: self.place_text(krate, place),
             meanings,
             stopped_at,
             notes: Vec::new(),
         })
+    }
+
+    /// A place in words; a block is named by the items in whose bodies it stands.
+    pub fn place_text(&self, krate: u32, place: &[Step]) -> String {
+        let block = place.iter().rposition(|it| matches!(it, Step::Block(_)));
+        let before = block.and_then(|it| self.block_names(&place_json(krate, &place[..=it])));
+        let mut names = before.map_or(Vec::new(), |it| it.1);
+        for it in &place[block.map_or(0, |it| it + 1)..] {
+            if let Step::Module(it) = it {
+                names.push(it.clone());
+            }
+        }
+        self.module_text(krate, &names)
     }
 
     pub fn module_text(&self, krate: u32, module: &[String]) -> String {
@@ -993,6 +1037,9 @@ impl Workspace {
             return ("crate".to_owned(), it.name.clone(), place);
         }
         let kind = definition["kind"].as_str().unwrap_or_default();
+        if let ("BlockExpr", Some((krate, names))) = (kind, self.module_of_definition(definition)) {
+            return ("block".to_owned(), self.module_text(krate, &names), None);
+        }
         let mut node = definition.clone();
         if kind == "ProcMacro" {
             node["kind"] = "Fn".into();
@@ -1024,8 +1071,11 @@ impl Workspace {
     }
 
     fn brought(&self, import: &Value) -> Option<(String, Place)> {
-        let key = import["in"][0].as_str()?;
-        let krate = self.crates_of(key).first().copied()?;
+        let source = &import["in"][0];
+        let krate = match source.as_str() {
+            Some(key) => self.crates_of(key).first().copied()?,
+            None => source[0].as_u64()? as u32,
+        };
         let what = import["kind"].as_str()?;
         let mut node = import.clone();
         node["kind"] = (if what == "extern crate" { "ExternCrate" } else { "Use" }).into();

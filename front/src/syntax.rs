@@ -1,8 +1,13 @@
-//! Items as name resolution needs them: read from token trees, with bodies and types passed over.
+//! Items as name resolution needs them: read from token trees, with types passed over, and of bodies all but the blocks
+//! that have items of their own.
 //!
 //! A file whose brackets match gives its items even where a body or a type in it isn't finished.
 
+mod blocks;
+
 use std::sync::Arc;
+
+pub use blocks::{statements_of, Block};
 
 use crate::token::{opened, Delimiter, Hash, Kind, Span, SyntaxError, Token, Tokens};
 
@@ -74,6 +79,8 @@ pub struct Call {
     pub input: Tokens,
     /// Of the path, the input, the names around it, and how many such calls come before.
     pub identity: Hash,
+    /// Whether it stands in a block, where it may expand to more than items.
+    pub is_statement: bool,
 }
 
 /// A `macro_rules!` or `macro`.
@@ -132,6 +139,8 @@ pub struct Item {
     pub text: Hash,
     /// From its first word to its last, without attributes.
     pub span: Span,
+    /// The blocks with items of their own in the body of a function, or in the value of a constant or a static.
+    pub blocks: Vec<Arc<Block>>,
 }
 
 /// A file or an expansion.
@@ -168,8 +177,28 @@ fn identify(items: &mut [Item], around: Hash, seen: &mut std::collections::HashM
                 identify(items, around.with(name), seen);
             }
             ItemKind::ExternBlock(items) => identify(items, around.with("extern"), seen),
+            ItemKind::Trait(items) | ItemKind::Impl { items, .. } => {
+                let around = around.with(item.name.as_ref().map_or(&item.text.text(), |it| &it.text));
+                for it in items {
+                    let name = it.name.as_ref().map_or("", |it| &it.text);
+                    identify_in(&mut it.blocks, around.with(name), seen);
+                }
+            }
             _ => {}
         }
+        if !item.blocks.is_empty() {
+            let name = item.name.as_ref().map_or("", |it| &it.text);
+            identify_in(&mut item.blocks, around.with(name), seen);
+        }
+    }
+}
+
+/// Gives the calls in blocks their identity.
+fn identify_in(blocks: &mut [Arc<Block>], around: Hash, seen: &mut std::collections::HashMap<Hash, u32>) {
+    for block in blocks {
+        let block = Arc::make_mut(block);
+        identify(&mut block.items, around.with("block"), seen);
+        identify_in(&mut block.blocks, around.with("block"), seen);
     }
 }
 
@@ -444,6 +473,7 @@ impl<'a> Cursor<'a> {
             input: None,
             text: Hash::default(),
             span: Span::default(),
+            blocks: Vec::new(),
         };
         if place == Where::Associated && self.sees_word("default") && !self.ahead(1).is_some_and(|it| it.is("!")) {
             self.at += 1;
@@ -464,6 +494,9 @@ impl<'a> Cursor<'a> {
         }
         if item.name.is_none() && !matches!(item.kind, ItemKind::Impl { .. } | ItemKind::ExternBlock(_)) {
             item.text = Hash::default().with_tokens(taken);
+        }
+        if matches!(item.kind, ItemKind::Function | ItemKind::Constant | ItemKind::Static) {
+            item.blocks = blocks::blocks_in(taken);
         }
         Ok(Some(item))
     }
@@ -689,7 +722,7 @@ impl<'a> Cursor<'a> {
         if *delimiter != Delimiter::Brace {
             self.takes(";");
         }
-        let call = Call { path, input: input.clone(), identity: Hash::default() };
+        let call = Call { path, input: input.clone(), identity: Hash::default(), is_statement: false };
         item.kind = ItemKind::Call(Arc::new(call));
         Ok(true)
     }

@@ -1,5 +1,7 @@
 //! From items to the unit that the program takes, with the ids of its nodes and where each of them stands.
 
+mod blocks;
+
 use std::collections::HashMap;
 use std::fmt::Write as _;
 use std::sync::Arc;
@@ -10,6 +12,8 @@ use crate::syntax::{
     Unit, UseTree, Visibility,
 };
 use crate::token::{opened, text_of, Delimiter, Hash, Kind, Span, Token};
+
+pub use blocks::{build_blocks, place_json, steps_of, BuiltBlock, Step};
 
 pub type Id = (u16, u16);
 

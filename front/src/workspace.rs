@@ -8,12 +8,16 @@ use std::sync::Arc;
 use anyhow::{bail, Context, Result};
 use serde_json::{json, Value};
 
+use crate::cfg::Options;
 use crate::macros::{Rules, MOST_TOKENS};
 use crate::package::Crates;
 use crate::program::{Program, MOST_BYTES};
-use crate::syntax::{unit_of, Attribute, Call, Item, ItemKind, MacroDefinition, Unit};
-use crate::token::{count, on_a_thread, tokens_of, Hash, Span, SyntaxError, Token};
-use crate::unit::{build, is_builtin, is_enabled, numbered, paths_of, quoted, text_attribute, Built, Detail, Node};
+use crate::syntax::{statements_of, unit_of, Attribute, Block, Call, Item, ItemKind, MacroDefinition, Unit};
+use crate::token::{count, on_a_thread, tokens_of, Hash, Position, Span, SyntaxError, Token};
+use crate::unit::{
+    build, build_blocks, is_builtin, is_enabled, numbered, paths_of, place_json, quoted, steps_of, text_attribute,
+    Built, BuiltBlock, Detail, Node, Step,
+};
 
 /// The text that the program knows a file by: its absolute path without the first `/`.
 pub type Key = Arc<str>;
@@ -31,6 +35,17 @@ struct Sent {
     /// What stands in place of its calls, in their order.
     replaced: Vec<Arc<Unit>>,
     built: Arc<Built>,
+    blocks: Vec<BuiltBlock>,
+}
+
+/// A block that was handed in.
+struct SentBlock {
+    krate: u32,
+    file: Key,
+    /// Among the blocks of the file.
+    number: usize,
+    built: Arc<Built>,
+    is_refused: bool,
 }
 
 /// A macro that a call reaches.
@@ -151,6 +166,10 @@ pub struct Workspace {
     elsewhere: HashMap<(String, &'static str, Hash), Arc<Unit>>,
     crates_line: String,
     refused: Vec<(Key, String)>,
+    /// Whether the program takes the blocks of bodies.
+    takes_blocks: bool,
+    /// The blocks that were handed in, by their places as JSON.
+    blocks: BTreeMap<String, SentBlock>,
     /// Of a crate, when it had been resolved so often, the imports that name what an item doesn't
     /// hold.
     pub(crate) past_items: HashMap<u32, (usize, Vec<PastItem>)>,
@@ -316,10 +335,11 @@ struct Walk<'a> {
     /// The paths that were looked up, by module.
     looked_up: HashSet<(Vec<String>, String)>,
     not_run: NotRun,
+    in_block: bool,
 }
 
 impl Walk<'_> {
-    fn options(&self) -> &crate::cfg::Options {
+    fn options(&self) -> &Options {
         &self.space.crates.all[self.krate as usize].options
     }
 
@@ -385,13 +405,25 @@ impl Walk<'_> {
     }
 
     fn items(&mut self, items: &[Item], folder: &Folder, place: &[String], key: &Key) {
+        // What expansions bring stands in no file, so nothing is asked in the bodies there.
+        let has_bodies = self.space.takes_blocks && self.chain.is_empty();
         for item in items {
             let is_of_interest = matches!(
                 item.kind,
                 ItemKind::Macro(_) | ItemKind::Module(_) | ItemKind::Call(_) | ItemKind::ExternBlock(_)
             );
-            if !is_of_interest || !is_enabled(&item.attributes, self.options()) {
+            let associated = match &item.kind {
+                ItemKind::Trait(inner) | ItemKind::Impl { items: inner, .. } if has_bodies => &inner[..],
+                _ => &[],
+            };
+            let has_blocks = has_bodies && !item.blocks.is_empty() || !associated.is_empty();
+            if !(is_of_interest || has_blocks) || !is_enabled(&item.attributes, self.options()) {
                 continue;
+            }
+            for it in std::iter::once(item).chain(associated).filter(|_| has_blocks) {
+                if is_enabled(&it.attributes, self.options()) {
+                    it.blocks.iter().for_each(|it| self.block(it, folder, place, key));
+                }
             }
             match &item.kind {
                 ItemKind::Macro(definition) if definition.is_rules => {
@@ -406,12 +438,15 @@ impl Walk<'_> {
                     let path = text_attribute(&item.attributes, "path", self.options());
                     let name = item.name_text().to_owned();
                     let mut inside = place.to_vec();
-                    inside.push(name.clone());
+                    if !self.in_block {
+                        inside.push(name.clone());
+                    }
                     match inner {
                         Some(items) => {
                             let folder = folder.inline(&name, path.as_deref());
                             self.module(item, |walk| walk.items(items, &folder, &inside, key), &[]);
                         }
+                        None if self.in_block => {}
                         None => {
                             let found = self.find(folder.candidates(&name, path.as_deref()));
                             if let Some((key, folder)) = found {
@@ -426,6 +461,22 @@ impl Walk<'_> {
                 _ => {}
             }
         }
+    }
+
+    /// The macros of a block, and what its calls expand to. They stand in textual scope to its end.
+    fn block(&mut self, block: &Block, folder: &Folder, place: &[String], key: &Key) {
+        let (mark, defined, in_block) = (self.log.len(), self.defined, self.in_block);
+        self.in_block = true;
+        let mut blocks = block.blocks.iter().peekable();
+        for item in &block.items {
+            while let Some(it) = blocks.next_if(|it| it.span.start < item.span.start) {
+                self.block(it, folder, place, key);
+            }
+            self.items(std::slice::from_ref(item), folder, place, key);
+        }
+        blocks.for_each(|it| self.block(it, folder, place, key));
+        self.go_back(mark);
+        (self.defined, self.in_block) = (defined, in_block);
     }
 
     /// The first of the files that is there, read.
@@ -458,7 +509,13 @@ impl Walk<'_> {
                 let question = (place.to_vec(), call.path.text.clone());
                 self.looked_up.insert(question.clone());
                 let known = self.space.states[self.krate as usize].reached.get(&question).cloned();
-                match known.unwrap_or_else(|| self.space.likely(self.krate, question)) {
+                let found = match known {
+                    Some(it) => it,
+                    // The program doesn't tell that a call of a block is absent.
+                    None if self.in_block => self.space.likely_or_asked(self.krate, question),
+                    None => self.space.likely(self.krate, question),
+                };
+                match found {
                     Some(it) => it,
                     None => return,
                 }
@@ -469,13 +526,15 @@ impl Walk<'_> {
         if is_outermost {
             (self.tokens, self.is_too_deep) = (0, false);
         }
-        let expansion = self.space.expand(self.krate, call, &target, folder, &mut self.not_run);
+        let mut in_body = NotRun::new();
+        let not_run = if self.in_block { &mut in_body } else { &mut self.not_run };
+        let expansion = self.space.expand(self.krate, call, &target, folder, not_run);
         let is_unknown = match target.how {
             How::Procedural => expansion.unit.items.is_empty(),
             How::Builtin => target.name == "include" && expansion.is_unknown,
             How::Rules(_) => false,
         };
-        if is_unknown {
+        if is_unknown && !self.in_block {
             self.open.insert(place.to_vec());
         }
         self.included.extend(expansion.file.clone());
@@ -486,7 +545,10 @@ impl Walk<'_> {
         self.units.insert(call.identity, expansion.unit.clone());
         let defined = self.defined;
         self.chain.push(call.identity);
-        if textual.is_some() {
+        if self.in_block {
+            // The program is told of the items alone.
+            self.replaced.insert(call.identity, expansion.unit.clone());
+        } else if textual.is_some() {
             self.calls.push((call.path.text.as_str().into(), target.text.clone(), self.chain.clone()));
         }
         self.items(&expansion.unit.items, folder, place, key);
@@ -550,6 +612,8 @@ impl Workspace {
             elsewhere: HashMap::new(),
             crates_line: String::new(),
             refused: Vec::new(),
+            takes_blocks: false,
+            blocks: BTreeMap::new(),
             past_items: HashMap::new(),
             progress: Box::new(progress),
         };
@@ -624,10 +688,14 @@ impl Workspace {
         let line = json!({"do": "crates", "crates": all}).to_string();
         self.crates_line = line.clone();
         let reply = self.program.ask(line)?;
-        match reply.get("error") {
-            None => Ok(()),
-            Some(it) => bail!("the program refuses the crates: {it}"),
+        if let Some(it) = reply.get("error") {
+            bail!("the program refuses the crates: {it}");
         }
+        // Of a crate that isn't there, so that nothing is set. Without blocks the command isn't known.
+        let place = place_json(self.crates.all.len() as u32, &[Step::Block((0, 0))]);
+        let reply = self.program.ask(set_block(&place, "{}"))?;
+        self.takes_blocks = reply["error"] != "command";
+        Ok(())
     }
 
     /// Walks the crates, hands in what changed, and goes on until nothing that a call expands to is absent.
@@ -641,12 +709,14 @@ impl Workspace {
             let due = std::mem::take(&mut walk);
             on_a_thread(|| due.iter().try_for_each(|it| self.walk(*it, &mut lines)))?;
             self.build_files(&mut lines)?;
+            self.set_blocks(&mut lines);
             self.hand_in(lines)?;
             let reply = self.program.ask("{\"do\":\"refresh\"}".to_owned())?;
             let Some(places) = reply["ok"].as_array() else {
                 bail!("the program can't resolve the crates: {}", reply["error"]);
             };
-            let due: Vec<u32> = places.iter().filter_map(|it| it[0].as_u64().map(|it| it as u32)).collect();
+            let crates = places.iter().filter(|it| it.as_array().is_some_and(|it| it.len() == 1));
+            let due: Vec<u32> = crates.filter_map(|it| it[0].as_u64().map(|it| it as u32)).collect();
             if due.is_empty() || round > 200 {
                 break;
             }
@@ -705,6 +775,7 @@ impl Workspace {
             included: HashSet::new(),
             looked_up: HashSet::new(),
             not_run: NotRun::new(),
+            in_block: false,
         };
         walk.file(&key, &Folder::of(&root, true), &[]);
         let calls = std::mem::take(&mut walk.calls);
@@ -771,18 +842,19 @@ impl Workspace {
                 }
             }
         }
+        let (all, parsed, replaced, takes_blocks) = (&self.crates.all, &self.parsed, &self.replaced, self.takes_blocks);
+        let both = |unit: &Unit, krate: u32| built_of(unit, &all[krate as usize].options, replaced, takes_blocks);
         let made = on_threads(&work, |(key, krate, _)| {
-            let parsed = &self.parsed[key];
-            let replaced = |call: &Call| self.replaced.get(&call.identity).cloned();
-            let mut built = build(&parsed.unit, &self.crates.all[*krate as usize].options, &replaced);
+            let parsed = &parsed[key];
+            let (mut built, blocks) = both(&parsed.unit, *krate);
             if parsed.error.is_some() {
                 built.json = "\"broken\"".to_owned();
             }
-            Arc::new(built)
+            (Arc::new(built), blocks)
         });
-        for ((key, _, replaced), built) in work.into_iter().zip(made) {
+        for ((key, _, replaced), (built, blocks)) in work.into_iter().zip(made) {
             let unit = self.parsed[&key].unit.clone();
-            let before = self.sent.insert(key.clone(), Sent { unit, replaced, built: built.clone() });
+            let before = self.sent.insert(key.clone(), Sent { unit, replaced, built: built.clone(), blocks });
             if before.is_some_and(|it| it.built.json == built.json) {
                 continue;
             }
@@ -791,12 +863,42 @@ impl Workspace {
         Ok(())
     }
 
-    /// Sends the commands. A refused file is handed in as broken, and told.
+    /// Adds the commands for the blocks that are others than those that were handed in.
+    fn set_blocks(&mut self, lines: &mut Vec<String>) {
+        if !self.takes_blocks {
+            return;
+        }
+        let mut now: BTreeMap<String, SentBlock> = BTreeMap::new();
+        for (krate, state) in self.states.iter().enumerate() {
+            let krate = krate as u32;
+            for (file, module) in &state.files {
+                let module = steps_of(module);
+                for (number, block) in self.sent.get(file).map_or(&[][..], |it| &it.blocks).iter().enumerate() {
+                    let place = place_json(krate, &[&module[..], &block.steps].concat());
+                    let (file, built) = (file.clone(), block.built.clone());
+                    now.entry(place).or_insert(SentBlock { krate, file, number, built, is_refused: false });
+                }
+            }
+        }
+        for place in self.blocks.keys().filter(|it| !now.contains_key(*it)) {
+            lines.push(format!("{{\"do\":\"remove block\",\"at\":{place}}}"));
+        }
+        for (place, block) in &mut now {
+            match self.blocks.get(place).filter(|it| it.built.json == block.built.json) {
+                Some(before) => block.is_refused = before.is_refused,
+                None => lines.push(set_block(place, &block.built.json)),
+            }
+        }
+        self.blocks = now;
+    }
+
+    /// Sends the commands. A refused file is handed in as broken, and told; a refused block counts as one that isn't there.
     fn hand_in(&mut self, lines: Vec<String>) -> Result<()> {
         let mut sent = Vec::with_capacity(lines.len());
         for line in lines {
             let key = line.strip_prefix("{\"do\":\"set file\",\"file\":").and_then(key_at_front);
             if line.len() > MOST_BYTES {
+                self.refuse_block(&line);
                 if let Some(key) = &key {
                     self.refuse(key, "its items take more than 16 MB as JSON; split the file");
                     sent.push((Some(key.clone()), set_file(key, "\"broken\"")));
@@ -816,10 +918,13 @@ impl Workspace {
             (self.progress)("handing in", replies.len(), total);
         }
         let mut again = Vec::new();
-        for ((key, _), reply) in sent.iter().zip(replies) {
+        for ((key, line), reply) in sent.iter().zip(replies) {
             let Some(error) = reply.get("error") else {
                 continue;
             };
+            if self.refuse_block(line) {
+                continue;
+            }
             let what = match (error.as_str(), reply.get("what").and_then(Value::as_str)) {
                 (Some("too large"), Some(what)) => format!("it passes the limit of the program for `{what}`"),
                 (Some(it), _) => format!("the program refuses it: {it}"),
@@ -837,6 +942,20 @@ impl Workspace {
             self.program.ask_all(&again)?;
         }
         Ok(())
+    }
+
+    /// Notes that a block isn't taken. False where the command sets or removes none.
+    fn refuse_block(&mut self, line: &str) -> bool {
+        let Some(rest) = line.strip_prefix(SET_BLOCK) else {
+            return line.starts_with("{\"do\":\"remove block\"");
+        };
+        let mut read = serde_json::Deserializer::from_str(rest).into_iter::<Value>();
+        if let Some(Ok(place)) = read.next() {
+            if let Some(it) = self.blocks.get_mut(&place.to_string()) {
+                it.is_refused = true;
+            }
+        }
+        true
     }
 
     fn refuse(&mut self, key: &Key, why: &str) {
@@ -860,6 +979,19 @@ impl Workspace {
         let found = states.filter_map(|it| it.exported.get(name)).next().cloned()?;
         self.states[krate as usize].reached.insert(question, Some(found.clone()));
         Some(found)
+    }
+
+    /// The macro that a path most likely reaches, else the one that the program says. Where that is none it is asked
+    /// again when the crate is resolved.
+    fn likely_or_asked(&mut self, krate: u32, question: (Vec<String>, String)) -> Option<Target> {
+        let likely = self.likely(krate, question.clone());
+        if likely.is_some() {
+            return likely;
+        }
+        let reply = self.program.ask(macro_question(krate, &question.0, &question.1, "bang"));
+        let found = reply.ok().and_then(|it| self.target(&it["ok"]["macros"]["def"]));
+        self.states[krate as usize].reached.insert(question, found.clone());
+        found
     }
 
     fn expansion_key(&self, caller: u32, call: &Call, target: &Target) -> String {
@@ -1047,11 +1179,20 @@ impl Workspace {
     /// Where a node stands that the program names by `id`, `in` and `kind`.
     pub fn locate(&self, krate: u32, item: &Value) -> Option<Located> {
         let source = item["in"].as_array()?;
-        let key = source.first()?.as_str()?;
+        let first = source.first()?;
+        let block = first.is_array().then(|| self.block(&first.to_string()));
+        let key = match block {
+            Some(it) => it?.0,
+            None => first.as_str()?,
+        };
         let (key, sent) = self.sent.get_key_value(key)?;
         let state = self.states.get(krate as usize)?;
         let mut module = state.places.get(key).map(|at| state.files[*at].1.clone()).unwrap_or_default();
         let mut built = sent.built.clone();
+        if let Some((_, it)) = block.flatten() {
+            module.extend(it.names.iter().cloned());
+            built = it.built.clone();
+        }
         let mut span = None;
         for call in &source[1..] {
             let node = built.find(call["kind"].as_str()?, id_of(call)?)?;
@@ -1072,6 +1213,40 @@ impl Workspace {
         let enum_name = node.of.map(|at| built.nodes[at].name.clone());
         let (file, is_expanded) = (key.clone(), span.is_some());
         Some(Located { file, span: span.unwrap_or(node.span), node, module, enum_name, is_expanded })
+    }
+
+    /// The file and the block of a place, as JSON.
+    fn block(&self, place: &str) -> Option<(&Key, &BuiltBlock)> {
+        let sent = self.blocks.get(place).filter(|it| !it.is_refused)?;
+        Some((&sent.file, self.sent.get(&sent.file)?.blocks.get(sent.number)?))
+    }
+
+    /// The crate of a block, and the names that lead to it.
+    pub fn block_names(&self, place: &str) -> Option<(u32, Vec<String>)> {
+        let (key, block) = self.block(place)?;
+        let krate = self.blocks.get(place)?.krate;
+        let module = self.module_of(krate, key)?;
+        Some((krate, module.iter().chain(&block.names).cloned().collect()))
+    }
+
+    /// The blocks of a file that the program has, each with its place in a crate.
+    pub fn blocks_of(&self, krate: u32, key: &str) -> Vec<(Vec<Step>, &BuiltBlock)> {
+        let (Some(module), Some(sent)) = (self.module_of(krate, key), self.sent.get(key)) else {
+            return Vec::new();
+        };
+        let module = steps_of(module);
+        let placed = sent.blocks.iter().map(|it| ([&module[..], &it.steps].concat(), it));
+        placed.filter(|it| self.block(&place_json(krate, &it.0)).is_some()).collect()
+    }
+
+    /// The innermost block around a position of a file that the program has, with its place in a crate.
+    pub fn block_at(&self, krate: u32, key: &str, at: Position) -> Option<(Vec<Step>, &BuiltBlock)> {
+        let is_around = |it: &BuiltBlock| it.block.span.start <= at && at <= it.block.span.end;
+        if !self.sent.get(key)?.blocks.iter().any(is_around) {
+            return None;
+        }
+        // Outer blocks come before those in them.
+        self.blocks_of(krate, key).into_iter().rev().find(|it| is_around(it.1))
     }
 
     /// Entries of a file of expansions: JSON lines with `macro`, `call` (`bang`, `derive` or `attr`), `input` and
@@ -1171,13 +1346,15 @@ impl Workspace {
         let Some(sent) = self.sent.get(key).filter(|_| self.refused.iter().all(|it| it.0 != *key)) else {
             return false;
         };
-        let replaced = |call: &Call| self.replaced.get(&call.identity).cloned();
-        let built = build(&parsed.unit, &self.crates.all[krate as usize].options, &replaced);
-        if built.json != sent.built.json {
+        let options = &self.crates.all[krate as usize].options;
+        let (built, blocks) = built_of(&parsed.unit, options, &self.replaced, self.takes_blocks);
+        let is_same = |it: (&BuiltBlock, &BuiltBlock)| it.0.is_same(it.1);
+        let are_same = blocks.len() == sent.blocks.len() && blocks.iter().zip(&sent.blocks).all(is_same);
+        if built.json != sent.built.json || !are_same {
             return false;
         }
         let (path, unit, text) = (parsed.path.clone(), parsed.unit.clone(), parsed.text);
-        let sent = Sent { unit: unit.clone(), replaced: sent.replaced.clone(), built: Arc::new(built) };
+        let sent = Sent { unit: unit.clone(), replaced: sent.replaced.clone(), built: Arc::new(built), blocks };
         self.sent.insert(key.clone(), sent);
         self.parsed.insert(key.clone(), Arc::new(Parsed { path, unit, error: None, text }));
         true
@@ -1214,6 +1391,8 @@ impl Workspace {
             let is_refused = self.refused.iter().any(|it| it.0 == *key);
             set_file(key, if is_refused { "\"broken\"" } else { &it.built.json })
         }));
+        let blocks = self.blocks.iter().filter(|it| !it.1.is_refused);
+        lines.extend(blocks.map(|(place, it)| set_block(place, &it.built.json)));
         lines.extend(self.expansions.values().map(|it| it.line.clone()));
         lines.push("{\"do\":\"refresh\"}".to_owned());
         lines
@@ -1305,12 +1484,30 @@ impl Workspace {
     }
 }
 
+/// What a file is to the program, and the blocks in it where the program takes them.
+fn built_of(
+    unit: &Unit,
+    options: &Options,
+    replaced: &HashMap<Hash, Arc<Unit>>,
+    takes_blocks: bool,
+) -> (Built, Vec<BuiltBlock>) {
+    let replaced = |call: &Call| replaced.get(&call.identity).cloned();
+    let blocks = if takes_blocks { build_blocks(unit, options, &replaced) } else { Vec::new() };
+    (build(unit, options, &replaced), blocks)
+}
+
 fn id_of(item: &Value) -> Option<(u16, u16)> {
     Some((item["id"][0].as_u64()? as u16, item["id"][1].as_u64()? as u16))
 }
 
 fn set_file(key: &str, unit: &str) -> String {
     format!("{{\"do\":\"set file\",\"file\":{},\"unit\":{unit}}}", quoted(key))
+}
+
+const SET_BLOCK: &str = "{\"do\":\"set block\",\"at\":";
+
+fn set_block(place: &str, unit: &str) -> String {
+    format!("{SET_BLOCK}{place},\"unit\":{unit}}}")
 }
 
 /// The file that a command sets, from behind `"file":`.
@@ -1326,15 +1523,9 @@ fn key_json(caller: u32, krate: u32, text: &str, call: &str, input: &str) -> Str
 fn macro_question(krate: u32, at: &[String], path: &str, sub: &str) -> String {
     format!(
         "{{\"do\":\"resolve\",\"at\":{},\"path\":{},\"shadow\":\"module\",\"sub\":\"{sub}\"}}",
-        place_json(krate, at),
+        place_json(krate, &steps_of(at)),
         quoted(path)
     )
-}
-
-/// A place as the program reads it.
-pub fn place_json(krate: u32, module: &[String]) -> String {
-    let names: String = module.iter().map(|it| format!(",{}", quoted(it))).collect();
-    format!("[{krate}{names}]")
 }
 
 /// What stands in place of calls among these items and in what they expand to.
@@ -1342,7 +1533,14 @@ fn replaced_in(items: &[Item], replaced: &HashMap<Hash, Arc<Unit>>, made: &mut V
     if replaced.is_empty() {
         return;
     }
+    fn in_blocks(blocks: &[Arc<Block>], replaced: &HashMap<Hash, Arc<Unit>>, made: &mut Vec<Arc<Unit>>) {
+        for it in blocks {
+            replaced_in(&it.items, replaced, made);
+            in_blocks(&it.blocks, replaced, made);
+        }
+    }
     for item in items {
+        in_blocks(&item.blocks, replaced, made);
         match &item.kind {
             ItemKind::Call(call) => {
                 if let Some(unit) = replaced.get(&call.identity) {
@@ -1351,13 +1549,16 @@ fn replaced_in(items: &[Item], replaced: &HashMap<Hash, Arc<Unit>>, made: &mut V
                 }
             }
             ItemKind::Module(Some(items)) | ItemKind::ExternBlock(items) => replaced_in(items, replaced, made),
+            ItemKind::Trait(items) | ItemKind::Impl { items, .. } => {
+                items.iter().for_each(|it| in_blocks(&it.blocks, replaced, made));
+            }
             _ => {}
         }
     }
 }
 
 /// The files of the modules that these items declare.
-fn declared(items: &[Item], options: &crate::cfg::Options, folder: &Folder, found: &mut Vec<(PathBuf, bool)>) {
+fn declared(items: &[Item], options: &Options, folder: &Folder, found: &mut Vec<(PathBuf, bool)>) {
     for item in items {
         let ItemKind::Module(inner) = &item.kind else {
             continue;
@@ -1383,7 +1584,10 @@ fn expand_rules(rules: &Result<Rules, String>, call: &Call, krate: u32) -> Expan
     };
     let tokens = made.as_ref().map_or(0, |it| count(it));
     let around = Hash::default().with("expansion").with(&call.identity.text());
-    let unit = made.and_then(|it: Vec<Token>| unit_of(&it, around).map_err(|it| it.message));
+    let unit = made.and_then(|it: Vec<Token>| match call.is_statement {
+        true => Ok(statements_of(&it, around)),
+        false => unit_of(&it, around).map_err(|it| it.message),
+    });
     match unit {
         Ok(unit) => Expansion::of(Arc::new(unit), None, tokens),
         Err(error) => Expansion::of(Arc::default(), Some(error), tokens),

@@ -128,6 +128,8 @@ fn where_tells_what_a_path_names() {
         ("field-type", "shop/src/model.rs:11:14"),
         ("macro", "shop/src/model.rs:5:2"),
         ("in-body", "shop/src/report.rs:15:22"),
+        ("local-variable", "shop/src/report.rs:16:68"),
+        ("method", "shop/src/report.rs:16:75"),
         ("inline-module", "shop/src/lib.rs:28:24"),
         ("left-out", "shop/src/lib.rs:38:20"),
         ("glob-in-list", "shop/src/main.rs:1:12"),

@@ -3,7 +3,7 @@
 //! The files `lsp/*.jsonl` hold what is sent and what comes back, one JSON object a line: `send` and `receive` with a
 //! message, `write` and `remove` with a file below the package's folder, `say` for the reader. After each run of lines
 //! that do something comes what the server sends until it has done all of that, or null where that is nothing. `DIR`
-//! stands for the package's folder.
+//! stands for the package's folder. `session.jsonl` is a recorded session of 200 edits, see [`a_recorded_session`].
 //! With the variable `UPDATE` set the files are written anew.
 
 use std::collections::BTreeMap;
@@ -100,6 +100,23 @@ impl Client {
             };
         }
         made
+    }
+
+    fn send(&mut self, it: &Value) {
+        let mut bytes = Vec::new();
+        message::write(&mut bytes, &self.placed(it)).unwrap();
+        self.write(&bytes);
+    }
+
+    /// What comes up to the first message for which this holds.
+    fn receive_to(&mut self, is_last: impl Fn(&Value) -> bool) -> Vec<Value> {
+        let mut made = Vec::new();
+        loop {
+            made.push(self.receive());
+            if made.last().is_some_and(&is_last) {
+                return made;
+            }
+        }
     }
 
     /// Sends these at once, and answers what comes until the server has done all of it.
@@ -248,6 +265,70 @@ fn text_outside_ascii() {
     assert_eq!(run("utf16"), 1);
 }
 
+/// While a package is opened the editor is shown how that goes, a cancelled request is answered, and the rest waits.
+#[cfg(unix)]
+#[test]
+fn progress_while_a_package_is_opened() {
+    let folder = market();
+    let (script, gate) = (folder.path().join("program"), folder.path().join("gate"));
+    // A program that begins when the gate is there.
+    let (wait, begin) = (format!("until [ -e {} ]; do sleep 0.01; done", gate.display()), program());
+    write_script(&script, &format!("#!/bin/sh\n{wait}\nexec {}\n", begin.display()));
+    let ask = |id: &str, method: &str| {
+        let params = json!({
+            "textDocument": {"uri": "file://DIR/shop/src/model.rs"}, "position": {"line": 10, "character": 14},
+        });
+        json!({"jsonrpc": "2.0", "id": id, "method": method, "params": params})
+    };
+    let kind = |it: &Value| it["params"]["value"]["kind"].as_str().map(str::to_owned);
+    for (takes, answer) in [
+        (true, json!({"result": null})),
+        (true, json!({"error": {"code": -32601, "message": "no"}})),
+        (false, Value::Null),
+    ] {
+        let _ = std::fs::remove_file(&gate);
+        let mut client = Client::start(folder.path(), &["--program", script.to_str().unwrap()]);
+        let params = json!({"rootUri": "file://DIR", "capabilities": {"window": {"workDoneProgress": takes}}});
+        client.request("initialize", params);
+        client.send(&message::notification("initialized", json!({})));
+        let is_shown = answer.get("result").is_some();
+        let mut token = Value::Null;
+        if takes {
+            let asked = client.receive();
+            assert_eq!(asked["method"], "window/workDoneProgress/create");
+            token = asked["params"]["token"].clone();
+            let mut answer = answer.clone();
+            answer["id"] = asked["id"].clone();
+            client.send(&answer);
+        }
+        client.send(&ask("one", "textDocument/definition"));
+        client.send(&ask("two", "textDocument/hover"));
+        client.send(&message::notification("$/cancelRequest", json!({"id": "one"})));
+        let before = client.receive_to(|it| it["id"] == "one");
+        assert_eq!(before.last().unwrap()["error"]["code"], message::REQUEST_CANCELLED);
+        std::fs::write(&gate, "").unwrap();
+        let after = client.receive_to(|it| it["id"] == "two");
+        assert!(after.last().unwrap()["result"]["contents"]["value"]
+            .as_str()
+            .unwrap()
+            .contains("`shop::price::Price`"));
+        let all: Vec<&Value> = before.iter().chain(&after).collect();
+        let told: Vec<String> = all.iter().filter_map(|it| kind(it)).collect();
+        if !is_shown {
+            assert!(told.is_empty(), "{told:?}");
+            continue;
+        }
+        assert!(all.iter().filter(|it| kind(it).is_some()).all(|it| it["params"]["token"] == token), "{all:?}");
+        assert_eq!(told.first().map(String::as_str), Some("begin"), "{told:?}");
+        assert_eq!(told.last().map(String::as_str), Some("end"), "{told:?}");
+        assert!(told.len() > 3 && told[1..told.len() - 1].iter().all(|it| it == "report"), "{told:?}");
+        // The end comes before what was found.
+        let place = |holds: &dyn Fn(&Value) -> bool| after.iter().position(holds).unwrap();
+        let end = place(&|it| kind(it).as_deref() == Some("end"));
+        assert!(end < place(&|it| it["method"] == "textDocument/publishDiagnostics"), "{after:?}");
+    }
+}
+
 /// Numbers that look random, the same each time.
 struct Dice(u64);
 
@@ -355,6 +436,233 @@ fn random_edits_beside_a_fresh_server() {
     assert!(named * 5 > compared, "{named} of {compared} places have a definition");
 }
 
+/// An edit as it is recorded: the file, what stands in a range of the editor, and what comes in its place.
+type Typed = (usize, std::ops::Range<usize>, String);
+
+/// Puts together what a person may type: items a few characters at a time, lines that are taken away, commented out or
+/// moved, a name that is changed everywhere in a file, and steps back.
+struct Typist {
+    texts: Vec<String>,
+    dice: Dice,
+    /// The edits, each with what stood there before.
+    made: Vec<(Typed, String)>,
+    /// Where among these what was done last begins.
+    last: usize,
+}
+
+impl Typist {
+    fn edit(&mut self, file: usize, range: std::ops::Range<usize>, new: &str) {
+        let old = self.texts[file][range.clone()].to_owned();
+        self.texts[file].replace_range(range.clone(), new);
+        self.made.push(((file, range, new.to_owned()), old));
+    }
+
+    /// Types a text, some characters at a time.
+    fn write(&mut self, file: usize, at: usize, text: &str) {
+        let characters: Vec<char> = text.chars().collect();
+        let (mut from, mut at) = (0, at);
+        while from < characters.len() {
+            let to = (from + 6 + self.dice.below(14)).min(characters.len());
+            let part: String = characters[from..to].iter().collect();
+            self.edit(file, at..at, &part);
+            (from, at) = (to, at + part.len());
+        }
+    }
+
+    fn line(&mut self, file: usize, wanted: impl Fn(&str) -> bool) -> Option<std::ops::Range<usize>> {
+        let text = &self.texts[file];
+        let mut start = 0;
+        let mut found = Vec::new();
+        for line in text.split_inclusive('\n') {
+            if wanted(line) {
+                found.push(start..start + line.len());
+            }
+            start += line.len();
+        }
+        let count = found.len();
+        (count > 0).then(|| found.swap_remove(self.dice.below(count)))
+    }
+
+    fn act(&mut self) {
+        let file = self.dice.below(FILES.len());
+        let number = self.made.len();
+        let name = format!("Added{}", self.dice.below(5));
+        let gap = |it: &str| it.trim().is_empty();
+        let gap = self.line(file, gap).map_or(self.texts[file].len(), |it| it.start);
+        match self.dice.below(11) {
+            0 => self.write(file, gap, &format!("pub struct {name}(u32); // typed\n")),
+            1 => self.write(file, gap, &format!("use crate::price::{name}; // typed\n")),
+            2 => self.write(file, gap, &format!("pub use shop::{{model::*, {name} as Other{number}}}; // typed é\n")),
+            3 => {
+                let body = "use self::inner::Kept; mod inner { pub struct Kept; } let _ = Kept; crate::price::tax";
+                self.write(file, gap, &format!("fn body_{number}() {{ {body}; }} // typed 🦀\n"));
+            }
+            4 => {
+                let items =
+                    format!("pub mod pasted{number} {{\n    pub use super::*;\n    pub enum {name} {{ A }}\n}}\n");
+                self.edit(file, gap..gap, &items);
+            }
+            5 | 6 => {
+                if let Some(it) = self.line(file, |it| it.contains("// typed")) {
+                    self.edit(file, it, "");
+                }
+            }
+            7 => {
+                if let Some(it) = self.line(file, |it| it.starts_with("use ") || it.starts_with("pub use ")) {
+                    self.edit(file, it.start..it.start, "// ");
+                }
+            }
+            8 => {
+                if let Some(it) = self.line(file, |it| it.starts_with("// use ") || it.starts_with("// pub use ")) {
+                    self.edit(file, it.start..it.start + 3, "");
+                }
+            }
+            9 => {
+                let (old, new) = if self.texts[file].contains("Price") { ("Price", "Cost") } else { ("Cost", "Price") };
+                while let Some(at) = self.texts[file].find(old) {
+                    self.edit(file, at..at + old.len(), new);
+                }
+            }
+            // Back to before what was done last.
+            _ => {
+                for at in (self.last..number).rev() {
+                    let ((file, range, new), old) = self.made[at].clone();
+                    self.edit(file, range.start..range.start + new.len(), &old);
+                }
+            }
+        }
+        self.last = number;
+    }
+
+    /// A place in a word of a text.
+    fn word(&mut self, file: usize) -> (u32, u32) {
+        let text = &self.texts[file];
+        let is_word = |it: char| it.is_alphanumeric() || it == '_';
+        let starts: Vec<usize> = text
+            .char_indices()
+            .filter(|it| is_word(it.1) && !text[..it.0].chars().next_back().is_some_and(is_word))
+            .map(|it| it.0)
+            .collect();
+        let at = if starts.is_empty() { 0 } else { starts[self.dice.below(starts.len())] };
+        Text::new(text.clone()).place(at)
+    }
+}
+
+/// The edits of a session, each with what is asked behind it.
+fn record(folder: &Path) -> Vec<Value> {
+    let texts: Vec<String> = FILES.iter().map(|it| std::fs::read_to_string(folder.join(it)).unwrap()).collect();
+    let mut typist = Typist { texts: texts.clone(), dice: Dice(46), made: Vec::new(), last: 0 };
+    while typist.made.len() < 200 {
+        typist.act();
+    }
+    let edits: Vec<Typed> = typist.made.drain(..200).map(|it| it.0).collect();
+    typist.texts = texts;
+    let mut made = Vec::new();
+    for (file, range, new) in edits {
+        let shown = Text::new(typist.texts[file].clone()).range_of(range.clone());
+        typist.texts[file].replace_range(range, &new);
+        let asked = if typist.dice.below(2) == 0 { file } else { typist.dice.below(FILES.len()) };
+        let (line, character) = typist.word(asked);
+        let method = ["definition", "definition", "hover", "hover", "references", "documentSymbol"];
+        made.push(json!({
+            "file": FILES[file], "range": shown, "text": new,
+            "ask": method[typist.dice.below(method.len())], "in": FILES[asked], "at": [line, character],
+        }));
+    }
+    made
+}
+
+/// The diagnostics that are published, each on a line.
+fn lines_of(published: &BTreeMap<String, Value>) -> Vec<String> {
+    let lists = published.iter().flat_map(|(uri, list)| list.as_array().unwrap().iter().map(move |it| (uri, it)));
+    let lines = lists.map(|(uri, it)| {
+        let (start, message) = (&it["range"]["start"], it["message"].as_str().unwrap().replace('\n', "; "));
+        format!("{}:{}:{}: {message}", uri.replace("file://DIR/", ""), start["line"], start["character"])
+    });
+    lines.collect()
+}
+
+/// A session of 200 edits is recorded in `lsp/session.jsonl`: a line has an edit, what is asked behind it, the answer,
+/// and which diagnostics came and went. Replayed it gives the same, and so does a fresh server at each point at which
+/// all files parse. Without the file a session is recorded from a seed.
+#[test]
+fn a_recorded_session() {
+    let folder = market();
+    let path = own("tests/lsp/session.jsonl");
+    let stored = std::fs::read_to_string(&path).ok();
+    let mut steps: Vec<Value> = match &stored {
+        Some(it) => it.lines().map(|it| serde_json::from_str(it).unwrap()).collect(),
+        None => record(folder.path()),
+    };
+    assert_eq!(steps.len(), 200);
+    let mut client = Client::start(folder.path(), &[]);
+    client.initialize();
+    let mut texts: Vec<Text> = Vec::new();
+    for name in FILES {
+        let text = std::fs::read_to_string(folder.path().join(name)).unwrap();
+        client.open(name, &text);
+        texts.push(Text::new(text));
+    }
+    let ask = |client: &mut Client, step: &Value| {
+        let place = (step["at"][0].as_u64().unwrap() as u32, step["at"][1].as_u64().unwrap() as u32);
+        let method = format!("textDocument/{}", step["ask"].as_str().unwrap());
+        client.at(&method, step["in"].as_str().unwrap(), place)
+    };
+    let mut points = Vec::new();
+    let mut before = lines_of(&client.published);
+    for (number, step) in steps.iter_mut().enumerate() {
+        let (file, new) = (step["file"].as_str().unwrap().to_owned(), step["text"].as_str().unwrap().to_owned());
+        let place = |it: &Value| (it["line"].as_u64().unwrap() as u32, it["character"].as_u64().unwrap() as u32);
+        let range = [place(&step["range"]["start"]), place(&step["range"]["end"])];
+        texts[FILES.iter().position(|it| *it == file).unwrap()].edit(Some(range), &new);
+        let document = json!({"uri": format!("file://DIR/{file}"), "version": number + 1});
+        let changes = json!([{"range": step["range"], "text": new}]);
+        client.notify("textDocument/didChange", json!({"textDocument": document, "contentChanges": changes}));
+        let answer = ask(&mut client, step);
+        let now = lines_of(&client.published);
+        let (came, went): (Vec<&String>, Vec<&String>) = (
+            now.iter().filter(|it| !before.contains(it)).collect(),
+            before.iter().filter(|it| !now.contains(it)).collect(),
+        );
+        let made = json!({"answer": answer, "came": came, "went": went});
+        for (name, made) in made.as_object().unwrap() {
+            let is_stored = stored.is_some() && std::env::var_os("UPDATE").is_none();
+            assert!(!is_stored || step[name] == *made, "{name} of line {}: {made}", number + 1);
+            step[name] = made.clone();
+        }
+        before = now;
+        let is_whole = before.iter().all(|it| !it.contains("until it is mended"));
+        if is_whole {
+            points.push((number, texts.clone(), client.published.clone(), step.clone()));
+        }
+    }
+    if stored.is_none() || std::env::var_os("UPDATE").is_some() {
+        let text: String = steps.iter().map(|it| format!("{it}\n")).collect();
+        std::fs::write(&path, text).unwrap();
+    }
+    assert!(points.len() >= 100, "all files parse at {} points", points.len());
+    assert!(steps.iter().filter(|it| !it["answer"].is_null()).count() >= 60);
+    let next = std::sync::atomic::AtomicUsize::new(0);
+    let compare = || {
+        let fresh_folder = market();
+        while let Some((number, texts, published, step)) =
+            points.get(next.fetch_add(1, std::sync::atomic::Ordering::Relaxed))
+        {
+            for (name, text) in FILES.iter().zip(texts) {
+                std::fs::write(fresh_folder.path().join(name), text.as_str()).unwrap();
+            }
+            let mut fresh = Client::start(fresh_folder.path(), &[]);
+            fresh.initialize();
+            assert_eq!(*published, fresh.published, "line {}", number + 1);
+            assert_eq!(step["answer"], ask(&mut fresh, step), "line {}", number + 1);
+        }
+    };
+    std::thread::scope(|scope| {
+        let threads: Vec<_> = (0..4).map(|_| scope.spawn(compare)).collect();
+        threads.into_iter().for_each(|it| it.join().unwrap());
+    });
+}
+
 /// Whatever is typed and asked, nothing panics.
 #[test]
 fn edits_without_sense() {
@@ -415,18 +723,21 @@ fn edits_without_sense() {
     assert_eq!(client.end(), 1);
 }
 
+#[cfg(unix)]
+fn write_script(path: &Path, text: &str) {
+    use std::os::unix::fs::PermissionsExt;
+    std::fs::write(path, text).unwrap();
+    std::fs::set_permissions(path, std::fs::Permissions::from_mode(0o755)).unwrap();
+}
+
 /// A program that is killed is started again with the texts as they are; one that dies each time isn't.
 #[cfg(unix)]
 #[test]
 fn a_program_that_dies() {
-    use std::os::unix::fs::PermissionsExt;
     let folder = market();
     let program = program();
     let script = folder.path().join("program");
-    let write = |text: &str| {
-        std::fs::write(&script, text).unwrap();
-        std::fs::set_permissions(&script, std::fs::Permissions::from_mode(0o755)).unwrap();
-    };
+    let write = |text: &str| write_script(&script, text);
     write(&format!("#!/bin/sh\necho $$ > {}/pid\nexec {}\n", folder.path().display(), program.display()));
     let mut client = Client::start(folder.path(), &["--program", script.to_str().unwrap()]);
     client.initialize();
@@ -468,30 +779,58 @@ fn a_program_that_dies() {
     assert_eq!(client.end(), 1);
 }
 
-/// An editor at work, where Neovim is installed.
-#[test]
-fn neovim() {
-    let folder = market();
+/// Runs a script in Neovim without a screen, behind a configuration. None where Neovim isn't installed.
+fn in_neovim(folder: &Path, configuration: &str, script: &str) -> Option<(String, String)> {
+    let server = Path::new(env!("CARGO_BIN_EXE_cargo-nogsimat"));
+    let path = std::env::var_os("PATH").unwrap_or_default();
+    let path =
+        std::env::join_paths(server.parent().map(Path::to_owned).into_iter().chain(std::env::split_paths(&path)));
     let made = Command::new("nvim")
-        .args(["--headless", "-u", "NONE", "-i", "NONE", "-n", "-c"])
-        .arg(format!("luafile {}", own("tests/lsp/neovim.lua").display()))
-        .env("SERVER", env!("CARGO_BIN_EXE_cargo-nogsimat"))
-        .env("FOLDER", folder.path().canonicalize().unwrap())
-        .env("XDG_STATE_HOME", folder.path().join("state"))
-        .env("XDG_CACHE_HOME", folder.path().join("cache"))
+        .args(["--headless", "-u", configuration, "-i", "NONE", "-n", "-c"])
+        .arg(format!("luafile {}", own(script).display()))
+        .env("SERVER", server)
+        .env("PATH", path.unwrap())
+        .env("FOLDER", folder.canonicalize().unwrap())
+        .env("XDG_STATE_HOME", folder.join("state"))
+        .env("XDG_CACHE_HOME", folder.join("cache"))
         .output();
     let Ok(made) = made else {
         eprintln!("nvim isn't installed: not tried");
+        return None;
+    };
+    let errors = String::from_utf8_lossy(&made.stderr).into_owned();
+    let told = String::from_utf8_lossy(&made.stdout).replace('\r', "");
+    assert!(made.status.success(), "{told}{errors}");
+    Some((told, errors))
+}
+
+/// An editor at work.
+#[test]
+fn neovim() {
+    let folder = market();
+    let Some((told, errors)) = in_neovim(folder.path(), "NONE", "tests/lsp/neovim.lua") else {
         return;
     };
-    let told = String::from_utf8_lossy(&made.stdout).replace('\r', "");
     let path = own("tests/lsp/neovim.txt");
     if std::env::var_os("UPDATE").is_some() {
         std::fs::write(&path, &*told).unwrap();
     }
-    let errors = String::from_utf8_lossy(&made.stderr);
     assert_eq!(told, std::fs::read_to_string(&path).unwrap_or_default(), "{errors}");
-    assert!(made.status.success(), "{errors}");
+}
+
+/// The lines of the readme for Neovim 0.7, which newer ones still take.
+#[test]
+fn neovim_with_the_configuration_of_the_readme() {
+    let readme = std::fs::read_to_string(own("README.md")).unwrap();
+    let (_, behind) = readme.split_once("```lua\n").unwrap();
+    let (lines, _) = behind.split_once("```").unwrap();
+    let folder = market();
+    let configuration = folder.path().join("init.lua");
+    std::fs::write(&configuration, lines).unwrap();
+    let made = in_neovim(folder.path(), configuration.to_str().unwrap(), "tests/lsp/configured.lua");
+    if let Some((told, errors)) = made {
+        assert_eq!(told, "client: nogsimat\ndiagnostics: 1\ngd: price.rs:2\n", "{errors}");
+    }
 }
 
 #[test]

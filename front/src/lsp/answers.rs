@@ -14,14 +14,20 @@ use super::{key_of_uri, place_of, Failure, Server};
 use crate::report::{place_at, Context, Meaning, Place};
 use crate::syntax::{plain, Item, ItemKind, Shape};
 use crate::token::{on_a_thread, tokens_of, Position, Span};
-use crate::unit::{Detail, Node};
+use crate::unit::{place_json, steps_of, Built, Detail, Node, Step};
 use crate::workspace::{Key, Workspace};
 
 /// What stands at a place.
 enum Found {
-    /// An item's own name.
-    Node(Box<Node>),
+    /// An item's own name, and the unit that it is an item of: a file or a block, as the program names it.
+    Node(Box<Node>, Value),
     Path(Site),
+}
+
+/// A crate, and where in it something is looked up.
+struct Scope {
+    krate: u32,
+    place: Vec<Step>,
 }
 
 /// The nodes whose names are written where they are declared.
@@ -29,9 +35,41 @@ fn is_declaration(node: &Node) -> bool {
     !matches!(node.kind, "Use" | "ExternCrate" | "ExternBlock" | "Impl" | "MacroCall")
 }
 
-/// The sites of a text whose items these are. None where the text has no tokens.
-fn sites_of(text: &str, items: &[Item], wanted: impl Fn(&str, Span) -> bool + Sync) -> Vec<Site> {
-    on_a_thread(|| tokens_of(text).map(|it| sites(&it, items, &wanted)).unwrap_or_default())
+/// The sites of a text whose blocks these are. None where the text has no tokens.
+fn sites_of(text: &str, blocks: &[Span], wanted: impl Fn(&str, Span) -> bool + Sync) -> Vec<Site> {
+    on_a_thread(|| tokens_of(text).map(|it| sites(&it, blocks, &wanted)).unwrap_or_default())
+}
+
+/// What a file or a block is to the program: its nodes, how the program names it, and its place.
+struct Source<'a> {
+    built: &'a Built,
+    name: Value,
+    place: Vec<Step>,
+}
+
+impl Source<'_> {
+    /// The place in which a node is declared.
+    fn place_of(&self, node: &Node) -> Vec<Step> {
+        let modules = node.modules.iter().map(|it| Step::Module(it.to_string()));
+        self.place.iter().cloned().chain(modules).collect()
+    }
+}
+
+/// A file in a crate, and its blocks.
+fn sources<'a>(space: &'a Workspace, krate: u32, key: &Key) -> Vec<Source<'a>> {
+    let module = space.module_of(krate, key).map_or(Vec::new(), steps_of);
+    let mut made = Vec::new();
+    made.extend(space.built(key).map(|it| Source { built: it, name: json!(&**key), place: module }));
+    for (place, it) in space.blocks_of(krate, key) {
+        let name = serde_json::from_str(&place_json(krate, &place)).unwrap_or_default();
+        made.push(Source { built: &it.built, name, place });
+    }
+    made
+}
+
+/// Where the blocks of a file stand that the program has.
+fn spans_of_blocks(space: &Workspace, krate: u32, key: &str) -> Vec<Span> {
+    space.blocks_of(krate, key).iter().map(|it| it.1.block.span).collect()
 }
 
 /// The meanings that fit how a path is written.
@@ -72,48 +110,51 @@ impl<W: Write> Server<W> {
         Ok((key, position))
     }
 
-    /// What stands at a position of a file, and the crate of the file with the module whose items it has.
-    fn found(&mut self, key: &Key, at: Position) -> Option<(Found, u32, Vec<String>)> {
+    /// What stands at a position of a file, and where it stands.
+    fn found(&mut self, key: &Key, at: Position) -> Option<(Found, Scope)> {
         let text = self.unit_text(key);
         let space = self.space.as_ref()?;
         let krate = space.crates_of(key).first().copied()?;
-        let mut module = space.module_of(krate, key)?.to_vec();
+        space.module_of(krate, key)?;
         let contains = |span: Span| span.start <= at && at <= span.end;
         let is_named = |node: &Node| {
             let (start, end) = (text.offset_of(node.span.start), text.offset_of(node.span.end));
             text.as_str().get(start..end).is_some_and(|it| plain(it) == &*node.name)
         };
-        let nodes = space.built(key).map_or(&[][..], |it| &it.nodes);
-        let own = nodes.iter().find(|it| is_declaration(it) && contains(it.span) && is_named(it));
-        if let Some(node) = own {
-            module.extend(node.modules.iter().map(|it| it.to_string()));
-            return Some((Found::Node(Box::new(node.clone())), krate, module));
+        let is_own = |it: &Node| is_declaration(it) && contains(it.span) && is_named(it);
+        for source in sources(space, krate, key) {
+            if let Some(node) = source.built.nodes.iter().find(|it| is_own(it)) {
+                let place = source.place_of(node);
+                return Some((Found::Node(Box::new(node.clone()), source.name), Scope { krate, place }));
+            }
         }
-        let items = &space.parsed(key)?.unit.items;
-        let site = sites_of(text.as_str(), items, |_, span| contains(span)).pop()?;
-        module.extend(site.modules.iter().cloned());
-        Some((Found::Path(site), krate, module))
+        space.parsed(key)?;
+        let blocks = spans_of_blocks(space, krate, key);
+        let site = sites_of(text.as_str(), &blocks, |_, span| contains(span)).pop()?;
+        let place = space.place_of(krate, key, site.span.start);
+        Some((Found::Path(site), Scope { krate, place }))
     }
 
     /// What the path of a site names.
-    fn meanings(&mut self, site: &Site, krate: u32, module: &[String]) -> Result<Vec<Meaning>> {
-        let answer = self.with_space(|it| it.answer(krate, module, &site.path, site.context))?;
+    fn meanings(&mut self, site: &Site, scope: &Scope) -> Result<Vec<Meaning>> {
+        let answer = self.with_space(|it| it.answer(scope.krate, &scope.place, &site.path, site.context))?;
         Ok(match answer {
             Some(it) if it.stopped_at.is_none() => fitting(site, it.meanings),
             _ => Vec::new(),
         })
     }
 
-    /// What an item is in its module.
-    fn own_meanings(&mut self, node: &Node, key: &Key, krate: u32, module: &[String]) -> Result<Vec<Meaning>> {
+    /// What an item is where it is declared.
+    fn own_meanings(&mut self, node: &Node, unit: &Value, key: &Key, scope: &Scope) -> Result<Vec<Meaning>> {
         let mut path = node.name.to_string();
-        let built = self.space.as_ref().and_then(|it| it.built(key));
-        if let Some(of) = node.of.and_then(|at| built.and_then(|it| it.nodes.get(at))) {
-            path = format!("{}::{path}", of.name);
+        if let (Some(at), Some(space)) = (node.of, &self.space) {
+            let source = sources(space, scope.krate, key).into_iter().find(|it| it.name == *unit);
+            let of = source.and_then(|it| it.built.nodes.get(at));
+            path = of.map_or(path.clone(), |it| format!("{}::{path}", it.name));
         }
         let place = place_at(key, node.span);
         let context = if node.kind == "MacroRules" { Context::Call } else { Context::Import };
-        let answer = self.with_space(|it| it.answer(krate, module, &path, context))?;
+        let answer = self.with_space(|it| it.answer(scope.krate, &scope.place, &path, context))?;
         let is_own = |it: &Meaning| it.place.as_ref() == Some(&place) && it.brought_by.is_none();
         Ok(answer.map_or(Vec::new(), |it| it.meanings.into_iter().filter(is_own).collect()))
     }
@@ -123,21 +164,21 @@ impl<W: Write> Server<W> {
             Ok(it) => it,
             Err(it) => return Ok(Err(it)),
         };
-        let Some((found, krate, module)) = self.found(&key, at) else {
+        let Some((found, scope)) = self.found(&key, at) else {
             return Ok(Ok(Value::Null));
         };
         let mut locations = Vec::new();
         match found {
-            Found::Node(node) => {
+            Found::Node(node, _) => {
                 let place = place_at(&key, node.span);
-                let mut path = module;
-                path.push(node.name.to_string());
-                let path = self.space.as_ref().map(|it| it.module_text(krate, &path)).unwrap_or_default();
+                let mut path = scope.place;
+                path.push(Step::Module(node.name.to_string()));
+                let path = self.space.as_ref().map(|it| it.place_text(scope.krate, &path)).unwrap_or_default();
                 let file = (node.kind == "Module").then(|| self.file_of(&path)).flatten();
                 locations.extend(file.or_else(|| self.location(&place)));
             }
             Found::Path(site) => {
-                for it in self.meanings(&site, krate, &module)? {
+                for it in self.meanings(&site, &scope)? {
                     let file = (it.what == "module").then(|| self.file_of(&it.path)).flatten();
                     let location = file.or_else(|| it.place.as_ref().and_then(|it| self.location(it)));
                     if let Some(it) = location.filter(|it| !locations.contains(it)) {
@@ -164,12 +205,12 @@ impl<W: Write> Server<W> {
             Ok(it) => it,
             Err(it) => return Ok(Err(it)),
         };
-        let Some((found, krate, module)) = self.found(&key, at) else {
+        let Some((found, scope)) = self.found(&key, at) else {
             return Ok(Ok(Value::Null));
         };
         let (meanings, span) = match &found {
-            Found::Node(node) => (self.own_meanings(node, &key, krate, &module)?, node.span),
-            Found::Path(site) => (self.meanings(site, krate, &module)?, site.span),
+            Found::Node(node, unit) => (self.own_meanings(node, unit, &key, &scope)?, node.span),
+            Found::Path(site) => (self.meanings(site, &scope)?, site.span),
         };
         if meanings.is_empty() {
             return Ok(Ok(Value::Null));
@@ -206,19 +247,21 @@ impl<W: Write> Server<W> {
             Ok(it) => it,
             Err(it) => return Ok(Err(it)),
         };
-        let Some((found, krate, module)) = self.found(&key, at) else {
+        let Some((found, scope)) = self.found(&key, at) else {
             return Ok(Ok(Value::Null));
         };
         let targets: Vec<Value> = match &found {
-            Found::Node(node) => {
+            Found::Node(node, unit) => {
                 let Some(space) = self.space.as_ref() else {
                     return Ok(Ok(Value::Null));
                 };
                 let mut all = Vec::new();
-                for krate in space.crates_of(&key) {
+                // A block is one of a crate, a file may be one of several.
+                let crates = if unit.is_string() { space.crates_of(&key) } else { vec![scope.krate] };
+                for krate in crates {
                     let of = |kind: &str| {
                         let id = [node.id.0, node.id.1];
-                        json!({"crate": krate, "id": id, "in": [&*key], "kind": kind})
+                        json!({"crate": krate, "id": id, "in": [unit], "kind": kind})
                     };
                     all.push(of(node.kind));
                     if node.kind == "Fn" && space.crates.all[krate as usize].is_proc_macro {
@@ -228,7 +271,8 @@ impl<W: Write> Server<W> {
                 all
             }
             Found::Path(site) => {
-                let ask = |it: &mut Workspace| it.ask(it.question_in(krate, &module, &site.path, site.context));
+                let ask =
+                    |it: &mut Workspace| it.ask(it.question_in(scope.krate, &scope.place, &site.path, site.context));
                 let reply = self.with_space(ask)?.unwrap_or_default();
                 let known = ["types", "values", "macros"].map(|it| reply["ok"][it]["def"].clone());
                 let mut all: Vec<Value> = known.into_iter().filter(|it| !it.is_null()).collect();
@@ -287,17 +331,15 @@ impl<W: Write> Server<W> {
             let Some(space) = self.space.as_ref() else {
                 continue;
             };
-            let (Some(parsed), true) = (space.parsed(key), names.iter().any(|it| text.as_str().contains(&**it))) else {
+            if !names.iter().any(|it| text.as_str().contains(&**it)) {
                 continue;
-            };
-            let found = sites_of(text.as_str(), &parsed.unit.items, |word, _| names.contains(word));
+            }
             for krate in space.crates_of(key) {
-                let module = space.module_of(krate, key).unwrap_or(&[]);
-                for site in &found {
-                    let mut module = module.to_vec();
-                    module.extend(site.modules.iter().cloned());
-                    questions.push(space.question_in(krate, &module, &site.path, site.context));
-                    whose.push((key.clone(), site.clone()));
+                let blocks = spans_of_blocks(space, krate, key);
+                for site in sites_of(text.as_str(), &blocks, |word, _| names.contains(word)) {
+                    let place = space.place_of(krate, key, site.span.start);
+                    questions.push(space.question_in(krate, &place, &site.path, site.context));
+                    whose.push((key.clone(), site));
                 }
             }
         }
@@ -323,16 +365,16 @@ impl<W: Write> Server<W> {
         let mut bound = Vec::new();
         for key in files {
             for krate in space.crates_of(key) {
-                for node in space.built(key).map_or(&[][..], |it| &it.nodes) {
+                let all = sources(space, krate, key);
+                for (source, node) in all.iter().flat_map(|it| it.built.nodes.iter().map(move |node| (it, node))) {
                     let Detail::Use(leaves) = &node.detail else {
                         continue;
                     };
-                    let mut module = space.module_of(krate, key).unwrap_or(&[]).to_vec();
-                    module.extend(node.modules.iter().map(|it| it.to_string()));
+                    let place = source.place_of(node);
                     for leaf in leaves {
                         let last = leaf.path.rsplit("::").next().unwrap_or_default();
                         if let Some(name) = leaf.binds.as_ref().filter(|it| names.contains(last) && ***it != *last) {
-                            questions.push(space.question_in(krate, &module, &leaf.path, Context::Import));
+                            questions.push(space.question_in(krate, &place, &leaf.path, Context::Import));
                             bound.push(name.to_string());
                         }
                     }

@@ -1,11 +1,11 @@
 //! Paths as they stand in a text, and which of them begin with a name of a body: a local variable, a generic
-//! parameter, an item within the body. Those are no names of modules, and nothing is asked for them.
+//! parameter, an item of a block that the program doesn't have. Nothing is asked for them.
 
 use std::collections::HashSet;
 
-use crate::report::{around, is_body, path_before, Context};
+use crate::report::{is_body, path_before, Context};
 use crate::syntax::{angle, plain, Item, ItemKind};
-use crate::token::{Delimiter, Kind, Span, Token};
+use crate::token::{Delimiter, Kind, Position, Span, Token};
 use crate::unit::is_builtin;
 
 /// A word that stands in a path, and the path up to it.
@@ -13,8 +13,6 @@ use crate::unit::is_builtin;
 pub struct Site {
     pub path: String,
     pub context: Context,
-    /// The names of the inline modules around it.
-    pub modules: Vec<String>,
     pub span: Span,
     /// Whether the path goes on behind the word.
     pub goes_on: bool,
@@ -29,18 +27,36 @@ const KEYWORDS: [&str; 37] = [
     "struct", "trait", "true", "type", "unsafe", "use", "where", "while", "yield",
 ];
 
-/// The words of a text that are wanted and stand in a path. `items` are those of the text.
-pub fn sites(tokens: &[Token], items: &[Item], wanted: &dyn Fn(&str, Span) -> bool) -> Vec<Site> {
-    let mut finder = Finder { items, wanted, levels: Vec::new(), made: Vec::new() };
+/// The words of a text that are wanted and stand in a path. In `blocks` the program knows the items.
+pub fn sites(tokens: &[Token], blocks: &[Span], wanted: &dyn Fn(&str, Span) -> bool) -> Vec<Site> {
+    let mut finder = Finder { blocks, wanted, levels: Vec::new(), made: Vec::new(), has_local: false };
     finder.list(tokens, Some(Context::Plain));
     finder.made
 }
 
+/// Whether a word of the text is none that modules or blocks know, see [`Word::Local`].
+pub fn is_local(tokens: &[Token], blocks: &[Span], at: Position) -> bool {
+    let wanted = |_: &str, span: Span| span.start <= at && at <= span.end;
+    let mut finder = Finder { blocks, wanted: &wanted, levels: Vec::new(), made: Vec::new(), has_local: false };
+    finder.list(tokens, Some(Context::Plain));
+    finder.has_local
+}
+
 struct Finder<'a, 'w> {
-    items: &'a [Item],
+    blocks: &'w [Span],
     wanted: &'w dyn Fn(&str, Span) -> bool,
     levels: Vec<Level<'a>>,
     made: Vec<Site>,
+    has_local: bool,
+}
+
+/// What a word is that may stand in a path.
+enum Word {
+    Site(Site),
+    /// A local variable, a parameter, a field, a method, or a path that begins with a generic parameter, `Self` or an
+    /// item of a block that the program doesn't have.
+    Local,
+    None,
 }
 
 impl<'a> Finder<'a, '_> {
@@ -50,8 +66,11 @@ impl<'a> Finder<'a, '_> {
             match &token.kind {
                 Kind::Ident(word) if (self.wanted)(plain(word), token.span) => {
                     self.levels.push((list, number));
-                    let site = context.and_then(|it| self.site(it));
-                    self.made.extend(site);
+                    match context.map_or(Word::None, |it| self.word(it)) {
+                        Word::Site(it) => self.made.push(it),
+                        Word::Local => self.has_local = true,
+                        Word::None => {}
+                    }
                     self.levels.pop();
                 }
                 Kind::Group(delimiter, inner) => {
@@ -65,28 +84,40 @@ impl<'a> Finder<'a, '_> {
         }
     }
 
-    fn site(&self, context: Context) -> Option<Site> {
-        let (list, number) = *self.levels.last()?;
-        let word = list[number].word()?;
+    fn word(&self, context: Context) -> Word {
+        let Some((list, number)) = self.levels.last().copied() else {
+            return Word::None;
+        };
+        let Some(word) = list[number].word() else {
+            return Word::None;
+        };
         let before = |by: usize| number.checked_sub(by).map(|it| &list[it]);
         let next = list.get(number + 1);
         let is_in_macro = self.is_in_macro();
-        if KEYWORDS.contains(&word) || before(1).is_some_and(|it| it.is(".") || it.is("$") && word != "crate") {
-            return None;
+        if word == "Self" || before(1).is_some_and(|it| it.is(".")) {
+            return Word::Local;
         }
-        if before(1).is_some_and(|it| it.is("#")) || is_declared(list, number) {
-            return None;
+        if KEYWORDS.contains(&word) || before(1).is_some_and(|it| it.is("#") || it.is("$") && word != "crate") {
+            return Word::None;
+        }
+        if is_declared(list, number) {
+            let is_bound = ["let", "ref", "mut"].iter().any(|it| before(1).is_some_and(|token| token.is_word(it)));
+            return if is_bound { Word::Local } else { Word::None };
         }
         let goes_on = next.is_some_and(|it| it.is("::"));
         let in_use = self.levels.iter().position(|(list, number)| is_in_use(list, *number));
         if in_use.is_none() && self.is_label(list, number) {
-            return None;
+            return Word::Local;
         }
         let is_alias = in_use.is_some() && before(1).is_some_and(|it| it.is_word("as"));
-        let mut path = if is_alias { plain(word).to_owned() } else { path_before(list, number)? };
-        if let (Some(at), false) = (in_use, is_alias) {
-            path = self.in_use_tree(at, path)?;
-        }
+        let path = match in_use {
+            _ if is_alias => Some(plain(word).to_owned()),
+            Some(at) => path_before(list, number).and_then(|it| self.in_use_tree(at, it)),
+            None => path_before(list, number),
+        };
+        let Some(path) = path else {
+            return Word::None;
+        };
         let is_call = next.is_some_and(|it| it.is("!"))
             && list.get(number + 2).is_some_and(|it| matches!(it.kind, Kind::Group(..)) || it.word().is_some());
         let context = match (is_call, in_use, context) {
@@ -97,28 +128,29 @@ impl<'a> Finder<'a, '_> {
         };
         let first = path.split("::").next().unwrap_or_default();
         let is_single = !path.contains("::") && !goes_on;
-        if first == "Self" || (is_in_macro && first != "crate") {
-            return None;
+        if is_in_macro && first != "crate" {
+            return Word::None;
+        }
+        if first == "Self" {
+            return Word::Local;
         }
         let in_brackets =
             self.levels.iter().rev().nth(1).is_some_and(|it| it.0[it.1].group(Delimiter::Bracket).is_some());
         if context == Context::Attribute && is_single && is_builtin(first) && in_brackets {
-            return None;
+            return Word::None;
         }
         let locals = self.locals();
         if locals.types.contains(first) || (is_single && context == Context::Plain && locals.values.contains(first)) {
-            return None;
+            return Word::Local;
         }
         if is_single && first == "self" && in_use.is_none() && locals.is_in_body {
-            return None;
+            return Word::Local;
         }
         let hides = locals.has_glob && !matches!(first, "crate" | "self" | "super" | "");
         if hides && !is_alias {
-            return None;
+            return Word::None;
         }
-        let mut modules = Vec::new();
-        around(self.items, list[number].span.start, &mut modules);
-        Some(Site { path, context, modules, span: list[number].span, goes_on })
+        Word::Site(Site { path, context, span: list[number].span, goes_on })
     }
 
     fn is_in_macro(&self) -> bool {
@@ -174,13 +206,17 @@ impl<'a> Finder<'a, '_> {
     /// What the bodies and the items around the word name.
     fn locals(&self) -> Locals {
         let mut locals = Locals::default();
+        let mut is_known = false;
         for (list, number) in &self.levels {
             generics(list, *number, &mut locals);
             if locals.is_in_body {
-                block_items(list, &mut locals);
+                if !is_known {
+                    block_items(list, &mut locals);
+                }
                 bindings(list, *number, &mut locals);
             }
             locals.is_in_body |= is_body(list, *number);
+            is_known = self.blocks.contains(&list[*number].span);
         }
         locals
     }
@@ -481,8 +517,17 @@ mod tests {
     use super::*;
     use crate::token::{on_a_thread, tokens_of, Hash};
 
+    /// Where the blocks of these items stand.
+    fn spans_of(items: &[Item]) -> Vec<Span> {
+        fn of(blocks: &[std::sync::Arc<crate::syntax::Block>]) -> Vec<Span> {
+            let inner = |it: &crate::syntax::Block| [vec![it.span], spans_of(&it.items), of(&it.blocks)].concat();
+            blocks.iter().flat_map(|it| inner(it)).collect()
+        }
+        items.iter().flat_map(|it| of(&it.blocks)).collect()
+    }
+
     /// What stands at each `«word»` of a text: its path, or nothing.
-    fn found(text: &str) -> Vec<Option<String>> {
+    fn found(text: &str, is_known: bool) -> Vec<Option<String>> {
         let mut plain_text = String::new();
         let mut marks = Vec::new();
         for (at, part) in text.split('«').enumerate() {
@@ -495,15 +540,21 @@ mod tests {
         }
         let tokens = on_a_thread(|| tokens_of(&plain_text)).unwrap();
         let unit = crate::syntax::unit_of(&tokens, Hash::default()).unwrap();
+        let blocks = if is_known { spans_of(&unit.items) } else { Vec::new() };
         let at = |mark| {
-            let made = sites(&tokens, &unit.items, &|_, span: Span| span.start == mark);
+            let made = sites(&tokens, &blocks, &|_, span: Span| span.start == mark);
             made.into_iter().next().map(|it| it.path)
         };
         marks.into_iter().map(at).collect()
     }
 
     fn all(text: &str, wanted: &[&str]) {
-        let found = found(text);
+        check(text, false, wanted);
+    }
+
+    /// With the blocks that the program knows, or without.
+    fn check(text: &str, is_known: bool, wanted: &[&str]) {
+        let found = found(text, is_known);
         let found: Vec<&str> = found.iter().map(|it| it.as_deref().unwrap_or("-")).collect();
         assert_eq!(found, wanted, "{text}");
     }
@@ -571,6 +622,29 @@ mod tests {
             &["a::b::c", "-", "-", "-", "S"],
         );
         all("fn f() { use a::*; «b»; crate::«c»; }", &["-", "crate::c"]);
+    }
+
+    #[test]
+    fn items_of_blocks_that_the_program_knows() {
+        let text = "fn f() { fn g() {} «g»(); use a::{b, c as d}; «b»::x; «d»::«y»; use h::*; «i»; crate::«j»; }";
+        check(text, false, &["-", "-", "-", "-", "-", "crate::j"]);
+        check(text, true, &["g", "b", "d", "d::y", "i", "crate::j"]);
+        // Local variables hide items all the same, and blocks in what a macro is called with aren't known.
+        check("fn f(x: u8) { struct S; let g = 1; «x»; «g»; «S»; { let S = 1; S; } }", true, &["-", "-", "S"]);
+        check("fn f() { m! { { struct S; «S»; } } { struct T; «T»; { «T» } } }", true, &["-", "T", "T"]);
+        check("fn f<T>() { struct S; «T»; «S»; fn g<S>() { «S» } }", true, &["-", "S", "-"]);
+    }
+
+    #[test]
+    fn words_that_are_local() {
+        let text = "fn f<T>(x: u8) { let y = x; S { z: y.v() }; Self::w; T::a; m::x; b!(y); use c::x; }";
+        let tokens = on_a_thread(|| tokens_of(text)).unwrap();
+        let local: Vec<&str> = text
+            .match_indices(|it: char| it.is_alphanumeric())
+            .filter(|it| is_local(&tokens, &[], Position { line: 1, column: it.0 as u32 + 1 }))
+            .map(|it| it.1)
+            .collect();
+        assert_eq!(local.concat(), "TxyxzyvSelfwTay");
     }
 
     #[test]
