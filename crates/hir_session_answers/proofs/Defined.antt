@@ -1,8 +1,7 @@
 -- Each module of what is kept is written in a file that has a number, or in what a call there expands to.
 use Rattle.std.specs.Prelude.{is_some, slice_get, map}
-use Rattle.std.proofs.Common.{◌≡◌, ◌≢◌, ◌∙◌, ap, sym, subst, refl, ℕ, zero, suc, ◌+◌, ◌<◌, ◌≤◌, ◌++◌, Bool, true, List, [], ◌∷◌, length, IsSome, Option, None, Some, option_map, arith, Contains}
+use Rattle.std.proofs.Common.{◌≡◌, ◌≢◌, ◌∙◌, ap, sym, subst, refl, ℕ, zero, suc, ◌<◌, ◌≤◌, ◌++◌, true, List, [], ◌∷◌, length, IsSome, Option, None, Some, option_map, arith, Contains}
 use Rattle.std.specs.Option.{option_and_then}
-use Rattle.hir_base.specs.Place.{PlaceValue}
 use Rattle.hir_base.specs.declared.ast_id.AstId.{AstId}
 use Rattle.hir_base.specs.declared.ast_id.BlockId.{BlockId}
 use Rattle.hir_base.specs.declared.ast_id.EditionedFileId.{EditionedFileId}
@@ -30,7 +29,6 @@ use Rattle.hir_collector_rules.specs.Calls.{AreCallsPlaced, Expanding, IsMeantAt
 use Rattle.hir_collector_rules.specs.Causes.{HasCause, IsOfCall, IsPassed}
 use Rattle.hir_collector_rules.specs.Causes.HasCause.{root_tree, of_holder, declared_enum, candidate, of_call, dependency}
 use Rattle.hir_collector_rules.specs.Derivation.{CollectedValue, Ends}
-use Rattle.hir_collector_rules.specs.Keys.{map_key}
 use Rattle.hir_collector_rules.specs.ModuleFiles.{file_key}
 use Rattle.hir_collector_rules.specs.Start.{Beginning, held_keys, holder_keys, holders_by, origin_of, read_by, root_site, tree_key}
 use Rattle.hir_collector_rules.specs.State.{State}
@@ -40,13 +38,12 @@ use Rattle.hir_collector_rules.specs.declared.macro_directive.MacroDirective.{Ma
 use Rattle.hir_collector_rules.specs.declared.macro_directive.MacroDirectiveKind.{MacroDirectiveKind}
 use Rattle.hir_collector_rules.specs.declared.macro_directive.MacroDirectiveKind.TheVariants.{Attr, Derive, FnLike}
 use Rattle.hir_collector_rules.specs.declared.site.Site.{Site}
-use Rattle.hir_collector_rules.specs.declared.source_database.Key.{Key}
 use Rattle.hir_collector_rules.specs.declared.source_database.Key.TheVariants as keys
 use Rattle.hir_collector_rules.specs.declared.start.Start.{Start}
 use Rattle.hir_collector_rules.specs.declared.start.Start.TheVariants as starts
 use Rattle.hir_collector_rules.proofs.Tried.{call_stays}
-use Rattle.hir_def_collector_laws.specs.Calls.{IsCall, IsCallBy}
-use Rattle.hir_def_collector_laws.specs.Modules.{HasItems, ListsItsItems}
+use Rattle.hir_def_collector_laws.specs.Calls.{IsCallBy}
+use Rattle.hir_def_collector_laws.specs.Modules.{HasItems}
 use Rattle.hir_def_collector_laws.specs.Modules.HasItems.{of_root, of_file, inside_item, too_deep, without_file}
 use Rattle.hir_def_collector_laws.specs.Written.{key_of}
 use Rattle.hir_def_collector_laws.proofs.Imports.{calls_are_written}

@@ -1,6 +1,6 @@
 -- What is behind a place stays, or an edit altered a key that was asked for there.
-use Rattle.std.specs.Prelude.{is_none, is_some, if◌then◌else◌}
-use Rattle.std.proofs.Common.{◌≡◌, ◌⊎◌, inl, inr, ℕ, nat_lt, Bool, true, false, cond, List, [], ◌∷◌, ◌++◌, length, Option, None, Some, Result, Ok, Err, option_map, refl, sym, subst, ap, ◌∙◌, Contains}
+use Rattle.std.specs.Prelude.{is_none, if◌then◌else◌}
+use Rattle.std.proofs.Common.{◌≡◌, ◌⊎◌, inl, inr, ℕ, nat_lt, Bool, true, false, cond, List, [], ◌∷◌, ◌++◌, length, Option, None, Some, Result, Ok, option_map, refl, sym, subst, ap, ◌∙◌, Contains}
 use Rattle.std.specs.Option.{option_and_then}
 use Rattle.hir_base.specs.ModPath.{Path}
 use Rattle.hir_base.specs.Place.{PlaceValue}
@@ -19,24 +19,21 @@ use Rattle.hir_def_map.specs.Inner.PartLaws.{among_agrees}
 use Rattle.hir_def_map_rules.specs.Closed.{PathsLeadToWhatIsThere}
 use Rattle.hir_def_map_rules.specs.Inner.OverlayLaws.{exact_map}
 use Rattle.hir_def_map_rules.specs.Sources.{PathsAnswerFromSources}
-use Rattle.hir_def_map_rules.specs.Overlay.{Maps, Placed, holders_of, overlay, no_maps}
+use Rattle.hir_def_map_rules.specs.Overlay.{Maps, holders_of, overlay, no_maps}
 use Rattle.hir_def_map_rules.specs.State.{child_at, crate_map, root_of}
 use Rattle.hir_collector_rules.specs.Workspace.{Workspace}
 use Rattle.hir_collector_rules.specs.Keys.{look}
 use Rattle.hir_def_collector_laws.specs.Sources.{RunsBindFromSources}
 use Rattle.hir_collector_rules.specs.declared.source_database.Key.{Key}
-use Rattle.hir_crate_graph.specs.CrateSet.{has_crate}
 use Rattle.hir_wire.specs.Edits.{EditValue}
 use Rattle.hir_wire.specs.declared.answer.Answer.{Answer}
 use Rattle.hir_wire.specs.declared.command.Shadow.{Shadow}
 use Rattle.hir_wire.specs.declared.command.MacroStyle.{MacroStyle}
-use Rattle.hir_wire.specs.declared.reply.Status.{Status}
 use Rattle.hir_wire.specs.declared.reply.Status.TheVariants as status
 use Rattle.hir_session_state.specs.declared.error.QueryError.{QueryError}
-use Rattle.hir_session_state.specs.declared.error.QueryError.TheVariants as error
 use Rattle.hir_session_state.specs.Blocks.{Blocks}
-use Rattle.hir_session_state.specs.Crates.{CrateValue, dependency_maps, transitive_in, id_of}
-use Rattle.hir_session_state.specs.Kept.{Resolutions, finished_by, kept_in, placed_by}
+use Rattle.hir_session_state.specs.Crates.{CrateValue, dependency_maps, transitive_in}
+use Rattle.hir_session_state.specs.Kept.{Resolutions, placed_by}
 use Rattle.hir_session_state.specs.SourceEdits.{edit_of, edited}
 use Rattle.hir_session_state.specs.SourceTable.{SourceTable}
 use Rattle.hir_session_state.specs.SessionState.{SessionState, Resolution, workspace_of, finished_of, follows, follows_by, held_maps, read_of, kept_of, is_marked, module_of, standing_of, IsPlace, IsSound}
@@ -50,14 +47,14 @@ use Rattle.hir_session_state.specs.Marks.IsTouched.{before, asked_for}
 use Rattle.hir_session_state.specs.Due.{IsBehind, IsAskedBehind}
 use Rattle.hir_session_state.specs.Due.IsBehind.{itself, next}
 use Rattle.hir_session_state.specs.Changes.{Becomes, Applies, Resolves, with_sources}
-use Rattle.hir_session_answers.specs.Status.{status_by, status_of}
+use Rattle.hir_session_answers.specs.Status.{status_by}
 use Rattle.hir_session_answers.specs.Answers.{answer_at, answer_by, answer_from, answer_in, answer_kept, answer_of}
 use Rattle.hir_session_answers.specs.Histories.{History, WasAltered, DifferOnlyWhereAltered}
 use Rattle.hir_session_answers.specs.Histories.History.{none, edit, refresh}
 use Rattle.hir_session_state.proofs.Depending.{found-any}
 use Rattle.hir_session_state.proofs.Holding.{holders_hold}
 use Rattle.hir_session_state.proofs.Following.{followed_crate}
-use Rattle.hir_session_state.proofs.Names.{holds, of_some}
+use Rattle.hir_session_state.proofs.Names.{of_some}
 use Rattle.hir_session_state.proofs.Standing.{down-append, standing_stays, unmarked}
 use Rattle.hir_session_state.proofs.Truth.{clash, no_value, on_bool, one_value}
 use Rattle.hir_session_state.proofs.Worlds.{crates_stay}

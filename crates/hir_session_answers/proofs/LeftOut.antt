@@ -1,8 +1,5 @@
 -- Nothing is left out of an answer: what a path names in a current map is written in files and blocks, or in what calls expand to.
-use Rattle.std.specs.Prelude.{◌≡◌, ℕ, zero, suc, ◌<◌, ◌≤◌, Bool, true, false, not, ◌||◌, is_some, IsSome, slice_get, Contains, List, [], ◌∷◌, ◌++◌, cond, Option, None, Some, option_map, option_and_then}
-use Rattle.std.specs.BTreeMap.{is_at}
-use Rattle.std.specs.Cmp.Lexicographic.{slice_cmp}
-use Rattle.std.specs.Ordering.{nat_cmp}
+use Rattle.std.specs.Prelude.{◌≡◌, ℕ, zero, suc, ◌<◌, ◌≤◌, Bool, true, false, not, ◌||◌, is_some, IsSome, slice_get, Contains, List, cond, Option, None, Some, option_map, option_and_then}
 use Rattle.std.proofs.Common.{ap, arith, refl, subst, sym, ◌∙◌}
 use mathlib.Core.Bool.{true≢false}
 use Rattle.hir_base.specs.ModPath.{Path}
@@ -33,10 +30,9 @@ use Rattle.hir_scope.specs.PerNs.{Item}
 use Rattle.hir_scope.specs.declared.visibility.Visibility.{Visibility}
 use Rattle.hir_scope.specs.declared.visibility.Visibility.TheVariants as vis
 use Rattle.hir_def_map_rules.specs.Closed.{AreThere, IsThere, ModuleIsThere, PathsLeadToWhatIsThere}
-use Rattle.hir_def_map_rules.specs.WellFormed.{AreWellFormed, HasNoDanglingReference}
-use Rattle.hir_def_map_rules.specs.References.{is_missing, any_reference_in, reference_to, test_of, test_visibility, FailsAtItem}
-use Rattle.hir_def_map_rules.proofs.Referred.{module_parts}
-use Rattle.hir_def_map_rules.proofs.NoneOf.{none_at, none_found, not_first, not_second}
+use Rattle.hir_def_map_rules.specs.WellFormed.{AreWellFormed}
+use Rattle.hir_def_map_rules.specs.References.{is_missing, reference_to, test_of, test_visibility, FailsAtItem}
+use Rattle.hir_def_map_rules.proofs.NoneOf.{none_at, not_first, not_second}
 use Rattle.hir_def_map_rules.specs.Scoping.{resolution_of}
 use Rattle.hir_def_map_rules.specs.Inner.OverlayLaws.{same_id}
 use Rattle.hir_def_map_rules.specs.Scoping.Asking.{Asking, local_of}
@@ -76,7 +72,7 @@ use Rattle.hir_session_answers.specs.SourceItems.{adt_definition, answered_macro
 use Rattle.hir_session_answers.proofs.LowerLaws.{asked_keys_have_meaning}
 use Rattle.hir_session_state.proofs.Holding.{start_holders}
 use Rattle.hir_session_state.proofs.Standing.{at_module, block_begun, kept_gives, module_there}
-use Rattle.hir_session_state.proofs.Truth.{no_value, one_value}
+use Rattle.hir_session_state.proofs.Truth.{one_value}
 use Rattle.hir_session_state.proofs.Worlds.{AgreeOn-refl}
 use Rattle.hir_def_map.specs.WorldParts.{among}
 use Rattle.hir_base.specs.Place.{PlaceValue}

@@ -25,7 +25,6 @@ use Rattle.hir_session_answers.specs.LeavesOut.{LeavesNothingOut}
 use Rattle.hir_session_answers.proofs.Differ.{unmarked_behind}
 use Rattle.hir_session_answers.proofs.LeftOut.{place_there, read_kept, whole}
 use Rattle.hir_session_state.proofs.Standing.{kept_gives, unmarked}
-use Rattle.hir_session_state.proofs.Truth.{one_value}
 
 pub on_option : {A X : Type 0} (o : Option X) → (o ≡ None → A) → ((x : X) → o ≡ Some x → A) → A
 on_option None f g = f refl

@@ -18,7 +18,7 @@ use Rattle.hir_session_state.specs.Standing.{Standing, block_below, block_number
 use Rattle.hir_session_state.specs.Standing.Standing as way
 use Rattle.hir_session_sources.specs.BlockTables.{steps_in}
 use Rattle.hir_session_sources.proofs.BlockLemmas.{same_root}
-use Rattle.hir_session_state.proofs.Places.{has_block_number, number_is, number_means}
+use Rattle.hir_session_state.proofs.Places.{number_is, number_means}
 use Rattle.hir_session_state.proofs.Standing.{down-append}
 use Rattle.hir_session_state.proofs.Truth.{no_value}
 use Rattle.hir_session_answers.specs.Walking.{root_kept, to_block, to_name}

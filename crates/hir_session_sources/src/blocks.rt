@@ -2,13 +2,13 @@
 //!
 //! They are found by a crate and the steps to a block, which takes no memory; each is kept with its place, by which its number
 //! is found.
-ghost use Rattle.std.specs.Prelude.{◌≡◌, ◌∷◌, [], not, filter, map, is_some, IfOk, IfSome, OnOk, OnErr, option_map};
+ghost use Rattle.std.specs.Prelude.{◌≡◌, ◌++◌, [], map, is_some, IfOk, IfSome, OnOk, OnErr, option_map};
 ghost use Rattle.std.specs.BTreeMap.{is_at, insert_entry};
 ghost use Rattle.std.specs.Map.{lookup};
 ghost use Rattle.hir_base.specs.contracts.ids.CrateOrd.TheImpl as crate_order;
 ghost use Rattle.hir_item_tree.specs.Source.{source_view};
 ghost use Rattle.hir_session_state.specs.Blocks.{block_in, place_of_block, steps_cmp, with_block, without_block};
-ghost use Rattle.hir_session_sources.specs.BlockTables.{ArePlacedIn, by_steps, has_place, left_by, or_none, sources_of, steps_in, with_set, without_set, without_steps};
+ghost use Rattle.hir_session_sources.specs.BlockTables.{ArePlacedIn, has_place, sources_of, steps_in, with_set, without_set, without_steps};
 ghost use Rattle.hir_session_sources.specs.BlockPlaces.{places_of};
 
 use hir_base::ids::Crate;
