@@ -622,13 +622,13 @@ module _ (t : SourceTest) where
 
   -- a root module is written nowhere, or is the block whose tree was asked for
   root_nowhere : (finished : Maps) (start : Start) (tree : TreeId) → BeginsClear t finished start tree → t.holder tree.file tree.block ≡ false → on_origin t (origin_of start) ≡ false
-  root_nowhere finished (starts.Crate krate root) tree clear written = refl
-  root_nowhere finished (starts.Block krate block holder at) tree clear written = subst (λ (x : TreeId). t.holder x.file x.block ≡ false) clear.0 written
+  root_nowhere finished (starts.Crate krate root) tree clear asked = refl
+  root_nowhere finished (starts.Block krate block by at) tree clear asked = subst (λ (x : TreeId). t.holder x.file x.block ≡ false) clear.0 asked
 
   start_begins : (finished : Maps) (crate_data : CrateData) (ds : List Dependency) (start : Start) (tree : TreeId) → BeginsClear t finished start tree
       → HoldsOfNoExtern t (start_local finished crate_data ds start)
   start_begins finished crate_data ds (starts.Crate krate root) tree clear = local_begins crate_data [] ds refl
-  start_begins finished crate_data ds (starts.Block krate block holder at) tree clear = clear.1
+  start_begins finished crate_data ds (starts.Block krate block by at) tree clear = clear.1
 
   pub first_sourced : (finished : Maps) → HoldsNowhere t finished → (tables : TablesValue) (w : Workspace) (holders : List ModuleId) (from : Beginning) → BeginsClear t finished from.start from.tree
       → t.holder from.tree.file from.tree.block ≡ false → IsSourced t (start_of tables w finished holders from)

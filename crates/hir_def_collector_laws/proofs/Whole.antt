@@ -529,10 +529,10 @@ held_named maps id (Some h) e = ap not (second_so (same_crate h.map.krate id.kra
 
 -- so is the map of its crate among more maps
 own_crate_more : (one other : Maps) → Extends one other → (id : MapId) → any_own_crate (is_missing one) id ≡ false → any_own_crate (is_missing other) id ≡ false
-own_crate_more one other more id e = go (is_some id.block) e
+own_crate_more one other grown id e = go (is_some id.block) e
   where
     go : (b : Bool) → (b && test_crate (is_missing one) id.krate) ≡ false → (b && test_crate (is_missing other) id.krate) ≡ false
-    go true f = none_missing one other more (named.Map (crate_map id.krate)) f
+    go true f = none_missing one other grown (named.Map (crate_map id.krate)) f
     go false f = refl
 
 -- a root module refers to what holds the block
@@ -549,7 +549,7 @@ module _ (finished : Maps) (crate_data : CrateData) (start : Start) where
   root_names : finished root.id ≡ None → list_any (test_crate (is_missing finished)) crate_data.dependencies ≡ false
       → any_own_crate (is_missing finished) (id_of start) ≡ false → is_holder_for finished (id_of start) (holder_of start) ≡ true → HasNoDanglingReference (overlay finished root) root
   root_names apart below own held = record {
-    own_crate = own_crate_more finished (overlay finished root) more root.id own;
+    own_crate = own_crate_more finished (overlay finished root) grown root.id own;
     held = there;
     outside = held_outside finished root.id root.holder apart held;
     root = omega arith;
@@ -558,14 +558,14 @@ module _ (finished : Maps) (crate_data : CrateData) (start : Start) where
     modules = root_refers (is_missing (overlay finished root)) start (held_named (overlay finished root) root.id root.holder there);
     prelude = refl;
     dependencies = none_of_less (test_crate (is_missing finished)) (test_crate (is_missing (overlay finished root)))
-        (λ c f. none_missing finished (overlay finished root) more (named.Map (crate_map c)) f) crate_data.dependencies below;
+        (λ c f. none_missing finished (overlay finished root) grown (named.Map (crate_map c)) f) crate_data.dependencies below;
   }
     where
-      more : Extends finished (overlay finished root)
-      more = Extends-overlay finished root apart
+      grown : Extends finished (overlay finished root)
+      grown = Extends-overlay finished root apart
 
       there : is_holder_for (overlay finished root) root.id root.holder ≡ true
-      there = held_there finished (overlay finished root) more root.id root.holder held
+      there = held_there finished (overlay finished root) grown root.id root.holder held
 
       first : (at : ℕ) (m : ModuleValue) → slice_get root.modules at ≡ Some m → IsBefore root.id at m.parent
       first zero m e = let same : new_module (origin_of start) (root_visibility start) None ≡ m = cc in subst (λ (x : ModuleValue). IsBefore root.id 0 x.parent) same tt
@@ -618,10 +618,10 @@ module _ (paths : PathsLeadToWhatIsThere) (finished : Maps) (whole : AreWellForm
     prelude_there = by_core map.crate_data.no_core
 
   -- so is a prelude of its own, and none is needed
-  own_there : (map : Map) (local : Local) → finished map.id ≡ None → HasNoDanglingReference (overlay finished map) map → HasNoDanglingExtern (overlay finished map) local → (start : Start)
+  own_prelude_there : (map : Map) (local : Local) → finished map.id ≡ None → HasNoDanglingReference (overlay finished map) map → HasNoDanglingExtern (overlay finished map) local → (start : Start)
       → test_of (is_missing (overlay finished map)) (prelude_reference (own_prelude finished map local start)) ≡ false
-  own_there map local apart names begins (starts.Crate krate root) = prelude_there map local apart names begins
-  own_there map local apart names begins (starts.Block krate block holder at) = refl
+  own_prelude_there map local apart names begins (starts.Crate krate root) = prelude_there map local apart names begins
+  own_prelude_there map local apart names begins (starts.Block krate block holder at) = refl
 
   -- and so are the crates that paths of a finished map may begin with
   beside_there : (id : MapId) (o : Option Placed) → finished id ≡ o → HasNoDanglingExtern finished (local_of (option_map (λ (p : Placed). p.local) o))
@@ -654,7 +654,7 @@ module _ (paths : PathsLeadToWhatIsThere) (finished : Maps) (whole : AreWellForm
       HasNoDanglingExtern-more (overlay finished one) (overlay finished two) (Extends-grown finished one two refl (λ k e. e) (λ e t. t)) local one_there in
       record {
         apart = stands.apart;
-        names = NamesOnly-used finished two macros None (HasNoDanglingReference-prelude finished one prelude (own_there one local stands.apart names one_there start) names);
+        names = NamesOnly-used finished two macros None (HasNoDanglingReference-prelude finished one prelude (own_prelude_there one local stands.apart names one_there start) names);
         begins = HasNoDanglingExtern-more (overlay finished two) (overlay finished (with_macros_used two macros None)) (Extends-used finished two macros None) local two_there;
         crates = refl;
         dependencies = stands.direct;
