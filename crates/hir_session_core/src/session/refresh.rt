@@ -2,7 +2,7 @@
 //!
 //! Crates come first, by number, so that a run finds what it depends on. Once no crate is marked, blocks follow, an outer one
 //! before those within it: whether the module that holds a block is there is known once the blocks around it were resolved.
-ghost use Rattle.std.specs.Prelude.{◌≡◌, ◌≢◌, ¬◌, ℕ, ◌<◌, ◌≤◌, ◌++◌, ◌∷◌, [], true, false, length, None, Some, IfOk, IfSome, IsSome, OnOk, OnErr, OnSome, OnNone, Err};
+ghost use Rattle.std.specs.Prelude.{◌≡◌, ◌≢◌, ℕ, ◌<◌, ◌≤◌, ◌++◌, ◌∷◌, [], true, false, length, None, Some, IfOk, IfSome, IsSome, OnOk, OnErr, OnSome, OnNone, Err};
 ghost use Rattle.hir_base.specs.Locations.{max_locations};
 ghost use Rattle.hir_base.specs.Place.{PlaceValue};
 ghost use Rattle.hir_base.specs.declared.place.BlockPlace.{BlockPlace};
