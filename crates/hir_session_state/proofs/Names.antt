@@ -231,11 +231,12 @@ among_at crates kept krate found has is alone =
 -- modules that lie in such maps
 of_all : (crates : List Crate) (holders hs : List ModuleId) (id : MapId) → are_of_some crates holders hs ≡ true → holds hs id ≡ true → is_of_some crates holders id ≡ true
 of_all crates holders [] id all held = clash held refl
-of_all crates holders (h ∷ hs) id all held = go (map_id.ghosts.eq h.map id) refl held
+of_all crates holders (h ∷ hs) id all held =
+    go (λ f. of_all crates holders hs id (and_right (is_of_some crates holders h.map) (are_of_some crates holders hs) all) f) (map_id.ghosts.eq h.map id) refl held
   where
-    go : (b : Bool) → map_id.ghosts.eq h.map id ≡ b → (b || holds hs id) ≡ true → is_of_some crates holders id ≡ true
-    go true same f = ap (is_of_some crates holders) (sym (exact_map h.map id same)) ∙ and_left (is_of_some crates holders h.map) (are_of_some crates holders hs) all
-    go false other f = of_all crates holders hs id (and_right (is_of_some crates holders h.map) (are_of_some crates holders hs) all) f
+    go : (holds hs id ≡ true → is_of_some crates holders id ≡ true) → (b : Bool) → map_id.ghosts.eq h.map id ≡ b → (b || holds hs id) ≡ true → is_of_some crates holders id ≡ true
+    go behind true same f = ap (is_of_some crates holders) (sym (exact_map h.map id same)) ∙ and_left (is_of_some crates holders h.map) (are_of_some crates holders hs) all
+    go behind false other f = behind f
 
 -- those that lie in some of the maps lie in more
 are_among : (few more : List Crate) (one other : List ModuleId) → ((id : MapId) → is_of_some few one id ≡ true → is_of_some more other id ≡ true) → (hs : List ModuleId)

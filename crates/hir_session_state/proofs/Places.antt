@@ -4,7 +4,9 @@ use Rattle.std.specs.List.{list_any}
 use Rattle.std.specs.Prelude.{nat_lt, slice_get}
 use Rattle.std.specs.Cmp.{IsTotalOrder, first_so, second_so, nat_cmp_total, on_total, then_total, unsigned_Decides}
 use Rattle.std.specs.Cmp.Lexicographic.{pointwise, bytes_decides}
-use Rattle.std.specs.Ordering.{Equal, Greater, Less, Ordering, is_le, nat_cmp, ordering_then}
+use Rattle.std.specs.Ordering.{is_le, nat_cmp, ordering_then}
+use Rattle.std.specs.declared.cmp.Ordering.{Ordering}
+use Rattle.std.specs.declared.cmp.Ordering.TheVariants.{Equal, Greater, Less}
 use Rattle.std.proofs.lemmas.Bool.{lt-ltb, ltb-true}
 use mathlib.Core.Bool.{true≢false}
 use Rattle.hir_base.specs.Locations.{KeepsNumbers}
@@ -78,16 +80,17 @@ record IsNumbered (n : ℕ) (bs : List BlockPlace) (place : BlockPlace) (id : Bl
 
 numbered_from : (n : ℕ) (bs : List BlockPlace) (place : BlockPlace) (id : BlockId) → number_from n bs place ≡ Some id → IsNumbered n bs place id
 numbered_from n [] place id e = no_value e
-numbered_from n (b ∷ bs) place id e = go (block_eq.ghosts.eq b place) refl e
+numbered_from n (b ∷ bs) place id e = go (λ f. numbered_from (n + 1) bs place id f) (block_eq.ghosts.eq b place) refl e
   where
     later : IsNumbered (n + 1) bs place id → IsNumbered n (b ∷ bs) place id
     later p = let is : id.0 ≡ n + 1 + p.at = p.is in record { at = suc p.at; is = omega arith; means = p.means }
 
-    go : (t : Bool) → block_eq.ghosts.eq b place ≡ t → cond t (Some (block_id n)) (number_from (n + 1) bs place) ≡ Some id → IsNumbered n (b ∷ bs) place id
-    go true same f =
+    go : (number_from (n + 1) bs place ≡ Some id → IsNumbered (n + 1) bs place id) → (t : Bool) → block_eq.ghosts.eq b place ≡ t
+        → cond t (Some (block_id n)) (number_from (n + 1) bs place) ≡ Some id → IsNumbered n (b ∷ bs) place id
+    go behind true same f =
         let number : n ≡ id.0 = ap (λ (x : BlockId). x.0) (one_value f) in
         record { at = zero; is = omega arith; means = ap (λ (x : BlockPlace). Some x) (exact_block b place same) }
-    go false other f = later (numbered_from (n + 1) bs place id f)
+    go behind false other f = later (behind f)
 
 -- and a block with a number has one
 has_number : (n : ℕ) (bs : List BlockPlace) (place : BlockPlace) (at : ℕ) → slice_get bs at ≡ Some place → (id : BlockId) × (number_from n bs place ≡ Some id)
@@ -109,11 +112,12 @@ number_stays n [] new place id keeps e = no_value e
 number_stays n (b ∷ bs) [] place id keeps e = no_value (keeps zero b refl)
 number_stays n (b ∷ bs) (c ∷ cs) place id keeps e =
     subst (λ (x : BlockPlace). cond (block_eq.ghosts.eq x place) (Some (block_id n)) (number_from (n + 1) cs place) ≡ Some id) (sym (one_value (keeps zero b refl)))
-    (go (block_eq.ghosts.eq b place) e)
+    (go (λ f. number_stays (n + 1) bs cs place id (λ k x h. keeps (suc k) x h) f) (block_eq.ghosts.eq b place) e)
   where
-    go : (t : Bool) → cond t (Some (block_id n)) (number_from (n + 1) bs place) ≡ Some id → cond t (Some (block_id n)) (number_from (n + 1) cs place) ≡ Some id
-    go true f = f
-    go false f = number_stays (n + 1) bs cs place id (λ k x h. keeps (suc k) x h) f
+    go : (number_from (n + 1) bs place ≡ Some id → number_from (n + 1) cs place ≡ Some id) → (t : Bool) → cond t (Some (block_id n)) (number_from (n + 1) bs place) ≡ Some id
+        → cond t (Some (block_id n)) (number_from (n + 1) cs place) ≡ Some id
+    go behind true f = f
+    go behind false f = behind f
 
 -- the number that a block has means it
 pub number_means : (t : TablesValue) (place : BlockPlace) (id : BlockId) → block_number t place ≡ Some id → block_at t id ≡ Some place

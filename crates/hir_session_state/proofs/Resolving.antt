@@ -133,6 +133,7 @@ module _ (s : SessionState) (sound : IsSound s) (krate : Crate) (hs : List Modul
   -- what is there beside the maps that one of those reads is there among those
   pub behind_extends : (id : MapId) (r : Resolution) → kept_of s id ≡ Some r → is_of_some (transitive_in s.crates krate.0) hs id ≡ true
       → are_of_some (transitive_in s.crates krate.0) hs r.holders ≡ true → Extends (overlay (read_under s id r.holders) r.map) reads
+  unfolding kept_whole
   behind_extends id r is of held_too =
       Extends-behind (λ (k : ℕ). transitive_in s.crates k) s.kept (transitive_in s.crates krate.0) hs (kept_whole s sound) reads_closed id (kept_whole s sound id r is) of held_too
 

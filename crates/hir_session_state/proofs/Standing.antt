@@ -161,14 +161,14 @@ crate_unheld s krate from e = sym (ap (λ (x : Beginning). holder_of x.start) (o
 file_kept : (t T : TablesValue) → KeepsTables t T → (n : ℕ) (id : HirFileId) (file : EditionedFileId) → file_within n t id ≡ Some file → file_within n T id ≡ Some file
 file_kept t T keeps n (File f) file e = e
 file_kept t T keeps zero (Macro c) file e = e
-file_kept t T keeps (suc n) (Macro c) file e = go (call_at t c) refl e
+file_kept t T keeps (suc n) (Macro c) file e = go (λ id f. file_kept t T keeps n id file f) (call_at t c) refl e
   where
-    go : (o : Option MacroCallLoc) → call_at t c ≡ o → option_and_then (λ (call : MacroCallLoc). file_within n t (call_node call.kind).file_id) o ≡ Some file
+    go : ((id : HirFileId) → file_within n t id ≡ Some file → file_within n T id ≡ Some file) → (o : Option MacroCallLoc) → call_at t c ≡ o → option_and_then (λ (call : MacroCallLoc). file_within n t (call_node call.kind).file_id) o ≡ Some file
         → option_and_then (λ (call : MacroCallLoc). file_within n T (call_node call.kind).file_id) (call_at T c) ≡ Some file
-    go None is f = no_value f
-    go (Some call) is f =
+    go within None is f = no_value f
+    go within (Some call) is f =
         ap (option_and_then (λ (x : MacroCallLoc). file_within n T (call_node x.kind).file_id)) (keeps.calls c.0 call is)
-        ∙ file_kept t T keeps n (call_node call.kind).file_id file f
+        ∙ within (call_node call.kind).file_id f
 
 -- stays as tables grow
 pub origin_file_kept : (t T : TablesValue) → KeepsTables t T → (o : ModuleOrigin) (file : EditionedFileId) → file_of_origin t o ≡ Some file → file_of_origin T o ≡ Some file

@@ -56,9 +56,9 @@ pub record Resolved (old : SessionState) (id : MapId) (r : Resolution) (new : Se
   pub others : (j : MapId) → j ≢ id → kept_of new j ≡ kept_of old j
 
 -- these places were resolved in this order, each the next that was to be; then tables may have grown, and nothing else changed
-pub data AreResolved (old : SessionState) : List PlaceValue → SessionState → Type 0 where
-  none : (new : SessionState) → Grows old new → AreResolved old [] new
-  more : (place : PlaceValue) (id : MapId) (r : Resolution) (mid : SessionState) (places : List PlaceValue) (new : SessionState) → IsNext old place
+pub data AreResolved : SessionState → List PlaceValue → SessionState → Type 0 where
+  none : (old new : SessionState) → Grows old new → AreResolved old [] new
+  more : (old : SessionState) (place : PlaceValue) (id : MapId) (r : Resolution) (mid : SessionState) (places : List PlaceValue) (new : SessionState) → IsNext old place
       → place_of_map mid.tables id ≡ Some place → Resolved old id r mid → AreResolved mid places new → AreResolved old (place ∷ places) new
 
 -- the run for a place goes on for too long, or no number is left for its block
