@@ -6,7 +6,9 @@ use Rattle.std.specs.BTreeSet.{BTreeSet, insert_key}
 use Rattle.std.specs.Cmp.{second_so}
 use Rattle.std.specs.List.{All}
 use Rattle.std.specs.Map.{lookup}
-use Rattle.std.specs.Ordering.{Equal, Greater, Less, Ordering, is_eq, match_ordering}
+use Rattle.std.specs.Ordering.{is_eq, match_ordering}
+use Rattle.std.specs.declared.cmp.Ordering.{Ordering}
+use Rattle.std.specs.declared.cmp.Ordering.TheVariants.{Equal, Greater, Less}
 use Rattle.std.proofs.lemmas.List.Elements.{All-contains, All-head, All-nil, All-tail, Contains-append_left, Contains-append_right}
 use Rattle.std.proofs.lemmas.Map.Views.{All-insert_key}
 use Rattle.hir_base.specs.Place.{PlaceValue}

@@ -233,28 +233,29 @@ module _ (s : SessionState) (sound : IsSound s) (F : SourceTable) (hits : List M
       let lower : c.0.0 < krate.0 = sound.below krate.0 c.0 c.1 in
       subst (λ (x : MapId). IsReached x ⊎ (¬ IsReached x)) (sym c.2) (reached_crate n c.0 (omega arith)))
 
-  -- of blocks, by the modules that hold them
-  reached_held : (hs : List ModuleId) (id : MapId) (r : Resolution) → kept_of s id ≡ Some r → r.holders ≡ hs → IsReached id ⊎ (¬ IsReached id)
-  reached_held hs id r is of = go id.block refl
+  -- of blocks, by the module that holds one
+  reached_by_holder : (id : MapId) (r : Resolution) → kept_of s id ≡ Some r → ((h : ModuleId) → r.map.holder ≡ Some h → IsReached h.map ⊎ (¬ IsReached h.map)) → IsReached id ⊎ (¬ IsReached id)
+  reached_by_holder id r is of_holder = go id.block refl
     where
-      in_holder : (hs : List ModuleId) → r.holders ≡ hs → (h : ModuleId) → r.map.holder ≡ Some h → IsReached h.map ⊎ (¬ IsReached h.map)
-      in_holder [] none h held =
-          let kept = holder_kept s id r (kept_gives s sound id r is) h held in
-          absurd (let wrong : [] ≡ h ∷ kept.found.holders = sym none ∙ kept.holders in let no : ⊥ = cc in no)
-      in_holder (g ∷ rest) both h held =
-          let p = kept_gives s sound id r is in
-          let first = first_holder s id r p g rest both in
-          let same : g ≡ h = one_value (sym first.0 ∙ held) in
-          let kept = holder_kept s id r p g first.0 in
-          subst (λ (x : ModuleId). IsReached x.map ⊎ (¬ IsReached x.map)) same (reached_held rest g.map kept.found kept.is (first.1 kept.found kept.is))
-
       go : (o : Option BlockId) → id.block ≡ o → IsReached id ⊎ (¬ IsReached id)
       go None none = subst (λ (x : MapId). IsReached x ⊎ (¬ IsReached x)) (sym (of_number id none)) (reached_crate (suc id.krate.0) id.krate (omega arith))
       go (Some b) is_block = reached_by id (λ d among. elim (behind_block s id b is_block d among) [
         | inl own ↦ subst (λ (x : MapId). IsReached x ⊎ (¬ IsReached x)) (sym own) (reached_crate (suc id.krate.0) id.krate (omega arith))
         | inr h ↦ subst (λ (x : MapId). IsReached x ⊎ (¬ IsReached x)) (sym h.at)
-            (in_holder hs of h.holder (subst (λ (x : Resolution). x.map.holder ≡ Some h.holder) (one_value (sym h.is ∙ is)) h.held))
+            (of_holder h.holder (subst (λ (x : Resolution). x.map.holder ≡ Some h.holder) (one_value (sym h.is ∙ is)) h.held))
       ])
+
+  -- and so of all the modules around it
+  reached_held : (hs : List ModuleId) (id : MapId) (r : Resolution) → kept_of s id ≡ Some r → r.holders ≡ hs → IsReached id ⊎ (¬ IsReached id)
+  reached_held [] id r is of = reached_by_holder id r is (λ h held.
+      let kept = holder_kept s id r (kept_gives s sound id r is) h held in
+      absurd (let wrong : [] ≡ h ∷ kept.found.holders = sym of ∙ kept.holders in let no : ⊥ = cc in no))
+  reached_held (g ∷ rest) id r is of = reached_by_holder id r is (λ h held.
+      let p = kept_gives s sound id r is in
+      let first = first_holder s id r p g rest of in
+      let same : g ≡ h = one_value (sym first.0 ∙ held) in
+      let kept = holder_kept s id r p g first.0 in
+      subst (λ (x : ModuleId). IsReached x.map ⊎ (¬ IsReached x.map)) same (reached_held rest g.map kept.found kept.is (first.1 kept.found kept.is)))
 
   reached_or : (id : MapId) → IsReached id ⊎ (¬ IsReached id)
   reached_or id = on_kept (kept_of s id)
