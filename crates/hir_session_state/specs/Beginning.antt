@@ -9,7 +9,6 @@ use Rattle.hir_base.specs.declared.ids.MapId.{MapId}
 use Rattle.hir_session_state.specs.Crates.{CrateValue, crate_in}
 use Rattle.hir_tables.specs.Tables.{TablesValue, file_at, KeepsTables}
 use Rattle.hir_session_state.specs.SessionState.{SessionState, kept_of}
-use Rattle.hir_session_state.specs.Refusals.{dependency_crates}
 
 -- a dependency as a run sees it
 abbrev pub dependency_of : HandedIn → Dependency

@@ -1,8 +1,6 @@
 use Rattle.std.proofs.Common.{◌≡◌, ◌∙◌, ap, ◌<◌, length, arith}
 use Rattle.hir_session_state.specs.SourceNumbers.{asked_number}
 use Rattle.hir_session_state.proofs.Asking.{asked_own}
-use Rattle.hir_session_state.proofs.Resolving.{found_of_block}
-use Rattle.hir_session_state.proofs.Turns.{module_or_deeper}
 use Rattle.hir_session_state.proofs.askers.Askers.note.Goals as goal
 
 pub returns-clause-all : goal.returns-clause-all
