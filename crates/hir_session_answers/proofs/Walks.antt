@@ -1,6 +1,8 @@
 -- One step further down a place.
 use Rattle.std.specs.Prelude.{is_some}
-use Rattle.std.proofs.Common.{◌≡◌, ◌∙◌, ap, sym, refl, Bool, true, false, Option, Some, None, option_map, List, [], ◌∷◌, ◌++◌, ℕ}
+use Rattle.std.specs.Option.{option_and_then}
+use Rattle.std.proofs.Common.{◌≡◌, ◌∙◌, ap, sym, refl, Bool, true, false, Option, Some, None, option_map, List, [], ◌∷◌, ◌++◌, ℕ, ◌+◌, ◌<◌, length, get_or, take}
+use Rattle.std.proofs.lemmas.List.{take_more}
 use Rattle.hir_base.specs.Place.{PlaceValue}
 use Rattle.hir_base.specs.declared.ast_id.SyntaxId.{SyntaxId}
 use Rattle.hir_base.specs.declared.ids.Crate.{Crate}
@@ -13,8 +15,8 @@ use Rattle.hir_tables.specs.Tables.{TablesValue, HasEachOnce, block_at}
 use Rattle.hir_base.specs.declared.ast_id.BlockId.{BlockId}
 use Rattle.std.specs.Prelude.{◌↔◌}
 use Rattle.hir_session_state.specs.Blocks.{Blocks, block_in, place_of_block}
-use Rattle.hir_session_state.specs.Kept.{Resolutions}
-use Rattle.hir_session_state.specs.Standing.{Standing, block_below, block_number, down, is_set, kept_block, step, to_root}
+use Rattle.hir_session_state.specs.Kept.{Resolution, Resolutions, kept_in}
+use Rattle.hir_session_state.specs.Standing.{Standing, block_below, block_map, block_number, down, is_set, kept_block, step, to_root}
 use Rattle.hir_session_state.specs.Standing.Standing as way
 use Rattle.hir_session_sources.specs.BlockTables.{steps_in}
 use Rattle.hir_session_sources.proofs.BlockLemmas.{same_root}
@@ -78,6 +80,15 @@ module _ (tables : TablesValue) (blocks : Blocks) (kept : Resolutions) (krate : 
       leads ∙ ap (λ (x : Standing). step tables blocks kept krate xs x e) so_far
       ∙ sym (ap (λ (zs : List PlaceElement). down tables blocks kept krate [] (way.at root) zs) is ∙ down-append tables blocks kept krate [] (way.at root) xs (e ∷ []))
 
+  -- one more turn of the walk
+  pub turn : (root : ModuleId) (steps : List PlaceElement) (i : ℕ) (e : PlaceElement) (st next : Standing) → i < length steps → e ≡ get_or steps i e
+      → st ≡ down tables blocks kept krate [] (way.at root) (take i steps)
+      → ((before : List PlaceElement) → take (i + 1) steps ≡ before ++ e ∷ [] → next ≡ step tables blocks kept krate before st e)
+      → next ≡ down tables blocks kept krate [] (way.at root) (take (i + 1) steps)
+  turn root steps i e st next within is so_far leads =
+      let more : take (i + 1) steps ≡ take i steps ++ e ∷ [] = take_more steps i e within ∙ ap (λ (x : PlaceElement). take i steps ++ x ∷ []) (sym is) in
+      one_further root (take i steps) (take (i + 1) steps) e st next so_far more (leads (take i steps) more)
+
 -- the number that a block has, as the tables find it
 pub number_found : (tables : TablesValue) (place : BlockPlace) (o : Option BlockId) → ((id : BlockId) → (o ≡ Some id) ↔ (block_at tables id ≡ Some place)) → HasEachOnce tables
     → o ≡ block_number tables place
@@ -87,3 +98,9 @@ number_found tables place None exact once = go (block_number tables place) refl
     go : (o : Option BlockId) → block_number tables place ≡ o → None ≡ block_number tables place
     go None e = sym e
     go (Some id) e = no_value ((exact id).1 (number_means tables place id e))
+
+-- so what is kept of it is found by that number
+pub root_found : (tables : TablesValue) (kept : Resolutions) (place : BlockPlace) (o : Option BlockId) → ((id : BlockId) → (o ≡ Some id) ↔ (block_at tables id ≡ Some place)) → HasEachOnce tables
+    → (r : Option Resolution) → r ≡ option_and_then (λ (id : BlockId). kept_in kept (block_map place.holder.krate id)) o → to_root r ≡ to_root (kept_block tables kept place)
+root_found tables kept place o exact once r is =
+    ap to_root (is ∙ ap (λ (x : Option BlockId). option_and_then (λ (id : BlockId). kept_in kept (block_map place.holder.krate id)) x) (number_found tables place o exact once))
