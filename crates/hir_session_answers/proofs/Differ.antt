@@ -41,7 +41,7 @@ use Rattle.hir_session_state.specs.SessionState.IsPlace.{of_block, of_crate}
 use Rattle.hir_session_state.specs.Spread.{Spread}
 use Rattle.hir_session_state.specs.Spread.Spread.{here, depends}
 use Rattle.hir_session_state.specs.Standing.{Standing, block_below, block_map, child_kept, down, from_crate, is_set, kept_block, map_by, module_by, step, to_child, to_root}
-use Rattle.hir_session_state.specs.Standing.Standing as way
+use Rattle.hir_session_state.specs.Standing.{Standing as way}
 use Rattle.hir_session_state.specs.Marks.{IsAltered, IsTouched}
 use Rattle.hir_session_state.specs.Marks.IsTouched.{before, asked_for}
 use Rattle.hir_session_state.specs.Due.{IsBehind, IsAskedBehind}

@@ -17,7 +17,7 @@ use Rattle.std.specs.Prelude.{◌↔◌}
 use Rattle.hir_session_state.specs.Blocks.{Blocks, block_in, place_of_block}
 use Rattle.hir_session_state.specs.Kept.{Resolution, Resolutions, kept_in}
 use Rattle.hir_session_state.specs.Standing.{Standing, block_below, block_map, block_number, down, is_set, kept_block, step, to_root}
-use Rattle.hir_session_state.specs.Standing.Standing as way
+use Rattle.hir_session_state.specs.Standing.{Standing as way}
 use Rattle.hir_session_sources.specs.BlockTables.{steps_in}
 use Rattle.hir_session_sources.proofs.BlockLemmas.{same_root}
 use Rattle.hir_session_state.proofs.Places.{number_is, number_means}

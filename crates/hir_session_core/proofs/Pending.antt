@@ -1,5 +1,5 @@
 -- How the blocks are collected of which nothing is kept.
-use Rattle.std.specs.Prelude.{is_none, is_some, IfSome, OnNone}
+use Rattle.std.specs.Prelude.{is_none, is_some, IfSome}
 use Rattle.std.proofs.Common.{◌≡◌, ◌∙◌, ◌⊎◌, inl, inr, zero, suc, ◌<◌, Bool, true, false, ◌&&◌, cond, List, [], ◌∷◌, arith, refl, ap, sym, subst, Option, Some, None, option_map, Contains}
 use Rattle.std.specs.BTreeMap.{is_at}
 use Rattle.std.specs.BTreeSet.{BTreeSet, insert_key}
@@ -51,10 +51,6 @@ on_some (Some x) f h = f x h
 pub on_both : {A : Type 0} {P Q R : A → Type 0} (o : Option A) → IfSome o P → IfSome o Q → ((x : A) → P x → Q x → R x) → IfSome o R
 on_both None p q f = tt
 on_both (Some x) p q f = f x p q
-
-pub where_none : {A B C : Type 0} (o : Option A) → OnNone o B → (B → C) → OnNone o C
-where_none None h f = f h
-where_none (Some x) h f = tt
 
 -- ---- all blocks that are set
 
