@@ -76,6 +76,17 @@ module _ (law : CratesAskForNoBlock) (s : SessionState) (sound : IsSound s) wher
   abbrev IsClear : Resolution → Type 0
   IsClear r = ((key : Key) → Contains r.asked key → block_of_key key ≡ None) × HoldsNowhereIn in_blocks r.map
 
+  -- so do the crates that it reads
+  nowhere_below : (n k : ℕ) → k < suc n → ((j : ℕ) → j < n → (x : Resolution) → kept_of s (id_of j) ≡ Some x → IsClear x) → HoldsNowhere in_blocks (read_under s (id_of k) [])
+  nowhere_below n k low clear id placed e = go (kept_of s id) refl (among_there (transitive_in s.crates k) (finished_of s) id placed e).2
+    where
+      go : (o : Option Resolution) → kept_of s id ≡ o → option_map placed_by o ≡ Some placed → HoldsNowhereIn in_blocks placed.map
+      go None kept h = no_value h
+      go (Some x) kept h =
+          let there = among_there (transitive_in s.crates k) (finished_of s) id placed e in
+          let lower : id.krate.0 < k = DependsOn-below sound.below ((depended sound k id.krate).0 there.1) in
+          subst (λ (q : Placed). HoldsNowhereIn in_blocks q.map) (one_value h) (clear id.krate.0 (omega arith) x (ap (kept_of s) (sym (of_number id there.0)) ∙ kept)).1
+
   clear_crate : (n k : ℕ) → k < n → (r : Resolution) → kept_of s (id_of k) ≡ Some r → IsClear r
   clear_crate zero k low r is = absurd (omega arith)
   clear_crate (suc n) k low r is =
@@ -84,21 +95,8 @@ module _ (law : CratesAskForNoBlock) (s : SessionState) (sound : IsSound s) wher
       let off = behind_unmarked s sound k (unmarked s (id_of k) r is) in
       let ended : Ends s.tables (workspace_of s) (finished_of s) p.from (collected_of r) = p.resolved.ends (workspace_of s) (finished_of s) AgreeOn-refl in
       law s.tables (workspace_of s) (finished_of s) (beginning_in s.crates k) (collected_of r) (crate_whole s k sound off) (stands_on_whole s k sound off)
-      (subst (λ (x : Beginning). Ends s.tables (workspace_of s) (finished_of s) x (collected_of r)) from ended) refl refl nowhere
-    where
-      nowhere : HoldsNowhere in_blocks (read_under s (id_of k) [])
-      nowhere id placed e =
-          let there = among_there (transitive_in s.crates k) (finished_of s) id placed e in
-          let lower : id.krate.0 < k = DependsOn-below sound.below ((depended sound k id.krate).0 there.1) in
-          go (kept_of s id) refl there.2
-        where
-          go : (o : Option Resolution) → kept_of s id ≡ o → option_map placed_by o ≡ Some placed → HoldsNowhereIn in_blocks placed.map
-          go None kept h = no_value h
-          go (Some x) kept h =
-              let there = among_there (transitive_in s.crates k) (finished_of s) id placed e in
-              let lower : id.krate.0 < k = DependsOn-below sound.below ((depended sound k id.krate).0 there.1) in
-              subst (λ (q : Placed). HoldsNowhereIn in_blocks q.map) (one_value h)
-              (clear_crate n id.krate.0 (omega arith) x (ap (kept_of s) (sym (of_number id there.0)) ∙ kept)).1
+      (subst (λ (x : Beginning). Ends s.tables (workspace_of s) (finished_of s) x (collected_of r)) from ended) refl refl
+      (nowhere_below n k low (λ j less x kept. clear_crate n j less x kept))
 
   -- what an edit of a block spreads to of the crates was marked
   unspread_crate : (place : BlockPlace) (there : Option SourceValue) {id : MapId} → id.block ≡ None

@@ -40,7 +40,7 @@ in_turn : {old mid new : SessionState} {places rest : List PlaceValue} → WereR
 in_turn none after = after
 in_turn {old} {new = new} {rest = rest} (more places mid place next_state before next at) after =
     subst (λ (ps : List PlaceValue). AreResolved old ps new) (sym (append_assoc places (place ∷ []) rest))
-    (in_turn before (resolved_then place at.id at.found next_state rest new next at.of at.resolved after))
+    (in_turn before (resolved_then mid place at.id at.found next_state rest new next at.of at.resolved after))
 
 -- tables may have grown since
 pub resolves_grown : {old mid new : SessionState} {done : List PlaceValue} → HasResolved old done mid → Grows mid new → Resolves old done new
@@ -48,7 +48,7 @@ resolves_grown {old} {mid} {new} {done} p grown = record {
   crates = grown.crates ∙ p.crates;
   tables = KeepsTables-trans _ _ _ p.tables grown.tables;
   sources = grown.sources ∙ p.sources;
-  in_turn = subst (λ (ps : List PlaceValue). AreResolved old ps new) (append-nil done) (in_turn p.in_turn (grown_so new grown));
+  in_turn = subst (λ (ps : List PlaceValue). AreResolved old ps new) (append-nil done) (in_turn p.in_turn (grown_so mid new grown));
   others = λ id off. ap (λ (kept : Resolutions). kept_in kept id) grown.kept ∙ p.others id off;
   sound = grown.sound;
 }

@@ -80,7 +80,7 @@ listed_crate crates c has =
     subst (λ (x : Crate). Contains crates x) is found.1
 
 module _ (s : SessionState) (sound : IsSound s) (id : MapId) (r : Resolution) (is : kept_of s id ≡ Some r) where
-  gives : IsResolutionOf s id r
+  abbrev gives : IsResolutionOf s id r
   gives = kept_gives s sound id r is
 
   -- what its run comes to

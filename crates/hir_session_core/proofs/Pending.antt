@@ -1,12 +1,14 @@
 -- How the blocks are collected of which nothing is kept.
-use Rattle.std.specs.Prelude.{is_none, is_some, IfSome, OnNone}
+use Rattle.std.specs.Prelude.{is_none, is_some, IfSome}
 use Rattle.std.proofs.Common.{◌≡◌, ◌∙◌, ◌⊎◌, inl, inr, zero, suc, ◌<◌, Bool, true, false, ◌&&◌, cond, List, [], ◌∷◌, arith, refl, ap, sym, subst, Option, Some, None, option_map, Contains}
 use Rattle.std.specs.BTreeMap.{is_at}
 use Rattle.std.specs.BTreeSet.{BTreeSet, insert_key}
 use Rattle.std.specs.Cmp.{second_so}
 use Rattle.std.specs.List.{All}
 use Rattle.std.specs.Map.{lookup}
-use Rattle.std.specs.Ordering.{Equal, Greater, Less, Ordering, is_eq, match_ordering}
+use Rattle.std.specs.Ordering.{is_eq, match_ordering}
+use Rattle.std.specs.declared.cmp.Ordering.{Ordering}
+use Rattle.std.specs.declared.cmp.Ordering.TheVariants.{Equal, Greater, Less}
 use Rattle.std.proofs.lemmas.List.Elements.{All-contains, All-head, All-nil, All-tail, Contains-append_left, Contains-append_right}
 use Rattle.std.proofs.lemmas.Map.Views.{All-insert_key}
 use Rattle.hir_base.specs.Place.{PlaceValue}
@@ -49,10 +51,6 @@ on_some (Some x) f h = f x h
 pub on_both : {A : Type 0} {P Q R : A → Type 0} (o : Option A) → IfSome o P → IfSome o Q → ((x : A) → P x → Q x → R x) → IfSome o R
 on_both None p q f = tt
 on_both (Some x) p q f = f x p q
-
-pub where_none : {A B C : Type 0} (o : Option A) → OnNone o B → (B → C) → OnNone o C
-where_none None h f = f h
-where_none (Some x) h f = tt
 
 -- ---- all blocks that are set
 

@@ -1,6 +1,6 @@
 -- An edit, and the resolution of a place, leave a sound session.
 use Rattle.std.specs.Prelude.{is_none, map}
-use Rattle.std.proofs.Common.{◌≡◌, ◌≢◌, ◌⊎◌, inl, inr, ¬◌, ℕ, zero, suc, ◌<◌, Bool, true, false, ◌||◌, is_some, List, [], ◌∷◌, length, arith, Option, Some, None, option_map, refl, sym, ap, ◌∙◌, subst, Contains}
+use Rattle.std.proofs.Common.{◌≡◌, ◌≢◌, ◌⊎◌, inl, inr, ℕ, zero, suc, ◌<◌, Bool, true, false, ◌||◌, is_some, List, [], ◌∷◌, length, arith, Option, Some, None, option_map, refl, sym, ap, ◌∙◌, subst, Contains}
 use Rattle.hir_base.specs.contracts.ids.MapIdPartialEq.TheImpl as map_id
 use Rattle.hir_base.specs.declared.ast_id.BlockId.{BlockId}
 use Rattle.hir_base.specs.declared.ast_id.EditionedFileId.{EditionedFileId}
@@ -233,28 +233,29 @@ module _ (s : SessionState) (sound : IsSound s) (F : SourceTable) (hits : List M
       let lower : c.0.0 < krate.0 = sound.below krate.0 c.0 c.1 in
       subst (λ (x : MapId). IsReached x ⊎ (¬ IsReached x)) (sym c.2) (reached_crate n c.0 (omega arith)))
 
-  -- of blocks, by the modules that hold them
-  reached_held : (hs : List ModuleId) (id : MapId) (r : Resolution) → kept_of s id ≡ Some r → r.holders ≡ hs → IsReached id ⊎ (¬ IsReached id)
-  reached_held hs id r is of = go id.block refl
+  -- of blocks, by the module that holds one
+  reached_by_holder : (id : MapId) (r : Resolution) → kept_of s id ≡ Some r → ((h : ModuleId) → r.map.holder ≡ Some h → IsReached h.map ⊎ (¬ IsReached h.map)) → IsReached id ⊎ (¬ IsReached id)
+  reached_by_holder id r is of_holder = go id.block refl
     where
-      in_holder : (hs : List ModuleId) → r.holders ≡ hs → (h : ModuleId) → r.map.holder ≡ Some h → IsReached h.map ⊎ (¬ IsReached h.map)
-      in_holder [] none h held =
-          let kept = holder_kept s id r (kept_gives s sound id r is) h held in
-          absurd (let wrong : [] ≡ h ∷ kept.found.holders = sym none ∙ kept.holders in let no : ⊥ = cc in no)
-      in_holder (g ∷ rest) both h held =
-          let p = kept_gives s sound id r is in
-          let first = first_holder s id r p g rest both in
-          let same : g ≡ h = one_value (sym first.0 ∙ held) in
-          let kept = holder_kept s id r p g first.0 in
-          subst (λ (x : ModuleId). IsReached x.map ⊎ (¬ IsReached x.map)) same (reached_held rest g.map kept.found kept.is (first.1 kept.found kept.is))
-
       go : (o : Option BlockId) → id.block ≡ o → IsReached id ⊎ (¬ IsReached id)
       go None none = subst (λ (x : MapId). IsReached x ⊎ (¬ IsReached x)) (sym (of_number id none)) (reached_crate (suc id.krate.0) id.krate (omega arith))
       go (Some b) is_block = reached_by id (λ d among. elim (behind_block s id b is_block d among) [
         | inl own ↦ subst (λ (x : MapId). IsReached x ⊎ (¬ IsReached x)) (sym own) (reached_crate (suc id.krate.0) id.krate (omega arith))
         | inr h ↦ subst (λ (x : MapId). IsReached x ⊎ (¬ IsReached x)) (sym h.at)
-            (in_holder hs of h.holder (subst (λ (x : Resolution). x.map.holder ≡ Some h.holder) (one_value (sym h.is ∙ is)) h.held))
+            (of_holder h.holder (subst (λ (x : Resolution). x.map.holder ≡ Some h.holder) (one_value (sym h.is ∙ is)) h.held))
       ])
+
+  -- and so of all the modules around it
+  reached_held : (hs : List ModuleId) (id : MapId) (r : Resolution) → kept_of s id ≡ Some r → r.holders ≡ hs → IsReached id ⊎ (¬ IsReached id)
+  reached_held [] id r is of = reached_by_holder id r is (λ h held.
+      let kept = holder_kept s id r (kept_gives s sound id r is) h held in
+      absurd (let wrong : [] ≡ h ∷ kept.found.holders = sym of ∙ kept.holders in let no : ⊥ = cc in no))
+  reached_held (g ∷ rest) id r is of = reached_by_holder id r is (λ h held.
+      let p = kept_gives s sound id r is in
+      let first = first_holder s id r p g rest of in
+      let same : g ≡ h = one_value (sym first.0 ∙ held) in
+      let kept = holder_kept s id r p g first.0 in
+      subst (λ (x : ModuleId). IsReached x.map ⊎ (¬ IsReached x.map)) same (reached_held rest g.map kept.found kept.is (first.1 kept.found kept.is)))
 
   reached_or : (id : MapId) → IsReached id ⊎ (¬ IsReached id)
   reached_or id = on_kept (kept_of s id)
@@ -421,32 +422,32 @@ module _ (s : SessionState) (id : MapId) (r : Resolution) (K : Resolutions) (sou
   was : (j : MapId) → j ≢ id → is_none (kept_in K j) ≡ false → WasUnmarked j
   was j ne off = sym (ap (λ (o : Option Resolution). is_none o) (kept_else j ne)) ∙ off
 
-  abbrev after : SessionState
-  after = record s { kept = K }
+  abbrev kept_now : SessionState
+  kept_now = record s { kept = K }
 
   stays_resolved : (j : MapId) (x : Resolution) (p : IsResolutionOf s j x) → IsKeptBehind s s.sources K j x → ((h : ModuleId) → holder_of p.from.start ≡ Some h → WasUnmarked h.map)
-      → IsResolutionOf after j x
+      → IsResolutionOf kept_now j x
   stays_resolved j x p kept held = IsResolutionOf-stays s s.sources K j x p kept
       (beginning_stays s sound WasUnmarked outwards s.tables s.sources K (KeepsTables-refl _) as_it_was (λ b at means off set. set) j p.from p.begun held) AgreeOn-refl
 
   -- what it follows is current
-  follows_now : (d : MapId) → Contains (follows after id) d → WasUnmarked d
+  follows_now : (d : MapId) → Contains (follows kept_now id) d → WasUnmarked d
   follows_now d among = go id.block refl
     where
       go : (o : Option BlockId) → id.block ≡ o → WasUnmarked d
-      go None none = behind d (subst (λ (o : Option BlockId). Contains (follows_under s id o r.map.holder) d) (sym none) (subst (λ (o : Option BlockId). Contains (follows_by after id o) d) none among))
+      go None none = behind d (subst (λ (o : Option BlockId). Contains (follows_under s id o r.map.holder) d) (sym none) (subst (λ (o : Option BlockId). Contains (follows_by kept_now id o) d) none among))
       go (Some b) of =
           behind d (subst (λ (o : Option BlockId). Contains (follows_under s id o r.map.holder) d) (sym of)
           (subst (λ (o : Option Resolution). Contains (crate_map id.krate ∷ held_maps o) d) kept_here
-          (subst (λ (o : Option BlockId). Contains (follows_by after id o) d) of among)))
+          (subst (λ (o : Option BlockId). Contains (follows_by kept_now id o) d) of among)))
 
   holder_now : (h : ModuleId) → r.map.holder ≡ Some h → WasUnmarked h.map
   holder_now h held =
       let of = held_block s id r found h held in
-      follows_now h.map (followed_holder after id of.0 r h of.1 kept_here held)
+      follows_now h.map (followed_holder kept_now id of.0 r h of.1 kept_here held)
 
   own_now : (b : BlockId) → id.block ≡ Some b → WasUnmarked (crate_map id.krate)
-  own_now b of = follows_now (crate_map id.krate) (followed_crate after id b of)
+  own_now b of = follows_now (crate_map id.krate) (followed_crate kept_now id b of)
 
   -- what the crate of the place stands on is current
   crates_now : (c : Crate) → has_crate (transitive_in s.crates id.krate.0) c ≡ true → WasUnmarked (crate_map c)
@@ -461,7 +462,7 @@ module _ (s : SessionState) (id : MapId) (r : Resolution) (K : Resolutions) (sou
 
       go : (o : Option BlockId) → id.block ≡ o → WasUnmarked (crate_map c)
       go None none = all_behind (λ d h. follows_now (crate_map d)
-          (subst (λ (x : MapId). Contains (follows after x) (crate_map d)) (sym (of_number id none)) (followed after id.krate d h)))
+          (subst (λ (x : MapId). Contains (follows kept_now x) (crate_map d)) (sym (of_number id none)) (followed kept_now id.krate d h)))
       go (Some b) of = all_behind (λ d h. outwards (crate_map id.krate) (crate_map d) (own_now b of) (followed s id.krate d h))
 
   behind_now : IsKeptBehind s s.sources K id r
@@ -487,18 +488,18 @@ module _ (s : SessionState) (id : MapId) (r : Resolution) (K : Resolutions) (sou
               one_of g off f is (suc n, within, eq) = holders_hold s sound {P = WasUnmarked} outwards f.holders g.map f is refl off h (n, omega arith, eq)
 
   -- a marked place was resolved on which all that it depends is current: the session stays sound
-  pub resolved_sound : IsSound after
+  pub resolved_sound : IsSound kept_now
   resolved_sound = record {
     few = sound.few;
     below = sound.below;
     placed = λ j off. on_id j id
-        (λ e. subst (λ (x : MapId). IsPlace after x) (sym e) (same_place id place))
+        (λ e. subst (λ (x : MapId). IsPlace kept_now x) (sym e) (same_place id place))
         (λ ne. same_place j (sound.placed j (was j ne off)));
     closed = λ j d off among. still_unmarked d (on_id j id
-        (λ e. follows_now d (subst (λ (x : MapId). Contains (follows after x) d) e among))
+        (λ e. follows_now d (subst (λ (x : MapId). Contains (follows kept_now x) d) e among))
         (λ ne. sound.closed j d (was j ne off) (subst (λ (ds : List MapId). Contains ds d) (follows_as_before j ne j.block) among)));
     current = λ j off. on_id j id
-        (λ e. subst (λ (x : MapId). IsCurrent after x) (sym e) (record {
+        (λ e. subst (λ (x : MapId). IsCurrent kept_now x) (sym e) (record {
           found = r;
           is = kept_here;
           gives = stays_resolved id r found behind_now (λ h held. holder_now h (found.holder ∙ held));
@@ -519,11 +520,11 @@ module _ (s : SessionState) (id : MapId) (r : Resolution) (K : Resolutions) (sou
     calls = sound.calls;
   }
     where
-      same_place : (j : MapId) → IsPlace s j → IsPlace after j
+      same_place : (j : MapId) → IsPlace s j → IsPlace kept_now j
       same_place j (of_crate none within) = of_crate none within
       same_place j (of_block b at is means own within set) = of_block b at is means own within set
 
-      follows_as_before : (j : MapId) → j ≢ id → (o : Option BlockId) → follows_by after j o ≡ follows_by s j o
+      follows_as_before : (j : MapId) → j ≢ id → (o : Option BlockId) → follows_by kept_now j o ≡ follows_by s j o
       follows_as_before j ne None = refl
       follows_as_before j ne (Some b) = ap (λ (o : Option Resolution). crate_map j.krate ∷ held_maps o) (kept_else j ne)
 

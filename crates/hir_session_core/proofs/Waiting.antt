@@ -1,12 +1,14 @@
 -- Blocks in their turn: resolving one makes only deeper ones due.
 use Rattle.std.specs.Prelude.{is_none, cond, map, nat_lt, if◌then◌else◌}
-use Rattle.std.proofs.Common.{◌≡◌, ◌≢◌, inl, inr, ¬◌, ℕ, zero, suc, ◌+◌, ◌<◌, ◌≤◌, Bool, true, false, IsTrue, List, [], ◌∷◌, ◌++◌, length, arith, refl, sym, subst, ◌∙◌, ap, Option, Some, None, option_map, Contains, append-nil, append_assoc}
+use Rattle.std.proofs.Common.{◌≡◌, ◌≢◌, inl, inr, ℕ, zero, suc, ◌+◌, ◌<◌, ◌≤◌, Bool, true, false, IsTrue, List, [], ◌∷◌, ◌++◌, length, arith, refl, sym, subst, ◌∙◌, ap, Option, Some, None, option_map, Contains, append-nil, append_assoc}
 use Rattle.std.specs.Option.{option_and_then}
 use Rattle.std.specs.List.{AllByRecursion}
 use Rattle.std.specs.List.Sorted.{IsStrictlySortedBy}
 use Rattle.std.specs.BTreeSet.{BTreeSet}
 use Rattle.std.specs.Cmp.{tied_itself}
-use Rattle.std.specs.Ordering.{Less, Ordering, is_le}
+use Rattle.std.specs.Ordering.{is_le}
+use Rattle.std.specs.declared.cmp.Ordering.{Ordering}
+use Rattle.std.specs.declared.cmp.Ordering.TheVariants.{Less}
 use Rattle.std.proofs.lemmas.List.{map-append}
 use Rattle.std.proofs.lemmas.List.Elements.{Contains-append_right, Contains-append_cases}
 use Rattle.std.proofs.lemmas.Bool.{ltb-true}
@@ -31,7 +33,7 @@ use Rattle.hir_session_state.specs.SessionState.{SessionState, block_kept, is_ma
 use Rattle.hir_session_state.specs.SourceTable.{SourceTable}
 use Rattle.hir_session_state.specs.Standing.{Standing, block_below, block_map, block_number, child_kept, down, from_crate, is_set, kept_block, module_by, step, to_child, to_root}
 use Rattle.hir_session_state.specs.Standing.Standing.{at, lacks, stale, unset}
-use Rattle.hir_session_state.proofs.Places.{block_total, nesting_below, no_deeper, number_means}
+use Rattle.hir_session_state.proofs.Places.{block_total, nesting_below, nesting_first, no_deeper, number_means}
 use Rattle.hir_session_state.proofs.Standing.{down-append, kept_block_grown, kept_gives, standing_grown, to_block_at, to_child_at, unmarked}
 use Rattle.hir_session_state.proofs.Truth.{clash, no_value, on_bool, one_value}
 use Rattle.hir_session_sources.proofs.BlockLemmas.{same_root}
@@ -184,10 +186,6 @@ module _ (old new : SessionState) (sound : IsSound old) (b : BlockPlace) (p : Is
   step_alike krate before unset (element.Module name) off less = refl
   step_alike krate before unset (element.Block c) off less = refl
 
-  nesting_first : (e : PlaceElement) (more : List PlaceElement) → nesting_of (e ∷ more) ≡ nesting_of (e ∷ []) + nesting_of more
-  nesting_first (element.Module name) more = refl
-  nesting_first (element.Block id) more = let sum : suc (nesting_of more) ≡ suc zero + nesting_of more = omega arith in sum
-
   nesting_behind : (before : List PlaceElement) (e : PlaceElement) → nesting_of (before ++ e ∷ []) ≡ nesting_of before + nesting_of (e ∷ [])
   nesting_behind before (element.Module name) = let none : nesting_of (before ++ element.Module name ∷ []) ≡ nesting_of before = nesting_beside before name in omega arith
   nesting_behind before (element.Block id) = let one : nesting_of (before ++ element.Block id ∷ []) ≡ suc (nesting_of before) = nesting_below before id in omega arith
@@ -214,7 +212,7 @@ module _ (old new : SessionState) (sound : IsSound old) (b : BlockPlace) (p : Is
           let first : root_of r.map.id ≡ m = cc in
           let is_own : m.map ≡ crate_map place.krate = sym (ap (λ (x : ModuleId). x.map) first) ∙ (kept_gives old sound (crate_map place.krate) r is).own in
           subst (λ (x : MapId). is_marked old x ≡ false) (sym is_own) (unmarked old (crate_map place.krate) r is))
-          less
+          (let few : nesting_of place.elements < depth b = less in omega arith)
 
   -- what is due then and is no deeper was due
   pub was_due : (c : BlockPlace) → depth c ≤ depth b → IsDueBlock new c → IsDueBlock old c
@@ -308,6 +306,9 @@ module _ (s : SessionState) (sound : IsSound s) (pending : BTreeSet PendingBlock
             | inr later ↦ here_or later
           ]
         where
+          le_itself : (x : BlockPlace) → IsTrue (is_le (block_cmp x x))
+          le_itself x = ap is_le (tied_itself block_total x)
+
           here_or : Contains (p ∷ after) (pending_of (place_of_block c)) → IsTrue (is_le (block_cmp b c))
           here_or (zero, within, is) =
               let same : b ≡ c = same_root b c (own_place (pending_of (place_of_block c)) (place_of_block b) (is_own ∙ is)) in
@@ -315,9 +316,6 @@ module _ (s : SessionState) (sound : IsSound s) (pending : BTreeSet PendingBlock
           here_or (suc n, within, is) =
               in_order b c (subst (λ (x : PendingBlock). pending_cmp x (pending_of (place_of_block c)) ≡ Less) (sym is_own)
               (sorted_after pending_cmp before p after ordered (pending_of (place_of_block c)) (n, (omega arith), is)))
-
-          le_itself : (x : BlockPlace) → IsTrue (is_le (block_cmp x x))
-          le_itself x = ap is_le (tied_itself block_total x)
 
   -- what wasn't due and comes before isn't due then either
   turn_passed : (new : SessionState) (b : BlockPlace) → place_of_block b ≡ p.place → IsBlockResolved s b new → AreNotDue new (before ++ p ∷ [])
@@ -425,7 +423,7 @@ in_turn-end from before pending looked now done t b due =
 -- nothing is next
 nothing_next : (s : SessionState) → AreCratesCurrent s → ((b : BlockPlace) → ¬ IsDueBlock s b) → (place : PlaceValue) → ¬ IsNext s place
 nothing_next s current none place (next_crate k due lesser is) = clash due.marked (current k due.within)
-nothing_next s current none place (next_block b no due first is) = none b due
+nothing_next s current none place (next_block b quiet due first is) = none b due
 
 pub refreshes_all : (old new : SessionState) (done : List PlaceValue) → HasResolved old done new → AreCratesCurrent new → ((b : BlockPlace) → ¬ IsDueBlock new b) → Refreshes old done new
 refreshes_all old new done so_far current none = record {
@@ -455,9 +453,9 @@ module _ (s : SessionState) (current : AreCratesCurrent s) (none : (b : BlockPla
       go true set None marked e = none (block_below krate before id) (record { set = set; marked = marked; holder = m; held = ap module_by is })
       go true set (Some r) kept e = absurd (let no : ⊥ = cc in no)
       go false set o kept e = absurd (let no : ⊥ = cc in no)
-  fresh_step krate before (lacks id) e is fresh same = absurd (let no : ⊥ = cc in no)
-  fresh_step krate before stale e is fresh same = fresh refl
-  fresh_step krate before unset e is fresh same = absurd (let no : ⊥ = cc in no)
+  fresh_step krate before (lacks id) e is fresh = λ same. absurd (let no : ⊥ = cc same in no)
+  fresh_step krate before stale e is fresh = λ same. fresh refl
+  fresh_step krate before unset e is fresh = λ same. absurd (let no : ⊥ = cc same in no)
 
   fresh_from : (krate : Crate) (r : Resolution) → kept_of s (crate_map krate) ≡ Some r → (before : List PlaceElement) (st : Standing) (more : List PlaceElement)
       → down s.tables s.sources.blocks s.kept krate [] (at (root_of r.map.id)) before ≡ st → st ≢ stale → down s.tables s.sources.blocks s.kept krate before st more ≢ stale
@@ -486,7 +484,7 @@ module _ (s : SessionState) (current : AreCratesCurrent s) (none : (b : BlockPla
           off = current place.krate.0 (ltb-true place.krate.0 (length s.crates) within)
 
           go : (o : Option Resolution) → kept_of s (crate_map place.krate) ≡ o → standing_of s place ≢ stale
-          go None is = clash (ap (λ (o : Option Resolution). is_none o) is) off
+          go None is e = clash (ap (λ (o : Option Resolution). is_none o) is) off
           go (Some r) is e =
               fresh_from place.krate r is [] (at (root_of r.map.id)) place.elements refl (λ f. absurd (let no : ⊥ = cc in no))
               (sym (ap (λ (o : Option Resolution). from_crate s.tables s.sources.blocks s.kept o place) is) ∙ e)

@@ -1,5 +1,5 @@
 -- How far has a refresh come? No public clause speaks of this.
-use Rattle.std.specs.Prelude.{◌≡◌, ¬◌, ℕ, ◌<◌, cond, is_none, true, false, List, [], ◌∷◌, ◌++◌, length, Option, Some, None, Contains}
+use Rattle.std.specs.Prelude.{◌≡◌, ℕ, ◌<◌, cond, is_none, true, false, List, [], ◌∷◌, ◌++◌, length, Option, Some, None, Contains}
 use Rattle.std.specs.BTreeSet.{BTreeSet, insert_key}
 use Rattle.hir_base.specs.Place.{PlaceValue}
 use Rattle.hir_base.specs.declared.ast_id.BlockId.{BlockId}

@@ -2,7 +2,7 @@
 //!
 //! Crates come first, by number, so that a run finds what it depends on. Once no crate is marked, blocks follow, an outer one
 //! before those within it: whether the module that holds a block is there is known once the blocks around it were resolved.
-ghost use Rattle.std.specs.Prelude.{◌≡◌, ◌≢◌, ¬◌, ℕ, ◌<◌, ◌≤◌, ◌++◌, ◌∷◌, [], true, false, length, None, Some, IfOk, IfSome, IsSome, OnOk, OnErr, OnSome, OnNone, Err};
+ghost use Rattle.std.specs.Prelude.{◌≡◌, ◌≢◌, ℕ, ◌<◌, ◌≤◌, ◌++◌, ◌∷◌, [], true, false, length, None, Some, IfOk, IfSome, IsSome, OnOk, OnErr, OnSome, Err};
 ghost use Rattle.hir_base.specs.Locations.{max_locations};
 ghost use Rattle.hir_base.specs.Place.{PlaceValue};
 ghost use Rattle.hir_base.specs.declared.place.BlockPlace.{BlockPlace};
@@ -225,7 +225,7 @@ impl Session {
         ensures place { IfSome result (λ due. due.place.now ≡ place.now) }
         ensures holder { IfSome result (λ due. due.holder ≡ holder) }
         ensures due { OnSome result (IsDueBlock self.now place.now) }
-        ensures none { OnNone result (¬ IsDueBlock self.now place.now) }
+        ensures none { result ≡ None → ¬ IsDueBlock self.now place.now }
     {
         if self.is_block_marked(place) {
             Some(DueBlock { place, holder })
@@ -240,7 +240,7 @@ impl Session {
         ensures place { IfSome result (λ due. due.place.now ≡ place.now) }
         ensures due { OnSome result (IsDueBlock self.now place.now) }
         ensures held { IfSome result (λ due. module_of self.now place.now.holder ≡ Some due.holder) }
-        ensures none { OnNone result (¬ IsDueBlock self.now place.now) }
+        ensures none { result ≡ None → ¬ IsDueBlock self.now place.now }
     {
         match self.standing(&place.holder).module() {
             Some(holder) => self.due_in(place, holder),
@@ -253,7 +253,7 @@ impl Session {
         ensures place { IfSome result (λ due. place_of_block due.place.now ≡ root.now) }
         ensures due { IfSome result (λ due. IsDueBlock self.now due.place.now) }
         ensures held { IfSome result (λ due. module_of self.now due.place.now.holder ≡ Some due.holder) }
-        ensures none { OnNone result ((b : BlockPlace) → place_of_block b ≡ root.now → ¬ IsDueBlock self.now b) }
+        ensures none { result ≡ None → (b : BlockPlace) → place_of_block b ≡ root.now → ¬ IsDueBlock self.now b }
     {
         match self
             .inputs

@@ -9,7 +9,7 @@ use Rattle.hir_session_state.specs.Standing.{is_set}
 use Rattle.hir_session_state.proofs.Truth.{clash}
 use Rattle.hir_session_sources.specs.BlockTables.{steps_in}
 use Rattle.hir_session_sources.proofs.BlockLemmas.{same_root}
-use Rattle.hir_session_core.proofs.Pending.{found_none, found_set, on_both, on_some, where_none}
+use Rattle.hir_session_core.proofs.Pending.{found_none, found_set, on_both, on_some}
 use Rattle.hir_session_core.proofs.session.Session.due_at.Goals as goal
 
 pub due_block-requires : goal.due_block-requires
@@ -26,7 +26,7 @@ returns-in-Some c =
       place = on_some c.due_block.result (λ due same. ap place_of_block same ∙ root) c.due_block.ensures.place;
       due = on_both c.due_block.result c.due_block.ensures.place c.due_block.ensures.due (λ due same is. subst (λ (b : BlockPlace). IsDueBlock c.args.self.now b) (sym same) is);
       held = on_both c.due_block.result c.due_block.ensures.place c.due_block.ensures.held (λ due same is. ap (λ (b : BlockPlace). module_of c.args.self.now b.holder) same ∙ is);
-      none = where_none c.due_block.result c.due_block.ensures.none (λ not b of due. not (subst (λ (x : BlockPlace). IsDueBlock c.args.self.now x) (same_root b c.in-Some.place.now (of ∙ sym root)) due));
+      none = λ is b of due. c.due_block.ensures.none is (subst (λ (x : BlockPlace). IsDueBlock c.args.self.now x) (same_root b c.in-Some.place.now (of ∙ sym root)) due);
     }
 
 pub returns-in-None : goal.returns-in-None
@@ -36,7 +36,7 @@ returns-in-None c =
       place = tt;
       due = tt;
       held = tt;
-      none = λ b of due. clash due.set (ap (λ (bs : Blocks). is_set bs b) (sym same)
+      none = λ is b of due. clash due.set (ap (λ (bs : Blocks). is_set bs b) (sym same)
           ∙ found_none c.blocks.result.now (steps_in c.krate.result c.elements.result.now) c.in-None.ensures.value b
           (of ∙ sym (λ i. steps_in (c.krate.ensures.value i) (c.elements.ensures.value i))));
     }

@@ -27,5 +27,5 @@ returns-in-None c = record {
   place = tt;
   due = tt;
   held = tt;
-  none = λ due. no_value (c.in-None.ensures.value ∙ ap module_by c.standing.ensures.value ∙ due.held);
+  none = λ is due. no_value (c.in-None.ensures.value ∙ ap module_by c.standing.ensures.value ∙ due.held);
 }

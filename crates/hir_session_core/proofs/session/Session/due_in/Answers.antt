@@ -2,7 +2,7 @@
 use Rattle.std.proofs.Common.{◌∙◌, ap, sym, refl, Option}
 use Rattle.std.specs.Prelude.{is_none}
 use Rattle.hir_session_state.specs.Kept.{Resolution}
-use Rattle.hir_session_state.proofs.Truth.{clash}
+use Rattle.hir_session_state.proofs.Truth.{clash, no_value}
 use Rattle.hir_session_core.proofs.Pending.{marked_none}
 use Rattle.hir_session_core.proofs.session.Session.due_in.Goals as goal
 
@@ -16,7 +16,7 @@ returns-then-is_block_marked c = record {
     holder = c.args.holder;
     held = c.requires.held;
   };
-  none = tt;
+  none = λ is. no_value (sym is);
 }
 
 pub returns-else-is_block_marked : goal.returns-else-is_block_marked
@@ -24,5 +24,5 @@ returns-else-is_block_marked c = record {
   place = tt;
   holder = tt;
   due = tt;
-  none = λ due. clash (ap (λ (o : Option Resolution). is_none o) due.marked) (sym c.is_block_marked.ensures.value ∙ c.if-is_block_marked.false);
+  none = λ is due. clash (ap (λ (o : Option Resolution). is_none o) due.marked) (sym c.is_block_marked.ensures.value ∙ c.if-is_block_marked.false);
 }

@@ -42,4 +42,4 @@ pub returns-in_err-note_place-clause-err : goal.returns-in_err-note_place-clause
 returns-in_err-note_place-clause-err c = on_err _ (grows_not _ (subst (λ (s : SessionState). IsSound s) c.self.view_is c.self.invariant.0))
 
 pub returns-in-None-clause-ok : goal.returns-in-None-clause-ok
-returns-in-None-clause-ok c = left c.in-None.ensures.none refl refl
+returns-in-None-clause-ok c = left (c.in-None.ensures.none refl) refl refl
