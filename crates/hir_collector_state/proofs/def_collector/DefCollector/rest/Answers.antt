@@ -1,11 +1,10 @@
--- Imports rest in a step, or nothing changes. Modules stay as they are.
-use Rattle.std.proofs.Common.{◌≡◌, ◌∙◌, OnOk, ap, length, refl, subst}
+-- Modules stay as they are.
+use Rattle.std.proofs.Common.{OnOk, refl, subst}
 use Rattle.std.proofs.lemmas.Result.{on_ok_weaker}
 use Rattle.hir_collector_state.specs.contracts.def_collector.DefCollector.{the_view}
-use Rattle.hir_collector_rules.specs.CallMoves.{Rested, RestsTooFar, already, moved}
-use Rattle.hir_collector_rules.specs.State.{Core, Run, core_in, counted}
+use Rattle.hir_collector_rules.specs.State.{Run}
 use Rattle.hir_collector_rules.specs.Waiting.{IsNoted}
-use Rattle.hir_collector_state.proofs.Noted.{noted_follow, noted_itself, noted_same}
+use Rattle.hir_collector_state.proofs.Noted.{noted_follow, noted_same}
 use Rattle.hir_collector_state.proofs.def_collector.DefCollector.rest.Goals as goal
 
 pub returns-clause-noted : goal.returns-clause-noted
