@@ -8,6 +8,7 @@ use Rattle.hir_base.specs.declared.ast_id.HirFileId.{HirFileId}
 use Rattle.hir_base.specs.declared.ast_id.HirFileId.TheVariants.{Macro}
 use Rattle.hir_base.specs.declared.ast_id.MacroCallId.{MacroCallId}
 use Rattle.hir_base.specs.declared.ids.Crate.{Crate}
+use Rattle.hir_base.specs.declared.macro_kind.CallStyle.{CallStyle}
 use Rattle.hir_base.specs.declared.macro_kind.MacroId.{MacroId}
 use Rattle.hir_base.specs.declared.macro_kind.MacroCallLoc.{MacroCallLoc}
 use Rattle.hir_base.specs.declared.macro_kind.MacroId.TheVariants as macros
@@ -150,6 +151,16 @@ module _ (first tables : TablesValue) (w : Workspace) (finished : Maps) (m : Map
       let style = call_style d in
       ap (λ (t : Option (List ℕ)). expansion_of_call own style makro (called_text finished m makro t) (input_at grown w own d.ast_id)) same_text
       ∙ ap (λ (i : Option (List ℕ)). expansion_of_call own style makro (called_text finished m makro (text_at first w makro)) i) same_input
+
+  -- it is put together out of what was looked up
+  pub key_of_call : (own : Crate) (style : CallStyle) (text input : Option (List ℕ)) (key : ExpansionValue) → key ≡ expansion_of_call own style makro text input
+      → own ≡ m.id.krate → style ≡ call_style d → text ≡ called_text finished m makro (text_at first w makro) → input ≡ input_at first w m.id.krate d.ast_id
+      → key ≡ key_at_first
+  key_of_call own style text input key is caller called text_is input_is =
+      is ∙ ap (λ (k : Crate). expansion_of_call k style makro text input) caller
+      ∙ ap (λ (s : CallStyle). expansion_of_call m.id.krate s makro text input) called
+      ∙ ap (λ (t : Option (List ℕ)). expansion_of_call m.id.krate (call_style d) makro t input) text_is
+      ∙ ap (λ (i : Option (List ℕ)). expansion_of_call m.id.krate (call_style d) makro (called_text finished m makro (text_at first w makro)) i) input_is
 
   lacks_by : (key : ExpansionValue) → key ≡ key_at_first → ((grown : TablesValue) → KeepsTables tables grown → IsCallNumberedOut grown d key)
       → OnceGrown tables w (λ env. LacksExpansion env finished m d makro)
