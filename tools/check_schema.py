@@ -24,7 +24,8 @@ CRATES = TOP / "crates"
 LONGEST, DEEPEST, MOST_CRATES = 16_777_216, 127, 10_000
 # what each command is answered where it is carried out, in $defs/reply/$defs
 ANSWERS = {
-    "crates": "done", "set file": "done", "remove file": "done", "set expansion": "done", "remove expansion": "done",
+    "crates": "done", "set file": "done", "remove file": "done", "set block": "done", "remove block": "done",
+    "set expansion": "done", "remove expansion": "done",
     "refresh": "places", "resolve": "answer", "diagnostics": "diagnostics", "dump": "dump", "status": "status", "tree": "page",
 }
 # replies of hir_wire_rows that no session gives
@@ -203,6 +204,16 @@ def file_rule(value, _begun):
     return None
 
 
+def block_rule(value, _begun):
+    """The place of a block ends in something else."""
+    if not isinstance(value, dict) or value.get("do") not in ("set block", "remove block"):
+        return None
+    place = value.get("at")
+    if isinstance(place, list) and place and not isinstance(place[-1], dict):
+        return f"at[{len(place) - 1}]: {short(place[-1])} leads to no block"
+    return None
+
+
 def order_rule(value, begun):
     """`crates` comes first and once. `begun` is None where lines have no order."""
     if begun is None or not isinstance(value, dict) or (value.get("do") == "crates") != begun:
@@ -210,7 +221,7 @@ def order_rule(value, begun):
     return "do: " + ("\"crates\" comes once" if begun else "\"crates\" comes before any other command")
 
 
-RULES = {"rule of floats": float_rule, "rule of files": file_rule, "rule of the order": order_rule}
+RULES = {"rule of floats": float_rule, "rule of files": file_rule, "rule of blocks": block_rule, "rule of the order": order_rule}
 
 
 def begins(value):

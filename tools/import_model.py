@@ -2,12 +2,13 @@
 """Random crates with imports, globs and macros, and what a plain model of the rules (tools/model) answers of their names.
 
 Usage, at the top of the repository: tools/import_model.py [--sessions N] [--seed S] [--macros | --calls | --globs | --attributes |
---edits] [--program FILE] [--write FOLDER] [--rows].
+--blocks | --edits] [--program FILE] [--write FOLDER] [--rows].
 With --macros the crates define macros too, in textual scope and as items. With --calls they also call them, over a table of
 expansions that define, import and call further, modules are in files too, and files and expansions are edited. With
 --globs a crate's modules are full of globs and calls, so that what an expansion defines goes along globs to what the next
-call names. With --attributes items have attributes and derives besides, and some crates are procedural macros'. With --edits
-the sessions are those of tools/random_sessions.py.
+call names. With --attributes items have attributes and derives besides, and some crates are procedural macros'. With --blocks
+there are blocks besides, in modules and in one another, which are edited too, and all maps are dumped. With --edits the
+sessions are those of tools/random_sessions.py.
 It runs the program, by default crates/hir_session_main/out/hir_session_main, over each session, and ends with 1 at the first
 whose answers aren't those of the model, which it writes to standard error. With --write it runs nothing, and writes the
 sessions and their answers as FOLDER/stdin and FOLDER/stdout, as crates/hir_session_rows has them. With --rows it draws
@@ -21,7 +22,7 @@ import sys
 
 import random_sessions
 from model.syntax import dump
-from model.workspace import Workspace
+from model.workspace import Workspace, read_place
 
 MODULES = ["a", "b", "m"]
 ITEMS = ["S", "T", "x"]
@@ -276,11 +277,15 @@ class Session:
             say({"do": "set file", "file": file, "unit": unit})
         for key, entry in self.entries.items():
             say(self.entry(key, entry))
+        self.set_more(say)
         say({"do": "refresh"})
         self.ask(workspace, say, not self.calls)
         if self.calls:
             self.edit(workspace, say)
         return said
+
+    def set_more(self, say):
+        """Further sources."""
 
     def ask(self, workspace, say, all_of_them):
         for number in range(len(self.crates)):
@@ -435,6 +440,84 @@ class Attributes(Session):
                     {"path": "proc_macro_derive", "derive": self.choose(ITEMS + ["m"]), "helpers": ["h"]}])]
 
 
+class Blocks(Session):
+    """Draws a session with calls, and blocks in its modules and in one another."""
+
+    ROOTS = ["", "", "self::", "super::", "super::super::", "crate::", "::"]
+
+    def __init__(self, seed):
+        super().__init__(seed, True, True)
+        self.units_of_blocks = {}
+        for _ in range(self.random.randint(2, 7)):
+            place = self.draw_place()
+            self.units_of_blocks[dump(place)] = self.draw_block(place)
+
+    def draw_place(self):
+        if self.units_of_blocks and self.chance(0.45):
+            place = json.loads(self.choose(list(self.units_of_blocks)))
+            if self.chance(0.4):
+                place.append(self.choose(MODULES))
+        else:
+            number = self.random.randrange(len(self.crates))
+            place = [number, *self.choose(self.skeleton[number])]
+        return place + [{"block": [self.random.randint(1, 2), self.random.randint(0, 1)]}]
+
+    def draw_block(self, place):
+        number, self.next_id = place[0], 0
+        self.tree = {name: [inner for inner in MODULES if self.chance(0.2)] for name in MODULES if self.chance(0.5)}
+        around = Spot(number, self.crates[number])
+        return {"nodes": self.draw_items(Spot(number, self.crates[number], around), ())}
+
+    def path(self, at, last):
+        text, end = super().path(at, last)
+        if self.chance(0.5):
+            return text, end
+        names = [self.choose(NAMES) for _ in range(self.random.randint(1, 2))]
+        return self.choose(self.ROOTS) + "::".join(names), names[-1]
+
+    def set_more(self, say):
+        for place, unit in self.units_of_blocks.items():
+            say({"do": "set block", "at": json.loads(place), "unit": unit})
+
+    def ask(self, workspace, say, all_of_them):
+        super().ask(workspace, say, all_of_them)
+        for number in range(len(self.crates)):
+            say({"do": "dump", "at": [number]})
+        self.ask_blocks(workspace, say)
+
+    def ask_blocks(self, workspace, say):
+        drawn = random.Random(dump(self.inputs))
+        for place in self.units_of_blocks:
+            at = json.loads(place)
+            say({"do": "status", "at": at})
+            say({"do": "dump", "at": at})
+            _, root = workspace.status(read_place(at))
+            for inner in [at] if root is None else list(self.places(root, at))[:6]:
+                for name in NAMES + ["d", "u8"]:
+                    more = drawn.choice([{}, {}, {"sub": "bang"}, {"sub": "attr"}, {"shadow": "module"}])
+                    say({"do": "resolve", "at": inner, "path": drawn.choice(self.ROOTS) + name, **more})
+                    say({"do": "resolve", "at": inner, "path": drawn.choice(NAMES) + "::" + name})
+
+    def edit(self, workspace, say):
+        super().edit(workspace, say)
+        drawn = random.Random(dump(self.inputs))
+        for _ in range(5):
+            place = drawn.choice(list(self.units_of_blocks))
+            if drawn.random() < 0.3:
+                say({"do": "remove block", "at": json.loads(place)})
+            else:
+                changed = dump(drawn.choice(list(self.units_of_blocks.values())))
+                old, new = drawn.choice([('"input":"i"', '"input":"j"'), ('"text":"A"', '"text":"B"'), ('"path":"x"', '"path":"S"')])
+                say({"do": "set block", "at": json.loads(place), "unit": json.loads(changed.replace(old, new))})
+            for other in self.units_of_blocks:
+                say({"do": "status", "at": json.loads(other)})
+            if drawn.random() < 0.7:
+                say({"do": "refresh"})
+        super().edit(workspace, say)
+        say({"do": "refresh"})
+        self.ask_blocks(workspace, say)
+
+
 class Edits:
     """A session of tools/random_sessions.py."""
 
@@ -501,6 +584,7 @@ def main():
     parser.add_argument("--calls", action="store_true")
     parser.add_argument("--globs", action="store_true")
     parser.add_argument("--attributes", action="store_true")
+    parser.add_argument("--blocks", action="store_true")
     parser.add_argument("--edits", action="store_true")
     parser.add_argument("--rows", action="store_true")
     parser.add_argument("--program", default="crates/hir_session_main/out/hir_session_main")
@@ -509,19 +593,16 @@ def main():
     sys.setrecursionlimit(100000)
     if options.rows:
         return compare_rows()
-    written = []
+    written, kinds = [], {"edits": Edits, "attributes": Attributes, "globs": Globs, "blocks": Blocks}
+    kind = next((kind for kind in kinds if vars(options)[kind]), None)
     for seed in range(options.seed, options.seed + options.sessions):
-        if options.edits or options.attributes or options.globs:
-            drawn = (Edits if options.edits else Attributes if options.attributes else Globs)(seed)
-        else:
-            drawn = Session(seed, options.macros, options.calls)
-        lines = lines_of(drawn)
+        lines = lines_of(Session(seed, options.macros, options.calls) if kind is None else kinds[kind](seed))
         if options.write:
             written.append((seed, *lines))
         elif not compare(options.program, seed, *lines):
             return 1
     if options.write:
-        kind = next((kind for kind in ("attributes", "calls", "globs") if vars(options)[kind]), None)
+        kind = kind or ("calls" if options.calls else None)
         label = "# drawn: " + (kind + " of " if kind else "") + "seed %d"
         with open(options.write + "/stdin", "w") as commands_file, open(options.write + "/stdout", "w") as answers_file:
             for seed, commands, answers in written:

@@ -5,11 +5,12 @@ Usage, at the top of the repository: tools/random_sessions.py [--sessions N] [--
 Without --program it takes crates/hir_session_main/out/hir_session_main, which `rt run < /dev/null` builds there.
 With --print it runs nothing, and writes the commands of the sessions as they stand in crates/hir_session_rows/stdin.
 
-A session has one to four crates, each with a root file, and module files that any of them may name, all with imports, globs,
-macros and calls, and a table of expansions. Files and expansions are set, changed, removed and refreshed some times. At its end
-all is refreshed, and a list of paths and the diagnostics are asked at each crate. A second session is handed the sources and
-expansions of that moment at once, and asked the same. It ends with 1 at the first session whose answers differ, which it
-writes to standard error.
+A session has one to four crates, each with a root file, and module files that any of them may name, blocks in modules and in one
+another, also where nothing holds them, all with imports, globs, macros and calls, and a table of expansions. Files, blocks and
+expansions are set, changed, removed and refreshed some times. At its end all is refreshed, and a list of paths is asked at each
+crate and each block, with its status and its dump, and the diagnostics of each crate. A second session is handed the sources and
+expansions of that moment at once, and asked the same. It ends with 1 at the first session whose answers differ, which it writes
+to standard error.
 """
 import argparse
 import json
@@ -126,6 +127,22 @@ class Crates:
             unit["attrs"] = [{"path": "cfg", "cfg": False}]
         return unit
 
+    def block(self):
+        """What a block may hold."""
+        self.next_id = 0
+        self.leaf, self.expansion, self.calls = False, False, 3
+        unit = {"nodes": self.items(1) + self.items(2)} if self.random.random() < 0.95 else "broken"
+        if unit != "broken" and self.random.random() < 0.05:
+            unit["attrs"] = [{"path": "cfg", "cfg": False}]
+        return unit
+
+    def block_place(self, count, blocks):
+        """Where a block may be: in a module or in a block, whether or not that is there."""
+        outer = [place for place in blocks if sum(isinstance(element, dict) for element in json.loads(place)) < 4]
+        at = json.loads(self.choose(outer)) if outer and self.random.random() < 0.4 else [self.random.randrange(count)]
+        at += [self.choose(["a", "b", "m"]) for _ in range(self.choose(8 * [0] + [1, 1, 2]))]
+        return json.dumps(at + [{"block": [self.random.randint(1, 3), 0]}])
+
     def expansion_of(self):
         """What a key may expand to, with its error."""
         self.next_id = 0
@@ -145,12 +162,12 @@ class Crates:
         return found
 
 
-def edited(file, unit, drawn):
+def edited(unit, drawn, another):
     """The unit with its bodies or some texts alone changed, or another one."""
     roll = drawn.random.random()
     if roll < 0.2:
         return json.loads(json.dumps(unit).replace('"body": "1"', '"body": "2"'))
-    return with_one_text_changed(unit, drawn) if roll < 0.45 else drawn.unit(file)
+    return with_one_text_changed(unit, drawn) if roll < 0.45 else another()
 
 
 def with_one_text_changed(unit, drawn):
@@ -177,25 +194,51 @@ def edit_of_expansions(entries, count, drawn):
     return entry(key, entries[key])
 
 
+def edit_of_files(files, crates, drawn):
+    """Sets a file, or takes one away."""
+    file = drawn.choose(crates)["root"] if drawn.random.random() < 0.6 else drawn.choose(FILES)
+    if file in files and drawn.random.random() < 0.15:
+        del files[file]
+        return {"do": "remove file", "file": file}
+    files[file] = edited(files[file], drawn, lambda: drawn.unit(file)) if file in files else drawn.unit(file)
+    return {"do": "set file", "file": file, "unit": files[file]}
+
+
+def edit_of_blocks(blocks, count, drawn):
+    """Sets a block, or takes one away; now and then one that isn't there."""
+    place = drawn.choose(list(blocks)) if blocks and drawn.random.random() < 0.5 else drawn.block_place(count, blocks)
+    if drawn.random.random() < 0.15:
+        blocks.pop(place, None)
+        return {"do": "remove block", "at": json.loads(place)}
+    kept = blocks.get(place)
+    blocks[place] = drawn.block() if kept is None else edited(kept, drawn, drawn.block)
+    return {"do": "set block", "at": json.loads(place), "unit": blocks[place]}
+
+
+def asks_of_block(place, drawn):
+    """What is asked at the place of a block and at what may be a module in it."""
+    at, inner = json.loads(place), json.loads(place) + [drawn.choose(["a", "b", "m"])]
+    paths = [drawn.choose(NAMES + MACROS + ["u8"]) for _ in range(6)] + [drawn.path() for _ in range(6)]
+    asks = [{"do": "resolve", "at": drawn.choose(4 * [at] + [inner]), "path": path} for path in paths]
+    return asks + [{"do": "status", "at": at}, {"do": "status", "at": inner}, {"do": "dump", "at": drawn.choose([at, at, inner])}]
+
+
 def session(seed):
     """The commands of a session with edits, those of a fresh one over its last sources, and how many of each are asked last."""
     drawn = Crates(seed)
     crates = drawn.crates(drawn.random.randint(1, 4))
     begin = {"do": "crates", "crates": crates}
-    files, entries, commands = {}, {}, [begin]
-    for _ in range(drawn.random.randint(8, 30)):
-        if drawn.random.random() < 0.5:
+    files, blocks, entries, commands = {}, {}, {}, [begin]
+    for _ in range(drawn.random.randint(10, 36)):
+        roll = drawn.random.random()
+        if roll < 0.35:
             commands.append(edit_of_expansions(entries, len(crates), drawn))
-            if drawn.random.random() < 0.5:
-                commands.append({"do": "refresh"})
-            continue
-        file = drawn.choose(crates)["root"] if drawn.random.random() < 0.6 else drawn.choose(FILES)
-        if files.get(file) is not None and drawn.random.random() < 0.15:
-            del files[file]
-            commands.append({"do": "remove file", "file": file})
+        elif roll < 0.65:
+            commands.append(edit_of_blocks(blocks, len(crates), drawn))
         else:
-            files[file] = edited(file, files[file], drawn) if file in files else drawn.unit(file)
-            commands.append({"do": "set file", "file": file, "unit": files[file]})
+            commands.append(edit_of_files(files, crates, drawn))
+        if blocks and drawn.random.random() < 0.2:
+            commands += asks_of_block(drawn.choose(list(blocks)), drawn)[-4:]
         if drawn.random.random() < 0.5:
             commands.append({"do": "refresh"})
     asks = []
@@ -203,8 +246,11 @@ def session(seed):
         paths = [name for name in NAMES + MACROS] + [drawn.path() for _ in range(12)]
         places = 6 * [[number]] + [[number, name] for name in NAMES[:3]]
         asks += [{"do": "resolve", "at": drawn.choose(places), "path": path} for path in paths]
-        asks.append({"do": "diagnostics", "crate": number})
+        asks += [{"do": "diagnostics", "crate": number}, {"do": "dump", "at": drawn.choose(places)}]
+    for place in list(blocks) + [drawn.block_place(len(crates), blocks)]:
+        asks += asks_of_block(place, drawn)
     fresh = [begin] + [{"do": "set file", "file": file, "unit": unit} for file, unit in files.items()]
+    fresh += [{"do": "set block", "at": json.loads(place), "unit": unit} for place, unit in blocks.items()]
     fresh += [entry(key, found) for key, found in entries.items()]
     last = [{"do": "refresh"}] + asks
     return commands + last, fresh + last, len(asks)
@@ -242,7 +288,7 @@ def main():
         asked += count
         found += sum('"ok"' in reply and reply != '{"ok":{"macros":null,"stop":null,"types":null,"values":null}}' for reply in one[-count:])
     if not given.print:
-        print(f"{given.sessions} sessions, {asked} paths asked twice, {found} of them reached something; no difference")
+        print(f"{given.sessions} sessions, {asked} questions asked twice, {found} of them reached something; no difference")
 
 
 if __name__ == "__main__":

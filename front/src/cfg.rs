@@ -7,6 +7,7 @@ use serde_json::{json, Value};
 use crate::syntax::{comma_separated, plain};
 use crate::token::{opened, Delimiter, Kind, Token};
 
+/// What a `cfg` asks for.
 #[derive(Clone, PartialEq, Eq, Debug)]
 pub enum Condition {
     Flag(String),
@@ -36,6 +37,7 @@ pub fn string_of(literal: &str) -> Option<String> {
 }
 
 impl Condition {
+    /// The condition that these tokens are; invalid where they are none.
     pub fn read(tokens: &[Token]) -> Condition {
         let tokens = opened(tokens);
         let all = |inner: &[Token]| comma_separated(inner).into_iter().map(Condition::read).collect::<Vec<_>>();
@@ -65,6 +67,7 @@ impl Condition {
         }
     }
 
+    /// As the program reads a condition.
     pub fn json(&self) -> Value {
         let all = |them: &[Condition]| them.iter().map(Condition::json).collect::<Vec<_>>();
         match self {
@@ -118,6 +121,7 @@ impl Options {
         }
     }
 
+    /// As the program reads a crate's options.
     pub fn json(&self) -> Value {
         let mut flags: Vec<_> = self.flags.iter().collect();
         flags.sort();

@@ -4,8 +4,10 @@
 //! were. [`text`] counts as editors do, [`message`] frames messages, [`site`] finds paths in texts.
 
 mod answers;
+mod declaration;
 pub mod message;
 pub mod site;
+pub mod symbols;
 pub mod text;
 
 use std::collections::{BTreeMap, HashMap, HashSet, VecDeque};

@@ -7,6 +7,8 @@
 use std::collections::HashMap;
 use std::sync::Arc;
 
+use syn::parse::Parser as _;
+
 use crate::syntax::{angle, MacroDefinition};
 use crate::token::{count, opened, text_of, Delimiter, Kind, Span, Token, Tokens};
 
@@ -90,6 +92,7 @@ impl Fragment {
 }
 
 impl Rules {
+    /// The rules of a definition, or why they can't be read.
     pub fn read(definition: &MacroDefinition) -> Result<Rules, String> {
         let mut rules = Vec::new();
         let mut rest = &definition.body[..];
@@ -749,6 +752,13 @@ fn by_syn<T: syn::parse::Parse>(input: &[Token], behind: &[&str], steps: &mut us
         left = left.checked_sub(trees(it))?;
     }
     Some(most)
+}
+
+/// Whether what a macro is called with reads as statements, or as expressions between commas.
+pub fn reads_as_rust(input: &[Token]) -> bool {
+    let text = readable(input);
+    let expressions = syn::punctuated::Punctuated::<syn::Expr, syn::Token![,]>::parse_terminated;
+    syn::Block::parse_within.parse_str(&text).is_ok() || expressions.parse_str(&text).is_ok()
 }
 
 /// A `T`, and how many token trees follow it.

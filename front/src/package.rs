@@ -31,6 +31,7 @@ pub struct Wanted {
     pub config: Vec<String>,
 }
 
+/// A crate as it is handed in, and what is known of it besides.
 #[derive(Clone, Debug)]
 pub struct Krate {
     /// As paths name it.
@@ -51,6 +52,7 @@ pub struct Krate {
     pub is_stub: bool,
 }
 
+/// The crates of a session, each behind those that it depends on.
 #[derive(Clone, Debug, Default)]
 pub struct Crates {
     pub all: Vec<Krate>,
@@ -105,6 +107,7 @@ fn stub() -> PathBuf {
 }
 
 impl Crates {
+    /// Finds the crates by Cargo's metadata, and those of the standard library.
     pub fn read(wanted: &Wanted) -> Result<Crates> {
         let manifest = if wanted.path.is_dir() { wanted.path.join("Cargo.toml") } else { wanted.path.clone() };
         if !manifest.is_file() {

@@ -13,6 +13,7 @@ pub const VARIABLE: &str = "NOGSIMAT_PROGRAM";
 /// A line above this isn't taken by the program.
 pub const MOST_BYTES: usize = 16_777_216;
 
+/// A running process of the program.
 pub struct Program {
     path: PathBuf,
     child: Child,
@@ -47,6 +48,7 @@ pub fn find(named: Option<&Path>) -> Result<PathBuf> {
 }
 
 impl Program {
+    /// Starts the program at a path.
     pub fn start(path: &Path) -> Result<Program> {
         let mut child = Command::new(path)
             .stdin(Stdio::piped())
@@ -96,6 +98,7 @@ impl Program {
         Ok(replies)
     }
 
+    /// The reply to one command.
     pub fn ask(&mut self, line: String) -> Result<Value> {
         let mut replies = self.ask_all(&[line])?;
         replies.pop().context("one reply for one command")

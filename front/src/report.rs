@@ -1,6 +1,6 @@
 //! Diagnostics and answers at places in files.
 
-use std::collections::{HashMap, HashSet};
+use std::collections::{BTreeMap, HashMap, HashSet};
 use std::path::Path;
 use std::sync::Arc;
 
@@ -12,7 +12,7 @@ use crate::lsp::site::is_local;
 use crate::syntax::{plain, Item, ItemKind, UseTree};
 use crate::token::{on_a_thread, tokens_of, Delimiter, Kind, Position, Span, Token};
 use crate::unit::{place_json, quoted, steps_of, Detail, Step};
-use crate::workspace::{key_of, path_of_key, Located, NotRun, PastItem, Workspace};
+use crate::workspace::{key_of, path_of_key, Leads, Located, NotRun, PastItem, Workspace};
 
 /// A place in a file.
 #[derive(Clone, PartialEq, Eq, PartialOrd, Ord, Hash, Debug, Serialize)]
@@ -25,6 +25,7 @@ pub struct Place {
     pub end_column: u32,
 }
 
+/// Something that isn't resolved, or couldn't be read.
 #[derive(Clone, PartialEq, Eq, PartialOrd, Ord, Hash, Debug, Serialize)]
 pub struct Diagnostic {
     pub place: Place,
@@ -65,6 +66,11 @@ impl Report {
     }
 }
 
+const BUILTIN_TYPES: [&str; 17] = [
+    "bool", "char", "f32", "f64", "i128", "i16", "i32", "i64", "i8", "isize", "str", "u128", "u16", "u32", "u64", "u8",
+    "usize",
+];
+
 /// A path as messages show it: below the current folder, or absolute.
 pub fn shown(path: &Path) -> String {
     let here = std::env::current_dir().ok().and_then(|it| it.canonicalize().ok());
@@ -72,6 +78,7 @@ pub fn shown(path: &Path) -> String {
     below.unwrap_or(path).display().to_string()
 }
 
+/// A span of a file as a place.
 pub fn place_at(key: &str, span: Span) -> Place {
     Place {
         file: shown(&path_of_key(key)),
@@ -114,13 +121,12 @@ impl Workspace {
         // Where something isn't read, what can't be judged for that is found through all crates.
         let is_partial = has_stub || others.clone().any(|it| self.has_unread(it));
         let judged: Vec<u32> = others.filter(|it| is_partial || self.crates.all[*it as usize].is_asked).collect();
-        let asks: Vec<String> = judged.iter().map(|it| format!("{{\"do\":\"diagnostics\",\"crate\":{it}}}")).collect();
-        let replies = self.ask_all(&asks)?;
+        let told = self.diagnostics(&judged)?;
         let mut imports = Vec::new();
         let mut calls = Vec::new();
         let mut absent = Bound::new();
-        for (krate, reply) in judged.iter().copied().zip(replies) {
-            for it in reply["ok"].as_array().into_iter().flatten() {
+        for (krate, told) in judged.iter().copied().zip(told) {
+            for it in told.as_array().into_iter().flatten() {
                 let is_given_back = |it: &Value| {
                     let source = it["in"].as_array().into_iter().flatten();
                     source.into_iter().any(|it| !it["attr"].is_null())
@@ -213,8 +219,34 @@ impl Workspace {
     /// Adds the modules into which a glob brings names of a crate for which a stub stands, or of a module that was added,
     /// each with the name `*`.
     fn follow_globs(&mut self, crates: &[u32], bound: &mut Bound) -> Result<()> {
-        let mut globs = Vec::new();
+        self.find_globs(crates)?;
+        let mut to: Vec<(Module, Module)> = Vec::new();
         for krate in crates.iter().copied() {
+            for (at, leads) in self.globs.get(&krate).map_or(&[][..], |it| &it.1) {
+                match leads {
+                    Leads::Stub => drop(bound.insert((krate, at.clone(), "*".to_owned()))),
+                    Leads::Module(number, module) => to.push(((*number, module.clone()), (krate, at.clone()))),
+                }
+            }
+        }
+        let mut before = usize::MAX;
+        while bound.len() != before {
+            before = bound.len();
+            for ((from_krate, from), (krate, at)) in &to {
+                if bound.contains(&(*from_krate, from.clone(), "*".to_owned())) {
+                    bound.insert((*krate, at.clone(), "*".to_owned()));
+                }
+            }
+        }
+        Ok(())
+    }
+
+    /// Asks where the globs lead of those of the crates that were resolved again.
+    fn find_globs(&mut self, crates: &[u32]) -> Result<()> {
+        let is_due = |it: &u32| self.globs.get(it).map(|it| it.0) != Some(self.times_resolved(*it));
+        let due: Vec<u32> = crates.iter().copied().filter(is_due).collect();
+        let mut globs = Vec::new();
+        for krate in due.iter().copied() {
             let is_old = self.crates.all[krate as usize].edition == "2015";
             for (key, module) in self.files(krate) {
                 for node in self.built(key).map_or(&[][..], |it| &it.nodes) {
@@ -232,33 +264,29 @@ impl Workspace {
         }
         let asks: Vec<String> = globs.iter().map(|(krate, at, path)| question(*krate, at, path)).collect();
         let replies = self.ask_all(&asks)?;
-        let mut to: Vec<(Module, Module)> = Vec::new();
+        for krate in due {
+            self.globs.insert(krate, (self.times_resolved(krate), Vec::new()));
+        }
         for ((krate, at, _), reply) in globs.into_iter().zip(replies) {
             let found = &reply["ok"]["types"]["def"];
-            let other = found["crate"].as_u64().and_then(|it| self.crates.all.get(it as usize));
-            if other.is_some_and(|it| it.is_stub) {
-                bound.insert((krate, at, "*".to_owned()));
-            } else if let Some(it) = self.module_of_definition(found) {
-                to.push((it, (krate, at)));
-            }
-        }
-        let mut before = usize::MAX;
-        while bound.len() != before {
-            before = bound.len();
-            for ((from_krate, from), (krate, at)) in &to {
-                if bound.contains(&(*from_krate, from.clone(), "*".to_owned())) {
-                    bound.insert((*krate, at.clone(), "*".to_owned()));
-                }
+            let leads = match self.module_of_definition(found) {
+                _ if self.is_of_stub(found) => Leads::Stub,
+                Some((number, module)) => Leads::Module(number, module),
+                None => continue,
+            };
+            if let Some(it) = self.globs.get_mut(&krate) {
+                it.1.push((at, leads));
             }
         }
         Ok(())
     }
 
     /// Tells the imports that name what an enum or another item doesn't hold, as a variant that isn't there. The program
-    /// takes them as the item itself, so each path is asked.
+    /// takes them as the item itself, so each path is asked that a type may stand in.
     fn imports_past_items(&mut self, krate: u32, report: &mut Report) -> Result<()> {
         let times = self.times_resolved(krate);
         if self.past_items.get(&krate).map(|it| it.0) != Some(times) {
+            let types = self.types_in_imports(krate);
             let is_old = self.crates.all[krate as usize].edition == "2015";
             let mut asks = Vec::new();
             let mut leaves_of = Vec::new();
@@ -268,8 +296,10 @@ impl Workspace {
                         continue;
                     };
                     for (at, leaf) in leaves.iter().enumerate() {
-                        let is_single = leaf.path.contains("::") && !leaf.path.ends_with("::*");
-                        if !is_single || leaf.binds.is_none() && !leaf.path.contains(char::is_uppercase) {
+                        let Some((holder, _)) = leaf.path.rsplit_once("::").filter(|it| it.1 != "*") else {
+                            continue;
+                        };
+                        if !holder.split("::").any(|it| types.contains(it)) {
                             continue;
                         }
                         let mut place = module.clone();
@@ -308,6 +338,20 @@ impl Workspace {
         Ok(())
     }
 
+    /// The names within paths of a crate's imports that a type may have.
+    fn types_in_imports(&self, krate: u32) -> HashSet<String> {
+        let mut within: HashSet<&str> = HashSet::new();
+        for node in self.files(krate).iter().filter_map(|it| self.built(&it.0)).flat_map(|it| &it.nodes) {
+            if let Detail::Use(leaves) = &node.detail {
+                let holders = leaves.iter().filter_map(|it| it.path.rsplit_once("::"));
+                within.extend(holders.flat_map(|it| it.0.split("::")));
+            }
+        }
+        let builtin = BUILTIN_TYPES.iter().copied().filter(|it| within.contains(it));
+        let declared = self.type_names().map(|it| &**it).filter(|it| within.contains(it));
+        builtin.chain(declared).map(str::to_owned).collect()
+    }
+
     fn import(&self, krate: u32, it: &Value) -> Option<Import> {
         let located = self.locate(krate, &it["item"])?;
         let Detail::Use(leaves) = &located.node.detail else {
@@ -318,34 +362,64 @@ impl Workspace {
         Some(Import { krate, located, path: leaf.path, binds: leaf.binds, span, reached: 0, last: Value::Null })
     }
 
-    /// Finds how far the paths of the imports go.
+    /// Finds how far the paths of the imports go. Those of a crate are asked once after each time that it was resolved,
+    /// name by name, and none behind a crate for which a stub stands.
     fn follow(&mut self, imports: &mut [Import]) -> Result<()> {
-        let mut questions = Vec::new();
-        let mut whose = Vec::new();
-        for (at, it) in imports.iter().enumerate() {
-            let is_old = self.crates.all[it.krate as usize].edition == "2015";
-            for (count, prefix) in prefixes(&it.path, is_old).into_iter().enumerate() {
-                questions.push(question(it.krate, &it.located.module, &prefix));
-                whose.push((at, count + 1));
+        let mut of_crates: BTreeMap<u32, Vec<&mut Import>> = BTreeMap::new();
+        for it in imports {
+            of_crates.entry(it.krate).or_default().push(it);
+        }
+        let mut due = Vec::new();
+        for (krate, imports) in &mut of_crates {
+            let times = self.times_resolved(*krate);
+            let known = self.reached.get(krate).filter(|it| it.0 == times && it.1.len() == imports.len());
+            if let Some((_, known)) = known {
+                for (import, (reached, last)) in imports.iter_mut().zip(known) {
+                    (import.reached, import.last) = (*reached, last.clone());
+                }
+                continue;
+            }
+            let is_old = self.crates.all[*krate as usize].edition == "2015";
+            due.extend(imports.iter_mut().map(|it| (prefixes(&it.path, is_old), &mut **it)));
+        }
+        for count in 0.. {
+            due.retain(|(prefixes, it)| it.reached == count && prefixes.len() > count && !self.is_of_stub(&it.last));
+            if due.is_empty() {
+                break;
+            }
+            let mut places: HashMap<String, usize> = HashMap::new();
+            let mut asks = Vec::new();
+            let mut whose = Vec::new();
+            for (prefixes, it) in &due {
+                let ask = question(it.krate, &it.located.module, &prefixes[count]);
+                whose.push(*places.entry(ask).or_insert_with_key(|ask| {
+                    asks.push(ask.clone());
+                    asks.len() - 1
+                }));
+            }
+            let replies = self.ask_all(&asks)?;
+            for ((_, import), at) in due.iter_mut().zip(whose) {
+                let found = &replies[at]["ok"]["types"]["def"];
+                if !found.is_null() && replies[at]["ok"]["stop"].is_null() {
+                    (import.reached, import.last) = (count + 1, found.clone());
+                }
             }
         }
-        let replies = self.ask_all(&questions)?;
-        for ((at, count), reply) in whose.into_iter().zip(replies) {
-            let found = &reply["ok"]["types"]["def"];
-            let import = &mut imports[at];
-            if !found.is_null() && reply["ok"]["stop"].is_null() && import.reached + 1 == count {
-                import.reached = count;
-                import.last = found.clone();
-            }
+        for (krate, imports) in of_crates {
+            let reached = imports.into_iter().map(|it| (it.reached, it.last.clone())).collect();
+            self.reached.insert(krate, (self.times_resolved(krate), reached));
         }
         Ok(())
     }
 
+    /// Whether a definition is one of a crate for which a stub stands.
+    fn is_of_stub(&self, definition: &Value) -> bool {
+        let krate = definition["crate"].as_u64().and_then(|it| self.crates.all.get(it as usize));
+        krate.is_some_and(|it| it.is_stub)
+    }
+
     fn is_unjudged(&self, it: &Import, bound: &Bound) -> bool {
-        let is_stub = |it: &Value| {
-            it["crate"].as_u64().and_then(|it| self.crates.all.get(it as usize)).is_some_and(|it| it.is_stub)
-        };
-        is_stub(&it.last) || self.follows_from(it, bound)
+        self.is_of_stub(&it.last) || self.follows_from(it, bound)
     }
 
     /// Whether the name that isn't reached is one of these.
@@ -416,9 +490,7 @@ impl Workspace {
         let names = names_of(path);
         if names.len() > 1 {
             let reply = self.ask(question(krate, &located.module, &prefixes(path, false)[0]))?;
-            let first = reply["ok"]["types"]["def"]["crate"].as_u64();
-            let is_stub = first.and_then(|it| self.crates.all.get(it as usize)).is_some_and(|it| it.is_stub);
-            if is_stub {
+            if self.is_of_stub(&reply["ok"]["types"]["def"]) {
                 report.unjudged += 1;
                 return Ok(());
             }
@@ -624,6 +696,7 @@ impl Diagnostic {
 pub struct Texts(HashMap<String, String>);
 
 impl Texts {
+    /// A diagnostic with the line of its file.
     pub fn show(&mut self, it: &Diagnostic, colored: bool) -> String {
         let text = self.0.entry(it.place.file.clone()).or_insert_with(|| {
             String::from_utf8_lossy(&std::fs::read(&it.place.file).unwrap_or_default()).into_owned()
@@ -668,6 +741,7 @@ pub struct Meaning {
     pub visibility: String,
 }
 
+/// What a path names, in each namespace.
 #[derive(Clone, Debug, Serialize)]
 pub struct Answer {
     pub path: String,
@@ -956,6 +1030,7 @@ impl Workspace {
         format!("{{\"do\":\"resolve\",\"at\":{place},\"path\":{}{more}}}", quoted(&asked))
     }
 
+    /// Asks what a path names at a place of a crate.
     pub fn answer(&mut self, krate: u32, place: &[Step], path: &str, context: Context) -> Result<Answer> {
         let reply = self.ask(self.question_in(krate, place, path, context))?;
         match reply["error"].as_str() {
@@ -1004,6 +1079,7 @@ impl Workspace {
         self.module_text(krate, &names)
     }
 
+    /// A module in words, as `name_of_a_crate::a`.
     pub fn module_text(&self, krate: u32, module: &[String]) -> String {
         let mut names = vec![self.crates.all[krate as usize].name.clone()];
         names.extend(module.iter().cloned());
@@ -1090,6 +1166,7 @@ impl Workspace {
 }
 
 impl Answer {
+    /// As `where` and `resolve` print it.
     pub fn text(&self) -> String {
         let mut text = format!("`{}` in {}\n", self.path, self.module);
         let mut before: Option<String> = None;

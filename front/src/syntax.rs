@@ -9,7 +9,7 @@ use std::sync::Arc;
 
 pub use blocks::{statements_of, Block};
 
-use crate::token::{opened, Delimiter, Hash, Kind, Span, SyntaxError, Token, Tokens};
+use crate::token::{opened, Delimiter, Hash, Kind, Position, Span, SyntaxError, Token, Tokens};
 
 /// A path, and where each of its names stands.
 #[derive(Clone, Debug, Default)]
@@ -19,6 +19,7 @@ pub struct Path {
     pub span: Span,
 }
 
+/// An attribute. Documentation isn't kept, neither as a comment nor as an attribute.
 #[derive(Clone, Debug)]
 pub struct Attribute {
     pub path: Path,
@@ -28,6 +29,7 @@ pub struct Attribute {
     pub span: Span,
 }
 
+/// Who sees an item.
 #[derive(Clone, Debug, Default)]
 pub enum Visibility {
     #[default]
@@ -38,6 +40,7 @@ pub enum Visibility {
     In(Path),
 }
 
+/// A name where it is declared.
 #[derive(Clone, Debug)]
 pub struct Name {
     /// Without `r#`.
@@ -45,6 +48,7 @@ pub struct Name {
     pub span: Span,
 }
 
+/// A tree of a `use`.
 #[derive(Clone, Debug)]
 pub enum UseTree {
     Single { path: Path, alias: Option<Name> },
@@ -52,6 +56,7 @@ pub enum UseTree {
     List { path: Option<Path>, trees: Vec<UseTree>, span: Span },
 }
 
+/// What fields a struct or a variant has.
 #[derive(Clone, Copy, PartialEq, Eq, Debug)]
 pub enum Shape {
     Record,
@@ -59,17 +64,30 @@ pub enum Shape {
     Unit,
 }
 
+/// A field of a struct, a union or a variant.
 #[derive(Clone, Debug)]
 pub struct Field {
+    /// Those alone that are conditions.
     pub attributes: Vec<Attribute>,
     pub visibility: Visibility,
+    /// None in a tuple.
+    pub name: Option<Name>,
+    /// From its visibility to the end of its type.
+    pub span: Span,
 }
 
+/// A variant of an enum.
 #[derive(Clone, Debug)]
 pub struct Variant {
     pub attributes: Vec<Attribute>,
     pub name: Name,
     pub shape: Shape,
+    /// Of a record.
+    pub fields: Vec<Field>,
+    /// Where its documentation and its attributes begin, or its name.
+    pub start: Position,
+    /// From its name to its last word.
+    pub span: Span,
 }
 
 /// A macro call where items stand.
@@ -77,10 +95,20 @@ pub struct Variant {
 pub struct Call {
     pub path: Path,
     pub input: Tokens,
+    /// Of the input alone.
+    pub input_hash: Hash,
     /// Of the path, the input, the names around it, and how many such calls come before.
     pub identity: Hash,
     /// Whether it stands in a block, where it may expand to more than items.
     pub is_statement: bool,
+}
+
+impl Call {
+    /// A call that has no identity yet.
+    fn new(path: Path, input: &Tokens, is_statement: bool) -> Call {
+        let input_hash = Hash::default().with_tokens(input);
+        Call { path, input: input.clone(), input_hash, identity: Hash::default(), is_statement }
+    }
 }
 
 /// A `macro_rules!` or `macro`.
@@ -95,6 +123,7 @@ pub struct MacroDefinition {
     pub hash: Hash,
 }
 
+/// What an item is, with what is in it.
 #[derive(Clone, Debug)]
 pub enum ItemKind {
     Use(UseTree),
@@ -126,6 +155,7 @@ pub enum ItemKind {
     Macro(Arc<MacroDefinition>),
 }
 
+/// An item, or an associated one.
 #[derive(Clone, Debug)]
 pub struct Item {
     pub attributes: Vec<Attribute>,
@@ -137,9 +167,14 @@ pub struct Item {
     pub input: Option<Hash>,
     /// What an unnamed item is known by.
     pub text: Hash,
+    /// Where its documentation and its attributes begin, or its first word.
+    pub start: Position,
     /// From its first word to its last, without attributes.
     pub span: Span,
-    /// The blocks with items of their own in the body of a function, or in the value of a constant or a static.
+    /// The same without a body, a value, or what stands in its braces.
+    pub head: Span,
+    /// The blocks with items of their own in its body, its value, its types or what it is called with; those of the items
+    /// in a module, a trait, an impl or an extern block are with these.
     pub blocks: Vec<Arc<Block>>,
 }
 
@@ -166,7 +201,7 @@ fn identify(items: &mut [Item], around: Hash, seen: &mut std::collections::HashM
     for item in items {
         match &mut item.kind {
             ItemKind::Call(call) => {
-                let hash = around.with(&call.path.text).with_tokens(&call.input);
+                let hash = around.with(&call.path.text).with(&call.input_hash.text());
                 let before = seen.entry(hash).or_default();
                 let identity = if *before == 0 { hash } else { hash.with(&before.to_string()) };
                 *before += 1;
@@ -378,7 +413,7 @@ impl<'a> Cursor<'a> {
                 break;
             };
             self.at += 2 + usize::from(bang);
-            made.extend(attribute_of(tokens, *span));
+            made.extend(attribute_of(tokens, *span).filter(|it| it.path.text != "doc"));
         }
         made
     }
@@ -459,9 +494,10 @@ impl<'a> Cursor<'a> {
     }
 
     fn item(&mut self, place: Where) -> Result<Option<Item>, SyntaxError> {
+        let first = self.at;
         let attributes = self.attributes(false);
         if self.is_at_end() {
-            return if attributes.is_empty() { Ok(None) } else { self.error("an item") };
+            return if self.at == first { Ok(None) } else { self.error("an item") };
         }
         let from = self.at;
         let visibility = self.visibility();
@@ -472,7 +508,9 @@ impl<'a> Cursor<'a> {
             kind: ItemKind::Function,
             input: None,
             text: Hash::default(),
+            start: self.tokens[first].span.start,
             span: Span::default(),
+            head: Span::default(),
             blocks: Vec::new(),
         };
         if place == Where::Associated && self.sees_word("default") && !self.ahead(1).is_some_and(|it| it.is("!")) {
@@ -488,16 +526,15 @@ impl<'a> Cursor<'a> {
             });
         }
         let taken = &self.tokens[from..self.at.max(from + 1).min(self.tokens.len())];
-        item.span = Span { start: taken[0].span.start, end: taken.last().unwrap_or(&taken[0]).span.end };
-        if item.attributes.iter().any(|it| is_of_macro(&it.path.text)) {
+        item.span = span_of(taken);
+        item.head = span_of(head_of(&item.kind, taken));
+        if item.attributes.iter().any(crate::unit::may_be_macro) {
             item.input = Some(Hash::default().with_tokens(taken));
         }
         if item.name.is_none() && !matches!(item.kind, ItemKind::Impl { .. } | ItemKind::ExternBlock(_)) {
             item.text = Hash::default().with_tokens(taken);
         }
-        if matches!(item.kind, ItemKind::Function | ItemKind::Constant | ItemKind::Static) {
-            item.blocks = blocks::blocks_in(taken);
-        }
+        item.blocks = blocks::blocks_of(&item.kind, taken);
         Ok(Some(item))
     }
 
@@ -722,8 +759,7 @@ impl<'a> Cursor<'a> {
         if *delimiter != Delimiter::Brace {
             self.takes(";");
         }
-        let call = Call { path, input: input.clone(), identity: Hash::default(), is_statement: false };
-        item.kind = ItemKind::Call(Arc::new(call));
+        item.kind = ItemKind::Call(Arc::new(Call::new(path, input, false)));
         Ok(true)
     }
 
@@ -812,11 +848,6 @@ fn is_qualifier(word: &str) -> bool {
     matches!(word, "fn" | "async" | "unsafe" | "extern" | "safe" | "gen" | "trait" | "auto" | "impl")
 }
 
-/// Whether an attribute of this path may be a macro, or is `derive`.
-fn is_of_macro(path: &str) -> bool {
-    path == "derive" || !crate::unit::is_builtin(path)
-}
-
 fn is_of_trait(head: &[Token]) -> bool {
     let mut depth = 0;
     for (at, it) in head.iter().enumerate() {
@@ -854,18 +885,43 @@ pub fn attribute_in(tokens: &[Token], span: Span) -> Option<Attribute> {
     Some(Attribute { path, input, span })
 }
 
+/// From the first token to the last.
+fn span_of(tokens: &[Token]) -> Span {
+    match tokens {
+        [first, .., last] => Span { start: first.span.start, end: last.span.end },
+        [it] => it.span,
+        [] => Span::default(),
+    }
+}
+
+/// The tokens of an item without a body, a value, or what stands in its braces.
+fn head_of<'a>(kind: &ItemKind, tokens: &'a [Token]) -> &'a [Token] {
+    let tokens = match tokens {
+        [head @ .., last] if last.is(";") || last.group(Delimiter::Brace).is_some() => head,
+        _ => tokens,
+    };
+    let has_value = matches!(kind, ItemKind::Constant | ItemKind::Static);
+    let value = tokens.iter().position(|it| has_value && it.is("="));
+    &tokens[..value.unwrap_or(tokens.len())]
+}
+
 fn fields_of(tokens: &[Token]) -> Vec<Field> {
     let tokens = opened(tokens);
     let mut cursor = Cursor::new(&tokens, Span::default());
     let mut made = Vec::new();
     while !cursor.is_at_end() {
-        let attributes = cursor.attributes(false);
+        let mut attributes = cursor.attributes(false);
         if cursor.is_at_end() {
             break;
         }
+        attributes.retain(|it| matches!(&*it.path.text, "cfg" | "cfg_attr"));
+        let from = cursor.at;
         let visibility = cursor.visibility();
-        made.push(Field { attributes, visibility });
+        let has_name = cursor.ahead(1).is_some_and(|it| it.is(":"));
+        let name = if has_name { cursor.name().ok() } else { None };
         cursor.pass_to(false, ",");
+        let span = span_of(&tokens[from..cursor.at]);
+        made.push(Field { attributes, visibility, name, span });
         cursor.next();
     }
     made
@@ -876,20 +932,26 @@ fn variants_of(tokens: &[Token]) -> Result<Vec<Variant>, SyntaxError> {
     let mut cursor = Cursor::new(&tokens, Span::default());
     let mut made = Vec::new();
     while !cursor.is_at_end() {
+        let start = tokens[cursor.at].span.start;
         let attributes = cursor.attributes(false);
         if cursor.is_at_end() {
             break;
         }
         // A visibility is read, though rustc refuses it later.
         cursor.visibility();
+        let from = cursor.at;
         let name = cursor.name()?;
-        let shape = match cursor.peek().map(|it| &it.kind) {
-            Some(Kind::Group(Delimiter::Brace, _)) => Shape::Record,
-            Some(Kind::Group(Delimiter::Parenthesis, _)) => Shape::Tuple,
-            _ => Shape::Unit,
+        let (shape, fields) = match cursor.peek().map(|it| &it.kind) {
+            Some(Kind::Group(Delimiter::Brace, inner)) => (Shape::Record, fields_of(inner)),
+            Some(Kind::Group(Delimiter::Parenthesis, _)) => (Shape::Tuple, Vec::new()),
+            _ => (Shape::Unit, Vec::new()),
         };
-        made.push(Variant { attributes, name, shape });
-        while cursor.next().is_some_and(|it| !it.is(",")) {}
+        while cursor.peek().is_some_and(|it| !it.is(",")) {
+            cursor.at += 1;
+        }
+        let span = span_of(&tokens[from..cursor.at]);
+        made.push(Variant { attributes, name, shape, fields, start, span });
+        cursor.next();
     }
     Ok(made)
 }

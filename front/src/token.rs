@@ -19,6 +19,7 @@ pub struct Span {
     pub end: Position,
 }
 
+/// What a group stands in.
 #[derive(Clone, Copy, PartialEq, Eq, Hash, Debug)]
 pub enum Delimiter {
     Parenthesis,
@@ -28,6 +29,7 @@ pub enum Delimiter {
     None,
 }
 
+/// What a token is.
 #[derive(Clone, Debug)]
 pub enum Kind {
     /// A word as it is written, with `r#` where it has it.
@@ -42,12 +44,14 @@ pub enum Kind {
     Crate(u32),
 }
 
+/// A token tree, and where it stands.
 #[derive(Clone, Debug)]
 pub struct Token {
     pub kind: Kind,
     pub span: Span,
 }
 
+/// Tokens that are shared.
 pub type Tokens = Arc<[Token]>;
 
 /// Why a text has no tokens or no items, and where.
@@ -77,6 +81,7 @@ fn operator(run: &str) -> Option<&'static str> {
 }
 
 impl Token {
+    /// Whether it is this operator.
     pub fn is(&self, punct: &str) -> bool {
         matches!(self.kind, Kind::Punct(it) if it == punct)
     }
@@ -86,10 +91,12 @@ impl Token {
         self.is(">") && next.is_some_and(|it| it.is(">") && it.span.start == self.span.end)
     }
 
+    /// Whether it is this word as it is written.
     pub fn is_word(&self, word: &str) -> bool {
         matches!(&self.kind, Kind::Ident(it) if **it == *word)
     }
 
+    /// The word that it is, with `r#` where it has it.
     pub fn word(&self) -> Option<&str> {
         match &self.kind {
             Kind::Ident(it) => Some(it),
@@ -97,6 +104,7 @@ impl Token {
         }
     }
 
+    /// What stands in the group that it is, where that has this delimiter.
     pub fn group(&self, delimiter: Delimiter) -> Option<&Tokens> {
         match &self.kind {
             Kind::Group(it, inner) if *it == delimiter => Some(inner),
@@ -307,6 +315,7 @@ impl Hash {
         self
     }
 
+    /// With these tokens, but not where they stand.
     pub fn with_tokens(self, tokens: &[Token]) -> Hash {
         tokens.iter().fold(self, |hash, it| match &it.kind {
             Kind::Ident(it) | Kind::Lifetime(it) | Kind::Literal(it) => hash.with(it),
@@ -324,6 +333,7 @@ impl Hash {
         })
     }
 
+    /// In hexadecimal digits.
     pub fn text(self) -> String {
         format!("{:032x}", self.0)
     }

@@ -15,6 +15,7 @@ use crate::token::{opened, text_of, Delimiter, Hash, Kind, Span, Token};
 
 pub use blocks::{build_blocks, place_json, steps_of, BuiltBlock, Step};
 
+/// A hash and an index, see [`build`].
 pub type Id = (u16, u16);
 
 /// A leaf or a list of a `use` tree, by its place in it.
@@ -27,6 +28,7 @@ pub struct Leaf {
     pub binds: Option<Arc<str>>,
 }
 
+/// What a node has besides by its kind.
 #[derive(Clone, Debug)]
 pub enum Detail {
     Use(Vec<Leaf>),
@@ -56,8 +58,11 @@ pub struct Node {
     pub item: Option<Arc<Item>>,
     /// Of a variant its enum, by its place among the nodes.
     pub of: Option<usize>,
+    /// Whether it is an item of a trait or an impl.
+    pub is_associated: bool,
 }
 
+/// A unit as it is handed in, and its nodes.
 #[derive(Clone, Default, Debug)]
 pub struct Built {
     /// The unit in JSON.
@@ -67,9 +72,22 @@ pub struct Built {
 }
 
 impl Built {
+    /// The node of a kind and an id.
     pub fn find(&self, kind: &str, id: Id) -> Option<&Node> {
         let kind = KINDS.iter().find(|it| **it == kind)?;
         self.by_id.get(&(*kind, id)).map(|at| &self.nodes[*at])
+    }
+
+    /// The names of its types, and those that its imports give to anything.
+    pub fn type_names(&self) -> impl Iterator<Item = &Arc<str>> {
+        let is_type = |it: &&Node| matches!(it.kind, "Struct" | "Union" | "Enum" | "Trait" | "TypeAlias");
+        let types = self.nodes.iter().filter(is_type).map(|it| &it.name);
+        let leaves = self.nodes.iter().flat_map(|it| match &it.detail {
+            Detail::Use(leaves) => &leaves[..],
+            _ => &[],
+        });
+        let is_alias = |leaf: &&Leaf| leaf.binds.as_deref() != leaf.path.rsplit("::").next();
+        types.chain(leaves.filter(is_alias).filter_map(|it| it.binds.as_ref()))
     }
 }
 
@@ -269,6 +287,15 @@ fn condition(attribute: &Attribute) -> Condition {
     }
 }
 
+/// Whether an attribute may be a macro, or is `derive`, or is one of these under a condition.
+pub fn may_be_macro(attribute: &Attribute) -> bool {
+    match &*attribute.path.text {
+        "derive" => true,
+        "cfg_attr" => conditional(attribute).is_some_and(|it| it.1.iter().any(may_be_macro)),
+        path => !is_builtin(path),
+    }
+}
+
 /// Whether what has these attributes is there under the options.
 pub fn is_enabled(attributes: &[Attribute], options: &Options) -> bool {
     attributes.iter().all(|it| match &*it.path.text {
@@ -399,6 +426,7 @@ fn names_json(names: &[String]) -> String {
     serde_json::to_string(names).expect("texts have a JSON form")
 }
 
+/// A text as JSON.
 pub fn quoted(text: &str) -> String {
     serde_json::to_string(text).expect("a text has a JSON form")
 }
@@ -470,6 +498,7 @@ struct Builder<'a> {
     place: Option<Span>,
     modules: Vec<Arc<str>>,
     around: Hash,
+    is_associated: bool,
 }
 
 /// The unit of a file or of an expansion. Calls for which `replaced` has items are those items.
@@ -482,6 +511,7 @@ pub fn build(unit: &Unit, options: &Options, replaced: Replaced) -> Built {
         place: None,
         modules: Vec::new(),
         around: Hash::default(),
+        is_associated: false,
     };
     builder.made.json.push_str("{\"attrs\":");
     write_attributes(&unit.attributes, &mut builder.made.json);
@@ -508,6 +538,13 @@ impl Builder<'_> {
         self.made.json.push('[');
         self.nodes(items);
         self.made.json.push(']');
+    }
+
+    /// The items of a trait or an impl.
+    fn associated(&mut self, items: &[Item]) {
+        self.is_associated = true;
+        self.list(items);
+        self.is_associated = false;
     }
 
     fn nodes(&mut self, items: &[Item]) {
@@ -586,10 +623,11 @@ impl Builder<'_> {
             detail,
             item: item.input.map(|_| Arc::new(item.clone())),
             of: None,
+            is_associated: self.is_associated,
         });
         match (&item.kind, item.input) {
             (ItemKind::Call(call), _) => {
-                let input = Hash::default().with_tokens(&call.input).text();
+                let input = call.input_hash.text();
                 let _ = write!(self.made.json, ",\"path\":{},\"input\":\"{input}\"", quoted(&call.path.text));
             }
             (_, Some(input)) => {
@@ -680,17 +718,18 @@ impl Builder<'_> {
                         detail: Detail::None,
                         item: None,
                         of: Some(at),
+                        is_associated: false,
                     });
                 }
                 self.made.json.push(']');
             }
             ItemKind::Trait(items) => {
                 self.made.json.push_str(",\"items\":");
-                self.list(items);
+                self.associated(items);
             }
             ItemKind::Impl { of_trait, items } => {
                 let _ = write!(self.made.json, ",\"trait\":{of_trait},\"items\":");
-                self.list(items);
+                self.associated(items);
             }
             ItemKind::Module(Some(items)) => {
                 self.made.json.push_str(",\"nodes\":");
@@ -771,7 +810,7 @@ impl Builder<'_> {
 
 /// What a call is known by among those around it.
 fn known_call(call: &Call) -> String {
-    Hash::default().with(&call.path.text).with_tokens(&call.input).text()
+    Hash::default().with(&call.path.text).with(&call.input_hash.text()).text()
 }
 
 fn shape_text(shape: Shape) -> &'static str {

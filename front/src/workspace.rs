@@ -127,6 +127,14 @@ pub(crate) struct PastItem {
     pub leaf: usize,
 }
 
+/// Where a glob leads.
+pub(crate) enum Leads {
+    /// Into a crate for which a stub stands.
+    Stub,
+    /// To the module of a crate.
+    Module(u32, Vec<String>),
+}
+
 /// A call that isn't expanded since it ends nowhere.
 #[derive(Clone, Debug)]
 pub struct Endless {
@@ -147,9 +155,13 @@ pub struct Counts {
 /// A macro that isn't run, with how many calls of it there are in the crates that are asked for.
 pub type NotRun = BTreeMap<(&'static str, String), usize>;
 
+/// What is known of crates, each with how often the crate had been resolved then.
+type Since<T> = HashMap<u32, (usize, T)>;
+
 /// Is told what goes on, how many are done, and of how many.
 type Progress = Box<dyn Fn(&str, usize, usize) + Send>;
 
+/// The crates of a package, their files, and a process of the program that has both.
 pub struct Workspace {
     pub crates: Crates,
     program: Program,
@@ -170,9 +182,14 @@ pub struct Workspace {
     takes_blocks: bool,
     /// The blocks that were handed in, by their places as JSON.
     blocks: BTreeMap<String, SentBlock>,
-    /// Of a crate, when it had been resolved so often, the imports that name what an item doesn't
-    /// hold.
-    pub(crate) past_items: HashMap<u32, (usize, Vec<PastItem>)>,
+    /// What the program tells of a crate since it was resolved last.
+    told: HashMap<u32, Arc<Value>>,
+    /// The imports of a crate that name what an item doesn't hold.
+    pub(crate) past_items: Since<Vec<PastItem>>,
+    /// How many names of the unresolved imports of a crate are reached, and what the last of these is.
+    pub(crate) reached: Since<Vec<(usize, Value)>>,
+    /// The modules of a crate with a glob, each with where that leads.
+    pub(crate) globs: Since<Vec<(Vec<String>, Leads)>>,
     progress: Progress,
 }
 
@@ -189,6 +206,7 @@ pub struct Located {
     pub is_expanded: bool,
 }
 
+/// The key of the file at a path.
 pub fn key_of(path: &Path) -> Result<Key> {
     let mut parts: Vec<&str> = Vec::new();
     for it in path.components() {
@@ -614,7 +632,10 @@ impl Workspace {
             refused: Vec::new(),
             takes_blocks: false,
             blocks: BTreeMap::new(),
+            told: HashMap::new(),
             past_items: HashMap::new(),
+            reached: HashMap::new(),
+            globs: HashMap::new(),
             progress: Box::new(progress),
         };
         if let Some(it) = elsewhere {
@@ -722,14 +743,17 @@ impl Workspace {
             }
             (self.progress)("resolving", round, round);
             resolved.extend(&due);
-            due.iter().for_each(|it| self.states[*it as usize].resolved += 1);
+            for it in &due {
+                self.states[*it as usize].resolved += 1;
+                self.told.remove(it);
+            }
             let mut changed = HashSet::new();
             let mut lines = Vec::new();
-            let asks: Vec<String> = due.iter().map(|it| format!("{{\"do\":\"diagnostics\",\"crate\":{it}}}")).collect();
-            let replies = self.program.ask_all(&asks)?;
-            for (krate, reply) in due.iter().copied().zip(replies) {
-                self.reach(krate, &reply["ok"], &mut changed, &mut lines, &mut asked)?;
+            for (krate, told) in due.iter().zip(self.diagnostics(&due)?) {
+                self.reach(*krate, &told, &mut changed, &mut lines, &mut asked)?;
             }
+            // Nothing is reported of these.
+            self.told.retain(|it, _| *it as usize >= self.crates.of_std);
             if changed.is_empty() && lines.is_empty() {
                 break;
             }
@@ -740,6 +764,15 @@ impl Workspace {
         let mut resolved: Vec<u32> = resolved.into_iter().collect();
         resolved.sort_unstable();
         Ok(resolved)
+    }
+
+    /// What the program tells of these crates. It is asked once after each time that it resolved a crate.
+    pub(crate) fn diagnostics(&mut self, crates: &[u32]) -> Result<Vec<Arc<Value>>> {
+        let due: Vec<u32> = crates.iter().copied().filter(|it| !self.told.contains_key(it)).collect();
+        let asks: Vec<String> = due.iter().map(|it| format!("{{\"do\":\"diagnostics\",\"crate\":{it}}}")).collect();
+        let replies = self.program.ask_all(&asks)?;
+        self.told.extend(due.into_iter().zip(replies.into_iter().map(|mut it| Arc::new(it["ok"].take()))));
+        Ok(crates.iter().map(|it| self.told[it].clone()).collect())
     }
 
     fn walk(&mut self, krate: u32, lines: &mut Vec<String>) -> Result<()> {
@@ -995,7 +1028,7 @@ impl Workspace {
     }
 
     fn expansion_key(&self, caller: u32, call: &Call, target: &Target) -> String {
-        let input = Hash::default().with_tokens(&call.input).text();
+        let input = call.input_hash.text();
         key_json(caller, target.krate, &target.text, "\"bang\"", &input)
     }
 
@@ -1031,7 +1064,7 @@ impl Workspace {
                 return it.clone();
             }
         }
-        let elsewhere = (target.name.clone(), "bang", Hash::default().with_tokens(&call.input));
+        let elsewhere = (target.name.clone(), "bang", call.input_hash);
         let made = match (&target.how, self.elsewhere.get(&elsewhere)) {
             (_, Some(unit)) => Expansion::of(unit.clone(), None, 0),
             (How::Rules(definition), None) => {
@@ -1284,6 +1317,7 @@ impl Workspace {
         self.program.ask(line)
     }
 
+    /// The replies of the program to these commands, in their order.
     pub fn ask_all(&mut self, lines: &[String]) -> Result<Vec<Value>> {
         self.program.ask_all(lines)
     }
@@ -1406,6 +1440,7 @@ impl Workspace {
     /// Starts the program anew, and brings it to where this session is.
     pub fn restart(&mut self, program: &Path) -> Result<()> {
         self.program = Program::start(program)?;
+        self.told.clear();
         let lines = self.session();
         self.program.ask_all(&lines)?;
         let all: Vec<u32> = (0..self.crates.all.len() as u32).collect();
@@ -1413,6 +1448,7 @@ impl Workspace {
         Ok(())
     }
 
+    /// How many crates, files, nodes and expansions there are.
     pub fn counts(&self) -> Counts {
         Counts {
             crates: self.crates.all.len(),
@@ -1427,10 +1463,12 @@ impl Workspace {
         &self.states[krate as usize].files
     }
 
+    /// What stands in a file, where it was read.
     pub fn parsed(&self, key: &str) -> Option<&Arc<Parsed>> {
         self.parsed.get(key)
     }
 
+    /// The unit of a file, where it was handed in.
     pub fn built(&self, key: &str) -> Option<&Arc<Built>> {
         self.sent.get(key).map(|it| &it.built)
     }
@@ -1439,6 +1477,12 @@ impl Workspace {
     /// what a build script writes.
     pub fn open_modules(&self, krate: u32) -> impl Iterator<Item = &Vec<String>> {
         self.states[krate as usize].open.iter()
+    }
+
+    /// The names of types that crates declare, and those that imports give to anything.
+    pub(crate) fn type_names(&self) -> impl Iterator<Item = &Arc<str>> {
+        let files = self.sent.values().map(|it| &it.built);
+        files.chain(self.expansions.values().map(|it| &it.built)).flat_map(|it| it.type_names())
     }
 
     /// How often the program resolved a crate.

@@ -209,6 +209,37 @@ fn macros_of_blocks() {
     assert_eq!(package.told(), ["C", "inner"]);
 }
 
+/// Types, values of variants and what macros are called with hold blocks as bodies do.
+#[test]
+fn blocks_outside_of_bodies() {
+    let text = "\
+macro_rules! same { ($($all:tt)*) => { $($all)* } }
+macro_rules! make { ($n:ident) => { struct $n; } }
+struct S([u8; { const LENGTH: usize = 1; make!(Made); LENGTH }]);
+enum E { A = { fn value() -> isize { 1 } value() } }
+fn f() { same!({ struct Inner; Inner }); }
+same! { fn g() { struct Deep; } }
+";
+    let package = Package::new(text);
+    let mut space = package.open();
+    assert_eq!(package.told(), ["", "Deep", "Inner", "LENGTH Made", "value"]);
+    let (krate, key) = (number_of(&space), key_of(&package.file()).unwrap());
+    let name_at = |space: &Workspace, line, column| {
+        let place = space.place_of(krate, &key, Position { line, column });
+        (place.len(), space.place_text(krate, &place))
+    };
+    assert_eq!(name_at(&space, 3, 56), (1, "one::S".to_owned()));
+    assert_eq!(name_at(&space, 4, 43), (1, "one::E".to_owned()));
+    assert_eq!(name_at(&space, 5, 33), (1, "one::f".to_owned()));
+    assert_eq!(name_at(&space, 6, 26), (1, "one".to_owned()));
+    assert_eq!(name_at(&space, 5, 4), (0, "one".to_owned()));
+    space.update_text(&package.file(), &text.replace("Inner", "Other").replace("= 1;", "= 2;")).unwrap();
+    assert_eq!(package.told(), ["Other"]);
+    // What isn't Rust may become anything.
+    space.update_text(&package.file(), &text.replace("same!({", "same!(=> {")).unwrap();
+    assert_eq!(package.told(), ["removed"]);
+}
+
 /// A macro that a path reaches is asked for where a call of a block isn't in textual scope.
 #[test]
 fn macros_that_paths_reach() {
@@ -345,7 +376,7 @@ fn an_editor_in_blocks() {
     assert_eq!(results[&4], results[&3]);
     for id in [2, 5] {
         let text = results[&id]["contents"]["value"].as_str().unwrap();
-        assert_eq!(text, "struct `one::f::Inner`\n\nvisible: pub\n\nas: type, value");
+        assert_eq!(text, "struct `one::f::Inner`\n\nvisible: pub\n\nas: type, value\n\n```rust\nstruct Inner\n```");
     }
 }
 
@@ -362,7 +393,7 @@ impl Dice {
 /// What a session hands in is the same after edits as what one does that begins with the edited text.
 #[test]
 fn random_edits_beside_a_fresh_session() {
-    const LINES: [&str; 14] = [
+    const LINES: [&str; 18] = [
         "fn f() { struct S#; }",
         "fn f#() { use a::b#; { fn h() { enum E { A# } } } { const C: u8 = #; } }",
         "macro_rules! mm { ($n:ident) => { struct $n; let x = 1; use a::x#; } }",
@@ -377,6 +408,10 @@ fn random_edits_beside_a_fresh_session() {
         "// # é",
         "fn f() { let x = #; unknown!(x); }",
         "fn g() { m!{ struct S; } mm!(M#); mod deep { mm!(N#); } }",
+        "struct L#([u8; { struct L; mm!(L#); # }]);",
+        "enum K { A = { use a::b#; # }, B([u8; { { fn h() {} } 1 }]) }",
+        "fn f() { m!({ struct I#; mm!(I); 1 }); { m!(#, { use a::b#; 1 }) } m!(=> { struct J; }) }",
+        "m! { fn k() { struct H#; } } extern { static X: [u8; { const H: u8 = #; 1 }]; }",
     ];
     let package = Package::new("");
     let mut space = package.open();

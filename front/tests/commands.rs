@@ -297,6 +297,26 @@ fn bad_files() {
     compare_run("bad-files", folder.path(), &["check", "--no-std"]);
 }
 
+/// Attributes of procedural macros that a condition brings are as others are.
+#[test]
+fn attributes_under_conditions() {
+    let folder = market();
+    let path = folder.path().join("shop/src/model.rs");
+    let more = "#[cfg_attr(all(), derive(Codec), codec(tag = \"c\"))] pub struct Conditional;
+        #[cfg_attr(all(), cfg_attr(all(), codec::traced))] pub fn conditional() {}
+        #[cfg_attr(any(), derive(Nothing), nothing)] pub struct Other;
+        pub use self::{Conditional as A, conditional as b, Other as C};";
+    std::fs::write(&path, std::fs::read_to_string(&path).unwrap() + more).unwrap();
+    let made = run(folder.path(), &["check", "shop", "--no-std"]);
+    let told = text(&made.stdout);
+    // The error on purpose.
+    assert_eq!(told.matches("error").count(), 2, "{told}");
+    assert!(
+        told.contains("`Rebate`") && told.contains("`traced` (2 uses)") && told.contains("`Codec` (3 uses)"),
+        "{told}"
+    );
+}
+
 /// What isn't a fault for the program, but is one of rustc's: a name that an item before it doesn't hold.
 #[test]
 fn imports_of_what_an_item_lacks() {
@@ -305,6 +325,31 @@ fn imports_of_what_an_item_lacks() {
         "pub enum E { A }\npub struct S;\npub use E::{A, B as C};\npub use self::S::nope;\npub use crate::E::{self as F, *};\n",
     )]);
     compare_run("past-items", folder.path(), &["check", "--no-std"]);
+    // The lines in which rustc has an error.
+    let folder = package(&[(
+        "src/lib.rs",
+        "pub enum E { A }
+         pub mod deep {
+             macro_rules! make { ($n:ident) => { pub enum $n { V } } }
+             make!(made);
+             pub use super::E as renamed;
+             pub type T = u8;
+             pub trait Tr {}
+         }
+         pub use deep::made::{V,
+             W};
+         pub use deep::renamed::{A as D,
+             F};
+         pub use deep::{T::x,
+             Tr::y};
+         pub use u8::MAXIMUM;
+         pub use deep::Unmade::Z;",
+    )]);
+    let made = run(folder.path(), &["check", "--no-std", "--json"]);
+    let told = text(&made.stdout);
+    let told = told.lines().map(|it| serde_json::from_str::<serde_json::Value>(it).unwrap());
+    let lines: Vec<u64> = told.filter_map(|it| it["place"]["line"].as_u64()).collect();
+    assert_eq!(lines, [10, 12, 13, 14, 15, 16]);
 }
 
 /// Macros mean what they mean in rustc's order: also those that expansions define, and of two of one name the one before

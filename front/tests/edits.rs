@@ -31,6 +31,62 @@ fn told(space: &mut Workspace) -> Vec<String> {
     all
 }
 
+/// After an edit the program is asked of the crates alone that it resolved again, once of each.
+#[cfg(unix)]
+#[test]
+fn what_is_asked_after_an_edit() {
+    use std::os::unix::fs::PermissionsExt;
+    let folder = TempDir::new().unwrap();
+    let root = folder.path().canonicalize().unwrap();
+    let write = |name: &str, text: &str| {
+        let path = root.join(name);
+        std::fs::create_dir_all(path.parent().unwrap()).unwrap();
+        std::fs::write(&path, text).unwrap();
+        path
+    };
+    write("Cargo.toml", "[workspace]\nmembers = [\"below\", \"above\"]\n");
+    let manifest = |name: &str, more: &str| {
+        format!("[package]\nname = \"{name}\"\nversion = \"0.1.0\"\nedition = \"2021\"\n[dependencies]\n{more}")
+    };
+    write("below/Cargo.toml", &manifest("below", ""));
+    write("above/Cargo.toml", &manifest("above", "below = { path = \"../below\" }\n"));
+    write(
+        "below/src/lib.rs",
+        "pub mod m { pub enum E { A } }\npub mod n { pub use std::nothing::*; }\npub use m::{E, Nope};\npub use n::Unjudged;\npub use std::x::y;\n",
+    );
+    let text = "pub use below::m::*;\nuse std::collections::Nothing;\npub use E::{A, B};\nuse below::Neither;\n";
+    let edited = write("above/src/lib.rs", text);
+    let script = root.join("program");
+    let begin = program::find(None).unwrap();
+    std::fs::write(&script, format!("#!/bin/sh\ntee -a {} | {}\n", root.join("log").display(), begin.display()))
+        .unwrap();
+    std::fs::set_permissions(&script, std::fs::Permissions::from_mode(0o755)).unwrap();
+    let wanted = Wanted { path: root.clone(), no_std: true, ..Wanted::default() };
+    let mut space = Workspace::open(Crates::read(&wanted).unwrap(), &script, None, |_, _, _| {}).unwrap();
+    let before = space.report().unwrap().diagnostics;
+    std::fs::write(root.join("log"), "").unwrap();
+    space.update_text(&edited, &format!("{text}pub fn added() {{}}\n")).unwrap();
+    let after = space.report().unwrap();
+    let messages: Vec<&str> = after.diagnostics.iter().map(|it| &*it.message).collect();
+    assert_eq!(
+        messages,
+        ["unresolved import `E::B`", "unresolved import `below::Neither`", "unresolved import `m::Nope`"]
+    );
+    assert_eq!(after.diagnostics, before);
+    assert_eq!(after.unjudged, 4);
+    let log = std::fs::read_to_string(root.join("log")).unwrap();
+    let krate = space.crates.all.iter().position(|it| it.name == "above").unwrap();
+    let given = |word: &str| log.lines().filter(|it| it.starts_with(&format!("{{\"do\":\"{word}\""))).count();
+    assert_eq!([given("set file"), given("refresh"), given("diagnostics")], [1, 1, 1], "{log}");
+    let resolves: Vec<&str> = log.lines().filter(|it| it.starts_with("{\"do\":\"resolve\"")).collect();
+    assert!(resolves.iter().all(|it| it.contains(&format!("\"at\":[{krate}]"))), "{log}");
+    let mut paths: Vec<&str> =
+        resolves.iter().filter_map(|it| it.split("\"path\":\"").nth(1)?.strip_suffix("\"}")).collect();
+    paths.sort_unstable();
+    // How far the two imports that the program doesn't resolve are reached, where the glob leads, and what an enum may lack.
+    assert_eq!(paths, ["E::A", "E::B", "below", "below::m", "std"]);
+}
+
 #[test]
 fn edits_lead_where_a_fresh_session_begins() {
     let folder = TempDir::new().unwrap();
@@ -50,13 +106,15 @@ fn edits_lead_where_a_fresh_session_begins() {
     write("src/a.rs", "pub struct T;\n");
     let mut space = open(&root);
     let before = space.counts().expansions;
-    let edits: [(&str, Option<&str>); 17] = [
+    let edits: [(&str, Option<&str>); 19] = [
         ("src/m.rs", Some("pub struct S;\nmake! { C D }\n")),
         ("src/m.rs", Some("pub struct S;\nmake! { C E }\npub fn made() { let x = 1; }\n")),
         ("src/m.rs", Some("pub struct S;\nmake! { C E }\npub fn made() { let x = 2; }\n")),
         ("src/lib.rs", Some("macro_rules! make { ($($n:ident)*) => { $(pub enum $n { V })* } }\nmod m;\nmod a;\nmake! { A }\npub use a::T;\n")),
         ("src/a.rs", Some("pub mod deep { pub struct T; }\npub use deep::*;\n")),
         ("src/a.rs", Some("pub mod deep { pub struct T; \npub use deep::*;\n")),
+        ("src/a.rs", Some("pub enum T { V }\npub use T::{V, W};\npub use T as other;\n")),
+        ("src/m.rs", Some("pub struct S;\nmake! { C E }\npub use crate::a::other::{V, Missing};\npub use crate::A::V as B;\n")),
         ("src/a.rs", None),
         ("src/a/mod.rs", Some("make! { T U }\nmod inner;\n")),
         ("src/a/inner.rs", Some("use super::Nope;\n")),

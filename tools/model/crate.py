@@ -1,8 +1,8 @@
-"""A crate's map: its modules, and what their names stand for once nothing moves any more."""
+"""The map of a crate or of a block: its modules, and what their names stand for once nothing moves any more."""
 import json
 import posixpath
 
-from model.syntax import collect, dump, leaves, parse_path, print_condition, print_path
+from model.syntax import collect, dump, leaves, parse_path, print_condition, print_name, print_path
 
 KINDS = ("types", "values", "macros")
 BUILTINS = "char bool str isize i8 i16 i32 i64 i128 usize u8 u16 u32 u64 u128 f16 f32 f64 f128".split()
@@ -22,13 +22,13 @@ ROUNDS, DEEPEST = 8192, 32
 
 
 class Source:
-    """Where a node is written: a file, or the expansion of a call. Calls with one key expand to one unit, and each has a number of its own."""
+    """Where a node is written: a file, a block, or the expansion of a call. Calls with one key expand to one unit, and each has a number of its own."""
 
     numbers = {}
 
-    def __init__(self, file=None, outer=None, call=None, entry=None):
-        self.file, self.outer, self.call, self.entry = file, outer, call, entry
-        place = file if outer is None else (outer.number, dump(call), entry)
+    def __init__(self, file=None, block=None, outer=None, call=None, entry=None):
+        self.file, self.block, self.outer, self.call, self.entry = file, block, outer, call, entry
+        place = (file, block) if outer is None else (outer.number, dump(call), entry)
         self.number = Source.numbers.setdefault(place, len(Source.numbers))
 
     def text(self):
@@ -36,10 +36,17 @@ class Source:
         while at.outer is not None:
             calls.append(at.call)
             at = at.outer
-        return [at.file] + calls[::-1]
+        return [at.file if at.block is None else place_text(at.block)] + calls[::-1]
 
     def key(self):
-        return ("file", self.file) if self.outer is None else ("entry", self.entry)
+        if self.outer is not None:
+            return "entry", self.entry
+        return ("file", self.file) if self.block is None else ("block", self.block)
+
+
+def place_text(place):
+    """A place as replies have it; within the model a block is the pair of its numbers."""
+    return [element if not isinstance(element, tuple) else {"block": list(element)} for element in place]
 
 
 class Item:
@@ -63,21 +70,40 @@ BUILTIN = {name: Builtin(name) for name in BUILTINS}
 
 
 class Module:
-    def __init__(self, krate, parent, item, directory, file):
-        self.krate, self.parent, self.item, self.directory, self.file = krate, parent, item, directory, file
+    """A module of a map. `file` is that of its definition; a block's root has that of the module that holds the block."""
+
+    def __init__(self, map_, parent, item, directory, file):
+        self.map, self.parent, self.item, self.directory, self.file = map_, parent, item, directory, file
+        self.krate = map_.crate
         self.children = {}
         self.scope = {kind: {} for kind in KINDS}
-        # the macros in textual scope, of each name the last
+        # names that were pushed with nothing; traits without a name, each with its visibility and whether an import brought it
+        self.unresolved, self.unnamed = set(), {}
+        # the macros in textual scope, of each name all in their order
         self.textual = dict(parent.textual) if parent is not None else {}
+
+    def is_block_root(self):
+        return self is self.map.root and self.map.holder is not None
+
+    def above(self):
+        """The parent, or of a block's root the module that holds the block."""
+        return self.map.holder if self is self.map.root else self.parent
 
     def up(self):
         at = self
         while at is not None:
             yield at
-            at = at.parent
+            at = at.above()
+
+    def outside_blocks(self):
+        """The module itself, or of a block's root the nearest module around it that is none."""
+        at = self
+        while at.is_block_root():
+            at = at.map.holder
+        return at
 
     def text(self):
-        return {"crate": self.krate.number, "kind": "CrateRoot"} if self.item is None else self.item.text()
+        return self.map.root_text() if self.item is None else self.item.text()
 
 
 class Binding:
@@ -93,9 +119,9 @@ class Edge:
 
 
 class Import:
-    def __init__(self, at, item, kind, path, name, vis, place=None):
+    def __init__(self, at, item, kind, path, name, vis, place=None, is_unnamed=False):
         self.at, self.item, self.kind, self.path, self.name, self.vis, self.place = at, item, kind, path, name, vis, place
-        self.taken = []
+        self.is_unnamed, self.taken = is_unnamed, []
 
 
 class Call:
@@ -117,18 +143,33 @@ class Call:
         return self.source.number, self.node["kind"], tuple(self.node["id"])
 
 
+def joined(one, other):
+    """What two looks at a path answer: bindings by namespace, a stop, whether another crate was entered."""
+    stops = [stop for stop in (one[1], other[1]) if stop is not None]
+    return {**other[0], **one[0]}, max(stops) if stops else None, one[2] or other[2]
+
+
 class Crate:
     """A crate's map, from its sources and the maps of the crates below it."""
 
+    # of a block the module that holds it
+    holder = None
+
     def __init__(self, number, fields, workspace, below):
-        self.number, self.fields, self.workspace, self.below = number, fields, workspace, below
+        self.number, self.fields, self.workspace, self.below, self.crate = number, fields, workspace, below, self
         self.options = {dump(option) for option in fields.get("cfg", [])}
-        self.imports, self.calls, self.edges, self.diagnostics, self.asked = [], [], [], [], {}
-        self.helpers, self.derived, self.exported = {}, [], []
         self.transitive = set()
         for dependency in fields.get("deps", []):
             self.transitive |= {dependency["crate"]} | below[dependency["crate"]].transitive
+        self.begin()
         self.run()
+
+    def begin(self):
+        self.imports, self.calls, self.edges, self.diagnostics, self.asked = [], [], [], [], {}
+        self.helpers, self.derived, self.exported = {}, [], []
+
+    def root_text(self):
+        return {"crate": self.number, "kind": "CrateRoot"}
 
     # ---- what is asked for
 
@@ -260,6 +301,8 @@ class Crate:
         """Of the root of a procedural-macro crate others see the macros alone that it exports."""
         if not self.fields.get("proc_macro", False):
             return
+        for unnamed in self.root.unnamed.values():
+            unnamed[0] = ("crate", self)
         for name, function in self.exported:
             if name in self.root.scope["values"] and self.root.scope["values"][name].definition is function:
                 del self.root.scope["values"][name]
@@ -333,7 +376,7 @@ class Crate:
         if kind == "Use":
             for place, path, how, alias in leaves(node["tree"]):
                 given = None if how == "glob" or alias == "_" else alias or (path[1] or [None])[-1]
-                self.imports.append(Import(at, item, how, path, given, node.get("vis"), place))
+                self.imports.append(Import(at, item, how, path, given, node.get("vis"), place, alias == "_"))
         elif kind == "ExternCrate":
             self.extern_crate(node, attrs, at, item)
         elif kind == "ExternBlock":
@@ -351,7 +394,7 @@ class Crate:
             if kind == "MacroDef":
                 self.push(at, name, {"macros": Binding(item, self.written(node.get("vis"), at))}, None)
             else:
-                at.textual[name] = item
+                at.textual[name] = at.textual.get(name, ()) + (item,)
                 if any(attr["path"] == "macro_export" for attr in attrs):
                     self.push(self.root, name, {"macros": Binding(item, "pub")}, None)
         elif name is not None:
@@ -359,7 +402,7 @@ class Crate:
 
     def export(self, node, attrs, at, item):
         """Binds the macro that a function of the root of a procedural-macro crate exports."""
-        if not (self.fields.get("proc_macro", False) and at is self.root and node["kind"] == "Fn"):
+        if not (self.fields.get("proc_macro", False) and at is self.crate.root and node["kind"] == "Fn"):
             return
         by = lambda path: [attr for attr in attrs if attr["path"] == path]
         derives = [attr for attr in by("proc_macro_derive") if "derive" in attr]
@@ -397,16 +440,16 @@ class Crate:
 
     def extern_crate(self, node, attrs, at, item):
         name, alias = node["name"], node.get("as")
-        target = self.root if name == "self" else next(
+        target = self.crate.root if name == "self" else next(
             (self.below[d["crate"]].root for d in self.fields.get("deps", []) if d["name"] == name), None)
         given = None if alias == "_" or (name == "self" and alias is None) else alias or name
         import_ = Import(at, item, "extern", None, given, node.get("vis"))
         import_.crate, import_.target = name, target
         self.imports.append(import_)
-        if at is self.root and given is not None and target is not None:
+        if at is self.crate.root and given is not None and target is not None:
             self.extern_prelude[given] = (target, item)
         use = [attr for attr in attrs if attr["path"] == "macro_use"]
-        if use and name != "self" and target is not None:
+        if use and name != "self" and target is not None and self.holder is None:
             named = None
             if all("paths" in attr for attr in use):
                 named = {path for attr in use for path in attr["paths"]}
@@ -473,14 +516,15 @@ class Crate:
         if vis is None or vis == "self":
             return ("in", at, vis is not None)
         if vis == "crate":
-            return ("crate", self)
+            return ("crate", self.crate)
         if vis == "pub":
             return "pub"
         found, stop, _ = self.resolve(at, parse_path(vis["in"]))
         target = found["types"].definition if "types" in found and stop is None else None
         if not isinstance(target, Module):
             return "pub"
-        return ("in", target if target.krate is self else self.root, True)
+        # what lies outside the map becomes the map's root
+        return ("in", target if target.map is self else self.root, True)
 
     @staticmethod
     def sees(vis, module):
@@ -488,7 +532,11 @@ class Crate:
             return True
         if vis[0] == "crate":
             return vis[1] is module.krate
-        return any(up is vis[1] for up in module.up())
+        # a module of another block counts as the one that holds that block
+        inside = vis[1]
+        while inside.map.holder is not None and inside.map is not module.map:
+            inside = inside.map.holder
+        return any(up is inside for up in module.up())
 
     def compare(self, one, other, lower):
         """The lesser (or the greater) of two visibilities, or None where they are unrelated."""
@@ -505,7 +553,7 @@ class Crate:
         m, n = one[1], other[1]
         if m is n:
             return ("in", m, one[2] or other[2])
-        if m.krate is not self or n.krate is not self:
+        if m.map is not self or n.map is not self:
             return None
         if any(up is n for up in m.up()):
             return one if lower else other
@@ -520,37 +568,64 @@ class Crate:
 
         With `later` it is asked while the crate is begun, so that it has no scope yet but its extern prelude.
         """
+        found = at.map.alone(at, path, importing, shadow, style, later)
+        while at.is_block_root():
+            at = at.map.holder
+            found = joined(found, at.map.alone(at, path, importing, shadow, style))
+        if at.map.holder is not None:
+            found = joined(found, self.crate.among_preludes(path, importing))
+        return found
+
+    def alone(self, at, path, importing, shadow, style, later=False):
+        """The same, from a module of this map, without what a block has from around it."""
         kind, names = path
         if kind == "crate":
-            found, used = {"types": Binding(self.root, "pub")}, 0
-        elif isinstance(kind, tuple):
+            return self.go_along(at, {"types": Binding(self.crate.root, "pub")}, names, 0)
+        if isinstance(kind, tuple):
             if kind[1] != self.number and kind[1] not in self.transitive:
                 return {}, None, False
-            krate = self if kind[1] == self.number else self.below[kind[1]]
-            found, used = {"types": Binding(krate.root, "pub")}, 0
-        elif isinstance(kind, int):
-            start = at
+            krate = self.crate if kind[1] == self.number else self.below[kind[1]]
+            return self.go_along(at, {"types": Binding(krate.root, "pub")}, names, 0)
+        if isinstance(kind, int):
+            start = at.outside_blocks()
             for _ in range(kind):
-                start = start.parent if start is not None else None
-            if start is None:
-                return {}, None, False
-            found, used = {"types": Binding(start, "pub")}, 0
-        elif not names:
+                start = start.parent and start.parent.outside_blocks()
+                if start is None:
+                    return {}, None, False
+            if start.map is not self:
+                return start.map.resolve(start, (0, names), importing, shadow, style)
+            return self.go_along(at, {"types": Binding(start, "pub")}, names, 0)
+        if not names:
             return {}, None, False
-        elif self.edition == "2015" and not later and (kind == "abs" or importing):
-            found = {ns: self.root.scope[ns][names[0]] for ns in KINDS if names[0] in self.root.scope[ns]}
-            for ns, binding in self.among_crates(names[0]).items():
-                found.setdefault(ns, binding)
-            used = 1
+        if self.edition == "2015" and not later and (kind == "abs" or importing):
+            scope = self.crate.root.scope
+            found = {ns: scope[ns][names[0]] for ns in KINDS if names[0] in scope[ns]}
+            if not at.is_block_root():
+                found = {**self.among_crates(names[0]), **found}
         elif kind == "abs":
-            found, used = self.among_crates(names[0]), 1
+            found = self.among_crates(names[0])
         else:
-            found, used = self.in_scope(at, names[0], "module" if len(names) > 1 else shadow, style), 1
+            found = self.in_scope(at, names[0], "module" if len(names) > 1 else shadow, style)
+        return self.go_along(at, found, names, 1)
+
+    def among_preludes(self, path, importing):
+        """What a path reaches from the preludes of a crate."""
+        kind, names = path
+        if kind not in ("plain", "abs") or not names:
+            return {}, None, False
+        found = self.among_crates(names[0])
+        if kind == "plain" and not (self.edition == "2015" and importing):
+            found = {**self.among_macros(names[0]), **found}
+            found = {**self.in_prelude(names[0]), **found}
+        return self.go_along(self.root, found, names, 1)
+
+    def go_along(self, at, found, names, used):
+        """The further names of a path, behind what those before them reach."""
         crossed = False
         while used < len(names):
             types = found.get("types")
             if types is None:
-                return {}, None, False
+                return {}, None, crossed
             target, name = types.definition, names[used]
             if isinstance(target, Module):
                 if target.krate is not at.krate:
@@ -580,26 +655,35 @@ class Crate:
         return found
 
     def in_scope(self, at, name, shadow="module", style=None):
-        """What one name stands for in a module."""
+        """What one name stands for in a module of this map."""
         fits = lambda macro: style is None or (style in macro.styles if style == "bang" else {"attr", "derive"} & set(macro.styles))
         found = {}
-        if name in at.textual and fits(at.textual[name]):
-            found["macros"] = Binding(at.textual[name], "pub")
+        if name in at.textual and fits(at.textual[name][-1]):
+            found["macros"] = Binding(at.textual[name][-1], "pub")
         scope = {ns: at.scope[ns][name] for ns in KINDS if name in at.scope[ns]}
         if "macros" in scope and not fits(scope["macros"].definition):
             del scope["macros"]
-        builtin = {"types": Binding(BUILTIN[name], "pub")} if name in BUILTIN else {}
+        # a block has no builtin types and no preludes of its own, and its root no crate names
+        builtin = {"types": Binding(BUILTIN[name], "pub")} if name in BUILTIN and self.holder is None else {}
+        crates = {} if at.is_block_root() else self.among_crates(name)
         first, second = scope, builtin
         if shadow == "other" and "types" in scope and isinstance(scope["types"].definition, Module):
             first, second = builtin, scope
-        macro_use = {"macros": Binding(self.macro_use[name][0], "pub", self.brought(self.macro_use[name][1]))} if name in self.macro_use else {}
-        prelude = {}
-        if self.prelude is not None:
-            prelude = {ns: self.prelude.scope[ns][name] for ns in KINDS if name in self.prelude.scope[ns]}
-        for more in (first, second, self.among_crates(name), macro_use, prelude):
+        for more in (first, second, crates, self.among_macros(name), self.in_prelude(name)):
             for ns, binding in more.items():
                 found.setdefault(ns, binding)
         return found
+
+    def among_macros(self, name):
+        if name not in self.macro_use:
+            return {}
+        macro, item = self.macro_use[name]
+        return {"macros": Binding(macro, "pub", self.brought(item))}
+
+    def in_prelude(self, name):
+        if self.prelude is None:
+            return {}
+        return {ns: self.prelude.scope[ns][name] for ns in KINDS if name in self.prelude.scope[ns]}
 
     @staticmethod
     def brought(extern_crate):
@@ -615,6 +699,8 @@ class Crate:
 
     def push(self, at, name, items, by):
         """Binds items explicitly; each namespace that changes goes along globs at once."""
+        if not items:
+            at.unresolved.add(name)
         for ns in KINDS:
             if ns not in items:
                 continue
@@ -645,7 +731,7 @@ class Crate:
         binding = source.scope[ns].get(name)
         if binding is None:
             return None
-        if source.krate is not self:
+        if source.krate is not self.crate:
             return binding if binding.vis == "pub" else None
         return binding if self.sees(binding.vis, edge.importer) else None
 
@@ -674,7 +760,7 @@ class Crate:
 
     def record(self, source, importer, by, vis):
         edge = None
-        if isinstance(source, Module) and source.krate is self:
+        if isinstance(source, Module) and source.map is self:
             edge = next((e for e in self.edges if e.source is source and e.importer is importer), None)
         if edge is None:
             edge = Edge(source, importer, by, vis)
@@ -687,6 +773,29 @@ class Crate:
         for ns in KINDS:
             for name in sorted(source.variants if isinstance(source, Item) else source.scope[ns]):
                 self.along(edge, ns, name)
+        if isinstance(source, Module):
+            for trait in source.unnamed:
+                self.unnamed_along(edge, trait)
+
+    def push_unnamed(self, at, trait, vis, is_import):
+        """Keeps a trait without a name, once; of two visibilities the greater."""
+        old = at.unnamed.get(trait)
+        if old is None:
+            at.unnamed[trait] = [vis, is_import]
+        else:
+            wide = self.compare(old[0], vis, False)
+            if wide is None or wide == old[0]:
+                return
+            old[0] = wide
+        for edge in self.edges:
+            if edge.source is at:
+                self.unnamed_along(edge, trait)
+
+    def unnamed_along(self, edge, trait):
+        vis = edge.source.unnamed[trait][0]
+        is_shown = self.sees(vis, edge.importer) if edge.source.krate is self.crate else vis == "pub"
+        if is_shown:
+            self.push_unnamed(edge.importer, trait, self.compare(edge.vis, vis, True) or edge.vis, False)
 
     def take(self, import_):
         """Tries an import; whether it was taken."""
@@ -725,6 +834,10 @@ class Crate:
             items[ns] = Binding(binding.definition, vis)
         if import_.name is not None:
             self.push(at, import_.name, items, ("import", import_.item, import_.place))
+        elif import_.is_unnamed and "types" in found:
+            trait = found["types"].definition
+            if isinstance(trait, Item) and trait.kind == "Trait":
+                self.push_unnamed(at, trait, own, True)
         return True
 
     def settle(self):
@@ -733,3 +846,49 @@ class Crate:
             moved = False
             for import_ in list(self.imports):
                 moved |= self.take(import_)
+
+    # ---- dumps
+
+    def dump(self):
+        """What the modules of the map have, and behind it the maps around it."""
+        lines = self.lines("crate" if self.holder is None else "(block scope)", self.root)
+        return "\n".join(lines) + "\n" + ("" if self.holder is None else "\n" + self.holder.map.dump())
+
+    def lines(self, path, at):
+        lines = [path] + ["- _ : type" + (" (import)" if is_import else "") for _, is_import in at.unnamed.values()]
+        for name in sorted(at.unresolved.union(*at.scope.values()), key=str.encode):
+            words = ""
+            for ns in KINDS:
+                if name in at.scope[ns]:
+                    binding = at.scope[ns][name]
+                    words += " " + ns[:-1] + (styles(binding.definition) if ns == "macros" else "")
+                    words += " (%s)" % binding.by[0].removesuffix(" crate") if binding.by else ""
+            lines.append("- %s :%s" % (print_name(name), words or " _"))
+        for name in sorted(at.textual, key=str.encode):
+            macros = "".join(" macro" + styles(macro) for macro in at.textual[name])
+            lines.append("- (legacy) %s :%s" % (print_name(name), macros))
+        for name in sorted(at.children, key=str.encode):
+            lines += [""] + self.lines(path + "::" + print_name(name), at.children[name])
+        return lines
+
+
+def styles(macro):
+    return ("!" if "bang" in macro.styles else "") + ("#" if {"attr", "derive"} & set(macro.styles) else "")
+
+
+class Block(Crate):
+    """A block's map: it has the crate's data and crate names, and no prelude of its own."""
+
+    def __init__(self, place, holder, workspace):
+        self.place, self.holder, self.crate, self.workspace = place, holder, holder.krate, workspace
+        for name in ("number", "fields", "below", "options", "transitive", "edition", "limit", "tools", "extern_prelude"):
+            setattr(self, name, getattr(self.crate, name))
+        self.begin()
+        self.root = Module(self, None, None, ("", False, 0), holder.file)
+        self.macro_use, self.prelude = {}, None
+        unit, _ = self.tree(("block", place))
+        self.walk(unit.get("nodes", []), self.root, Source(block=place), 1)
+        self.rounds()
+
+    def root_text(self):
+        return {"crate": self.number, "in": [place_text(self.place)], "kind": "BlockExpr"}

@@ -1,6 +1,12 @@
 """Paths, conditions, attributes and use trees as they are handed in."""
 import json
 
+RESERVED = set(
+    "as break const continue else enum extern false fn for if impl in let loop match mod move mut pub ref return static struct trait"
+    " true type unsafe use where while abstract become box do final macro override priv typeof unsized virtual yield async await dyn"
+    " try gen".split()
+)
+
 
 def dump(value):
     return json.dumps(value, separators=(",", ":"), sort_keys=True, ensure_ascii=False)
@@ -23,6 +29,11 @@ def parse_path(text):
             up, rest = up + 1, rest[1:]
         return up, rest
     return "plain", parts
+
+
+def print_name(name):
+    """A name as a dump has it, under the latest edition."""
+    return "r#" + name if name in RESERVED else name
 
 
 def print_path(path):

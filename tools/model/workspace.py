@@ -1,22 +1,23 @@
 """What a session is handed in, and what it replies."""
 import posixpath
 
-from model.crate import KINDS, Crate
+from model.crate import KINDS, Block, Crate, place_text
 from model.syntax import collect, dump, parse_path
 
 
 class Workspace:
-    """What a session is handed in, and the maps of the crates that aren't stale."""
+    """What a session is handed in, and the maps of the crates and blocks that aren't stale."""
 
     def __init__(self):
-        self.crates, self.files, self.entries, self.maps = [], {}, {}, {}
+        self.crates, self.files, self.entries, self.blocks = [], {}, {}, {}
+        self.maps, self.block_maps = {}, {}
 
     # ---- sources and keys
 
     def unit(self, source):
         how, name = source
-        if how == "file":
-            return self.files.get(name)
+        if how != "entry":
+            return (self.files if how == "file" else self.blocks).get(name)
         return self.entries[name][0] if name in self.entries else None
 
     def nodes(self, source):
@@ -70,39 +71,62 @@ class Workspace:
 
     def edit(self, change):
         change()
-        marked = {number for number, krate in self.maps.items() if any(self.look(key) != value for key, value in krate.asked.items())}
-        for number in list(self.maps):
-            if number in marked or self.maps[number].transitive & (marked | (set(range(len(self.crates))) - set(self.maps))):
-                marked.add(number)
-        for number in marked:
+        for kept in (self.maps, self.block_maps):
+            for place in [place for place, map_ in kept.items() if any(self.look(key) != value for key, value in map_.asked.items())]:
+                del kept[place]
+        for number in [number for number in self.maps if self.maps[number].transitive - set(self.maps)]:
             del self.maps[number]
+        # a block has outer ones around it, which are looked at before it
+        for place in sorted(self.block_maps, key=len):
+            if not self.is_kept(self.block_maps[place].holder.map):
+                del self.block_maps[place]
+
+    def is_kept(self, map_):
+        if map_.holder is None:
+            return self.maps.get(map_.number) is map_
+        return self.block_maps.get(map_.place) is map_
 
     def refresh(self):
-        due = [number for number in range(len(self.crates)) if number not in self.maps]
-        for number in due:
+        due = [(number,) for number in range(len(self.crates)) if number not in self.maps]
+        for (number,) in due:
             self.maps[number] = Crate(number, self.crates[number], self, self.maps)
-        return [[number] for number in due]
+        for place in sorted(self.blocks, key=lambda place: (nesting(place), order(place))):
+            if place in self.block_maps:
+                continue
+            _, holder = self.status(place[:-1])
+            if holder is not None:
+                self.block_maps[place] = Block(place, holder, self)
+                due.append(place)
+        return [place_text(place) for place in due]
 
     # ---- queries
 
     def status(self, place):
+        """What is said of a place, and its module where it is current."""
         if place[0] >= len(self.crates):
             return "unknown", None
         if place[0] not in self.maps:
             return "stale", None
         at = self.maps[place[0]].root
-        for name in place[1:]:
-            if not isinstance(name, str) or name not in at.children:
-                return "unknown", None
-            at = at.children[name]
-        return "current", at
+        for length, element in enumerate(place[1:], 2):
+            if isinstance(element, tuple):
+                if place[:length] not in self.blocks:
+                    return "unknown", None
+                at = self.block_maps[place[:length]].root if place[:length] in self.block_maps else None
+            elif at is not None:
+                # behind a stale block no name is looked up
+                if element not in at.children:
+                    return "unknown", None
+                at = at.children[element]
+        return ("stale" if at is None else "current"), at
 
-    def resolve(self, command):
-        status, at = self.status(command["at"])
+    def ask(self, command):
+        status, at = self.status(read_place(command["at"]))
         if at is None:
             return {"error": status + " place"}
-        krate = at.krate
-        found, stop, _ = krate.resolve(at, parse_path(command["path"]), shadow=command.get("shadow", "other"), style=command.get("sub"))
+        if command["do"] == "dump":
+            return {"ok": at.map.dump()}
+        found, stop, _ = at.map.resolve(at, parse_path(command["path"]), shadow=command.get("shadow", "other"), style=command.get("sub"))
         return {"ok": {"stop": stop, **{ns: self.answer(found.get(ns)) for ns in KINDS}}}
 
     @staticmethod
@@ -136,19 +160,28 @@ class Workspace:
         if do in ("set expansion", "remove expansion"):
             key = command["key"]
             name = (key["caller"], key["crate"], key["text"], dump(key["call"]), key["input"])
-            if do == "remove expansion":
-                self.edit(lambda: self.entries.pop(name, None))
-                return {"ok": None}
             if max(name[0], name[1]) >= len(self.crates):
                 return {"error": "unknown crate"}
-            self.edit(lambda: self.entries.__setitem__(name, (command["unit"], command.get("error"))))
+            if do == "remove expansion":
+                self.edit(lambda: self.entries.pop(name, None))
+            else:
+                self.edit(lambda: self.entries.__setitem__(name, (command["unit"], command.get("error"))))
+            return {"ok": None}
+        if do in ("set block", "remove block"):
+            place = read_place(command["at"])
+            if place[0] >= len(self.crates):
+                return {"error": "unknown crate"}
+            if do == "remove block":
+                self.edit(lambda: self.blocks.pop(place, None))
+            else:
+                self.edit(lambda: self.blocks.__setitem__(place, command["unit"]))
             return {"ok": None}
         if do == "refresh":
             return {"ok": self.refresh()}
         if do == "status":
-            return {"ok": self.status(command["at"])[0]}
-        if do == "resolve":
-            return self.resolve(command)
+            return {"ok": self.status(read_place(command["at"]))[0]}
+        if do in ("resolve", "dump"):
+            return self.ask(command)
         if do == "diagnostics":
             if command["crate"] >= len(self.crates):
                 return {"error": "unknown crate"}
@@ -160,3 +193,16 @@ class Workspace:
 
 def fold(file):
     return posixpath.normpath("/" + file).lstrip("/")
+
+
+def read_place(at):
+    return tuple(tuple(element["block"]) if isinstance(element, dict) else element for element in at)
+
+
+def nesting(place):
+    return sum(isinstance(element, tuple) for element in place)
+
+
+def order(place):
+    """By the number of the crate, then element by element: names by their bytes, before blocks."""
+    return [(0, place[0])] + [(1, element) if isinstance(element, tuple) else (0, element.encode()) for element in place[1:]]

@@ -1,7 +1,6 @@
 -- Steps by which what waits is expanded, dropped, derived or given up, and by which imports rest.
 use Rattle.std.specs.Prelude.{IsSome}
-use Rattle.std.proofs.Common.{◌≡◌, ◌∙◌, ℕ, ◌<◌, ◌≤◌, List, [], ◌∷◌, ◌++◌, length, slice_get, slice_set, Option, None, Some, inl, inr, refl, sym, ap, subst, arith, append-nil}
-use Rattle.hir_base.specs.Locations.{KeepsNumbers, max_locations}
+use Rattle.std.proofs.Common.{◌≡◌, ◌∙◌, ◌+◌, ℕ, ◌<◌, ◌≤◌, List, [], ◌∷◌, ◌++◌, length, slice_get, slice_set, Option, None, Some, inl, refl, sym, ap, subst, arith, append-nil}
 use Rattle.either.specs.declared.Either.TheVariants as either
 use Rattle.hir_base.specs.declared.ast_id.AstId.{AstId}
 use Rattle.hir_base.specs.declared.ast_id.MacroCallId.{MacroCallId}
@@ -26,21 +25,22 @@ use Rattle.hir_collector_rules.specs.declared.macro_directive.Fate.TheVariants.{
 use Rattle.hir_collector_rules.specs.declared.macro_directive.MacroDirective.{MacroDirective}
 use Rattle.hir_collector_rules.specs.declared.macro_directive.WaitingItem.{WaitingItem}
 use Rattle.hir_collector_rules.specs.declared.site.Site.{Site}
-use Rattle.hir_collector_rules.specs.CallMoves.{NoneWaitsBefore, SeesCall}
+use Rattle.hir_collector_rules.specs.CallMoves.{NoneWaitsBefore, Rested, RestsTooFar, SeesCall, already, moved}
 use Rattle.hir_collector_rules.specs.Calls.{Expanding, IsMeantAt, IsWaiting, LeadsNowhere, call_site, error_of, helpers_brought, item_kept, waiting_item}
 use Rattle.hir_collector_rules.specs.Changes.{Change, act, helps, perform, with_derived}
-use Rattle.hir_collector_rules.specs.Derivation.{IsNumberedOut, IsSpent, counted_out, numbered_out}
+use Rattle.hir_collector_rules.specs.Derivation.{IsSpent, counted_out, numbered_out}
 use Rattle.hir_collector_rules.specs.ItemIds.{module_id}
 use Rattle.hir_collector_rules.specs.Keys.{Environment, environment}
+use Rattle.hir_collector_rules.specs.NumberedOut.{LacksExpansion, lacks_call}
 use Rattle.hir_collector_rules.specs.Moves.{Makes, OnceGrown, Walks, WalksTooFar}
 use Rattle.hir_collector_rules.specs.State.{Core, State, Task, at_rest, behind, counted, import_state, joined, ticked, visit, visits, visits_over, with_fate, with_map, with_settled}
-use Rattle.hir_collector_rules.specs.Steps.{CallsMacro, DerivesBuiltin, Expands, FallsBack, IsDeep, IsQuiet, IsReachedDeep, May, Numbered, Rule, Sees, Skips, Step, Steps, bringing, derives_builtin, drops_call, drops_reached, expands_call, failing, falls_back, none, reads, rests, site_behind, skips_attribute, visit_behind}
+use Rattle.hir_collector_rules.specs.Steps.{CallsMacro, DerivesBuiltin, Expands, FallsBack, IsDeep, IsQuiet, IsReachedDeep, May, MayRest, Numbered, Rule, Sees, Skips, Step, Steps, bringing, derives_builtin, drops_call, drops_reached, expands_call, failing, falls_back, none, reads, rests, site_behind, skips_attribute, visit_behind}
 use Rattle.hir_collector_rules.specs.TreeReads.{visits_at, visits_behind, visits_found}
 use Rattle.hir_collector_rules.specs.Workspace.{TreeLook, Workspace}
 use Rattle.hir_collector_rules.specs.Reports.{call_report}
 use Rattle.hir_collector_rules.proofs.Changes.{Keeps-perform, perform-append}
 use Rattle.hir_collector_rules.proofs.Grows.{Grows-Step}
-use Rattle.hir_collector_rules.proofs.Lists.{get_inside, get_set_same, get_there}
+use Rattle.hir_collector_rules.proofs.Lists.{get_inside, get_set_same}
 use Rattle.hir_collector_state.proofs.Made.{Goes, count_kept, goes, made}
 use Rattle.hir_collector_rules.proofs.Moves.{Steps-first, Steps-one, spent_after}
 use Rattle.hir_collector_rules.proofs.Numbers.{tables_stay}
@@ -48,20 +48,15 @@ use Rattle.hir_collector_rules.proofs.Tried.{handled_stays}
 
 -- ---- numbers
 
--- where there are as many values as have numbers, there are as many later
-more_numbers : {A : Type 0} (old new : List A) → KeepsNumbers old new → max_locations ≤ length old → max_locations ≤ length new
-more_numbers old new kept full =
-    let last = get_there old 2147483646 (omega arith) in
-    let inside : 2147483646 < length new = get_inside new 2147483646 last.0 (kept 2147483646 last.0 last.1) in
-    omega arith
-
-pub numbered_out_grown : (tables grown : TablesValue) → KeepsTables tables grown → IsNumberedOut tables → IsNumberedOut grown
-numbered_out_grown tables grown kept (inl files) = inl (more_numbers tables.files grown.files kept.files files)
-numbered_out_grown tables grown kept (inr (inl entries)) = inr (inl (more_numbers tables.entries grown.entries kept.entries entries))
-numbered_out_grown tables grown kept (inr (inr calls)) = inr (inr (more_numbers tables.calls grown.calls kept.calls calls))
-
-pub spent_by_numbers : (tables : TablesValue) (w : Workspace) (finished : Maps) (s : State) → IsNumberedOut tables → OnceGrown tables w (λ env. IsSpent env finished s)
-spent_by_numbers tables w finished s out = λ grown kept. record { at = s; steps = none; stuck = numbered_out (numbered_out_grown tables grown kept out) }
+-- a call might be expanded, but that it or its expansion can't get a number
+pub spent_by_numbers : (tables : TablesValue) (w : Workspace) (finished : Maps) (c : Core) (i : ℕ) (d : MacroDirective) (makro : MacroId)
+    → CallsMacro finished (at_rest c) i d makro → d.site.level < c.map.crate_data.recursion_limit → OnceGrown tables w (λ env. LacksExpansion env finished c.map d makro)
+    → OnceGrown tables w (λ env. IsSpent env finished (at_rest c))
+spent_by_numbers tables w finished c i d makro called shallow lacks = λ grown kept. record {
+  at = at_rest c;
+  steps = none;
+  stuck = numbered_out (lacks_call (record { place = i; call = d; makro = makro; called = called; shallow = shallow; expansion = lacks grown kept }));
+}
 
 -- ---- changes of helpers and diagnostics
 
@@ -251,11 +246,15 @@ module _ (env : Environment) (finished : Maps) (c : Core) where
   quiet : IsAtRest finished (import_state (at_rest c)) → IsQuiet finished (at_rest c)
   quiet rest = record { visited = refl; settled = rest.settled; closed = rest.closed }
 
-  pub rested : (new : Core) → IsAtRest finished (import_state (at_rest c)) → new ≡ counted (with_settled c) → Steps env finished (at_rest c) (at_rest new)
-  rested new rest ticks = Steps-one (made rests (quiet rest) tt tt (ap at_rest ticks))
+  may_rest : IsAtRest finished (import_state (at_rest c)) → ¬ (c.settled ≡ length c.calls) → MayRest finished (at_rest c)
+  may_rest rest more = record { quiet = quiet rest; more = more }
 
-  pub rested_past : IsAtRest finished (import_state (at_rest c)) → STEP_LIMIT ≤ c.count → IsSpent env finished (at_rest c)
-  rested_past rest full = past_rule rests (quiet rest) tt tt full
+  pub rested : (new : Core) → IsAtRest finished (import_state (at_rest c)) → Rested c new → Steps env finished (at_rest c) (at_rest new)
+  rested new rest (already all same) = subst (λ (n : Core). Steps env finished (at_rest c) (at_rest n)) (sym same) none
+  rested new rest (moved more ticks) = Steps-one (made rests (may_rest rest more) tt tt (ap at_rest ticks))
+
+  pub rested_past : IsAtRest finished (import_state (at_rest c)) → RestsTooFar c → IsSpent env finished (at_rest c)
+  rested_past rest far = past_rule rests (may_rest rest far.more) tt tt far.full
 
   -- ---- the item of an attribute goes on
 
@@ -317,7 +316,7 @@ kept_item k there = go (item_kept k) refl there
     go (Some item) e h = (item, e)
 
 -- imports that rest do so where a step was counted
-pub rest_counted : (finished : Maps) (c : Core) → IsAtRest finished (import_state (at_rest c)) → IsAtRest finished (import_state (at_rest (counted (with_settled c))))
+rest_counted : (finished : Maps) (c : Core) → IsAtRest finished (import_state (at_rest c)) → IsAtRest finished (import_state (at_rest (counted (with_settled c))))
 rest_counted finished c rest = record {
   settled = λ i. record { among = (rest.settled i).among; linked = (rest.settled i).linked };
   recorded = λ i. record {
@@ -328,3 +327,18 @@ rest_counted finished c rest = record {
   closed = rest.closed;
   stands = rest.stands;
 }
+
+-- so they do once calls may be expanded
+pub rest_rested : (finished : Maps) (c d : Core) → Rested c d → IsAtRest finished (import_state (at_rest c)) → IsAtRest finished (import_state (at_rest d))
+rest_rested finished c d (already all same) rest = subst (λ (n : Core). IsAtRest finished (import_state (at_rest n))) (sym same) rest
+rest_rested finished c d (moved more is) rest = subst (λ (n : Core). IsAtRest finished (import_state (at_rest n))) (sym is) (rest_counted finished c rest)
+
+-- then all calls that there are may be expanded
+pub settled_rested : (c d : Core) → Rested c d → d.settled ≡ length d.calls
+settled_rested c d (already all same) = ap (λ (n : Core). n.settled) same ∙ all ∙ sym (ap (λ (n : Core). length n.calls) same)
+settled_rested c d (moved more is) = ap (λ (n : Core). n.settled) is ∙ sym (ap (λ (n : Core). length n.calls) is)
+
+-- and steps count on
+pub count_rested : (c d : Core) → Rested c d → c.count ≤ d.count
+count_rested c d (already all same) = let stays : d.count ≡ c.count = ap (λ (n : Core). n.count) same in omega (arith, stays)
+count_rested c d (moved more is) = let one : d.count ≡ c.count + 1 = ap (λ (n : Core). n.count) is in omega (arith, one)

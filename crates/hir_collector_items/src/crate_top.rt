@@ -58,7 +58,8 @@ fn add_features(crate_data: &mut DefMapCrateData, names: &[Name]) -> Result<(), 
     Ok(())
 }
 
-fn add_tools(crate_data: &mut DefMapCrateData, names: &[Name]) -> Result<(), AllocError>
+/// Registers tools behind those that are there.
+pub(crate) fn add_tools(crate_data: &mut DefMapCrateData, names: &[Name]) -> Result<(), AllocError>
     ensures ok { OnOk result (crate_data.new ≡ record crate_data.old { registered_tools = crate_data.old.registered_tools ++ names.now }) }
 {
     for name in names {
@@ -81,7 +82,7 @@ fn builtin_tools(alloc: Global) -> Result<Vec<Name>, AllocError>
 }
 
 /// The data of a crate with these attributes at its top, and these transitive dependencies.
-pub fn top_data(
+pub(crate) fn top_data(
     alloc: Global,
     edition: Edition,
     attrs: &AttrsOrCfg,

@@ -27,7 +27,7 @@ fn joins(crate_data: &DefMapCrateData, local: &LocalDefMap, dependency: &Depende
 }
 
 /// The dependencies that paths may begin with.
-pub fn extern_prelude(
+pub(crate) fn extern_prelude(
     alloc: Global,
     crate_data: &DefMapCrateData,
     dependencies: &[Dependency],

@@ -10,3 +10,4 @@ pub mod extern_prelude;
 pub mod imports;
 pub mod macros;
 pub mod sources;
+pub mod start_data;

@@ -90,6 +90,7 @@ module _ (tables : TablesValue) (w : Workspace) (finished : Maps) (s : State) wh
         done = looks.here.done;
         next = looks.here.next;
         enabled = looks.here.enabled;
+        passed = looks.here.passed;
         declaring = search.declaring;
         written = numbered.declaring;
         place = asked.place;

@@ -1,5 +1,5 @@
 -- What no change alters, and what changes keep that each of them keeps.
-use Rattle.std.proofs.Common.{◌≡◌, ◌∙◌, ◌+◌, ◌++◌, ℕ, Bool, true, false, cond, Option, Some, None, List, [], ◌∷◌, map as list_map, refl, sym, ap, append-nil, append_assoc, ◌≤◌, arith}
+use Rattle.std.proofs.Common.{◌<◌, ◌≡◌, ◌∙◌, ◌+◌, ◌++◌, ℕ, Bool, true, false, cond, Option, Some, None, List, [], ◌∷◌, map as list_map, refl, sym, ap, append-nil, append_assoc, ◌≤◌, arith}
 use Rattle.hir_base.specs.declared.ast_id.AstId.{AstId}
 use Rattle.hir_base.specs.declared.ids.ModuleId.{ModuleId}
 use Rattle.hir_base.specs.declared.macro_kind.MacroExpander.{MacroExpander}
@@ -171,6 +171,14 @@ data-Steps (more old new before step) = data-Step step ∙ data-Steps before
 pub count-Steps : {env : Environment} {finished : Maps} {from to : State} → Steps env finished from to → from.core.count ≤ to.core.count
 count-Steps none = omega arith
 count-Steps (more old new before step) =
+    let one : new.core.count ≡ old.core.count + 1 = count-Step step in
+    let so_far = count-Steps before in
+    omega (arith, one, so_far)
+
+-- a state that is another one was come to by a step
+pub counts_on : {env : Environment} {finished : Maps} {from to : State} → Steps env finished from to → ¬ (to ≡ from) → from.core.count < to.core.count
+counts_on none other = absurd (other refl)
+counts_on (more old new before step) other =
     let one : new.core.count ≡ old.core.count + 1 = count-Step step in
     let so_far = count-Steps before in
     omega (arith, one, so_far)

@@ -6,16 +6,19 @@ use Rattle.hir_crate_graph.specs.CrateSet.{crate_of, crates_from}
 use Rattle.hir_crate_graph.specs.Dependencies.{is_reached}
 use Rattle.std.proofs.lemmas.List.Elements.{Contains-append_left, Contains-append_right, Contains-append_cases}
 use Rattle.hir_base.specs.declared.ids.Crate.{Crate}
+use Rattle.hir_base.specs.declared.ids.ModuleId.{ModuleId}
 use Rattle.hir_item_tree.specs.ItemTree.{Tree}
 use Rattle.hir_tables.specs.Tables.{KeepsTables, TablesValue}
 use Rattle.hir_def_map.specs.WorldParts.{among}
-use Rattle.hir_def_map_rules.specs.Overlay.{Maps}
+use Rattle.hir_def_map_rules.specs.Overlay.{Maps, map_in}
 use Rattle.hir_collector_rules.specs.declared.macro_directive.MacroDirective.{MacroDirective}
 use Rattle.hir_collector_rules.specs.declared.macro_directive.WaitingItem.{WaitingItem}
+use Rattle.hir_collector_rules.specs.declared.start.Start.{Start}
+use Rattle.hir_collector_rules.specs.declared.start.Start.TheVariants as starts
 use Rattle.hir_collector_rules.specs.declared.source_database.Dependency.{Dependency}
 use Rattle.hir_collector_rules.specs.declared.source_database.Key.{Key}
 use Rattle.hir_collector_rules.specs.declared.source_database.Key.TheVariants as keys
-use Rattle.hir_collector_rules.specs.Workspace.{ConfigValue, Workspace, crate_in, dependencies_of, direct_in, transitive_dependencies_in}
+use Rattle.hir_collector_rules.specs.Workspace.{ConfigValue, Workspace, dependencies_of, direct_in, transitive_dependencies_in}
 use Rattle.hir_collector_rules.specs.Keys.{AgreeOn, Environment, environment, look, map_key, map_keys}
 use Rattle.hir_collector_rules.specs.Calls.{IsWaiting, LeadsNowhere, waiting_item}
 use Rattle.hir_collector_rules.specs.CallMoves.{ComesToRest, NoneWaits, cut_off, rested}
@@ -26,9 +29,9 @@ use Rattle.hir_import_resolution.specs.Directives.{kind_of, reached_by}
 use Rattle.hir_import_resolution.specs.Rest.{BroughtStands, IsClosed, IsRecorded, IsSettled}
 use Rattle.hir_collector_rules.specs.ModuleFiles.{Reading}
 use Rattle.hir_collector_rules.specs.Ended.{ended, exporting_scope}
-use Rattle.hir_def_map_rules.specs.State.{with_scope}
+use Rattle.hir_def_map_rules.specs.State.{Map, crate_map, with_scope}
 use Rattle.hir_collector_rules.specs.declared.source_database.CrateRoot.{CrateRoot}
-use Rattle.hir_collector_rules.specs.Start.{Beginning, began, begin_of, krate_of, read_by, root_key, root_tree, is_proc_macro_by, start_by}
+use Rattle.hir_collector_rules.specs.Start.{Beginning, began, begin_of, data_beside, exports_macros, held_keys, holders_by, krate_of, read_by, root_key, root_tree, start_by, start_data}
 use Rattle.hir_collector_rules.specs.Steps.{Sees, Step, Steps, none, more, keys_read, reads}
 use Rattle.hir_collector_rules.specs.Causes as causes
 use Rattle.hir_collector_rules.specs.Derivation.{BindsWhatItReaches, CollectedValue, Ends, IsLinked, finished_run}
@@ -38,8 +41,8 @@ use Rattle.hir_collector_rules.proofs.Kept.{AreAmong-by_kind}
 use Rattle.hir_collector_rules.proofs.Changes.{asked-Step, data-Steps, id-Steps}
 use Rattle.hir_collector_rules.proofs.InRange.{IsInRange}
 use Rattle.hir_collector_rules.proofs.Holds.{Holds, Holds-start, Holds-Steps, in_range-start}
-use Rattle.hir_collector_rules.proofs.Asks.{IsAskedFor, of_call, of_candidate, of_enum_listed, asked_by, only, still_asked, still_asked-Step}
-use Rattle.hir_collector_rules.proofs.Asked.{Alike, mapped, mapped_from, same_read, same_transitive, same_tree}
+use Rattle.hir_collector_rules.proofs.Asks.{IsAskedFor, of_call, of_candidate, of_enum_listed, asked_by, still_asked, still_asked-Step}
+use Rattle.hir_collector_rules.proofs.Asked.{Alike, head_or_later, mapped, mapped_from, same_holders, same_read, same_transitive, same_tree}
 use Rattle.hir_collector_rules.proofs.ModuleFiles.{Numbered-kept}
 use Rattle.hir_collector_rules.proofs.Moves.{Steps-append}
 use Rattle.hir_collector_rules.proofs.Numbers.{tables_stay}
@@ -166,6 +169,17 @@ binds_end finished s i h settled = record {
       ((h.bound i t before).bound r name at own gives);
 }
 
+-- ---- the start of a run
+
+-- a run begins with the crates on which its crate depends
+data_dependencies : (o : Option Map) (transitive : List Crate) → (data_beside o transitive).dependencies ≡ transitive
+data_dependencies None transitive = refl
+data_dependencies (Some m) transitive = refl
+
+pub start_dependencies : (finished : Maps) (tree : Tree) (transitive : List Crate) (start : Start) → (start_data finished tree transitive start).dependencies ≡ transitive
+start_dependencies finished tree transitive (starts.Crate krate root) = refl
+start_dependencies finished tree transitive (starts.Block krate block holder at) = data_dependencies (map_in finished (crate_map krate)) transitive
+
 -- ---- the end of a run
 
 module _ (tables : TablesValue) (v : Workspace) (before : Maps) (from : Beginning) (last : State) (limited : Bool) (answer : CollectedValue)
@@ -174,8 +188,18 @@ module _ (tables : TablesValue) (v : Workspace) (before : Maps) (from : Beginnin
   abbrev c : Core
   c = last.core
 
+  abbrev start : Start
+  start = from.start
+
+  abbrev krate : Crate
+  krate = krate_of from.start
+
   abbrev transitive : List Crate
   transitive = transitive_dependencies_in v (krate_of from.start)
+
+  -- what it reads
+  abbrev seen : Maps
+  seen = read_by v before from.start
 
   keys_are : answer.asked ≡ c.asked ++ map_keys transitive
   keys_are = ap (λ (a : CollectedValue). a.asked) is
@@ -195,10 +219,12 @@ module _ (tables : TablesValue) (v : Workspace) (before : Maps) (from : Beginnin
       go false = refl
 
   dependencies_are : answer.map.crate_data.dependencies ≡ transitive
-  dependencies_are = ap (λ (a : CollectedValue). a.map.crate_data.dependencies) is ∙ ap (λ (d : _). d.dependencies) (ended_data c ∙ data-Steps steps)
+  dependencies_are =
+      ap (λ (a : CollectedValue). a.map.crate_data.dependencies) is ∙ ap (λ (d : _). d.dependencies) (ended_data c ∙ data-Steps steps)
+      ∙ start_dependencies (read_by v before from.start) (root_tree tables v from) transitive from.start
 
   begun_in_range : (tables' : TablesValue) (w : Workspace) (finished : Maps) → IsInRange (begin_of tables' w finished from)
-  begun_in_range tables' w finished = in_range-start tables' w (read_by w finished from.start) from
+  begun_in_range tables' w finished = in_range-start tables' w (read_by w finished from.start) (holders_by finished from.start) from
 
   limited_is : answer.round_limit_met ≡ limited
   limited_is = ap (λ (a : CollectedValue). a.round_limit_met) is
@@ -207,9 +233,12 @@ module _ (tables : TablesValue) (v : Workspace) (before : Maps) (from : Beginnin
   asked_among : (key : Key) → Contains c.asked key → Contains answer.asked key
   asked_among key h = subst (λ (ks : List Key). Contains ks key) (sym keys_are) (Contains-append_left c.asked (map_keys transitive) key h)
 
-  -- so are the tree with which the run begins, and the map of each crate on which it depends
+  -- so are the tree with which the run begins, the maps of what holds it, and the map of each crate on which it depends
   root_among : Contains answer.asked (root_key from.start from.tree)
   root_among = asked_among (root_key from.start from.tree) (still_asked steps (root_key from.start from.tree) (0, omega arith, refl))
+
+  held_among : (key : Key) → Contains (held_keys from.start (holders_by before from.start)) key → Contains answer.asked key
+  held_among key h = asked_among key (still_asked steps key (suc h.0, omega (arith, h.1), h.2))
 
   map_among : (krate : Crate) → Contains transitive krate → Contains answer.asked (map_key krate)
   map_among krate h =
@@ -217,19 +246,19 @@ module _ (tables : TablesValue) (v : Workspace) (before : Maps) (from : Beginnin
 
   module _ {grown : TablesValue} {w : Workspace} {finished : Maps} (alike : Alike answer.asked (environment tables v) before (environment grown w) finished) where
     transitive_same : transitive_dependencies_in w (krate_of from.start) ≡ transitive
-    transitive_same = same_transitive from alike root_among map_among (krate_of from.start)
+    transitive_same = same_transitive from alike root_among held_among map_among krate
 
     reads_same : read_by w finished from.start ≡ read_by v before from.start
-    reads_same = same_read from alike root_among map_among
+    reads_same = same_read from alike root_among held_among map_among
+
+    abbrev begun_by : Maps → Tree → List CrateRoot → Option ConfigValue → List Crate → List ModuleId → State
+    begun_by maps tree crates config behind holders = start_by maps tree (exports_macros start (slice_get crates krate.0)) config behind holders start from.tree
 
     -- the run over the other workspace begins alike
     begins_same : begin_of grown w finished from ≡ begin_of tables v before from
-    begins_same =
-        ap (λ (maps : Maps). start_by maps (root_tree grown w from) (is_proc_macro_by (crate_in w (krate_of from.start))) (w.config (krate_of from.start)) (transitive_dependencies_in w (krate_of from.start)) from.start from.tree) reads_same
-        ∙ ap (λ (t : Tree). start_by (read_by v before from.start) t (is_proc_macro_by (crate_in w (krate_of from.start))) (w.config (krate_of from.start)) (transitive_dependencies_in w (krate_of from.start)) from.start from.tree) (same_tree from alike root_among map_among)
-        ∙ ap (λ (b : Bool). start_by (read_by v before from.start) (root_tree tables v from) b (w.config (krate_of from.start)) (transitive_dependencies_in w (krate_of from.start)) from.start from.tree) (ap (λ (cs : List CrateRoot). is_proc_macro_by (slice_get cs (krate_of from.start).0)) alike.crates)
-        ∙ ap (λ (o : Option ConfigValue). start_by (read_by v before from.start) (root_tree tables v from) (is_proc_macro_by (crate_in v (krate_of from.start))) o (transitive_dependencies_in w (krate_of from.start)) from.start from.tree) (alike.config (krate_of from.start))
-        ∙ ap (λ (crates : List Crate). start_by (read_by v before from.start) (root_tree tables v from) (is_proc_macro_by (crate_in v (krate_of from.start))) (v.config (krate_of from.start)) crates from.start from.tree) transitive_same
+    begins_same = λ i.
+        begun_by (reads_same i) (same_tree from alike root_among held_among map_among i) (alike.crates i) (alike.config krate i) (transitive_same i)
+        (same_holders from alike root_among held_among map_among i)
 
     -- what the steps asked for the other workspace has too
     looks_same : (key : Key) → Contains c.asked key → look grown w (read_by v before from.start) key ≡ look tables v (read_by v before from.start) key
@@ -263,7 +292,10 @@ module _ (tables : TablesValue) (v : Workspace) (before : Maps) (from : Beginnin
 
     caused_asked : (key : Key) → Contains c.asked key → causes.HasCause grown w finished from last key
     caused_asked key h = elim (asked_by (begun_in_range grown w finished) derived_over key h) [
-      | inl first ↦ causes.root_tree (sym (only (root_key from.start from.tree) key first))
+      | inl first ↦ elim (head_or_later (root_key from.start from.tree) (held_keys from.start (holders_by finished from.start)) key first) [
+        | inl root ↦ causes.root_tree (sym root)
+        | inr held ↦ causes.of_holder held
+      ]
       | inr p ↦ caused_by key p
     ]
 
@@ -279,7 +311,7 @@ module _ (tables : TablesValue) (v : Workspace) (before : Maps) (from : Beginnin
     -- where a derivation over one workspace ends, one ends over each that is like it at what was asked for
     pub ends_alike : last.agenda ≡ [] → Rests (environment tables v) (read_by v before from.start) (begin_of tables v before from) last limited → Ends grown w finished from answer
     ends_alike visited rests =
-        let holds : Holds last = Holds-Steps steps (begun_in_range tables v before) (Holds-start tables v (read_by v before from.start) from) in
+        let holds : Holds last = Holds-Steps steps (begun_in_range tables v before) (Holds-start tables v (read_by v before from.start) (holders_by before from.start) from) in
         let settles : answer.round_limit_met ≡ false → (i : ℕ) → IsSettled (read_by w finished from.start) (import_state last) i =
         λ whole i. subst (λ (maps : Maps). IsSettled maps (import_state last) i) (sym reads_same) (rests.settled (sym limited_is ∙ whole) i) in
         record {
@@ -309,18 +341,21 @@ module _ (tables : TablesValue) (v : Workspace) (before : Maps) (from : Beginnin
   ends_over agrees visited rests = ends_alike (record { kept = tables_stay tables; config = agrees.config; crates = agrees.crates; same = agrees.same }) visited rests
 
 -- a run beside the maps that it may read is one beside all finished maps
-module _ (tables : TablesValue) (w : Workspace) (finished : Maps) (from : Beginning) (part : Maps) (transitive : List Crate)
-    (reads : part ≡ among transitive [] finished) (depends : transitive ≡ transitive_dependencies_in w (krate_of from.start)) where
+module _ (tables : TablesValue) (w : Workspace) (finished : Maps) (from : Beginning) (part : Maps) (transitive : List Crate) (holders : List ModuleId)
+    (reads : part ≡ among transitive holders finished) (depends : transitive ≡ transitive_dependencies_in w (krate_of from.start)) (held : holders ≡ holders_by finished from.start) where
   pub read_whole : part ≡ read_by w finished from.start
-  read_whole = reads ∙ ap (λ (crates : List Crate). among crates [] finished) depends
+  read_whole =
+      reads ∙ ap (λ (crates : List Crate). among crates holders finished) depends
+      ∙ ap (λ (hs : List ModuleId). among (transitive_dependencies_in w (krate_of from.start)) hs finished) held
 
-  pub begun : (P : Maps → State → Type 0) → P part (began tables w part transitive from.start from.tree) → P (read_by w finished from.start) (begin_of tables w finished from)
+  pub begun : (P : Maps → State → Type 0) → P part (began tables w part transitive holders from.start from.tree) → P (read_by w finished from.start) (begin_of tables w finished from)
   begun P h =
-      subst (λ (maps : Maps). P maps (began tables w maps (transitive_dependencies_in w (krate_of from.start)) from.start from.tree)) read_whole
-      (subst (λ (crates : List Crate). P part (began tables w part crates from.start from.tree)) depends h)
+      subst (λ (maps : Maps). P maps (began tables w maps (transitive_dependencies_in w (krate_of from.start)) (holders_by finished from.start) from.start from.tree)) read_whole
+      (subst (λ (hs : List ModuleId). P part (began tables w part (transitive_dependencies_in w (krate_of from.start)) hs from.start from.tree)) held
+      (subst (λ (crates : List Crate). P part (began tables w part crates holders from.start from.tree)) depends h))
 
   -- where a run that began so comes to rest, its answer is the end of a derivation over each workspace that agrees on what was asked for
-  pub ends_from : (run last : Core) (limited : Bool) (answer : CollectedValue) → Steps (environment tables w) part (began tables w part transitive from.start from.tree) (at_rest run)
+  pub ends_from : (run last : Core) (limited : Bool) (answer : CollectedValue) → Steps (environment tables w) part (began tables w part transitive holders from.start from.tree) (at_rest run)
       → Steps (environment tables w) part (at_rest run) (at_rest last) → ComesToRest (environment tables w) part run last limited → answer ≡ finished_run last limited transitive
       → (v : Workspace) (maps : Maps) → AgreeOn tables answer.asked w finished v maps → Ends tables v maps from answer
   ends_from run last limited answer before after comes is v maps agrees =
@@ -329,7 +364,8 @@ module _ (tables : TablesValue) (w : Workspace) (finished : Maps) (from : Beginn
       let on : Steps (environment tables w) (read_by w finished from.start) (at_rest run) (at_rest last) =
       subst (λ (read : Maps). Steps (environment tables w) read (at_rest run) (at_rest last)) read_whole after in
       let steps : Steps (environment tables w) (read_by w finished from.start) (begin_of tables w finished from) (at_rest last) = Steps-append whole on in
-      let holds : Holds (at_rest last) = Holds-Steps steps (in_range-start tables w (read_by w finished from.start) from) (Holds-start tables w (read_by w finished from.start) from) in
+      let holds : Holds (at_rest last) = Holds-Steps steps (in_range-start tables w (read_by w finished from.start) (holders_by finished from.start) from)
+      (Holds-start tables w (read_by w finished from.start) (holders_by finished from.start) from) in
       let rests : ComesToRest (environment tables w) (read_by w finished from.start) run last limited =
       subst (λ (read : Maps). ComesToRest (environment tables w) read run last limited) read_whole comes in
       ends_over tables w finished from (at_rest last) limited answer steps (is ∙ ap (finished_run last limited) depends) agrees refl

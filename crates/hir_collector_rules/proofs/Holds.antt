@@ -2,7 +2,7 @@
 use Rattle.std.proofs.Common.{◌≡◌, ◌∙◌, ℕ, ◌<◌, Bool, true, false, List, [], ◌∷◌, length, map as list_map, slice_get, slice_set, Option, None, Some, inl, inr, refl, sym, ap, subst, arith}
 use Rattle.std.proofs.lemmas.Bool.{cases_lt}
 use Rattle.hir_base.specs.declared.ids.Crate.{Crate}
-use Rattle.hir_item_tree.specs.Collected.{is_enabled}
+use Rattle.hir_base.specs.declared.ids.ModuleId.{ModuleId}
 use Rattle.hir_item_tree.specs.ItemTree.{Tree}
 use Rattle.hir_item_tree.specs.KeptForest.{KeptForest, no_items, item}
 use Rattle.hir_item_tree.specs.declared.tree_id.TreeId.{TreeId}
@@ -27,7 +27,7 @@ use Rattle.hir_collector_rules.specs.Workspace.{Workspace, transitive_dependenci
 use Rattle.hir_collector_rules.specs.Calls.{error_of}
 use Rattle.hir_collector_rules.specs.Keys.{Environment, tree_at}
 use Rattle.hir_collector_rules.specs.State.{State, import_state, visits_over}
-use Rattle.hir_collector_rules.specs.Start.{Beginning, began, krate_of, start_of, root_site, tree_key, tree_visits}
+use Rattle.hir_collector_rules.specs.Start.{Beginning, began, is_declared, krate_of, start_of, root_site, tree_key, tree_visits}
 use Rattle.hir_collector_rules.specs.Changes.{Change, lists, makes, gives_variants, begins_paths, reaches, awaits, ends, settles, changes_imports, adds_textual, takes_textual, defines, describes, helps, lists_derive, exports, uses_macros, tells, goes_on, act, on_map}
 use Rattle.hir_collector_rules.specs.Steps.{Rule, drops_item, awaits_attribute, lists_derives, faults_derive, exports_macro, reaches_call, rests, expands_call, drops_call, drops_reached, derives_builtin, skips_attribute, falls_back, defines_rules, defines_macro, closes_module, declares_item, declares_enum, lists_constant, lists_impl, opens_module, opens_file, drops_file, misses_file, enters_block, reaches_imports, reaches_crate, resolves_imports, May, acts, asking, Step, Steps, none, more}
 use Rattle.hir_collector_rules.proofs.Lists.{get_left, get_right, get_inside, get_set_same, get_set_other, length_set, length_both, length_mapped, get_same}
@@ -301,21 +301,22 @@ in_range-visits n site no_items h = tt
 in_range-visits n site (item i is) h = (h, in_range-visits n site is h)
 
 in_range-tree : (n : ℕ) (site : Site) (tree : Tree) → site.home < n → VisitsBelow n (tree_visits site tree)
-in_range-tree n site tree h = go (is_enabled tree.attributes) refl
+in_range-tree n site tree h = go (is_declared site.tree tree) refl
   where
-    go : (b : Bool) → is_enabled tree.attributes ≡ b → VisitsBelow n (tree_visits site tree)
+    go : (b : Bool) → is_declared site.tree tree ≡ b → VisitsBelow n (tree_visits site tree)
     go true e = rw e (in_range-visits n site tree.items h)
     go false e = rw e tt
 
-pub in_range-begun : (tables : TablesValue) (w : Workspace) (finished : Maps) (transitive : List Crate) (start : Start) (id : TreeId) → IsInRange (began tables w finished transitive start id)
-in_range-begun tables w finished transitive start id = record {
+pub in_range-begun : (tables : TablesValue) (w : Workspace) (finished : Maps) (transitive : List Crate) (holders : List ModuleId) (start : Start) (id : TreeId)
+    → IsInRange (began tables w finished transitive holders start id)
+in_range-begun tables w finished transitive holders start id = record {
   visits = in_range-tree 1 (root_site id) (tree_at tables w (tree_key start id)).tree (omega arith);
   imports = tt;
   calls = tt;
 }
 
-pub in_range-start : (tables : TablesValue) (w : Workspace) (finished : Maps) (from : Beginning) → IsInRange (start_of tables w finished from)
-in_range-start tables w finished from = in_range-begun tables w finished (transitive_dependencies_in w (krate_of from.start)) from.start from.tree
+pub in_range-start : (tables : TablesValue) (w : Workspace) (finished : Maps) (holders : List ModuleId) (from : Beginning) → IsInRange (start_of tables w finished holders from)
+in_range-start tables w finished holders from = in_range-begun tables w finished (transitive_dependencies_in w (krate_of from.start)) holders from.start from.tree
 
-pub Holds-start : (tables : TablesValue) (w : Workspace) (finished : Maps) (from : Beginning) → Holds (start_of tables w finished from)
-Holds-start tables w finished from = record { paired = refl; bound = λ i t at. absurd (let no : ⊥ = cc in no) }
+pub Holds-start : (tables : TablesValue) (w : Workspace) (finished : Maps) (holders : List ModuleId) (from : Beginning) → Holds (start_of tables w finished holders from)
+Holds-start tables w finished holders from = record { paired = refl; bound = λ i t at. absurd (let no : ⊥ = cc in no) }

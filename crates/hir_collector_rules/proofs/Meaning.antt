@@ -14,10 +14,10 @@ use Rattle.hir_base.specs.declared.ast_id.HirFileId.{HirFileId}
 use Rattle.hir_base.specs.declared.ast_id.HirFileId.TheVariants.{File, Macro}
 use Rattle.hir_base.specs.declared.ids.AdtId.{AdtId}
 use Rattle.hir_base.specs.declared.ids.Crate.{Crate}
+use Rattle.hir_base.specs.declared.ids.ModuleId.{ModuleId}
 use Rattle.hir_base.specs.declared.macro_kind.MacroCallLoc.{MacroCallLoc}
 use Rattle.hir_base.specs.declared.macro_kind.MacroId.{MacroId}
 use Rattle.hir_base.specs.declared.macro_kind.MacroId.TheVariants as macros
-use Rattle.hir_item_tree.specs.Collected.{is_enabled}
 use Rattle.hir_item_tree.specs.ItemTree.{Tree}
 use Rattle.hir_item_tree.specs.KeptForest.{Head, KeptForest, KeptItem, no_items, item}
 use Rattle.hir_item_tree.specs.SourceTree.{variants_of}
@@ -46,12 +46,12 @@ use Rattle.hir_collector_rules.specs.Keys.{HasMeaning, IsMeant, entry_under, enu
 use Rattle.hir_collector_rules.specs.ModuleFiles.{IsFileMeant, own_file, tried_in}
 use Rattle.hir_collector_rules.specs.Calls.{Expanding, IsMeantAt, IsMeantCall, IsNumberedCall, call_site, call_tree, error_of, expansion_readings, item_kept, text_readings, waiting_item}
 use Rattle.hir_collector_rules.specs.State.{State, Task, Visit, visits, closes, import_state, visits_over}
-use Rattle.hir_collector_rules.specs.Start.{began, krate_of, read_by, root_key, root_site, tree_key, tree_visits}
+use Rattle.hir_collector_rules.specs.Start.{began, held_keys, holders_by, is_declared, krate_of, read_by, root_key, root_site, tree_key, tree_visits}
 use Rattle.hir_collector_rules.specs.Changes.{Change, lists, makes, gives_variants, begins_paths, reaches, awaits, ends, settles, changes_imports, adds_textual, takes_textual, defines, describes, helps, lists_derive, exports, uses_macros, tells, goes_on, act}
 use Rattle.hir_collector_rules.specs.Steps.{Rule, drops_item, awaits_attribute, lists_derives, faults_derive, exports_macro, reaches_call, rests, expands_call, drops_call, drops_reached, derives_builtin, skips_attribute, falls_back, defines_rules, defines_macro, closes_module, closing, declares_item, declares_enum, lists_constant, lists_impl, opens_module, opens_file, drops_file, misses_file, enters_block, reaches_imports, reaches_crate, resolves_imports, May, Numbered, acts, asking, call_at, derive_at, derives_from, inside_block, inside_file, inside_module, keys_read, path_of, reads, visits_inside, Step, Steps, none, more}
 use Rattle.hir_collector_rules.specs.Derivation.{finished_run}
 use Rattle.hir_collector_rules.specs.Growth.{AnswersStand, AskedKeysHaveMeaning, LooksStand}
-use Rattle.hir_collector_rules.proofs.Asked.{mapped_from}
+use Rattle.hir_collector_rules.proofs.Asked.{head_or_later, held_is_map, mapped_from}
 use Rattle.hir_collector_rules.proofs.Asks.{only}
 use Rattle.hir_collector_rules.proofs.Changes.{AllFine, all_fine, asked-Step, fine_bringing, fine_expanding, fine_macro, fine_reporting, perform_keeps}
 use Rattle.hir_collector_rules.proofs.Derived.{ends_alike}
@@ -100,14 +100,14 @@ module _ (tables : TablesValue) where
   no_file : IsFileMeant tables None
   no_file = λ id e. absurd (let no : ⊥ = cc in no)
 
-  -- those of the site with which a run begins
-  pub root_meant : (tree : TreeId) → IsSome (source_of tables tree) → IsMeantAt tables (root_site tree)
-  root_meant tree there = record { tree = there; file = go tree.file tree.block there }
+  -- those of the site of a whole file
+  pub root_meant : (tree : TreeId) → tree.block ≡ None → IsSome (source_of tables tree) → IsMeantAt tables (root_site tree)
+  root_meant tree whole there = record { tree = there; file = go tree.file tree.block whole there }
     where
-      go : (f : HirFileId) (b : Option BlockId) → IsSome (place_under tables f b) → IsFileMeant tables (own_file f b)
-      go (File f) None h = file_meant f.file_id h
-      go (File f) (Some b) h = no_file
-      go (Macro call) b h = no_file
+      go : (f : HirFileId) (b : Option BlockId) → b ≡ None → IsSome (place_under tables f b) → IsFileMeant tables (own_file f b)
+      go (File f) None e h = file_meant f.file_id h
+      go (File f) (Some b) e h = absurd (let no : ⊥ = cc in no)
+      go (Macro call) b e h = no_file
 
   -- what a call expands to has a source
   expansion_meant : (own : Crate) (d : MacroDirective) (makro : MacroId) (x : Expanding) → IsNumberedCall tables own d makro x → IsSome (source_of tables (call_tree x.id))
@@ -294,12 +294,13 @@ module _ (tables : TablesValue) where
   meant-Steps none p = p
   meant-Steps (more old new before step) p = meant-Step step (meant-Steps before p)
 
-  pub meant-begun : (w : Workspace) (finished : Maps) (transitive : List Crate) (start : Start) (id : TreeId) → IsSome (source_of tables id)
-      → IsAllMeant tables (began tables w finished transitive start id)
-  meant-begun w finished transitive start id there = record { visits = go (tree_at tables w (tree_key start id)).tree (is_enabled (tree_at tables w (tree_key start id)).tree.attributes) refl; calls = tt }
+  pub meant-begun : (w : Workspace) (finished : Maps) (transitive : List Crate) (holders : List ModuleId) (start : Start) (id : TreeId) → IsMeantAt tables (root_site id)
+      → IsAllMeant tables (began tables w finished transitive holders start id)
+  meant-begun w finished transitive holders start id there =
+      record { visits = go (tree_at tables w (tree_key start id)).tree (is_declared id (tree_at tables w (tree_key start id)).tree) refl; calls = tt }
     where
-      go : (t : Tree) (b : Bool) → is_enabled t.attributes ≡ b → AreMeant tables (tree_visits (root_site id) t)
-      go t true e = rw e (meant_visits (root_site id) (root_meant tables id there) t.items)
+      go : (t : Tree) (b : Bool) → is_declared id t ≡ b → AreMeant tables (tree_visits (root_site id) t)
+      go t true e = rw e (meant_visits (root_site id) there t.items)
       go t false e = rw e tt
 
 -- ---- keys
@@ -374,8 +375,11 @@ asked_keys_have_meaning tables w finished from answer there e key h =
     let transitive : List Crate = transitive_dependencies_in w (krate_of from.start) in
     elim (Contains-append_cases e.last.core.asked (map_keys transitive) key (subst (λ (ks : List Key). Contains ks key) e.asked_is h)) [
       | inl own ↦
-          asked_meant tables e.derived (meant-begun tables w (read_by w finished from.start) transitive from.start from.tree there)
-          (λ k first. subst (HasMeaning tables) (only (root_key from.start from.tree) k first) there) key own
+          asked_meant tables e.derived (meant-begun tables w (read_by w finished from.start) transitive (holders_by finished from.start) from.start from.tree there)
+          (λ k first. elim (head_or_later (root_key from.start from.tree) (held_keys from.start (holders_by finished from.start)) k first) [
+            | inl root ↦ subst (HasMeaning tables) root there.tree
+            | inr held ↦ let is_map = held_is_map from.start (holders_by finished from.start) k held in subst (HasMeaning tables) is_map.1 tt
+          ]) key own
       | inr later ↦
           let found = mapped_from map_key transitive key later in
           subst (HasMeaning tables) found.2 tt

@@ -21,7 +21,7 @@ use Rattle.hir_collector_rules.specs.declared.source_database.Key.TheVariants as
 use Rattle.hir_collector_rules.specs.Workspace.{TreeLook, Workspace, seen_of}
 use Rattle.hir_collector_rules.specs.Keys.{HasMeaning, IsMeant, Look, absent_source, environment, look, macro_tree, of_tree, source_under}
 use Rattle.hir_collector_rules.specs.Calls.{Expanding, IsMeantAt, IsNumberedCall, call_loc, call_style, expansion_of_call}
-use Rattle.hir_collector_rules.specs.ModuleFiles.{AreAbsent, AreNumbered, AreTried, IsNumberOf, IsNumbered, LookedAt, ModuleFile, Search, Tried, file_key, file_reading, file_readings, file_tree, is_there, module_file, named_by, taken_by, tried_in}
+use Rattle.hir_collector_rules.specs.ModuleFiles.{AreAbsent, AreNumbered, AreTried, IsNumberOf, IsNumbered, LookedAt, ModuleFile, NoneIsThereBefore, Search, Tried, file_key, file_reading, file_readings, file_tree, is_there, module_file, named_by, taken_by, tried_in}
 use Rattle.hir_collector_rules.specs.Steps.{Numbered, Rule, Sees, drops_item, awaits_attribute, lists_derives, faults_derive, exports_macro, reaches_call, rests, expands_call, drops_call, drops_reached, derives_builtin, skips_attribute, falls_back, defines_rules, defines_macro, closes_module, declares_item, declares_enum, lists_constant, lists_impl, opens_module, opens_file, drops_file, misses_file, enters_block, reaches_imports, reaches_crate, resolves_imports, keys_read}
 use Rattle.hir_collector_rules.specs.State.{State}
 use Rattle.hir_collector_rules.proofs.Asked.{seen_tree}
@@ -178,12 +178,24 @@ pub record IsAsked (tables : TablesValue) (w : Workspace) (krate : Crate) (editi
   pub id : FileId
   pub is_file : IsNumberOf tables (Some id) (named_by declaring candidate)
   pub is : key ≡ keys.Tree (file_key krate edition id)
-  pub earlier : (m : ℕ) (c : Candidate) → m < place → slice_get candidates m ≡ Some c
-      → option_map_or (λ path. (w.tree krate (file path)).present) (named_by declaring c) false ≡ false
+  pub earlier : NoneIsThereBefore w krate declaring candidates place
+
+-- where none before a place is there, nor is one in front of them, none before the next place is
+pub none_there_behind : (w : Workspace) (krate : Crate) (declaring : Option (List ℕ)) (c : Candidate) (cs : List Candidate) (place : ℕ)
+    → option_map_or (λ path. (w.tree krate (file path)).present) (named_by declaring c) false ≡ false → NoneIsThereBefore w krate declaring cs place
+    → NoneIsThereBefore w krate declaring (c ∷ cs) (suc place)
+none_there_behind w krate declaring c cs place gone before = λ m d below at. go m d below at
+  where
+    go : (m : ℕ) (d : Candidate) → m < suc place → slice_get (c ∷ cs) m ≡ Some d
+        → option_map_or (λ path. (w.tree krate (file path)).present) (named_by declaring d) false ≡ false
+    go zero d below at =
+        let same : c ≡ d = cc in
+        subst (λ (x : Candidate). option_map_or (λ path. (w.tree krate (file path)).present) (named_by declaring x) false ≡ false) same gone
+    go (suc m) d below at = before m d (omega arith) at
 
 module _ (tables : TablesValue) (w : Workspace) (finished : Maps) (krate : Crate) (edition : Edition) (declaring : Option (List ℕ)) where
   -- a candidate that was tried and isn't there
-  absent_there : (t : Tried) → is_there t ≡ false → IsNumberOf tables (option_map (λ (f : LookedAt). f.id) t.file) (named_by declaring t.candidate)
+  pub absent_there : (t : Tried) → is_there t ≡ false → IsNumberOf tables (option_map (λ (f : LookedAt). f.id) t.file) (named_by declaring t.candidate)
       → Sees (environment tables w) finished (file_reading krate edition t.file) → option_map_or (λ path. (w.tree krate (file path)).present) (named_by declaring t.candidate) false ≡ false
   absent_there t gone number sees = go t.file (named_by declaring t.candidate) gone number sees
     where
@@ -226,12 +238,8 @@ module _ (tables : TablesValue) (w : Workspace) (finished : Maps) (krate : Crate
     id = a.id;
     is_file = a.is_file;
     is = a.is;
-    earlier = λ m c below at. before m c below at;
+    earlier = none_there_behind w krate declaring t.candidate cs a.place gone a.earlier;
   }
-    where
-      before : (m : ℕ) (c : Candidate) → m < suc a.place → slice_get (t.candidate ∷ cs) m ≡ Some c → option_map_or (λ path. (w.tree krate (file path)).present) (named_by declaring c) false ≡ false
-      before zero c below at = let same : t.candidate ≡ c = cc in subst (λ (x : Candidate). option_map_or (λ path. (w.tree krate (file path)).present) (named_by declaring x) false ≡ false) same gone
-      before (suc m) c below at = a.earlier m c (omega arith) at
 
   -- that of one that isn't there, or of one behind it
   asked_of : (t : Tried) (ts : List Tried) (cs : List Candidate) (key : Key) → is_there t ≡ false → IsNumberOf tables (option_map (λ (f : LookedAt). f.id) t.file) (named_by declaring t.candidate)

@@ -14,7 +14,8 @@ use Rattle.hir_collector_rules.specs.Calls.{Expanding, IsMeantAt, IsMeantCall, I
 use Rattle.hir_collector_rules.specs.Keys.{Environment}
 use Rattle.hir_collector_rules.specs.Moves.{OnceGrown}
 use Rattle.hir_collector_rules.specs.Rounds.{HasManyRounds, IsRound}
-use Rattle.hir_collector_rules.specs.State.{Core, at_rest, import_state}
+use Rattle.hir_collector_rules.specs.declared.start.TheConstants.{STEP_LIMIT}
+use Rattle.hir_collector_rules.specs.State.{Core, at_rest, counted, import_state, with_settled}
 use Rattle.hir_collector_rules.specs.Steps.{Sees, Steps, keys_read, with_keys}
 use Rattle.hir_collector_rules.specs.Workspace.{Workspace, seen_of}
 
@@ -53,6 +54,16 @@ pub data TriesCall (finished : Maps) (old new : Core) (i : ℕ) : Bool → Type 
   handled : (d : MacroDirective) → IsWaiting (at_rest old) i d → slice_get new.fates i ≡ Some Handled → TriesCall finished old new i true
   left : new ≡ old → LeadsNowhere finished (at_rest old) i → TriesCall finished old new i false
 
+-- imports rest: the calls that there are can be expanded already, or may be from now on, which is a step
+pub data Rested (old new : Core) : Type 0 where
+  already : old.settled ≡ length old.calls → new ≡ old → Rested old new
+  moved : ¬ (old.settled ≡ length old.calls) → new ≡ counted (with_settled old) → Rested old new
+
+-- there are calls that can't be expanded yet, and as many steps were taken as are counted
+pub record RestsTooFar (old : Core) : Type 0 where
+  pub more : ¬ (old.settled ≡ length old.calls)
+  pub full : STEP_LIMIT ≤ old.count
+
 -- a round was gone through; or nothing was done, and no call that waits reaches a macro
 pub data TriesCalls (env : Environment) (finished : Maps) (old new : Core) : Bool → Type 0 where
   round : IsRound env finished (at_rest old) (at_rest new) → TriesCalls env finished old new true
@@ -79,10 +90,10 @@ pub record IsFirstWaiting (c : Core) (i : ℕ) : Type 0 where
   pub waits : IsAttributeWaiting c i
   pub first : NoneWaitsBefore c i
 
--- the first attribute that waited was given up, and none waits before this place; or none waited, and nothing was done
+-- the first attribute that waited was given up, which took a step, and none waits before this place; or none waited, and nothing was done
 abbrev pub IsGivenUp : Core → Core → Option ℕ → Type 0
 IsGivenUp old new None = (new ≡ old) × NoneWaits old
-IsGivenUp old new (Some next) = NoneWaitsBefore new next
+IsGivenUp old new (Some next) = (old.count < new.count) × NoneWaitsBefore new next
 
 -- imports rest, nothing that waits reaches a macro, and no attribute waits; or there were more rounds than may be, and no name is left to go along a glob
 pub data ComesToRest (env : Environment) (finished : Maps) (old new : Core) : Bool → Type 0 where

@@ -290,10 +290,9 @@ pub record IsPlacedBelow (tables : TablesValue) (n : ℕ) (node : AstId) : Type 
   pub source : IsSome (source_of tables (node_tree node))
   pub earlier : (c : MacroCallId) → node.file_id ≡ Macro c → node.block ≡ None → c.0 < n
 
--- so is each call that has a number, and no block has one
+-- so is each call that has a number
 pub record AreCallsPlaced (tables : TablesValue) : Type 0 where
   pub calls : (n : ℕ) (loc : MacroCallLoc) → slice_get tables.calls n ≡ Some loc → IsPlacedBelow tables n (call_node loc.kind)
-  pub blocks : tables.blocks ≡ []
 
 -- the numbers of a site mean something
 pub record IsMeantAt (tables : TablesValue) (site : Site) : Type 0 where

@@ -1,6 +1,5 @@
 -- Why a run asked for a key.
-use Rattle.std.specs.Prelude.{◌≡◌, ◌<◌, true, false, ℕ, List, [], ◌∷◌, Option, None, Some, Contains, slice_get}
-use Rattle.std.specs.Option.{option_map_or}
+use Rattle.std.specs.Prelude.{◌≡◌, true, ℕ, List, [], ◌∷◌, Option, None, Some, Contains, slice_get}
 use Rattle.hir_base.specs.declared.ast_id.FileId.{FileId}
 use Rattle.hir_base.specs.declared.ids.AdtId.TheVariants as adts
 use Rattle.hir_base.specs.declared.ids.Crate.{Crate}
@@ -12,7 +11,6 @@ use Rattle.hir_item_tree.specs.Collected.{is_enabled}
 use Rattle.hir_item_tree.specs.KeptForest.{Head, leaf, outline_module}
 use Rattle.hir_mod_dir.specs.ModuleFiles.{candidates_of}
 use Rattle.hir_mod_dir.specs.declared.candidate.Candidate.{Candidate}
-use Rattle.hir_tables.specs.SourcePlaces.{file}
 use Rattle.hir_tables.specs.Tables.{TablesValue}
 use Rattle.hir_def_map_rules.specs.Overlay.{Maps}
 use Rattle.hir_def_map_rules.specs.State.{ModuleValue, module_at}
@@ -22,9 +20,10 @@ use Rattle.hir_collector_rules.specs.declared.source_database.Key.{Key}
 use Rattle.hir_collector_rules.specs.declared.source_database.Key.TheVariants.{Tree, Variants}
 use Rattle.hir_collector_rules.specs.Workspace.{Workspace, transitive_dependencies_in}
 use Rattle.hir_collector_rules.specs.Keys.{environment, map_key}
-use Rattle.hir_collector_rules.specs.ModuleFiles.{IsNumberOf, file_key, named_by}
+use Rattle.hir_collector_rules.specs.Attributes.{next_attribute}
+use Rattle.hir_collector_rules.specs.ModuleFiles.{IsNumberOf, NoneIsThereBefore, file_key, named_by}
 use Rattle.hir_collector_rules.specs.State.{State, Task, visits}
-use Rattle.hir_collector_rules.specs.Start.{Beginning, begin_of, krate_of, read_by, root_key}
+use Rattle.hir_collector_rules.specs.Start.{Beginning, begin_of, held_keys, holders_by, krate_of, read_by, root_key}
 use Rattle.hir_collector_rules.specs.Calls.{Expanding, IsNumberedCall}
 use Rattle.hir_collector_rules.specs.Steps.{Expands, Sees, Steps, behind, expands_call, keys_read, path_of, reads, visit}
 
@@ -47,6 +46,8 @@ pub record IsCandidate (tables : TablesValue) (w : Workspace) (at : State) (key 
   pub done : ℕ
   pub next : at.agenda ≡ visits (behind (visit site (leaf head (outline_module name))) done) ∷ rest
   pub enabled : is_enabled head.attributes ≡ true
+  -- nothing is to be looked up for an attribute of it any more
+  pub passed : next_attribute at.core.map site (leaf head (outline_module name)) done ≡ None
   -- the file in which the item, or the outermost call around it, is written
   pub declaring : Option (List ℕ)
   pub written : IsNumberOf tables site.file declaring
@@ -57,8 +58,7 @@ pub record IsCandidate (tables : TablesValue) (w : Workspace) (at : State) (key 
   pub is_file : IsNumberOf tables (Some id) (named_by declaring candidate)
   pub is : key ≡ Tree (file_key at.core.map.id.krate at.core.map.crate_data.edition id)
   -- no candidate before it is there
-  pub earlier : (m : ℕ) (c : Candidate) → m < place → slice_get (candidates_of site.dir name (path_of head)) m ≡ Some c
-      → option_map_or (λ path. (w.tree at.core.map.id.krate (file path)).present) (named_by declaring c) false ≡ false
+  pub earlier : NoneIsThereBefore w at.core.map.id.krate declaring (candidates_of site.dir name (path_of head)) place
 
 -- a call, a path of a derive or an attribute of a state reaches a macro, and this is the key of the macro's text, of the input, of the expansion or of the
 -- expansion's items
@@ -76,6 +76,8 @@ pub record IsOfCall (tables : TablesValue) (w : Workspace) (finished : Maps) (at
 pub data HasCause (tables : TablesValue) (w : Workspace) (finished : Maps) (from : Beginning) (last : State) (key : Key) : Type 0 where
   -- it is the tree with which the run begins
   root_tree : key ≡ root_key from.start from.tree → HasCause tables w finished from last key
+  -- it is the map of the crate of a block, or that of a module which holds the block
+  of_holder : Contains (held_keys from.start (holders_by finished from.start)) key → HasCause tables w finished from last key
   -- it is the variants of an enum that a module lists
   declared_enum : (home : ℕ) (id : EnumId) → Contains (declarations_of (module_at last.core.map home)) (definitions.AdtId (adts.EnumId id)) → key ≡ Variants id
       → HasCause tables w finished from last key

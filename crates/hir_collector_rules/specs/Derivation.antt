@@ -5,7 +5,6 @@ use Rattle.hir_scope.specs.declared.imports.ImportOrExternCrate.{ImportOrExternC
 use Rattle.hir_def_map_rules.specs.State.{Local, Map, entry_at}
 use Rattle.hir_def_map_rules.specs.Overlay.{Maps}
 use Rattle.hir_def_map_rules.specs.declared.diagnostics.DefDiagnostic.{DefDiagnostic}
-use Rattle.hir_base.specs.Locations.{max_locations}
 use Rattle.hir_base.specs.declared.ids.Crate.{Crate}
 use Rattle.hir_tables.specs.Tables.{TablesValue}
 use Rattle.hir_glob_imports.specs.declared.edge.Target.{Target}
@@ -20,6 +19,7 @@ use Rattle.hir_collector_rules.specs.Workspace.{Workspace, transitive_dependenci
 use Rattle.hir_collector_rules.specs.Keys.{Environment, environment, map_keys}
 use Rattle.hir_collector_rules.specs.Calls.{IsWaiting, LeadsNowhere, waiting_item}
 use Rattle.hir_collector_rules.specs.Ended.{ended}
+use Rattle.hir_collector_rules.specs.NumberedOut.{LacksNumber}
 use Rattle.hir_collector_rules.specs.Rounds.{HasManyRounds}
 use Rattle.hir_collector_rules.specs.State.{Core, State, import_state}
 use Rattle.hir_collector_rules.specs.Start.{Beginning, begin_of, id_of, krate_of, read_by}
@@ -110,18 +110,14 @@ pub record Ends (tables : TablesValue) (w : Workspace) (finished : Maps) (from :
   pub dependencies_are : answer.map.crate_data.dependencies ≡ transitive_dependencies_in w (krate_of from.start)
   pub caused : (key : Key) → Contains answer.asked key → HasCause tables w finished from last key
 
--- there are as many files, expansions or calls as have numbers
-abbrev pub IsNumberedOut : TablesValue → Type 0
-IsNumberedOut tables = (max_locations ≤ length tables.files) ⊎ ((max_locations ≤ length tables.entries) ⊎ (max_locations ≤ length tables.calls))
-
 -- as many steps or modules as are counted
 abbrev pub IsFull : ℕ → Map → Type 0
 IsFull count m = (STEP_LIMIT ≤ count) ⊎ (STEP_LIMIT ≤ length m.modules)
 
--- there are as many steps or modules as are counted, and one more step may be taken; or numbers ran out
+-- there are as many steps or modules as are counted, and one more step may be taken; or it would be, but that what it speaks of can't get a number
 pub data IsStuck (env : Environment) (finished : Maps) (at : State) : Type 0 where
   counted_out : (next : State) → Step env finished at next → IsFull at.core.count at.core.map → IsStuck env finished at
-  numbered_out : IsNumberedOut env.tables → IsStuck env finished at
+  numbered_out : LacksNumber env finished at → IsStuck env finished at
 
 -- steps lead on from here to where that is so
 pub record IsSpent (env : Environment) (finished : Maps) (from : State) : Type 0 where

@@ -4,8 +4,9 @@ use Rattle.hir_tables.specs.Tables.{TablesValue, KeepsTables}
 use Rattle.hir_def_map_rules.specs.Overlay.{Maps}
 use Rattle.hir_collector_rules.specs.declared.source_database.Key.{Key}
 use Rattle.hir_collector_rules.specs.Workspace.{Workspace}
+use Rattle.hir_collector_rules.specs.Calls.{IsMeantAt}
 use Rattle.hir_collector_rules.specs.Keys.{HasMeaning, look}
-use Rattle.hir_collector_rules.specs.Start.{Beginning, root_key}
+use Rattle.hir_collector_rules.specs.Start.{Beginning, root_site}
 use Rattle.hir_collector_rules.specs.Derivation.{CollectedValue, Ends}
 
 -- what is seen at a key whose numbers mean something
@@ -16,9 +17,9 @@ LooksStand = (tables grown : TablesValue) (w : Workspace) (finished : Maps) (key
 -- the numbers in the keys of a run mean something, where those of its tree do
 abbrev pub AskedKeysHaveMeaning : Type 0
 AskedKeysHaveMeaning = (tables : TablesValue) (w : Workspace) (finished : Maps) (from : Beginning) (answer : CollectedValue)
-    → HasMeaning tables (root_key from.start from.tree) → Ends tables w finished from answer → (key : Key) → Contains answer.asked key → HasMeaning tables key
+    → IsMeantAt tables (root_site from.tree) → Ends tables w finished from answer → (key : Key) → Contains answer.asked key → HasMeaning tables key
 
 -- so a run's answer stands
 abbrev pub AnswersStand : Type 0
 AnswersStand = (tables grown : TablesValue) (w : Workspace) (finished : Maps) (from : Beginning) (answer : CollectedValue)
-    → KeepsTables tables grown → HasMeaning tables (root_key from.start from.tree) → Ends tables w finished from answer → Ends grown w finished from answer
+    → KeepsTables tables grown → IsMeantAt tables (root_site from.tree) → Ends tables w finished from answer → Ends grown w finished from answer

@@ -25,6 +25,7 @@ pub mod Steps
 -- ---- what a run comes to
 pub mod Rounds
 pub mod Ended
+pub mod NumberedOut
 pub mod Derivation
 pub mod Causes
 pub mod Growth

@@ -1,5 +1,5 @@
 -- Which file is that of an outline module, and which files does a run look at to find it?
-use Rattle.std.specs.Prelude.{◌≡◌, IsSome, Bool, true, false, ℕ, List, [], ◌∷◌, ◌++◌, Option, None, Some, map, option_map, if◌then◌else◌, codes}
+use Rattle.std.specs.Prelude.{◌≡◌, IsSome, is_some, Bool, true, false, ℕ, List, [], ◌∷◌, ◌++◌, Option, None, Some, map, option_map, if◌then◌else◌, codes, ◌<◌, slice_get}
 use Rattle.std.specs.Option.{option_and_then, option_map_or, option_to_list}
 use Rattle.hir_base.specs.declared.ast_id.BlockId.{BlockId}
 use Rattle.hir_base.specs.declared.ast_id.FileId.{FileId}
@@ -15,12 +15,13 @@ use Rattle.hir_item_tree.specs.declared.tree_id.TreeKey.{TreeKey}
 use Rattle.hir_mod_dir.specs.Directory.{Directory}
 use Rattle.hir_mod_dir.specs.ModuleFiles.{file_beside}
 use Rattle.hir_mod_dir.specs.declared.candidate.Candidate.{Candidate}
+use Rattle.hir_tables.specs.SourcePlaces.{file as file_place}
 use Rattle.hir_tables.specs.Tables.{TablesValue, file_at}
 use Rattle.hir_collector_rules.specs.declared.source_database.Key.{Key}
 use Rattle.hir_collector_rules.specs.declared.source_database.Key.TheVariants as keys
 use Rattle.hir_collector_rules.specs.CrateTop.{is_keyed}
 use Rattle.hir_collector_rules.specs.Keys.{Look, of_tree}
-use Rattle.hir_collector_rules.specs.Workspace.{TreeLook}
+use Rattle.hir_collector_rules.specs.Workspace.{TreeLook, Workspace}
 
 -- ---- the `path` attribute
 
@@ -44,10 +45,9 @@ path_attribute (a ∷ rest) = first_or (path_in a) (path_attribute rest)
 
 -- ---- numbers of files
 
--- the file that a tree is of; none of a block, and of what a call expands to
+-- the file that a tree is of, or in which its block is written; none of what a call expands to
 abbrev pub own_file : HirFileId → Option BlockId → Option FileId
-own_file (File f) None = Some f.file_id
-own_file (File f) (Some block) = None
+own_file (File f) block = Some f.file_id
 own_file (Macro call) block = None
 
 abbrev pub file_of_tree : TreeId → Option FileId
@@ -71,6 +71,11 @@ IsNumberOf tables (Some id) (Some path) = file_at tables id ≡ Some path
 abbrev pub IsFileMeant : TablesValue → Option FileId → Type 0
 IsFileMeant tables file = (id : FileId) → file ≡ Some id → IsSome (file_at tables id)
 
+-- whether it does
+abbrev pub is_file_meant : TablesValue → Option FileId → Bool
+is_file_meant tables None = true
+is_file_meant tables (Some id) = is_some (file_at tables id)
+
 -- ---- a search
 
 -- the file of a candidate: its number, and what is there
@@ -78,7 +83,7 @@ pub record LookedAt : Type 0 where
   pub id : FileId
   pub there : TreeLook
 
--- a candidate, and the file that it names; none where it leads past the root, or is declared in a block
+-- a candidate, and the file that it names; none where it leads past the root
 pub record Tried : Type 0 where
   pub candidate : Candidate
   pub file : Option LookedAt
@@ -121,6 +126,19 @@ pub record IsSearch (candidates : List Candidate) (s : Search) : Type 0 where
 -- the file that a candidate names, as seen from the file that declares the module
 abbrev pub named_by : Option (List ℕ) → Candidate → Option (List ℕ)
 named_by declaring c = option_and_then (λ file. file_beside file c.text) declaring
+
+-- none of the candidates before this place is there
+abbrev pub NoneIsThereBefore : Workspace → Crate → Option (List ℕ) → List Candidate → ℕ → Type 0
+NoneIsThereBefore w krate declaring candidates place = (m : ℕ) (c : Candidate) → m < place → slice_get candidates m ≡ Some c
+    → option_map_or (λ path. (w.tree krate (file_place path)).present) (named_by declaring c) false ≡ false
+
+-- the path is that of a candidate's file, and no candidate before it is there
+pub record IsTriedFile (w : Workspace) (krate : Crate) (declaring : Option (List ℕ)) (candidates : List Candidate) (path : List ℕ) : Type 0 where
+  pub place : ℕ
+  pub candidate : Candidate
+  pub is_candidate : slice_get candidates place ≡ Some candidate
+  pub names : named_by declaring candidate ≡ Some path
+  pub earlier : NoneIsThereBefore w krate declaring candidates place
 
 abbrev pub AreNumbered : TablesValue → Option (List ℕ) → List Tried → Type 0
 AreNumbered tables declaring [] = Unit {0}

@@ -13,7 +13,7 @@ use Rattle.hir_base.specs.declared.mod_path.PathKind.TheVariants.{Abs}
 use Rattle.hir_scope.specs.Imports.{use_of}
 use Rattle.hir_scope.specs.declared.imports.ImportOrExternCrate.{ImportOrExternCrate}
 use Rattle.hir_scope.specs.PerNs.{Item}
-use Rattle.hir_def_map_rules.specs.State.{CrateData, Local, Map, at_name, with_extern, with_prelude, root_of}
+use Rattle.hir_def_map_rules.specs.State.{CrateData, Local, Map, at_name, with_extern, root_of}
 use Rattle.hir_def_map_rules.specs.Overlay.{Maps, overlay}
 use Rattle.hir_def_map_rules.specs.Scoping.{resolution_of}
 use Rattle.hir_def_map_rules.specs.Scoping.Asking.{Asking}
@@ -78,14 +78,6 @@ module_named finished m local path = module_of (resolution_of (overlay finished 
 abbrev pub prelude_of : Maps → Map → Local → Option (ModuleId × Option UseId)
 prelude_of finished m local = cond m.crate_data.no_core None (module_named finished m local (prelude_path m.crate_data.edition local))
 
--- the map with it
-abbrev pub with_prelude_module : Maps → Map → Local → Map
-with_prelude_module finished m local = with_prelude m (prelude_of finished m local)
-
--- and with the macros that come with it, which no `extern crate` brings
+-- the map with the macros that come with its prelude, which no `extern crate` brings
 abbrev pub with_prelude_macros : Maps → Map → Map
 with_prelude_macros finished m = with_macros_used m (macros_beside finished m.id.krate m.prelude) None
-
--- the map with what its modules find
-abbrev pub with_preludes : Maps → Map → Local → Map
-with_preludes finished m local = with_prelude_macros finished (with_prelude_module finished m local)

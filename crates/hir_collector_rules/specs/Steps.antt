@@ -179,7 +179,7 @@ pub data Rule : Type 0 where
   exports_macro : (site : Site) (head : Head) (name : List ℕ) (d : Declaration) (e : Export) (rest : List Task) → Rule
   -- the next item is a macro call, which waits
   reaches_call : (site : Site) (head : Head) (path : Path) (rest : List Task) → Rule
-  -- nothing is left to do but to expand calls, and those that there are may be expanded now
+  -- nothing is left to do but to expand calls, and those that were come upon since imports rested last may be expanded now
   rests : Rule
   -- the call, path of a derive or attribute at the place reaches a macro: the items to which it expands are visited next
   expands_call : (i : ℕ) (d : MacroDirective) (makro : MacroId) (x : Expanding) → Rule
@@ -291,6 +291,11 @@ pub record IsQuiet (finished : Maps) (s : State) : Type 0 where
   pub settled : (i : ℕ) → IsSettled finished (import_state s) i
   pub closed : IsClosed finished (import_state s)
 
+-- and there are calls that were come upon since imports rested last
+pub record MayRest (finished : Maps) (s : State) : Type 0 where
+  pub quiet : IsQuiet finished s
+  pub more : ¬ (s.core.settled ≡ length s.core.calls)
+
 -- the call at the place waits, and was there when imports rested last
 pub record IsDue (s : State) (i : ℕ) (d : MacroDirective) : Type 0 where
   pub visited : s.agenda ≡ []
@@ -373,7 +378,7 @@ May finished s (lists_derives v at a adt paths rest) = ListsDerives s v at a adt
 May finished s (faults_derive v at report rest) = FaultsDerive s v at report rest
 May finished s (exports_macro site head name d e rest) = Exports finished s site head name d e rest
 May finished s (reaches_call site head path rest) = IsNext s (visit site (leaf head (macro_call path))) rest
-May finished s rests = IsQuiet finished s
+May finished s rests = MayRest finished s
 May finished s (expands_call i d makro x) = Expands finished s i d makro x
 May finished s (drops_call i d) = IsDeep s i d
 May finished s (drops_reached i d makro) = IsReachedDeep finished s i d makro

@@ -1,22 +1,33 @@
 //! Where a run begins, and why one is given up.
 ghost use Rattle.std.specs.Prelude.{◌≡◌};
-ghost use Rattle.hir_collector_rules.specs.Start.{edition_of, krate_of, origin_of};
+ghost use Rattle.hir_collector_rules.specs.Start.{block_of, id_of, krate_of, origin_of, root_visibility};
 
-use hir_base::ast_id::EditionedFileId;
-use hir_base::edition::Edition;
-use hir_base::ids::Crate;
+use hir_base::ast_id::{BlockId, EditionedFileId, InFile, SyntaxId};
+use hir_base::ids::{Crate, MapId, ModuleId};
 use hir_base::locations::LocationsError;
-use hir_def_map::nameres::AddModuleError;
 use hir_def_map::nameres::origin::ModuleOrigin;
+use hir_def_map::nameres::{AddModuleError, BlockInfo};
 use hir_glob_imports::MAX_STEPS;
 use hir_import_resolution::ImportError;
+use hir_item_tree::raw_visibility::VisibilityExplicitness;
+use hir_scope::visibility::Visibility;
 use std::alloc::AllocError;
 
 /// Where a run begins.
 #[derive(Clone, Copy, Debug, PartialEq, Eq, Hash)]
 pub enum Start {
     /// A crate, and its root file in the crate's edition.
-    Crate { krate: Crate, root: EditionedFileId },
+    Crate {
+        krate: Crate,
+        root: EditionedFileId,
+    },
+    /// A block of a crate, the module that holds it, and its node in the file that this module is written in.
+    Block {
+        krate: Crate,
+        block: BlockId,
+        holder: ModuleId,
+        at: InFile<SyntaxId>,
+    },
 }
 
 impl Start {
@@ -25,16 +36,33 @@ impl Start {
         ensures value { result ≡ krate_of self }
     {
         match self {
-            Start::Crate { krate, .. } => krate,
+            Start::Crate { krate, .. } | Start::Block { krate, .. } => krate,
         }
     }
 
-    /// The edition of its root file.
-    pub fn edition(self) -> Edition
-        ensures value { result ≡ edition_of self }
+    /// The block and the module that holds it, if it is one.
+    pub fn block(self) -> Option<BlockInfo>
+        ensures value { result ≡ block_of self }
     {
         match self {
-            Start::Crate { root, .. } => root.edition,
+            Start::Crate { .. } => None,
+            Start::Block { block, holder, .. } => Some(BlockInfo {
+                block,
+                parent: holder,
+            }),
+        }
+    }
+
+    /// The map that is made.
+    pub fn map_id(self) -> MapId
+        ensures value { result ≡ id_of self }
+    {
+        match self {
+            Start::Crate { krate, .. } => MapId { krate, block: None },
+            Start::Block { krate, block, .. } => MapId {
+                krate,
+                block: Some(block),
+            },
         }
     }
 
@@ -44,6 +72,22 @@ impl Start {
     {
         match self {
             Start::Crate { root, .. } => ModuleOrigin::CrateRoot { definition: root },
+            Start::Block { block, at, .. } => ModuleOrigin::BlockExpr {
+                id: block,
+                block: at,
+            },
+        }
+    }
+
+    /// Who sees the root module: of a block what sees into the module that holds it.
+    pub fn visibility(self) -> Visibility
+        ensures value { result ≡ root_visibility self }
+    {
+        match self {
+            Start::Crate { .. } => Visibility::Public,
+            Start::Block { holder, .. } => {
+                Visibility::Module(holder, VisibilityExplicitness::Implicit)
+            }
         }
     }
 }
@@ -56,7 +100,8 @@ pub const STEP_LIMIT: u32 = MAX_STEPS;
 pub enum CollectError {
     /// As many steps or modules as are counted, and another was wanted.
     TooMany,
-    /// A macro of a finished map is written in a source that has no number: the map was made over other tables.
+    /// A source has no number: that of a macro of a finished map, which was made over other tables, or the file in which a
+    /// block is written.
     UnknownSource,
     Memory,
 }

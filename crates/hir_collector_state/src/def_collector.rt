@@ -17,6 +17,7 @@ ghost use Rattle.hir_collector_rules.specs.State.{at_rest, core_in, core_with_im
 ghost use Rattle.hir_collector_rules.specs.ItemIds.{container_of, module_id};
 ghost use Rattle.hir_collector_rules.specs.Items.{own_visibility};
 ghost use Rattle.hir_collector_rules.specs.Calls.{IsWaiting};
+ghost use Rattle.hir_collector_rules.specs.CallMoves.{Rested, RestsTooFar};
 ghost use Rattle.hir_collector_rules.specs.TreeReads.{head_of};
 ghost use Rattle.hir_collector_rules.specs.Imports.{crate_named, dependency_named, extern_after};
 ghost use Rattle.hir_collector_rules.specs.Macros.{macros_brought, other_scope, textual_at, with_macros_used, with_textual_macro, with_textual_scope};
@@ -30,9 +31,10 @@ ghost use Rattle.hir_collector_rules.specs.Waiting.{IsNoted, NotesSlots};
 use crate::censor::censor_root;
 use crate::def_collector::changes::{changed_by, changed_by_imports, note_variants};
 use crate::diagnostics::{report_calls, report_unresolved, unresolved_crates};
+use crate::first_keys::first_keys;
 use crate::leftovers::untaken;
 use crate::macro_use::{root_scope, use_prelude_macros, use_wanted};
-use crate::preludes::prelude;
+use crate::preludes::own_prelude;
 use crate::textual;
 use hir_base::ast_id::{AstId, EditionedFileId, FileId, HirFileId};
 use hir_base::cfg_options::CfgOptions;
@@ -190,7 +192,7 @@ fn take_imports(
 }
 
 impl DefCollector {
-    /// The root module alone, beside what all modules find, its tree asked for.
+    /// The root module alone, beside what all modules find; its tree and the maps of what holds a block asked for.
     pub fn start(
         alloc: Global,
         world: WorldPart<'_>,
@@ -199,19 +201,18 @@ impl DefCollector {
         dependencies: Vec<Dependency>,
         options: CfgOptions,
         is_proc_macro: bool,
+        holders: &[ModuleId],
         start: Start,
         tree: TreeId,
     ) -> Result<DefCollector, AllocError>
-        ensures value { IfOk result (λ run. core_in run ≡ core_by (part_of world.entry) crate_data local dependencies.items options is_proc_macro start tree) }
+        ensures value { IfOk result (λ run. core_in run ≡ core_by (part_of world.entry) crate_data local dependencies.items options is_proc_macro holders.now start tree) }
     {
-        let krate = start.krate();
-        let root = ModuleData::new(alloc, start.origin(), Visibility::Public, None);
-        let mut map = DefMap::empty(alloc, krate, crate_data, root, None)?;
-        let found = prelude(alloc, world, &map, &local)?;
+        let root = ModuleData::new(alloc, start.origin(), start.visibility(), None);
+        let mut map = DefMap::empty(alloc, start.krate(), crate_data, root, start.block())?;
+        let found = own_prelude(alloc, world, &map, &local, start)?;
         map.set_prelude(found);
         use_prelude_macros(world, &mut map)?;
-        let mut asked = Vec::new(alloc);
-        asked.push(Key::Tree(TreeKey { krate, id: tree }))?;
+        let asked = first_keys(alloc, holders, start, tree)?;
         Ok(DefCollector {
             map,
             local,
@@ -641,14 +642,17 @@ impl DefCollector {
         end(&mut self.fates, i, fate);
     }
 
-    /// Imports rest: all calls that there are may be tried from now on.
+    /// Imports rest: all calls that there are may be tried from now on, which is a step where some could not be before.
     pub fn rest(&mut self) -> Result<(), CollectError>
-        ensures ok { OnOk result (core_in self.new ≡ counted (with_settled (core_in self.old))) }
-        ensures below { OnOk result ((core_in self.old).count < STEP_LIMIT) }
+        ensures ok { OnOk result (Rested (core_in self.old) (core_in self.new)) }
         ensures noted { OnOk result (IsNoted self.old self.new) }
-        ensures many { result ≡ Err CollectError.TooMany → STEP_LIMIT ≤ (core_in self.old).count }
+        ensures many { result ≡ Err CollectError.TooMany → RestsTooFar (core_in self.old) }
     {
-        self.settled = self.calls.len();
+        let there = self.calls.len();
+        if self.settled == there {
+            return Ok(());
+        }
+        self.settled = there;
         self.tick()
     }
 

@@ -4,6 +4,7 @@
 pub mod censor;
 pub mod def_collector;
 pub mod diagnostics;
+mod first_keys;
 pub mod helpers;
 pub mod known_name;
 pub mod leftovers;

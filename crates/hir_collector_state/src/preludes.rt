@@ -1,6 +1,7 @@
 //! What all modules of a crate find.
 ghost use Rattle.std.specs.Prelude.{◌≡◌, IfOk};
 ghost use Rattle.hir_def_map.specs.WorldParts.{part_of};
+ghost use Rattle.hir_collector_rules.specs.Start.{own_prelude};
 ghost use Rattle.hir_collector_rules.specs.Preludes.{edition_module, module_named, module_of, prelude_crate, prelude_of, prelude_path};
 
 use crate::known_name::known_name;
@@ -8,6 +9,7 @@ use hir_base::edition::Edition;
 use hir_base::ids::{ModuleDefId, ModuleId, UseId};
 use hir_base::mod_path::{ModPath, PathKind};
 use hir_base::name::Name;
+use hir_collector_rules::start::Start;
 use hir_def_map::def_maps::DefMaps;
 use hir_def_map::nameres::DefMap;
 use hir_def_map::nameres::local_def_map::LocalDefMap;
@@ -91,7 +93,7 @@ fn module_named(
 }
 
 /// The prelude module of a crate.
-pub fn prelude(
+fn prelude(
     alloc: Global,
     world: WorldPart<'_>,
     map: &DefMap,
@@ -104,4 +106,20 @@ pub fn prelude(
     }
     let path = prelude_path(alloc, map.edition(), local)?;
     Ok(module_named(world, map, local, &path))
+}
+
+/// The prelude module of a run's map; a block has none of its own.
+pub fn own_prelude(
+    alloc: Global,
+    world: WorldPart<'_>,
+    map: &DefMap,
+    local: &LocalDefMap,
+    start: Start,
+) -> Result<Option<(ModuleId, Option<UseId>)>, AllocError>
+    ensures value { IfOk result (λ found. found ≡ own_prelude (part_of world.entry) map.now local.now start) }
+{
+    match start {
+        Start::Crate { .. } => Ok(prelude(alloc, world, map, local)?),
+        Start::Block { .. } => Ok(None),
+    }
 }

@@ -8,16 +8,18 @@ use Rattle.hir_base.specs.declared.ast_id.HirFileId.{HirFileId}
 use Rattle.hir_base.specs.declared.ast_id.HirFileId.TheVariants.{Macro}
 use Rattle.hir_base.specs.declared.ast_id.MacroCallId.{MacroCallId}
 use Rattle.hir_base.specs.declared.ids.Crate.{Crate}
+use Rattle.hir_base.specs.declared.macro_kind.CallStyle.{CallStyle}
 use Rattle.hir_base.specs.declared.macro_kind.MacroId.{MacroId}
 use Rattle.hir_base.specs.declared.macro_kind.MacroCallLoc.{MacroCallLoc}
 use Rattle.hir_base.specs.declared.macro_kind.MacroId.TheVariants as macros
 use Rattle.hir_item_tree.specs.SourceTree.{SourceTreeValue}
-use Rattle.hir_tables.specs.Interning.{Interns, gets_next, had_number}
+use Rattle.hir_tables.specs.Interning.{Interns, IsFull, gets_next, had_number}
 use Rattle.hir_tables.specs.SourcePlaces.{ExpansionValue, SourcePlaceValue, expansion}
 use Rattle.hir_tables.specs.Tables.{KeepsTables, TablesValue, call_at, entry_at, source_of, source_under as source_under_file}
 use Rattle.hir_tables.proofs.Growth.{KeepsTables-trans}
 use Rattle.hir_def_map_rules.specs.Diagnostics.{call_node}
 use Rattle.hir_def_map_rules.specs.Overlay.{Maps}
+use Rattle.hir_def_map_rules.specs.State.{Map}
 use Rattle.hir_collector_rules.specs.declared.macro_directive.MacroDirective.{MacroDirective}
 use Rattle.hir_collector_rules.specs.declared.source_database.Key.{Key}
 use Rattle.hir_collector_rules.specs.declared.source_database.Key.TheVariants as keys
@@ -28,6 +30,7 @@ use Rattle.hir_collector_rules.specs.Calls.{AreCallsPlaced, Expanding, IsMeantCa
 use Rattle.hir_collector_rules.specs.Keys.{Environment, IsMeant, entry_under, environment, input_at, node_tree, of_entry, of_input, of_text, of_tree, source_in, text_at}
 use Rattle.hir_collector_rules.specs.ModuleFiles.{Reading}
 use Rattle.hir_collector_rules.specs.Moves.{OnceGrown}
+use Rattle.hir_collector_rules.specs.NumberedOut.{IsCallNumberedOut, LacksExpansion, call_out, expansion_by, expansion_out}
 use Rattle.hir_collector_rules.specs.State.{Core, with_asked}
 use Rattle.hir_collector_rules.specs.Steps.{Sees, keys_read, with_keys}
 use Rattle.hir_collector_rules.specs.Workspace.{Workspace, seen_of}
@@ -35,6 +38,7 @@ use Rattle.hir_mod_collector.proofs.CallPlaces.{placed_grown}
 use Rattle.hir_collector_rules.proofs.Lists.{get_inside}
 use Rattle.hir_collector_rules.proofs.Meaning.{looks_stand}
 use Rattle.hir_collector_rules.proofs.ModuleFiles.{call_kept, macro_kept, site_kept}
+use Rattle.hir_collector_rules.proofs.Numbers.{full_out, still_out}
 use Rattle.hir_mod_collector.proofs.Rootless.{root_there}
 
 -- ---- keys, one after another
@@ -126,6 +130,59 @@ module _ (first second tables : TablesValue) (w : Workspace) (finished : Maps) (
         written = record { tree = subst (λ (o : Option SourcePlaceValue). IsSome o) (sym place) refl; file = (site_kept first tables kept d.site meant.site).file };
       }
 
+-- ---- what can't get a number
+
+module _ (first tables : TablesValue) (w : Workspace) (finished : Maps) (m : Map) (d : MacroDirective) (makro : MacroId) (kept : KeepsTables first tables)
+    (meant : IsMeantCall first d) (of_macro : IsMeant first makro) where
+  -- what its expansion depends on as the tables were at first
+  abbrev key_at_first : ExpansionValue
+  key_at_first = expansion_by (environment first w) finished m d makro
+
+  -- the macro's text and the call's input stay as tables grow
+  expansion_stays : (grown : TablesValue) → KeepsTables tables grown → expansion_by (environment grown w) finished m d makro ≡ key_at_first
+  expansion_stays grown k =
+      let all : KeepsTables first grown = KeepsTables-trans first tables grown kept k in
+      let text : of_text (text_at grown w makro) ≡ of_text (text_at first w makro) = looks_stand first grown w finished (keys.Text makro) all of_macro in
+      let input : of_input (input_at grown w m.id.krate d.ast_id) ≡ of_input (input_at first w m.id.krate d.ast_id) =
+      looks_stand first grown w finished (keys.Input m.id.krate d.ast_id) all meant.node in
+      let same_text : text_at grown w makro ≡ text_at first w makro = cc in
+      let same_input : input_at grown w m.id.krate d.ast_id ≡ input_at first w m.id.krate d.ast_id = cc in
+      let own = m.id.krate in
+      let style = call_style d in
+      ap (λ (t : Option (List ℕ)). expansion_of_call own style makro (called_text finished m makro t) (input_at grown w own d.ast_id)) same_text
+      ∙ ap (λ (i : Option (List ℕ)). expansion_of_call own style makro (called_text finished m makro (text_at first w makro)) i) same_input
+
+  -- it is put together out of what was looked up
+  pub key_of_call : (own : Crate) (style : CallStyle) (text input : Option (List ℕ)) (key : ExpansionValue) → key ≡ expansion_of_call own style makro text input
+      → own ≡ m.id.krate → style ≡ call_style d → text ≡ called_text finished m makro (text_at first w makro) → input ≡ input_at first w m.id.krate d.ast_id
+      → key ≡ key_at_first
+  key_of_call own style text input key is caller called text_is input_is =
+      is ∙ ap (λ (k : Crate). expansion_of_call k style makro text input) caller
+      ∙ ap (λ (s : CallStyle). expansion_of_call m.id.krate s makro text input) called
+      ∙ ap (λ (t : Option (List ℕ)). expansion_of_call m.id.krate (call_style d) makro t input) text_is
+      ∙ ap (λ (i : Option (List ℕ)). expansion_of_call m.id.krate (call_style d) makro (called_text finished m makro (text_at first w makro)) i) input_is
+
+  lacks_by : (key : ExpansionValue) → key ≡ key_at_first → ((grown : TablesValue) → KeepsTables tables grown → IsCallNumberedOut grown d key)
+      → OnceGrown tables w (λ env. LacksExpansion env finished m d makro)
+  lacks_by key is out = λ grown k. record {
+    meant = macro_kept first grown (KeepsTables-trans first tables grown kept k) makro of_macro;
+    out = subst (λ (x : ExpansionValue). IsCallNumberedOut grown d x) (is ∙ sym (expansion_stays grown k)) (out grown k);
+  }
+
+  -- the expansion can't get a number
+  pub lacks_expansion : (key : ExpansionValue) → key ≡ key_at_first → IsFull tables.entries key → OnceGrown tables w (λ env. LacksExpansion env finished m d makro)
+  lacks_expansion key is full =
+      let out = full_out tables.entries key full in
+      lacks_by key is (λ grown k. expansion_out (still_out tables.entries grown.entries key k.entries out))
+
+  -- it has one, and the call can't
+  pub lacks_its_call : (key : ExpansionValue) (entry : EntryId) → key ≡ key_at_first → entry_at tables entry ≡ Some key → IsFull tables.calls (call_loc d entry)
+      → OnceGrown tables w (λ env. LacksExpansion env finished m d makro)
+  lacks_its_call key entry is at full =
+      let loc = call_loc d entry in
+      let out = full_out tables.calls loc full in
+      lacks_by key is (λ grown k. call_out entry (k.entries entry.0 key at) (still_out tables.calls grown.calls loc k.calls out))
+
 -- ---- where calls are written
 
 -- what is found in a list with one value more is the last, or was there
@@ -157,13 +214,10 @@ node_by_kind node (Attr path attr item) = refl
 -- where an expansion gets a number, and then a call in a source that has one, each call is placed still
 pub placed_call : (first second tables : TablesValue) (d : MacroDirective) (entry : EntryId) → KeepsTables first second → KeepsTables second tables → second ≡ record first { entries = second.entries }
     → tables ≡ record second { calls = tables.calls } → Interns second.calls tables.calls (call_loc d entry) → IsSome (source_of first (node_tree d.ast_id)) → AreCallsPlaced first → AreCallsPlaced tables
-placed_call first second tables d entry before after entries calls interns there placed = record {
-  calls = go interns;
-  blocks = ap (λ (t : TablesValue). t.blocks) calls ∙ ap (λ (t : TablesValue). t.blocks) entries ∙ placed.blocks;
-}
+placed_call first second tables d entry before after entries calls interns there placed = record { calls = go interns }
   where
     middle : AreCallsPlaced second
-    middle = placed_grown first second before (ap (λ (t : TablesValue). t.calls) entries) (ap (λ (t : TablesValue). t.blocks) entries) placed
+    middle = placed_grown first second before (ap (λ (t : TablesValue). t.calls) entries) placed
 
     here : (n : ℕ) → length second.calls ≡ n → IsPlacedBelow tables n d.ast_id
     here n last =

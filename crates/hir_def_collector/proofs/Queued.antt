@@ -8,7 +8,7 @@ use Rattle.hir_worklist.specs.Moves.{Takes, opened}
 use Rattle.hir_worklist.specs.Queue.{IsIdle, Queue, count_of, is_among}
 use Rattle.hir_call_queue.specs.Waking.{KeepsQueued, worklist_of}
 use Rattle.hir_call_queue.specs.declared.queue.CallQueue.{CallQueue}
-use Rattle.hir_collector_rules.specs.declared.macro_directive.Fate.TheVariants.{Handled}
+use Rattle.hir_collector_rules.specs.declared.macro_directive.Fate.TheVariants.{Handled, Waits}
 use Rattle.hir_collector_rules.specs.declared.macro_directive.MacroDirective.{MacroDirective}
 use Rattle.hir_collector_rules.specs.CallMoves.{ComesToRest, NoneWaits, TriesCall, TriesCalls, handled, idle, left, rested, round}
 use Rattle.hir_collector_rules.specs.Calls.{IsWaiting, LeadsNowhere}
@@ -151,3 +151,10 @@ was_handled finished old new i false (left stays here) e = absurd (let no : ⊥ 
 pub was_left : (finished : Maps) (old new : Core) (i : ℕ) (done : Bool) → TriesCall finished old new i done → done ≡ false → (new ≡ old) × LeadsNowhere finished (at_rest old) i
 was_left finished old new i true (handled d waits done) e = absurd (let no : ⊥ = cc in no)
 was_left finished old new i false (left stays here) e = (stays, here)
+
+-- where a call was handled that waited, the state is another
+pub rises_on : (from to : State) → Rises from to → ¬ (to ≡ from)
+rises_on from to rises same =
+    let waits : slice_get from.core.fates rises.place ≡ Some Waits = rises.waited.waits in
+    let handled : slice_get from.core.fates rises.place ≡ Some Handled = subst (λ (s : State). slice_get s.core.fates rises.place ≡ Some Handled) same rises.handled in
+    let no : ⊥ = cc in no

@@ -1,13 +1,12 @@
 -- What a part of a run needs holds wherever steps lead.
 use Rattle.std.proofs.Common.{◌≡◌, ◌∙◌, ◌+◌, ℕ, zero, suc, ◌<◌, ◌≤◌, List, [], ◌∷◌, length, map as list_map, slice_get, None, Some, refl, sym, ap, subst, arith}
-use Rattle.std.specs.Prelude.{IsSome}
 use Rattle.hir_base.specs.declared.ids.Crate.{Crate}
+use Rattle.hir_base.specs.declared.ids.ModuleId.{ModuleId}
 use Rattle.hir_base.specs.declared.ids.TraitId.{TraitId}
 use Rattle.hir_item_tree.specs.declared.tree_id.TreeId.{TreeId}
-use Rattle.hir_tables.specs.Tables.{KeepsTables, TablesValue, source_of}
+use Rattle.hir_tables.specs.Tables.{KeepsTables, TablesValue}
 use Rattle.hir_textual_scope.specs.Macros.{with_macro}
 use Rattle.hir_scope.specs.Scope.{ScopeValue}
-use Rattle.hir_scope.specs.declared.visibility.Visibility.TheVariants as visibilities
 use Rattle.hir_def_map_rules.specs.Macros.{with_derive_helper, with_diagnostic, with_exported, with_macro_data, with_macro_def}
 use Rattle.hir_def_map_rules.specs.Overlay.{Maps}
 use Rattle.hir_def_map_rules.specs.State.{IsInOrder, Map, entry_at, module_at, new_module, with_enum}
@@ -28,14 +27,14 @@ use Rattle.hir_import_resolution.proofs.GrowingAround.{lists_around, modules_aro
 use Rattle.hir_import_resolution.proofs.Soundness.{local_keeps_sound, pushes_keep_sound, reached_keep_sound, steps_keep_sound}
 use Rattle.hir_collector_rules.specs.declared.start.Start.{Start}
 use Rattle.hir_collector_rules.specs.declared.macro_directive.MacroDirective.{MacroDirective}
-use Rattle.hir_collector_rules.specs.Calls.{IsMeantCall, error_of}
+use Rattle.hir_collector_rules.specs.Calls.{IsMeantAt, IsMeantCall, error_of}
 use Rattle.hir_collector_rules.specs.CallMoves.{IsReady}
 use Rattle.hir_collector_rules.specs.Keys.{environment, node_tree}
 use Rattle.hir_collector_rules.specs.Workspace.{Workspace}
 use Rattle.hir_collector_rules.specs.Imports.{extern_after}
 use Rattle.hir_collector_rules.specs.ItemIds.{module_id}
 use Rattle.hir_collector_rules.specs.Macros.{textual_at, with_macros_used}
-use Rattle.hir_collector_rules.specs.Start.{began, origin_of}
+use Rattle.hir_collector_rules.specs.Start.{began, origin_of, root_site, root_visibility}
 use Rattle.hir_collector_rules.specs.State.{Core, State, at_rest, import_state, ticked}
 use Rattle.hir_collector_rules.specs.Changes.{Change, lists, makes, gives_variants, begins_paths, reaches, awaits, ends, settles, changes_imports, adds_textual, takes_textual, defines, describes, helps, lists_derive, exports, uses_macros, tells, goes_on, act, on_map, perform, with_builtin_derive}
 use Rattle.hir_collector_rules.specs.Steps.{Rule, drops_item, awaits_attribute, lists_derives, faults_derive, exports_macro, reaches_call, rests, expands_call, drops_call, drops_reached, derives_builtin, skips_attribute, falls_back, defines_rules, defines_macro, closes_module, declares_item, declares_enum, lists_constant, lists_impl, opens_module, opens_file, drops_file, misses_file, enters_block, reaches_imports, reaches_crate, resolves_imports, May, acts, after, asking, Step, Steps, none, more}
@@ -322,12 +321,12 @@ ready_grown {tables = tables} {grown = grown} kept r = record {
   in_order = r.in_order;
 }
 
--- and so is one that began with a tree whose number means something
-pub ready_start : (tables : TablesValue) (w : Workspace) (finished : Maps) (transitive : List Crate) (start : Start) (id : TreeId) (c : Core) → IsSome (source_of tables id)
-    → Steps (environment tables w) finished (began tables w finished transitive start id) (at_rest c) → IsReady tables finished c
-ready_start tables w finished transitive start id c there steps = ready_at tables finished c (poised-Steps steps first)
+-- and so is one that began with a tree whose numbers mean something
+pub ready_start : (tables : TablesValue) (w : Workspace) (finished : Maps) (transitive : List Crate) (holders : List ModuleId) (start : Start) (id : TreeId) (c : Core)
+    → IsMeantAt tables (root_site id) → Steps (environment tables w) finished (began tables w finished transitive holders start id) (at_rest c) → IsReady tables finished c
+ready_start tables w finished transitive holders start id c there steps = ready_at tables finished c (poised-Steps steps first)
   where
-    first : IsPoised tables finished (began tables w finished transitive start id)
+    first : IsPoised tables finished (began tables w finished transitive holders start id)
     first = record {
       steady = record {
         sound = record {
@@ -337,8 +336,8 @@ ready_start tables w finished transitive start id c there steps = ready_at table
         };
         paired = refl;
       };
-      inside = in_range-begun tables w finished transitive start id;
+      inside = in_range-begun tables w finished transitive holders start id;
       fated = refl;
-      meant = meant-begun tables w finished transitive start id there;
-      in_order = root_in_order (began tables w finished transitive start id).core.map (new_module (origin_of start) visibilities.Public None) refl refl;
+      meant = meant-begun tables w finished transitive holders start id there;
+      in_order = root_in_order (began tables w finished transitive holders start id).core.map (new_module (origin_of start) (root_visibility start) None) refl refl;
     }

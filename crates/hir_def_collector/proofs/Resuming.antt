@@ -1,5 +1,5 @@
 -- What has changed since imports rested is gathered.
-use Rattle.std.proofs.Common.{Result, Err, ◌≡◌, ◌⊎◌, inl, inr, ◌∙◌, ap, sym, refl, subst, ℕ, ◌<◌, Bool, true, false, List, [], ◌++◌, length, slice_get, Contains, Some, cond, append-nil, arith}
+use Rattle.std.proofs.Common.{Result, Err, ◌≡◌, ◌⊎◌, inl, inr, ◌∙◌, ap, sym, refl, subst, ℕ, ◌+◌, ◌<◌, Bool, true, false, List, [], ◌++◌, length, slice_get, Contains, Some, cond, append-nil, arith}
 use Rattle.std.proofs.lemmas.List.Elements.{Contains-append_cases, Contains-append_left, Contains-append_right}
 use Rattle.hir_base.specs.declared.ids.MapId.{MapId}
 use Rattle.hir_def_map_rules.specs.Overlay.{Maps}
@@ -12,7 +12,8 @@ use Rattle.hir_import_resolution.specs.State.{ImportState}
 use Rattle.hir_import_resolution.proofs.GlobsLasting.{globs_at_rest}
 use Rattle.hir_import_resolution.specs.declared.import_queue.ImportQueue.{ImportQueue}
 use Rattle.hir_call_queue.specs.Changes.{ChangedValue, IsUntouched, everything, joined, nothing, with_slots}
-use Rattle.hir_collector_rules.specs.State.{Core, Run, at_rest, core_in, counted, import_state, with_settled}
+use Rattle.hir_collector_rules.specs.CallMoves.{Rested, already, moved}
+use Rattle.hir_collector_rules.specs.State.{Core, Run, at_rest, core_in, import_state}
 use Rattle.hir_collector_rules.specs.Waiting.{IsBehind, IsGathered, IsNotedBeside, IsOutgrown, KeepsModules, LeavesImports, NotesSlots}
 use Rattle.hir_collector_state.proofs.CallReads.{agree_itself, agree_later}
 use Rattle.hir_collector_rules.proofs.Lists.{get_inside, get_there}
@@ -126,10 +127,10 @@ behind_gathered finished queue g h a b gathered same globs none behind =
     let is : joined h b.changed ≡ joined g a.changed = ap (joined h) none ∙ joined_nothing h ∙ gathered in
     subst (λ (x : ChangedValue). IsBehind finished queue x b) (sym is) (λ lasting some. same_outgrown finished queue a b (joined g a.changed).slots same globs (behind lasting some))
 
--- where imports rest nothing has changed since, and a step that lets calls be expanded changes nothing
-pub behind_settled : (finished : Maps) (queue : ImportQueue) (changed : ChangedValue) (c d : Core) (now : Run) → AreUpToDate finished queue (import_state (at_rest c)) → BroughtStands finished (import_state (at_rest c))
-    → d ≡ counted (with_settled c) → core_in now ≡ d → length d.taken ≡ length d.reached → IsBehind finished queue changed now
-behind_settled finished queue changed c d now up stand is same paired lasting all = record {
+-- where imports rest nothing has changed since, whatever is counted and which calls may be expanded
+behind_with : (settled count : ℕ) (finished : Maps) (queue : ImportQueue) (changed : ChangedValue) (c d : Core) (now : Run) → AreUpToDate finished queue (import_state (at_rest c)) → BroughtStands finished (import_state (at_rest c))
+    → d ≡ record c { settled = settled; count = count } → core_in now ≡ d → length d.taken ≡ length d.reached → IsBehind finished queue changed now
+behind_with settled count finished queue changed c d now up stand is same paired lasting all = record {
   before = import_state (at_rest c);
   up_to_date = up;
   paired = ap (λ (x : Core). length x.taken) (sym is) ∙ paired ∙ ap (λ (x : Core). length x.reached) is;
@@ -143,20 +144,26 @@ behind_settled finished queue changed c d now up stand is same paired lasting al
   globs = subst (λ (x : Core). GlobsLast finished (import_state (at_rest x)) now.globs) (sym there) globs;
 }
   where
-    there : core_in now ≡ counted (with_settled c)
+    there : core_in now ≡ record c { settled = settled; count = count }
     there = same ∙ is
 
     have : HaveGlobs (import_state (at_rest c)) now.globs
     have =
-        let same : HaveGlobs (import_state (at_rest (counted (with_settled c)))) now.globs = subst (λ (x : Core). HaveGlobs (import_state (at_rest x)) now.globs) there (have_globs now) in
+        let same : HaveGlobs (import_state (at_rest (record c { settled = settled; count = count }))) now.globs = subst (λ (x : Core). HaveGlobs (import_state (at_rest x)) now.globs) there (have_globs now) in
         record { edges = same.edges; brought = same.brought }
 
     -- another count and other calls are nothing to globs
     rested : GlobsLast finished (import_state (at_rest c)) now.globs
     rested = globs_at_rest finished queue (import_state (at_rest c)) now.globs up lasting stand have
 
-    globs : GlobsLast finished (import_state (at_rest (counted (with_settled c)))) now.globs
+    globs : GlobsLast finished (import_state (at_rest (record c { settled = settled; count = count }))) now.globs
     globs = record { kept = rested.kept; lasts = record { of_crate = rested.lasts.of_crate; ordered = rested.lasts.ordered; placed = rested.lasts.placed; enums = rested.lasts.enums } }
+
+-- so it is where calls may be expanded from now on
+pub behind_settled : (finished : Maps) (queue : ImportQueue) (changed : ChangedValue) (c d : Core) (now : Run) → AreUpToDate finished queue (import_state (at_rest c)) → BroughtStands finished (import_state (at_rest c))
+    → Rested c d → core_in now ≡ d → length d.taken ≡ length d.reached → IsBehind finished queue changed now
+behind_settled finished queue changed c d now up stand (already all is) = behind_with c.settled c.count finished queue changed c d now up stand is
+behind_settled finished queue changed c d now up stand (moved more is) = behind_with (length c.calls) (c.count + 1) finished queue changed c d now up stand is
 
 -- imports that lie apart may be resumed
 pub resumable_behind : (finished : Maps) (queue : ImportQueue) (changed : ChangedValue) (now : Run) (apart : Bool) → (is_lasting queue ≡ true → is_apart queue ≡ apart)

@@ -29,3 +29,9 @@ abbrev pub TakesTurn : Environment → Maps → Core → Core → ℕ → Turn �
 TakesTurn env finished old new first Round = EndsInRound env finished old new first
 TakesTurn env finished old new first (GaveUp next) = NoneWaitsBefore new next
 TakesTurn env finished old new first Rests = ComesToRest env finished old new false
+
+-- a turn takes a step, but where nothing was left to do
+abbrev pub CountsOn : Core → Core → Turn → Type 0
+CountsOn old new Round = old.count < new.count
+CountsOn old new (GaveUp next) = old.count < new.count
+CountsOn old new Rests = Unit {0}

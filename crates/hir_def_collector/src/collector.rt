@@ -1,6 +1,6 @@
-//! What the names of a crate's modules stand for, after rust-analyzer's `DefCollector`.
+//! What the names of a crate's or a block's modules stand for, after rust-analyzer's `DefCollector`.
 //!
-//! A run begins with the crate's root module, and with the items of its root file on a worklist. The first item is taken off and
+//! A run begins with the root module, and with the items of the crate's root file or of the block on a worklist. The first item is taken off and
 //! handled by the rule of its kind: a definition is listed and bound under its name, an inline module is made and its items
 //! come next, a `use` adds its imports to those that wait. A `macro_rules` is in textual scope from there on, also in the
 //! modules that are made later: each begins with what is in textual scope around it, and shares it.
@@ -32,17 +32,20 @@
 //!
 //! In the root of a procedural-macro crate functions export macros by their attributes. At the end other crates see those
 //! macros there, and nothing else.
-ghost use Rattle.std.specs.Prelude.{◌≡◌, ◌<◌, IfOk, IsSome, None, OnOk, false, length, option_map, unwrap_or, []};
-ghost use Rattle.hir_item_tree.specs.Collected.{is_enabled};
+//!
+//! A block's run reads besides the maps of what holds it: the module in which it is written, that of this one's block, and so
+//! on. What is said of its crate, and the crates that its paths may begin with, it takes from the crate's map.
+ghost use Rattle.std.specs.Prelude.{◌≡◌, ◌<◌, ◌&&◌, IfOk, IsSome, None, OnOk, false, is_none, is_some, length, not, option_map, unwrap_or, []};
 ghost use Rattle.hir_tables.specs.Tables.{KeepsTables, source_of};
 ghost use Rattle.hir_def_map.specs.WorldParts.{part_of};
-ghost use Rattle.hir_def_map_rules.specs.Overlay.{Maps};
+ghost use Rattle.hir_def_map_rules.specs.Overlay.{Maps, map_in};
 ghost use Rattle.hir_def_map.specs.World.{finished_in};
 ghost use Rattle.hir_collector_rules.specs.Workspace.{Workspace, config_view, dependencies_of, options_of};
 ghost use Rattle.hir_collector_rules.specs.Keys.{AgreeOn, Environment, environment};
-ghost use Rattle.hir_collector_rules.specs.Start.{began, beginning, core_of, is_proc_macro_by, root_site, tree_visits};
+ghost use Rattle.hir_collector_rules.specs.ModuleFiles.{IsFileMeant, file_of_tree, is_file_meant};
+ghost use Rattle.hir_collector_rules.specs.Start.{began, beginning, block_of, core_of, exports_macros, holders_by, id_of, is_declared, is_proc_macro_by, root_site, tree_visits};
 ghost use Rattle.hir_collector_rules.specs.CallMoves.{ComesToRest, IsReady};
-ghost use Rattle.hir_collector_rules.specs.Calls.{AreCallsPlaced};
+ghost use Rattle.hir_collector_rules.specs.Calls.{AreCallsPlaced, IsMeantAt};
 ghost use Rattle.hir_collector_rules.specs.State.{at_rest, core_in, joined};
 ghost use Rattle.hir_collector_rules.specs.Steps.{Steps};
 ghost use Rattle.hir_collector_rules.specs.Derivation.{Ends, IsOverlong, IsSpent, collected_view};
@@ -52,12 +55,12 @@ pub mod calls;
 mod resume;
 
 use crate::collector::calls::resolve_rounds;
+use hir_base::ast_id::FileId;
 use hir_base::cfg_options::CfgOptions;
-use hir_base::ids::MapId;
-use hir_collector_items::crate_top::top_data;
+use hir_base::ids::ModuleId;
 pub use hir_collector_items::exports;
-use hir_collector_items::extern_prelude::extern_prelude;
 use hir_collector_items::sources::source_at;
+use hir_collector_items::start_data::{start_data, start_local};
 use hir_collector_rules::collected::Collected;
 use hir_collector_rules::site::Site;
 use hir_collector_rules::source_database::{Config, CrateRoot, Dependency, SourceDatabase};
@@ -79,11 +82,13 @@ use hir_tables::Tables;
 use std::alloc::{AllocError, Global};
 use std::rc::Rc;
 
-/// Finds what the names of a crate's modules stand for, beside the finished maps of the crates on which it depends.
+/// Finds what the names of a crate's or a block's modules stand for, beside the finished maps of the crates on which the
+/// crate depends, and of a block those of its crate and of the modules that hold it.
 ///
-/// `tree` is the tree of the crate's root file; where its number means nothing, nothing is declared. `local` is of no use
-/// to a crate. A file that is looked for, found or not, gets a number in `locations`, and so does a macro call that reaches
-/// a macro, with its expansion. After rust-analyzer's `collect_defs`.
+/// `tree` is the tree of the crate's root file, or of the block in the file that its holder is written in; where its number
+/// means nothing, nothing is declared. `local` is of no use, since what a block's paths may begin with stands beside its
+/// crate's map in `world`. A file that is looked for, found or not, gets a number in `locations`, and so does a macro call
+/// that reaches a macro, with its expansion. After rust-analyzer's `collect_defs`.
 pub fn collect_defs<D: SourceDatabase>(
     alloc: Global,
     db: &mut D,
@@ -105,16 +110,72 @@ pub fn collect_defs<D: SourceDatabase>(
     ensures many { result ≡ Err CollectError.TooMany
         → IsOverlong locations.new (D.workspace db.old) (finished_in world.now.maps) (beginning start tree (option_map (λ l. l.now) _local.entry)) }
 {
+    if lacks_its_file(locations, tree) {
+        return Err(CollectError::UnknownSource);
+    }
     let transitive = transitive_of(alloc, db.transitive_dependencies(start.krate()))?;
-    let part = WorldPart::among(world, &transitive, &[]);
+    let held_by = holders_by(alloc, world, start)?;
+    let holders = held_by.as_slice();
+    let part = WorldPart::among(world, &transitive, holders);
     let is_unknown = locations.source_of(tree).is_none();
-    let run = begin(alloc, db, part, locations, &transitive, start, tree)?;
+    let run = begin(
+        alloc,
+        db,
+        part,
+        locations,
+        &transitive,
+        holders,
+        start,
+        tree,
+    )?;
     if is_unknown {
         return Ok(run.finish(false, transitive)?);
     }
-    let apart = world.map(MapId::of_crate(start.krate())).is_none();
-    let (run, round_limit_met) = resolve_rounds(run, db, part, locations, apart)?;
+    let (run, round_limit_met) = resolve_rounds(run, db, part, locations, is_apart(world, start))?;
     Ok(run.finish(round_limit_met, transitive)?)
+}
+
+/// Whether the number of a file means something, if there is one.
+fn is_file_meant(locations: &Tables, file: Option<FileId>) -> bool
+    ensures value { result ≡ is_file_meant locations.now file }
+{
+    match file {
+        Some(file) => locations.file(file).is_some(),
+        None => true,
+    }
+}
+
+/// Whether the number of a block means something, but not that of the file in which it is written.
+fn lacks_its_file(locations: &Tables, tree: TreeId) -> bool
+    ensures value { result ≡ is_some (source_of locations.now tree) && not (is_file_meant locations.now (file_of_tree tree)) }
+{
+    locations.source_of(tree).is_some() && !is_file_meant(locations, file_of_tree(tree))
+}
+
+/// The modules that hold a block, the innermost first; none holds a crate.
+#[tactic(auto, unfolding(hir_def_map::specs::World::finished_in))]
+fn holders_by(alloc: Global, world: &World, start: Start) -> Result<Vec<ModuleId>, AllocError>
+    ensures value { IfOk result (λ holders. holders.items ≡ holders_by (finished_in world.now.maps) start) }
+{
+    let mut holders = Vec::new(alloc);
+    let Some(block) = start.block() else {
+        return Ok(holders);
+    };
+    holders.push(block.parent)?;
+    match world.maps.get(&block.parent.map) {
+        Some(finished) => {
+            holders.extend_from_slice(finished.holders.as_slice())?;
+            Ok(holders)
+        }
+        None => Ok(holders),
+    }
+}
+
+/// Whether nothing that a run reads speaks of its own map: it is a crate's, and isn't finished.
+fn is_apart(world: &World, start: Start) -> bool
+    ensures value { result ≡ is_none (block_of start) && is_none (map_in (finished_in world.now.maps) (id_of start)) }
+{
+    start.block().is_none() && world.map(start.map_id()).is_none()
 }
 
 /// Whether a crate is a procedural macro's; one that isn't there is none.
@@ -124,6 +185,16 @@ fn is_proc_macro(krate: Option<&CrateRoot>) -> bool
     match krate {
         Some(krate) => krate.is_proc_macro,
         None => false,
+    }
+}
+
+/// Whether functions of the root export macros: those of a procedural-macro crate, and none of a block.
+fn exports_macros(start: Start, krate: Option<&CrateRoot>) -> bool
+    ensures value { result ≡ exports_macros start (option_map (λ c. c.now) krate.entry) }
+{
+    match start {
+        Start::Crate { .. } => is_proc_macro(krate),
+        Start::Block { .. } => false,
     }
 }
 
@@ -179,20 +250,16 @@ fn fresh(
     is_proc_macro: bool,
     config: Option<&Config>,
     transitive: &Rc<CrateSet>,
+    holders: &[ModuleId],
     start: Start,
     id: TreeId,
 ) -> Result<DefCollector, AllocError>
     ensures value { IfOk result (λ run. core_in run
-        ≡ core_of (part_of world.entry) tree.now is_proc_macro (option_map (λ c. config_view c.now) config.entry) transitive.now.value start id) }
+        ≡ core_of (part_of world.entry) tree.now is_proc_macro (option_map (λ c. config_view c.now) config.entry) transitive.now.value holders.now start id) }
 {
-    let data = top_data(
-        alloc,
-        start.edition(),
-        tree.top_level_attrs(),
-        transitive.clone()?,
-    )?;
+    let data = start_data(alloc, world, tree, transitive.clone()?, start)?;
     let dependencies = dependencies_of(config);
-    let local = extern_prelude(alloc, &data, dependencies)?;
+    let local = start_local(alloc, world, &data, dependencies, start)?;
     let copies = cloned(alloc, dependencies)?;
     let options = options_of(alloc, config)?;
     DefCollector::start(
@@ -203,6 +270,7 @@ fn fresh(
         copies,
         options,
         is_proc_macro,
+        holders,
         start,
         id,
     )
@@ -215,25 +283,27 @@ fn begin<D: SourceDatabase>(
     world: WorldPart<'_>,
     locations: &mut Tables,
     transitive: &Rc<CrateSet>,
+    holders: &[ModuleId],
     start: Start,
     id: TreeId,
 ) -> Result<DefCollector, CollectError>
+    requires file { IsSome (source_of locations.old id) → IsFileMeant locations.old (file_of_tree id) }
     ensures kept { KeepsTables locations.old locations.new }
     ensures same { D.workspace db.new ≡ D.workspace db.old }
     ensures placed { AreCallsPlaced locations.old → AreCallsPlaced locations.new }
     ensures ready { IfOk result (λ run. IsReady locations.new (part_of world.entry) (core_in run)) }
     ensures ok { IfOk result (λ run. Steps (environment locations.new (D.workspace db.old)) (part_of world.entry)
-        (began locations.new (D.workspace db.old) (part_of world.entry) transitive.now.value start id) (at_rest (core_in run))) }
+        (began locations.new (D.workspace db.old) (part_of world.entry) transitive.now.value holders.now start id) (at_rest (core_in run))) }
     ensures grown { IfOk result (λ run. IsSome (source_of locations.old id) → OnceGrown locations.new (D.workspace db.old) (λ env. Steps env (part_of world.entry)
-        (began env.tables (D.workspace db.old) (part_of world.entry) transitive.now.value start id) (at_rest (core_in run)))) }
+        (began env.tables (D.workspace db.old) (part_of world.entry) transitive.now.value holders.now start id) (at_rest (core_in run)))) }
     ensures idle { IfOk result (λ run. source_of locations.old id ≡ None → (env : Environment) → ComesToRest env (part_of world.entry) (core_in run) (core_in run) false) }
     ensures many { result ≡ Err CollectError.TooMany → IsSpent (environment locations.new (D.workspace db.old)) (part_of world.entry)
-        (began locations.new (D.workspace db.old) (part_of world.entry) transitive.now.value start id) }
+        (began locations.new (D.workspace db.old) (part_of world.entry) transitive.now.value holders.now start id) }
 {
     let krate = start.krate();
     let source = source_at(alloc, db, locations, TreeKey { krate, id })?;
     let tree = source.tree();
-    let is_proc_macro = is_proc_macro(db.krate(krate));
+    let is_proc_macro = exports_macros(start, db.krate(krate));
     let mut run = fresh(
         alloc,
         world,
@@ -241,6 +311,7 @@ fn begin<D: SourceDatabase>(
         is_proc_macro,
         db.config(krate),
         transitive,
+        holders,
         start,
         id,
     )?;
@@ -251,14 +322,14 @@ fn begin<D: SourceDatabase>(
     Ok(run)
 }
 
-/// Whether no condition disables a tree at its top.
-fn is_enabled_at_top(tree: &ItemTree) -> bool
-    ensures value { result ≡ is_enabled tree.now.attributes }
+/// Whether the items of a tree are declared: those of a file that is disabled at its top are not, those of a block always.
+fn is_declared(id: TreeId, tree: &ItemTree) -> bool
+    ensures value { result ≡ is_declared id tree.now }
 {
-    tree.top_level_attrs().is_enabled()
+    id.block.is_some() || tree.top_level_attrs().is_enabled()
 }
 
-/// Handles the items of a source that are written in the root module; one that is disabled at its top declares nothing.
+/// Handles the items of a source that are written in the root module, if they are declared.
 fn walk_root<D: SourceDatabase>(
     run: &mut DefCollector,
     db: &mut D,
@@ -268,7 +339,7 @@ fn walk_root<D: SourceDatabase>(
     id: TreeId,
 ) -> Result<(), CollectError>
     requires in_range { 0 < length (core_in run.old).map.modules }
-    requires meant { IsSome (source_of locations.old id) }
+    requires meant { IsMeantAt locations.old (root_site id) }
     ensures kept { KeepsTables locations.old locations.new }
     ensures placed { AreCallsPlaced locations.old → AreCallsPlaced locations.new }
     ensures same { D.workspace db.new ≡ D.workspace db.old }
@@ -277,7 +348,7 @@ fn walk_root<D: SourceDatabase>(
     ensures many { result ≡ Err CollectError.TooMany → IsSpent (environment locations.new (D.workspace db.old)) (part_of world.entry)
         (joined (core_in run.old) (tree_visits (root_site id) source.now.value.tree)) }
 {
-    if !is_enabled_at_top(source.tree()) {
+    if !is_declared(id, source.tree()) {
         return Ok(());
     }
     let site = Site {

@@ -1,9 +1,10 @@
 -- Back over one step: what the next item declares is what it lists, and what the items that come next in it declare; and what an
 -- expansion declares is what its items do, which come next, or the item that goes on.
-use Rattle.std.proofs.Common.{◌≡◌, ◌∙◌, ◌<◌, ◌≤◌, ◌⊎◌, inl, inr, ◌+◌, ℕ, zero, suc, drop, slice_get, List, [], ◌∷◌, ◌++◌, length, ◌||◌, Bool, true, false, Option, None, Some, map as list_map, refl, sym, ap, subst, arith, Contains, append-nil}
+use Rattle.std.proofs.Common.{◌≡◌, ◌∙◌, ◌<◌, ◌≤◌, ◌⊎◌, inl, inr, ◌+◌, ℕ, zero, suc, drop, slice_get, List, [], ◌∷◌, ◌++◌, length, ◌||◌, Bool, true, false, Option, None, Some, map as list_map, refl, sym, ap, subst, arith, Contains, append-nil, if◌then◌else◌}
 use Rattle.std.proofs.lemmas.List.Elements.{Contains-append_right}
 use Rattle.either.specs.declared.Either.TheVariants as either
 use Rattle.hir_base.specs.Cfg.{Cfg}
+use Rattle.hir_base.specs.declared.ast_id.FileId.{FileId}
 use Rattle.hir_base.specs.declared.edition.Edition.{Edition}
 use Rattle.hir_base.specs.declared.ast_id.AstId.{AstId}
 use Rattle.hir_base.specs.declared.ast_id.AstKind.TheVariants as nodes
@@ -19,6 +20,7 @@ use Rattle.hir_item_tree.specs.Collected.{Collected, Numbered as Attribute, is_e
 use Rattle.hir_item_tree.specs.ItemTree.{Tree}
 use Rattle.hir_item_tree.specs.Kinds.{item_head}
 use Rattle.hir_item_tree.specs.KeptForest.{Head, Leaf, KeptItem, KeptForest, constant, enumeration, extern_block, extern_crate, function, holder, implementation, import, inline_module, leaf, macro_call, macro_def, macro_rules, no_items, outline_module, static_item, structure, trait_item, type_alias, union_structure}
+use Rattle.hir_item_tree.specs.declared.tree_id.TreeId.{TreeId}
 use Rattle.hir_item_tree.specs.declared.tree_id.TreeKey.{TreeKey}
 use Rattle.hir_mod_dir.specs.Directory.{Directory}
 use Rattle.hir_mod_dir.specs.ModuleFiles.{inline_directory}
@@ -97,8 +99,8 @@ if_disabled P false e = refl
 no_map : (c : Collected) (condition : Cfg) → c.disabled ≡ Some condition → is_enabled c ≡ false
 no_map c condition e = ap is_enabled_by e
 
-items_enabled : (tree : Tree) → is_enabled tree.attributes ≡ true → items_of tree ≡ tree.items
-items_enabled tree e = rw e refl
+items_enabled : (edition : Edition) (id : FileId) (tree : Tree) → is_enabled tree.attributes ≡ true → items_of (file_tree edition id) tree ≡ tree.items
+items_enabled edition id tree e = ap (λ (b : Bool). if b then tree.items else no_items) e
 
 module _ (tables : TablesValue) (w : Workspace) (finished : Maps) (from : Beginning) (answer : CollectedValue) (last : Core) where
   -- ---- what one item declares
@@ -395,8 +397,9 @@ module _ (tables : TablesValue) (w : Workspace) (finished : Maps) (from : Beginn
           let vis : Visibility = own_visibility finished s.core.local m site head in
           let next : List Task = visits_in_file m site head file ++ rest in
           let marked : Bool = is_macro_use head.attributes || is_macro_use file.tree.attributes in
-          let items : items_of (tree_at tables w (file_key answer.map.id.krate answer.map.crate_data.edition file.id)).tree ≡ file.tree.items =
-          ap items_of (file_seen file found) ∙ items_enabled file.tree enabled in
+          let id : TreeId = file_tree answer.map.crate_data.edition file.id in
+          let items : items_of id (tree_at tables w (file_key answer.map.id.krate answer.map.crate_data.edition file.id)).tree ≡ file.tree.items =
+          ap (items_of id) (file_seen file found) ∙ items_enabled answer.map.crate_data.edition file.id file.tree enabled in
           filled_back r site head name (file_origin site.tree head.id m.crate_data.edition file) vis (takes_textual count site.home ∷ goes_on next ∷ declaring site.home (module_declaration m name vis)) low refl (making_adds site name vis next)
           (leaf head (outline_module name)) looks.here.done rest (inside_file m file) file.tree.items refl refl apart
           (λ none. quiet (quiet_closed tools count (inside_file m file) file.tree.items marked site.home count rest (λ here. none) (quiet_below tools count rest apart)))

@@ -33,7 +33,7 @@ use Rattle.hir_collector_rules.specs.Derivation.{CollectedValue, Ends}
 use Rattle.hir_collector_rules.specs.ItemIds.{module_id, node_of}
 use Rattle.hir_collector_rules.specs.Keys.{environment}
 use Rattle.hir_collector_rules.specs.Reports.{begins_with, call_report, crates_among, failed_call, leftover_diagnostics, report_by, reports_of, unimplemented_macro, unresolved_among, unresolved_calls}
-use Rattle.hir_collector_rules.specs.Start.{Beginning, begin_of, krate_of, read_by}
+use Rattle.hir_collector_rules.specs.Start.{Beginning, begin_of, holders_by, krate_of, read_by}
 use Rattle.hir_collector_rules.specs.State.{State, Task, Visit, visits, import_state}
 use Rattle.hir_collector_rules.specs.Steps.{Rule, drops_item, awaits_attribute, lists_derives, faults_derive, exports_macro, reaches_call, rests, expands_call, drops_call, drops_reached, derives_builtin, skips_attribute, falls_back, defines_rules, defines_macro, closes_module, declares_item, declares_enum, lists_constant, lists_impl, opens_module, opens_file, drops_file, misses_file, enters_block, reaches_imports, reaches_crate, resolves_imports, IsFaulty, May, Steps, no_paths, no_target, acts, asking, call_at, more, none}
 use Rattle.hir_collector_rules.specs.Workspace.{Workspace}
@@ -340,7 +340,7 @@ module _ (tables : TablesValue) (w : Workspace) (finished : Maps) (from : Beginn
   same_count = ap (λ (m : Map). length m.modules) e.map_is ∙ same_length e.last.core
 
   begun_in_range : IsInRange (begin_of tables w finished from)
-  begun_in_range = in_range-start tables w (read_by w finished from.start) from
+  begun_in_range = in_range-start tables w (read_by w finished from.start) (holders_by finished from.start) from
 
   last_told : AreTold tables w from answer e.last
   last_told =

@@ -13,7 +13,7 @@ use Rattle.hir_collector_rules.specs.declared.macro_directive.MacroDirective.{Ma
 use Rattle.hir_collector_rules.specs.declared.source_database.Key.{Key}
 use Rattle.hir_collector_rules.specs.Derivation.{CollectedValue, Ends, leftover_among}
 use Rattle.hir_collector_rules.specs.Keys.{map_keys}
-use Rattle.hir_collector_rules.specs.Start.{Beginning, begin_of, krate_of, read_by}
+use Rattle.hir_collector_rules.specs.Start.{Beginning, begin_of, holders_by, krate_of, read_by}
 use Rattle.hir_collector_rules.specs.Workspace.{Workspace, transitive_dependencies_in}
 use Rattle.hir_collector_rules.proofs.Asks.{still_asked}
 use Rattle.hir_collector_rules.proofs.Changes.{data-Steps}
@@ -60,7 +60,7 @@ module _ (tables : TablesValue) (w : Workspace) (finished : Maps) (from : Beginn
   same_crate = sym (ap (λ (m : Map). m.crate_data) e.map_is ∙ same_data e.last.core ∙ data-Steps e.derived)
 
   pub first_written : IsAllWritten tables w from answer (begin_of tables w finished from)
-  first_written = written-start tables w from answer (read_by w finished from.start) answer_here e.own same_crate (λ key h. answer_asked key (still_asked e.derived key h))
+  first_written = written-start tables w from answer (read_by w finished from.start) (holders_by finished from.start) answer_here e.own same_crate (λ key h. answer_asked key (still_asked e.derived key h))
 
   written : IsAllWritten tables w from answer e.last
   written = written-Steps tables w from answer answer_here e.derived answer_asked first_written
@@ -73,7 +73,7 @@ module _ (tables : TablesValue) (w : Workspace) (finished : Maps) (from : Beginn
   call_there d h =
       let same : length answer.map.modules ≡ length e.last.core.map.modules = ap (λ (m : Map). length m.modules) e.map_is ∙ same_length e.last.core in
       let below : d.site.home < length e.last.core.map.modules =
-      call_home (length e.last.core.map.modules) e.last.core.calls d (in_range-Steps e.derived (in_range-start tables w (read_by w finished from.start) from)).calls h in
+      call_home (length e.last.core.map.modules) e.last.core.calls d (in_range-Steps e.derived (in_range-start tables w (read_by w finished from.start) (holders_by finished from.start) from)).calls h in
       (call_among tables w from answer e.last.core.calls d written.calls h, omega (arith, same, below))
 
   pub leftover_written : (way : ImportOrExternCrate) → Contains answer.leftover way → HasImport tables w from answer (λ r. way_of r.source ≡ way)

@@ -38,3 +38,4 @@ pub mod SourcedMacros
 pub mod SourcedState
 pub mod SourcedEnded
 pub mod Sourced
+pub mod BlockKeys

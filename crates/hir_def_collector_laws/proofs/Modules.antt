@@ -5,11 +5,11 @@ use Rattle.std.specs.Prelude.{if◌then◌else◌}
 use Rattle.hir_base.specs.declared.ast_id.AstId.{AstId}
 use Rattle.hir_base.specs.declared.ast_id.AttrId.{AttrId}
 use Rattle.hir_base.specs.declared.ids.ModuleDefId.{ModuleDefId}
+use Rattle.hir_base.specs.declared.ids.ModuleId.{ModuleId}
 use Rattle.hir_item_tree.specs.Collected.{Numbered, is_enabled}
 use Rattle.hir_item_tree.specs.ItemTree.{Tree}
 use Rattle.hir_item_tree.specs.KeptForest.{KeptForest, KeptItem, no_items}
 use Rattle.hir_item_tree.specs.declared.tree_id.TreeKey.{TreeKey}
-use Rattle.hir_scope.specs.declared.visibility.Visibility.TheVariants as visibilities
 use Rattle.hir_tables.specs.Tables.{TablesValue}
 use Rattle.hir_def_map_rules.specs.Overlay.{Maps}
 use Rattle.hir_def_map_rules.specs.State.{CrateData, Map, module_at, new_module}
@@ -27,7 +27,7 @@ use Rattle.hir_collector_rules.specs.Derivation.{CollectedValue, leftover_report
 use Rattle.hir_collector_rules.specs.Ended.{ended}
 use Rattle.hir_collector_rules.specs.Keys.{environment}
 use Rattle.hir_collector_rules.specs.Reports.{with_diagnostics}
-use Rattle.hir_collector_rules.specs.Start.{Beginning, krate_of, origin_of, read_by, root_site, root_tree, start_of, tree_visits}
+use Rattle.hir_collector_rules.specs.Start.{Beginning, holders_by, is_declared, krate_of, origin_of, read_by, root_site, root_tree, start_of, tree_visits, root_visibility}
 use Rattle.hir_collector_rules.specs.State.{Core, State, Task, visits_over}
 use Rattle.hir_collector_rules.specs.Steps.{Rule, drops_item, awaits_attribute, lists_derives, faults_derive, exports_macro, reaches_call, rests, expands_call, drops_call, drops_reached, derives_builtin, skips_attribute, falls_back, defines_rules, defines_macro, closes_module, declares_item, declares_enum, lists_constant, lists_impl, opens_module, opens_file, drops_file, misses_file, enters_block, reaches_imports, reaches_crate, resolves_imports, May, Step, Steps, acts, after, asking, keys_read, more, none, reads}
 use Rattle.hir_collector_rules.specs.Workspace.{Workspace}
@@ -178,24 +178,24 @@ module _ (tables : TablesValue) (w : Workspace) (finished : Maps) (from : Beginn
 
   -- ---- the start
 
-  same_visits : (site : Site) (tree : Tree) → tree_visits site tree ≡ visits_over site (items_of tree)
-  same_visits site tree = go (is_enabled tree.attributes)
+  same_visits : (site : Site) (tree : Tree) → tree_visits site tree ≡ visits_over site (items_of site.tree tree)
+  same_visits site tree = go (is_declared site.tree tree)
     where
       go : (b : Bool) → (if b then visits_over site tree.items else []) ≡ visits_over site (if b then tree.items else no_items)
       go true = refl
       go false = refl
 
-  module _ (q : Comes (start_of tables w finished from)) where
+  module _ (holders : List ModuleId) (q : Comes (start_of tables w finished holders from)) where
     abbrev site : Site
     site = root_site from.tree
 
     abbrev items : KeptForest
-    items = items_of (root_tree tables w from)
+    items = items_of from.tree (root_tree tables w from)
 
-    at : IsAhead tables w finished from answer end q.es (start_of tables w finished from).core.map (visits_over site items)
-    at = subst (λ (vs : List Task). IsAhead tables w finished from answer end q.es (start_of tables w finished from).core.map vs) (same_visits site (root_tree tables w from)) q.ahead
+    at : IsAhead tables w finished from answer end q.es (start_of tables w finished holders from).core.map (visits_over site items)
+    at = subst (λ (vs : List Task). IsAhead tables w finished from answer end q.es (start_of tables w finished holders from).core.map vs) (same_visits site (root_tree tables w from)) q.ahead
 
-    holds : Holds tables w finished from answer end (expanded_in q.es) q.es (length (start_of tables w finished from).core.map.modules) (visits_over site items) at.listed
+    holds : Holds tables w finished from answer end (expanded_in q.es) q.es (length (start_of tables w finished holders from).core.map.modules) (visits_over site items) at.listed
     holds = at.holds (expanded_in q.es) (λ k past. refl)
 
     root_quiet : HaveNoCall answer.map.crate_data.registered_tools items → expanded_in q.es 0 ≡ []
@@ -205,7 +205,7 @@ module _ (tables : TablesValue) (w : Workspace) (finished : Maps) (from : Beginn
     root_lists : ListsItsItems tables w finished from answer end (expanded_in q.es) 0
     root_lists =
         let low : 0 < 1 = omega arith in
-        let root : StaysAt (module_at answer.map 0) (new_module (origin_of from.start) visibilities.Public None) = at.stays 0 _ refl in
+        let root : StaysAt (module_at answer.map 0) (new_module (origin_of from.start) (root_visibility from.start) None) = at.stays 0 _ refl in
         record {
           value = root.value;
           there = root.there;
@@ -274,8 +274,8 @@ module _ (tables : TablesValue) (w : Workspace) (answer : CollectedValue) (witho
 pub modules_list_their_items : ModulesListTheirItems
 modules_list_their_items tables w finished from answer e =
     let seen : Maps = read_by w finished from.start in
-    lists_all tables w seen from answer e.last.core
-    (back_Steps tables w seen from answer e.last.core (answer_here tables w finished from answer e) (in_range-start tables w seen from)
+    lists_all tables w seen from answer e.last.core (holders_by finished from.start)
+    (back_Steps tables w seen from answer e.last.core (answer_here tables w finished from answer e) (in_range-start tables w seen (holders_by finished from.start) from)
     (first_written tables w finished from answer e) (answer_asked tables w finished from answer e) e.derived
     (comes_end tables w seen from answer e.last.core e.last (leftover_reports e.last.core) e.map_is e.visited refl))
 

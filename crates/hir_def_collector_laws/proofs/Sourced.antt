@@ -22,9 +22,9 @@ use Rattle.hir_base.specs.declared.ids.TraitId.{TraitId}
 use Rattle.hir_base.specs.declared.macro_kind.MacroId.{MacroId}
 use Rattle.hir_base.specs.declared.macro_kind.MacroId.TheVariants as macros
 use Rattle.hir_base.specs.declared.macro_kind.ProcMacroId.{ProcMacroId}
-use Rattle.hir_item_tree.specs.Collected.{is_enabled}
 use Rattle.hir_item_tree.specs.Imports.{imports_of}
 use Rattle.hir_item_tree.specs.KeptForest.{Head, Leaf, KeptItem, KeptForest, leaf, holder, import, extern_crate, function, structure, union_structure, enumeration, constant, static_item, trait_item, implementation, type_alias, outline_module, macro_call, macro_rules, macro_def}
+use Rattle.hir_item_tree.specs.declared.tree_id.TreeId.{TreeId}
 use Rattle.hir_item_tree.specs.declared.raw_visibility.RawVisibility.{RawVisibility}
 use Rattle.hir_item_tree.specs.declared.raw_visibility.RawVisibility.TheVariants as raws
 use Rattle.hir_use_tree.specs.declared.imports.ImportKind.TheVariants as import_kinds
@@ -51,7 +51,7 @@ use Rattle.hir_def_map_rules.proofs.NoneOf.{neither, none_at, none_inserted_last
 use Rattle.hir_def_map_rules.specs.Reaches.{by_import}
 use Rattle.hir_def_map_rules.specs.Scoping.{Resolution, resolution_of}
 use Rattle.hir_def_map_rules.specs.Sources.{HoldsNowhere, HoldsNowhereIn, HoldsOfNone, HoldsOfNoExtern, PathsAnswerFromSources, SourceTest, on_def, on_extern, on_extern_entry, on_import, on_macro, on_origin, on_some, on_values, on_variant, on_visibility}
-use Rattle.hir_def_map_rules.specs.State.{CrateData, Local, MacroDataValue, Map, crate_root, new_id, root_of, with_extern}
+use Rattle.hir_def_map_rules.specs.State.{CrateData, Local, MacroDataValue, Map, crate_root, new_id, root_of, with_extern, with_prelude}
 use Rattle.hir_def_map_rules.specs.Overlay.{Maps, entry_in, overlay, module_in}
 use Rattle.hir_def_map_rules.proofs.StaysWellFormed.{IsClosed-overlay, LocalIsThere-begins, module_there}
 use Rattle.hir_def_map_rules.proofs.StaysSourced.{HoldsNowhere-overlay, HoldsNowhereIn-enum, HoldsNowhereIn-listed, HoldsNowhereIn-made, HoldsNowhereIn-prelude}
@@ -87,13 +87,13 @@ use Rattle.hir_collector_rules.specs.Imports.{extern_by}
 use Rattle.hir_import_resolution.specs.Visibilities.{visibility_in}
 use Rattle.hir_collector_rules.specs.ItemIds.{enum_id, macro_def_id, macro_rules_id, module_id}
 use Rattle.hir_collector_rules.specs.Items.{constructor_of, declaration_of, declared_by, declared_by_leaf, declared_type, file_origin, inline_origin, own_visibility}
-use Rattle.hir_collector_rules.specs.Preludes.{extern_prelude, joins, prelude_of, with_dependency, with_prelude_module}
+use Rattle.hir_collector_rules.specs.Preludes.{extern_prelude, joins, with_dependency}
 use Rattle.hir_collector_rules.specs.Macros.{is_macro_use, macros_beside, textual_at}
 use Rattle.hir_collector_rules.specs.Attributes.{attr_id, item_node, proc_macro_id}
 use Rattle.hir_collector_rules.specs.Ended.{ended}
 use Rattle.hir_collector_rules.specs.Calls.{Expanding, call_key, call_site, error_of, expansion_readings, text_readings}
-use Rattle.hir_def_collector_laws.specs.Sources.{IsClearOf}
-use Rattle.hir_collector_rules.specs.Start.{Beginning, begin_of, krate_of, origin_of, read_by, root_key, root_map, root_site, root_tree, start_data, start_of, tree_key}
+use Rattle.hir_def_collector_laws.specs.Sources.{BeginsClear, IsClearOf}
+use Rattle.hir_collector_rules.specs.Start.{Beginning, begin_of, holders_by, is_declared, krate_of, origin_of, own_prelude, read_by, root_key, root_map, root_site, root_tree, start_data, start_local, start_of, tree_key}
 use Rattle.hir_collector_rules.specs.State.{State, Task, Visit, visits, import_state, visits_over, behind}
 use Rattle.hir_collector_rules.specs.Changes.{Change, lists, makes, gives_variants, begins_paths, reaches, awaits, ends, settles, changes_imports, adds_textual, takes_textual, defines, describes, helps, lists_derive, exports, uses_macros, tells, goes_on, act, on_map}
 use Rattle.hir_collector_rules.specs.Steps.{Rule, drops_item, awaits_attribute, lists_derives, faults_derive, exports_macro, reaches_call, rests, expands_call, drops_call, drops_reached, derives_builtin, skips_attribute, falls_back, defines_rules, defines_macro, closes_module, visits_in_file, declares_item, declares_enum, lists_constant, lists_impl, opens_module, opens_file, drops_file, misses_file, enters_block, reaches_imports, reaches_crate, resolves_imports, May, behind, derives_from, visit, acts, asking, keys_read, making, path_of, reads, visits_inside, Step, Steps, none, more, inside_block, inside_file, inside_module}
@@ -591,7 +591,8 @@ module _ (t : SourceTest) where
           (tt, (tt, (neither (t.holder d.site.tree.file d.site.tree.block) false (none_at (on_call t) s.core.calls f.calls i d may.waiting.call) refl, tt)))
       brings_none (resolves_imports rule) may read = imports_bring rule may
 
-      sourced-Step : (env : Environment) (new : State) → Step env finished s new → AreClear t new → IsSourced t new
+      -- a step brings nothing of which the test holds, where it holds of no source that was asked for
+      pub sourced-Step : (env : Environment) (new : State) → Step env finished s new → AreClear t new → IsSourced t new
       sourced-Step env new step clear =
           let read : (key : TreeKey) → Contains (keys_read (reads s step.rule)) (keys.Tree key) → t.holder key.id.file key.id.block ≡ false =
           λ key h. clear key (subst (λ (ks : List Key). Contains ks (keys.Tree key)) (sym (asked-Step step)) (Contains-append_right s.core.asked (keys_read (reads s step.rule)) (keys.Tree key) h)) in
@@ -619,22 +620,31 @@ module _ (t : SourceTest) where
       go true = none_inserted_last (on_extern_entry t) (pointwise nat_eq) local d.name (crate_root d.krate, None) f refl
       go false = f
 
-  -- a root module is written nowhere
-  root_nowhere : (start : Start) → on_origin t (origin_of start) ≡ false
-  root_nowhere (starts.Crate krate root) = refl
+  -- a root module is written nowhere, or is the block whose tree was asked for
+  root_nowhere : (finished : Maps) (start : Start) (tree : TreeId) → BeginsClear t finished start tree → t.holder tree.file tree.block ≡ false → on_origin t (origin_of start) ≡ false
+  root_nowhere finished (starts.Crate krate root) tree clear asked = refl
+  root_nowhere finished (starts.Block krate block by at) tree clear asked = subst (λ (x : TreeId). t.holder x.file x.block ≡ false) clear.0 asked
 
-  first_sourced : (finished : Maps) → HoldsNowhere t finished → (tables : TablesValue) (w : Workspace) (from : Beginning) → t.holder from.tree.file from.tree.block ≡ false → IsSourced t (start_of tables w finished from)
-  first_sourced finished nowhere tables w from written =
+  start_begins : (finished : Maps) (crate_data : CrateData) (ds : List Dependency) (start : Start) (tree : TreeId) → BeginsClear t finished start tree
+      → HoldsOfNoExtern t (start_local finished crate_data ds start)
+  start_begins finished crate_data ds (starts.Crate krate root) tree clear = local_begins crate_data [] ds refl
+  start_begins finished crate_data ds (starts.Block krate block by at) tree clear = clear.1
+
+  pub first_sourced : (finished : Maps) → HoldsNowhere t finished → (tables : TablesValue) (w : Workspace) (holders : List ModuleId) (from : Beginning) → BeginsClear t finished from.start from.tree
+      → t.holder from.tree.file from.tree.block ≡ false → IsSourced t (start_of tables w finished holders from)
+  first_sourced finished nowhere tables w holders from clear written =
       let tree = root_tree tables w from in
       let krate : Crate = krate_of from.start in
-      let crate_data : CrateData = start_data tree (transitive_dependencies_in w krate) from.start in
+      let crate_data : CrateData = start_data finished tree (transitive_dependencies_in w krate) from.start in
       let one : Map = root_map crate_data from.start in
-      let local : Local = extern_prelude crate_data [] (dependencies_in w krate) in
+      let local : Local = start_local finished crate_data (dependencies_in w krate) from.start in
+      let prelude = own_prelude finished one local from.start in
+      let origins = neither (on_origin t (origin_of from.start)) false (root_nowhere finished from.start from.tree clear written) refl in
       record {
-        map = used_clear t (with_prelude_module finished one local) (macros_beside finished one.id.krate (prelude_of finished one local)) None (beside_clear t finished nowhere one.id.krate (prelude_of finished one local)) refl
-            (HoldsNowhereIn-prelude t one (prelude_of finished one local) (record { origins = neither (on_origin t (origin_of from.start)) false (root_nowhere from.start) refl; types = refl; values = refl; macros = refl; legacy = refl; enums = refl; macro_use = refl }));
-        local = local_begins crate_data [] (dependencies_in w krate) refl;
-        visits = go (is_enabled tree.attributes) tree.items;
+        map = used_clear t (with_prelude one prelude) (macros_beside finished one.id.krate prelude) None (beside_clear t finished nowhere one.id.krate prelude) refl
+            (HoldsNowhereIn-prelude t one prelude (record { origins = origins; types = refl; values = refl; macros = refl; legacy = refl; enums = refl; macro_use = refl }));
+        local = start_begins finished crate_data (dependencies_in w krate) from.start from.tree clear;
+        visits = go (is_declared from.tree tree) tree.items;
         reached = refl;
         calls = refl;
         edges = refl;
@@ -646,19 +656,21 @@ module _ (t : SourceTest) where
 
   -- it ends with a map in which the test holds nowhere
   pub ends_sourced : PathsAnswerFromSources → PathsLeadToWhatIsThere → (finished : Maps) → AreWellFormed finished → (tables : TablesValue) (w : Workspace) (all : Maps) (from : Beginning) (answer : CollectedValue)
-      → read_by w all from.start ≡ finished → StandsOnWhole w finished from.start → Ends tables w all from answer → IsClearOf t finished answer.asked answer.map
+      → read_by w all from.start ≡ finished → StandsOnWhole w finished from.start → BeginsClear t finished from.start from.tree → Ends tables w all from answer → IsClearOf t finished answer.asked answer.map
       → HoldsNowhereIn t answer.map × HoldsOfNoExtern t answer.local
-  ends_sourced answers paths finished whole tables w all from answer same stands e clear =
+  ends_sourced answers paths finished whole tables w all from answer same stands begun_clear e clear =
       let env : Environment = environment tables w in
       let begun : State = begin_of tables w all from in
-      let names : NamesWhatIsThere finished begun = subst (λ (x : Maps). NamesWhatIsThere finished (start_of tables w x from)) (sym same) (begins paths finished whole tables w from stands) in
+      let holders : List ModuleId = holders_by all from.start in
+      let names : NamesWhatIsThere finished begun = subst (λ (x : Maps). NamesWhatIsThere finished (start_of tables w x holders from)) (sym same) (begins paths finished whole tables w holders from stands) in
       let derived : Steps env finished begun e.last = subst (λ (x : Maps). Steps env x begun e.last) same e.derived in
       let asked : AreClear t e.last =
       λ key h. clear.written key (subst (λ (ks : List Key). Contains ks (keys.Tree key)) (sym e.asked_is)
       (Contains-append_left e.last.core.asked (map_keys (transitive_dependencies_in w (krate_of from.start))) (keys.Tree key) h)) in
       let root : t.holder from.tree.file from.tree.block ≡ false =
       asked (tree_key from.start from.tree) (still_asked derived (root_key from.start from.tree) (0, omega arith, refl)) in
-      let first : IsSourced t begun = first_sourced (read_by w all from.start) (subst (HoldsNowhere t) (sym same) clear.read) tables w from root in
+      let first : IsSourced t begun = first_sourced (read_by w all from.start) (subst (HoldsNowhere t) (sym same) clear.read) tables w holders from
+      (subst (λ (x : Maps). BeginsClear t x from.start from.tree) (sym same) begun_clear) root in
       let m : Map = ended e.last.core in
       let reports : List DefDiagnostic = m.diagnostics ++ leftover_reports e.last.core in
       let reported : Map = record m { diagnostics = reports } in
@@ -666,5 +678,5 @@ module _ (t : SourceTest) where
       let grows : Grows m reported = let same_map : Grows m m = Grows-same m in record { longer = same_map.longer; kept = same_map.kept; listed = same_map.listed } in
       let seen : ShowsThere t finished m = λ at there. above at (stays_there finished m reported refl grows at there) in
       let shown : ShowsThere t finished e.last.core.map = λ at there. seen at (stays_ended finished e.last.core at there) in
-      let end : IsSourced t e.last = all_sourced answers paths finished whole clear.read env begun e.last (in_range-start tables w (read_by w all from.start) from) names first derived shown asked in
+      let end : IsSourced t e.last = all_sourced answers paths finished whole clear.read env begun e.last (in_range-start tables w (read_by w all from.start) holders from) names first derived shown asked in
       (subst (HoldsNowhereIn t) (sym e.map_is) (HoldsNowhereIn-reported m reports (HoldsNowhereIn-ended t e.last.core end.map)), subst (HoldsOfNoExtern t) (sym e.local_is) end.local)

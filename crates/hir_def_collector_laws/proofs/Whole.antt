@@ -1,7 +1,8 @@
 -- A run leaves maps that name only what is there.
-use Rattle.std.specs.Prelude.{◌≡◌, ℕ, zero, suc, ◌<◌, List, [], ◌∷◌, ◌++◌, length, Bool, true, false, not, is_some, Option, None, Some, cond, map as list_map, option_and_then, slice_get}
+use Rattle.std.specs.Prelude.{◌≡◌, ℕ, zero, suc, ◌<◌, List, [], ◌∷◌, ◌++◌, length, Bool, true, false, ◌&&◌, ◌||◌, not, is_some, Option, None, Some, cond, map as list_map, option_and_then, option_map, slice_get}
 use Rattle.std.specs.List.{list_any}
 use Rattle.std.proofs.Common.{ap, refl, subst, sym, ◌∙◌, arith}
+use Rattle.std.specs.Cmp.{second_so}
 use Rattle.std.specs.Prelude.{nat_eq}
 use Rattle.std.specs.Str.{bytes_eq}
 use Rattle.std.specs.Cmp.Lexicographic.{pointwise}
@@ -11,6 +12,7 @@ use Rattle.hir_base.specs.declared.ids.AdtId.TheVariants as adts
 use Rattle.hir_base.specs.declared.ids.Crate.{Crate}
 use Rattle.hir_base.specs.declared.ids.EnumId.{EnumId}
 use Rattle.hir_base.specs.declared.ids.ExternCrateId.{ExternCrateId}
+use Rattle.hir_base.specs.declared.ids.MapId.{MapId}
 use Rattle.hir_base.specs.declared.ids.ModuleId.{ModuleId}
 use Rattle.hir_base.specs.declared.ids.ModuleDefId.{ModuleDefId}
 use Rattle.hir_base.specs.declared.ids.ModuleDefId.TheVariants as definitions
@@ -32,12 +34,14 @@ use Rattle.hir_scope.specs.declared.item_in_ns.ItemInNs.{ItemInNs}
 use Rattle.hir_scope.specs.declared.item_in_ns.ItemInNs.TheVariants as in_ns
 use Rattle.hir_scope.specs.PerNs.{Item, with_constructor, item_of, macros_only}
 use Rattle.hir_scope.specs.declared.per_ns.PerNs.{PerNs}
+use Rattle.hir_scope.specs.ModuleTree.{same_crate}
 use Rattle.hir_scope.specs.declared.visibility.Visibility.{Visibility}
 use Rattle.hir_scope.specs.declared.visibility.Visibility.TheVariants as visibilities
 use Rattle.hir_def_map_rules.specs.declared.declaration.Declaration.TheVariants as listings
 use Rattle.hir_def_map_rules.specs.declared.declaration.Declaration.{Declaration as Listing}
 use Rattle.hir_def_map_rules.specs.declared.diagnostics.DefDiagnostic.{DefDiagnostic}
 use Rattle.hir_def_map_rules.specs.declared.origin.ModuleOrigin.{ModuleOrigin}
+use Rattle.hir_def_map_rules.specs.declared.reference.Reference.{Reference}
 use Rattle.hir_def_map_rules.specs.declared.reference.Reference.TheVariants as named
 use Rattle.hir_base.specs.contracts.ids.MapIdPartialEq.TheImpl as map_id
 use Rattle.hir_def_map_rules.specs.Sources.{on_some}
@@ -46,19 +50,22 @@ use Rattle.hir_def_map_rules.proofs.NoneOf.{neither, none_at, none_inserted_last
 use Rattle.hir_def_map_rules.specs.Inner.OverlayLaws.{same_id}
 use Rattle.hir_def_map_rules.specs.Closed.{AreThere, IsThere, IsClosed, PathsLeadToWhatIsThere, VisibilityIsThere}
 use Rattle.hir_def_map_rules.specs.WellFormed.{AreWellFormed, HasNoDanglingExtern, Extends, HasNoDanglingReference}
-use Rattle.hir_def_map_rules.proofs.WellFormed.{HasNoDanglingExtern-more, IsClosed-well_formed, HasNoDanglingReference-more, none_missing}
+use Rattle.hir_def_map_rules.proofs.WellFormed.{HasNoDanglingExtern-more, IsClosed-well_formed, HasNoDanglingReference-more, held_there, none_missing}
+use Rattle.hir_def_map.proofs.Naming.{held_outside}
 use Rattle.hir_def_map_rules.specs.Declaration.{listed}
 use Rattle.hir_def_map_rules.specs.Macros.{with_exported, with_macro_data, with_macro_def}
-use Rattle.hir_def_map_rules.specs.References.{crate_map, is_missing, reference_to, prelude_reference, test_crate, test_of, test_item, test_visibility, FailsAtItem, FailsAtMacro}
+use Rattle.hir_def_map_rules.specs.References.{any_own_crate, any_reference_in, crate_map, is_holder_for, is_missing, reference_to, prelude_reference, test_crate, test_of, test_item, test_visibility, FailsAtItem, FailsAtMacro}
 use Rattle.hir_def_map_rules.specs.Reaches.{by_import}
 use Rattle.hir_def_map_rules.specs.Scoping.{Resolution, resolution_of}
 use Rattle.hir_def_map_rules.specs.Scoping.Segments.{variant_in}
+use Rattle.hir_def_map_rules.specs.Scoping.Asking.{local_of}
 use Rattle.hir_def_map_rules.specs.Scoping.Start.{crate_root}
 use Rattle.hir_def_map_rules.specs.declared.enum_variants.EnumVariant.{EnumVariant}
 use Rattle.hir_def_map_rules.specs.State.{CrateData, IsBefore, Local, MacroDataValue, Map, ModuleValue, Variants, entry_at, entry_of, module_at, new_id, new_module, numbered, root_of, with_declared, with_enum, with_extern, with_prelude, with_module, with_scope, at_name}
 use Rattle.hir_def_map_rules.specs.Overlay.{Maps, Placed, entry_in, overlay, placed_in, module_in, variants_in}
 use Rattle.hir_def_map_rules.proofs.StaysWellFormed.{Extends-overlay, Extends-grown, Extends-made, Extends-scope, IsClosed-overlay, LocalIsThere-begins, HasNoDanglingReference-prelude, module_there, new_there, Extends-enum}
 use Rattle.hir_collector_rules.specs.declared.start.Start.{Start}
+use Rattle.hir_collector_rules.specs.declared.start.Start.TheVariants as starts
 use Rattle.hir_collector_rules.specs.declared.declaration.Declaration.{Declaration}
 use Rattle.hir_glob_imports.specs.Moves.{brought_vis, shown as shown_along}
 use Rattle.hir_glob_imports.specs.declared.edge.Edge.{Edge}
@@ -94,12 +101,13 @@ use Rattle.hir_collector_rules.specs.Changes.{changes_imports, act}
 use Rattle.hir_collector_rules.specs.Macros.{macros_beside, macros_brought, with_macros_used}
 use Rattle.hir_collector_rules.specs.Moves.{begun}
 use Rattle.hir_collector_rules.specs.Preludes.{by_prelude, extern_prelude, joins, module_by, module_named, module_of, prelude_of, prelude_path, with_dependency}
-use Rattle.hir_collector_rules.specs.Start.{Beginning, begin_of, krate_of, origin_of, read_by, root_map, root_tree, start_data, start_of}
+use Rattle.hir_collector_rules.specs.Start.{Beginning, begin_of, holder_of, holders_by, id_of, krate_of, origin_of, own_prelude, read_by, root_map, root_tree, start_data, start_local, start_of, root_visibility}
 use Rattle.hir_collector_rules.specs.Steps.{Rule, drops_item, awaits_attribute, lists_derives, faults_derive, exports_macro, reaches_call, rests, expands_call, drops_call, drops_reached, derives_builtin, skips_attribute, falls_back, defines_rules, defines_macro, closes_module, declares_item, declares_enum, lists_constant, lists_impl, opens_module, opens_file, drops_file, misses_file, enters_block, reaches_imports, reaches_crate, resolves_imports, May, acts, asking, macro_data_of, visit, Step, Steps, none, more}
 use Rattle.hir_collector_rules.specs.Derivation.{CollectedValue, Ends, leftover_reports}
 use Rattle.hir_def_collector_laws.specs.Whole.{StandsOnWhole}
 use Rattle.hir_collector_rules.proofs.Changes.{AllFine, fine_bringing, fine_expanding, fine_macro, fine_reporting, perform_keeps}
 use Rattle.hir_collector_rules.proofs.InRange.{IsInRange, import_at, in_range-Steps, next_home}
+use Rattle.hir_collector_rules.proofs.Derived.{start_dependencies}
 use Rattle.hir_collector_rules.proofs.Holds.{in_range-start}
 use Rattle.hir_collector_rules.proofs.ImportEdits.{copy_at, copy_where, edit_of, follow_at, follow_where, map_after}
 use Rattle.hir_def_collector_laws.proofs.SourcedEdits.{shown_stands}
@@ -514,27 +522,53 @@ module _ (paths : PathsLeadToWhatIsThere) (finished : Maps) (whole : AreWellForm
 
 -- ---- where a run begins
 
+-- what holds a block is there
+held_named : (maps : Maps) (id : MapId) (o : Option ModuleId) → is_holder_for maps id o ≡ true → test_of (is_missing maps) (option_map named.Module o) ≡ false
+held_named maps id None e = refl
+held_named maps id (Some h) e = ap not (second_so (same_crate h.map.krate id.krate) (is_some (module_in maps h)) e)
+
+-- so is the map of its crate among more maps
+own_crate_more : (one other : Maps) → Extends one other → (id : MapId) → any_own_crate (is_missing one) id ≡ false → any_own_crate (is_missing other) id ≡ false
+own_crate_more one other grown id e = go (is_some id.block) e
+  where
+    go : (b : Bool) → (b && test_crate (is_missing one) id.krate) ≡ false → (b && test_crate (is_missing other) id.krate) ≡ false
+    go true f = none_missing one other grown (named.Map (crate_map id.krate)) f
+    go false f = refl
+
+-- a root module refers to what holds the block
+root_refers : (test : Reference → Bool) (start : Start) → test_of test (option_map named.Module (holder_of start)) ≡ false
+    → list_any (any_reference_in test) (new_module (origin_of start) (root_visibility start) None ∷ []) ≡ false
+root_refers test (starts.Crate krate root) e = refl
+root_refers test (starts.Block krate block holder at) e = ap (λ (b : Bool). (b || false) || false) e
+
 -- the root module alone
 module _ (finished : Maps) (crate_data : CrateData) (start : Start) where
   abbrev root : Map
   root = root_map crate_data start
 
-  root_names : finished root.id ≡ None → list_any (test_crate (is_missing finished)) crate_data.dependencies ≡ false → HasNoDanglingReference (overlay finished root) root
-  root_names apart below = record {
-    own_crate = refl;
-    held = refl;
-    outside = refl;
+  root_names : finished root.id ≡ None → list_any (test_crate (is_missing finished)) crate_data.dependencies ≡ false
+      → any_own_crate (is_missing finished) (id_of start) ≡ false → is_holder_for finished (id_of start) (holder_of start) ≡ true → HasNoDanglingReference (overlay finished root) root
+  root_names apart below own held = record {
+    own_crate = own_crate_more finished (overlay finished root) grown root.id own;
+    held = there;
+    outside = held_outside finished root.id root.holder apart held;
     root = omega arith;
     in_order = λ at m e. first at m e;
     variants = refl;
-    modules = refl;
+    modules = root_refers (is_missing (overlay finished root)) start (held_named (overlay finished root) root.id root.holder there);
     prelude = refl;
     dependencies = none_of_less (test_crate (is_missing finished)) (test_crate (is_missing (overlay finished root)))
-        (λ c f. none_missing finished (overlay finished root) (Extends-overlay finished root apart) (named.Map (crate_map c)) f) crate_data.dependencies below;
+        (λ c f. none_missing finished (overlay finished root) grown (named.Map (crate_map c)) f) crate_data.dependencies below;
   }
     where
+      grown : Extends finished (overlay finished root)
+      grown = Extends-overlay finished root apart
+
+      there : is_holder_for (overlay finished root) root.id root.holder ≡ true
+      there = held_there finished (overlay finished root) grown root.id root.holder held
+
       first : (at : ℕ) (m : ModuleValue) → slice_get root.modules at ≡ Some m → IsBefore root.id at m.parent
-      first zero m e = let same : new_module (origin_of start) visibilities.Public None ≡ m = cc in subst (λ (x : ModuleValue). IsBefore root.id 0 x.parent) same tt
+      first zero m e = let same : new_module (origin_of start) (root_visibility start) None ≡ m = cc in subst (λ (x : ModuleValue). IsBefore root.id 0 x.parent) same tt
       first (suc at) m e = absurd cc
 
   -- dependencies whose maps are there
@@ -583,25 +617,44 @@ module _ (paths : PathsLeadToWhatIsThere) (finished : Maps) (whole : AreWellForm
     unfolding module_named
     prelude_there = by_core map.crate_data.no_core
 
+  -- so is a prelude of its own, and none is needed
+  own_prelude_there : (map : Map) (local : Local) → finished map.id ≡ None → HasNoDanglingReference (overlay finished map) map → HasNoDanglingExtern (overlay finished map) local → (start : Start)
+      → test_of (is_missing (overlay finished map)) (prelude_reference (own_prelude finished map local start)) ≡ false
+  own_prelude_there map local apart names begins (starts.Crate krate _) = prelude_there map local apart names begins
+  own_prelude_there map local apart names begins (starts.Block krate block holder at) = refl
+
+  -- and so are the crates that paths of a finished map may begin with
+  beside_there : (id : MapId) (o : Option Placed) → finished id ≡ o → HasNoDanglingExtern finished (local_of (option_map (λ (p : Placed). p.local) o))
+  beside_there id None e = refl
+  beside_there id (Some placed) e = (whole id placed e).begins
+
+  local_there : (crate_data : CrateData) (ds : List Dependency) → list_any (λ (d : Dependency). test_crate (is_missing finished) d.krate) ds ≡ false → (start : Start)
+      → HasNoDanglingExtern finished (start_local finished crate_data ds start)
+  local_there crate_data ds f (starts.Crate krate root) = begins_there finished crate_data (starts.Crate krate root) whole [] refl ds f
+  local_there crate_data ds f (starts.Block krate block holder at) = beside_there (crate_map krate) (finished (crate_map krate)) refl
+
   -- a run begins with what is there
-  pub begins : (tables : TablesValue) (w : Workspace) (from : Beginning) → StandsOnWhole w finished from.start → NamesWhatIsThere finished (start_of tables w finished from)
-  begins tables w from stands =
+  pub begins : (tables : TablesValue) (w : Workspace) (holders : List ModuleId) (from : Beginning) → StandsOnWhole w finished from.start → NamesWhatIsThere finished (start_of tables w finished holders from)
+  begins tables w holders from stands =
       let start : Start = from.start in
       let krate : Crate = krate_of start in
-      let crate_data : CrateData = start_data (root_tree tables w from) (transitive_dependencies_in w krate) start in
+      let behind : List Crate = transitive_dependencies_in w krate in
+      let crate_data : CrateData = start_data finished (root_tree tables w from) behind start in
       let one : Map = root_map crate_data start in
-      let local : Local = extern_prelude crate_data [] (dependencies_in w krate) in
-      let names : HasNoDanglingReference (overlay finished one) one = root_names finished crate_data start stands.apart stands.behind in
-      let local_there : HasNoDanglingExtern (overlay finished one) local =
-      HasNoDanglingExtern-more finished (overlay finished one) (Extends-overlay finished one stands.apart) local (begins_there finished crate_data start whole [] refl (dependencies_in w krate) stands.direct) in
-      let prelude = prelude_of finished one local in
+      let local : Local = start_local finished crate_data (dependencies_in w krate) start in
+      let below : list_any (test_crate (is_missing finished)) crate_data.dependencies ≡ false =
+      subst (λ (crates : List Crate). list_any (test_crate (is_missing finished)) crates ≡ false) (sym (start_dependencies finished (root_tree tables w from) behind start)) stands.behind in
+      let names : HasNoDanglingReference (overlay finished one) one = root_names finished crate_data start stands.apart below stands.own_crate stands.held in
+      let one_there : HasNoDanglingExtern (overlay finished one) local =
+      HasNoDanglingExtern-more finished (overlay finished one) (Extends-overlay finished one stands.apart) local (local_there crate_data (dependencies_in w krate) stands.direct start) in
+      let prelude = own_prelude finished one local start in
       let two : Map = with_prelude one prelude in
       let macros : List (List ℕ × MacroId) = macros_beside finished one.id.krate prelude in
       let two_there : HasNoDanglingExtern (overlay finished two) local =
-      HasNoDanglingExtern-more (overlay finished one) (overlay finished two) (Extends-grown finished one two refl (λ k e. e) (λ e t. t)) local local_there in
+      HasNoDanglingExtern-more (overlay finished one) (overlay finished two) (Extends-grown finished one two refl (λ k e. e) (λ e t. t)) local one_there in
       record {
         apart = stands.apart;
-        names = NamesOnly-used finished two macros None (HasNoDanglingReference-prelude finished one prelude (prelude_there one local stands.apart names local_there) names);
+        names = NamesOnly-used finished two macros None (HasNoDanglingReference-prelude finished one prelude (own_prelude_there one local stands.apart names one_there start) names);
         begins = HasNoDanglingExtern-more (overlay finished two) (overlay finished (with_macros_used two macros None)) (Extends-used finished two macros None) local two_there;
         crates = refl;
         dependencies = stands.direct;
@@ -614,9 +667,9 @@ module _ (paths : PathsLeadToWhatIsThere) (finished : Maps) (whole : AreWellForm
       → HasNoDanglingReference (overlay finished answer.map) answer.map × HasNoDanglingExtern (overlay finished answer.map) answer.local
   ends_whole tables w all from answer same stands e =
       let env : Environment = environment tables w in
-      let first : NamesWhatIsThere finished (begin_of tables w all from) = subst (λ (x : Maps). NamesWhatIsThere finished (start_of tables w x from)) (sym same) (begins tables w from stands) in
+      let first : NamesWhatIsThere finished (begin_of tables w all from) = subst (λ (x : Maps). NamesWhatIsThere finished (start_of tables w x (holders_by all from.start) from)) (sym same) (begins tables w (holders_by all from.start) from stands) in
       let derived : Steps env finished (begin_of tables w all from) e.last = subst (λ (x : Maps). Steps env x (begin_of tables w all from) e.last) same e.derived in
-      let end : NamesWhatIsThere finished e.last = steps_keep paths finished whole env (begin_of tables w all from) e.last (in_range-start tables w (read_by w all from.start) from) first derived in
+      let end : NamesWhatIsThere finished e.last = steps_keep paths finished whole env (begin_of tables w all from) e.last (in_range-start tables w (read_by w all from.start) (holders_by all from.start) from) first derived in
       let m : Map = ended e.last.core in
       let reports : List DefDiagnostic = m.diagnostics ++ leftover_reports e.last.core in
       let reported : Map = record m { diagnostics = reports } in

@@ -1,12 +1,14 @@
 -- Each import and each call of a run is written in a tree that was asked for.
-use Rattle.std.proofs.Common.{◌≡◌, ◌∙◌, ◌<◌, ◌||◌, ◌+◌, ℕ, zero, suc, slice_get, List, [], ◌∷◌, ◌++◌, length, Bool, true, false, Option, None, Some, map as list_map, inl, inr, refl, sym, ap, subst, arith, append_assoc, Contains}
+use Rattle.std.proofs.Common.{◌≡◌, ◌∙◌, ◌<◌, ◌||◌, ◌+◌, ℕ, zero, suc, slice_get, List, [], ◌∷◌, ◌++◌, length, Bool, true, false, is_some, Option, None, Some, map as list_map, inl, inr, refl, sym, ap, subst, arith, append_assoc, Contains}
 use Rattle.std.proofs.lemmas.List.Elements.{Contains-append_cases, Contains-append_left, Contains-append_right}
 use Rattle.hir_base.specs.ModPath.{Path}
 use Rattle.hir_base.specs.declared.ast_id.AstId.{AstId}
 use Rattle.hir_base.specs.declared.ast_id.AttrId.{AttrId}
+use Rattle.hir_base.specs.declared.ast_id.BlockId.{BlockId}
 use Rattle.hir_base.specs.declared.ids.AdtId.{AdtId}
 use Rattle.hir_base.specs.declared.ids.Crate.{Crate}
 use Rattle.hir_base.specs.declared.ids.MapId.{MapId}
+use Rattle.hir_base.specs.declared.ids.ModuleId.{ModuleId}
 use Rattle.hir_base.specs.declared.ids.UseId.{UseId}
 use Rattle.hir_base.specs.declared.macro_kind.MacroId.{MacroId}
 use Rattle.hir_item_tree.specs.Collected.{Numbered, is_enabled}
@@ -50,7 +52,7 @@ use Rattle.hir_collector_rules.specs.Imports.{crate_import, crate_named, reached
 use Rattle.hir_collector_rules.specs.Keys.{environment, tree_at}
 use Rattle.hir_collector_rules.specs.Macros.{is_macro_use}
 use Rattle.hir_collector_rules.specs.ModuleFiles.{ModuleFile, Search, file_key, file_tree}
-use Rattle.hir_collector_rules.specs.Start.{Beginning, krate_of, root_key, root_site, root_tree, start_of, tree_visits}
+use Rattle.hir_collector_rules.specs.Start.{Beginning, is_declared, krate_of, root_key, root_site, root_tree, start_of, tree_visits}
 use Rattle.hir_collector_rules.specs.State.{State, Task, Visit, visits, closes, import_state, visits_over}
 use Rattle.hir_collector_rules.specs.Steps.{Rule, drops_item, awaits_attribute, lists_derives, faults_derive, exports_macro, reaches_call, rests, expands_call, drops_call, drops_reached, derives_builtin, skips_attribute, falls_back, defines_rules, defines_macro, closes_module, closing, declares_item, declares_enum, lists_constant, lists_impl, opens_module, opens_file, drops_file, misses_file, enters_block, reaches_imports, reaches_crate, resolves_imports, HasAttribute, IsItemOf, May, Opens, Sees, Step, Steps, acts, asking, derives_from, inside_block, inside_file, inside_module, keys_read, more, none, path_of, reads, search_readings, visits_in_file, visits_inside}
 use Rattle.hir_collector_rules.specs.Workspace.{TreeLook, Workspace, dependencies_in}
@@ -393,7 +395,7 @@ module _ (tables : TablesValue) (w : Workspace) (from : Beginning) (answer : Col
         subst (λ (id : MapId). Placed id (file_tree m.crate_data.edition file.id) i) f.id
         (record {
           key_asked = read key (found_read m.id.krate m.crate_data.edition search.absent search.found file may.found);
-          top = λ apart. subst (λ (t : Tree). is_enabled t.attributes ≡ true) (sym is) may.enabled;
+          top = λ whole apart. subst (λ (t : Tree). is_enabled t.attributes ≡ true) (sym is) may.enabled;
           within = subst (λ (t : Tree). IsIn i t.items) (sym is) h;
         })
 
@@ -407,7 +409,7 @@ module _ (tables : TablesValue) (w : Workspace) (from : Beginning) (answer : Col
         subst (λ (id : MapId). Placed id (call_tree x.id) i) f.id
         (record {
           key_asked = read (call_key krate x.id) (expansion_read krate d makro x);
-          top = λ apart. absurd (apart x.id refl);
+          top = λ whole apart. absurd (apart x.id refl);
           within = subst (λ (t : TreeLook). IsIn i t.tree.items) (sym is) h;
         })
 
@@ -538,13 +540,13 @@ module _ (tables : TablesValue) (w : Workspace) (from : Beginning) (answer : Col
 
   -- ---- where a run begins
 
-  pub written-start : (finished : Maps) → own.krate ≡ krate_of from.start → own ≡ (start_of tables w finished from).core.map.id
-      → (start_of tables w finished from).core.map.crate_data ≡ answer.map.crate_data → AreAsked (start_of tables w finished from) → IsAllWritten (start_of tables w finished from)
-  written-start finished here same same_crate asked = record {
+  pub written-start : (finished : Maps) (holders : List ModuleId) → own.krate ≡ krate_of from.start → own ≡ (start_of tables w finished holders from).core.map.id
+      → (start_of tables w finished holders from).core.map.crate_data ≡ answer.map.crate_data → AreAsked (start_of tables w finished holders from) → IsAllWritten (start_of tables w finished holders from)
+  written-start finished holders here same same_crate asked = record {
     id = sym same;
     crate_data = same_crate;
     dependencies = refl;
-    visits = go (is_enabled (root_tree tables w from).attributes) refl;
+    visits = go (is_declared from.tree (root_tree tables w from)) refl;
     imports = tt;
     calls = tt;
     globs = λ edge h. absurd (no_edge edge h);
@@ -553,11 +555,15 @@ module _ (tables : TablesValue) (w : Workspace) (from : Beginning) (answer : Col
       no_edge : (edge : Edge) → Contains [] edge → ⊥
       no_edge edge (n, below, is) = let past : n < 0 = below in omega arith
 
-      placed : is_enabled (root_tree tables w from).attributes ≡ true → (i : KeptItem) → IsIn i (root_tree tables w from).items → Placed own from.tree i
+      -- a file's tree is enabled at its top
+      file_enabled : is_declared from.tree (root_tree tables w from) ≡ true → from.tree.block ≡ None → is_enabled (root_tree tables w from).attributes ≡ true
+      file_enabled on whole = subst (λ (b : Option BlockId). (is_some b || is_enabled (root_tree tables w from).attributes) ≡ true) whole on
+
+      placed : is_declared from.tree (root_tree tables w from) ≡ true → (i : KeptItem) → IsIn i (root_tree tables w from).items → Placed own from.tree i
       placed on i h =
           subst (λ (k : Crate). IsWritten tables w answer.asked (record { krate = k; id = from.tree }) i) (sym here)
-          (record { key_asked = asked (root_key from.start from.tree) (0, omega arith, refl); top = λ apart. on; within = h })
+          (record { key_asked = asked (root_key from.start from.tree) (0, omega arith, refl); top = λ whole apart. file_enabled on whole; within = h })
 
-      go : (b : Bool) → is_enabled (root_tree tables w from).attributes ≡ b → ArePlaced (tree_visits (root_site from.tree) (root_tree tables w from))
+      go : (b : Bool) → is_declared from.tree (root_tree tables w from) ≡ b → ArePlaced (tree_visits (root_site from.tree) (root_tree tables w from))
       go true e = rw e (placed_visits (root_site from.tree) (root_tree tables w from).items (placed e))
       go false e = rw e tt

@@ -12,3 +12,4 @@ pub mod Diagnostics
 -- ---- what a run comes to
 pub mod Whole
 pub mod Sources
+pub mod BlockKeys

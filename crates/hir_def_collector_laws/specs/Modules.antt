@@ -21,7 +21,7 @@ use Rattle.hir_collector_rules.specs.Derivation.{CollectedValue, Ends}
 use Rattle.hir_collector_rules.specs.Items.{inline_origin}
 use Rattle.hir_collector_rules.specs.Keys.{tree_at}
 use Rattle.hir_collector_rules.specs.ModuleFiles.{Search, file_key, file_tree, module_file}
-use Rattle.hir_collector_rules.specs.Start.{Beginning, origin_of, read_by, root_site, root_tree}
+use Rattle.hir_collector_rules.specs.Start.{Beginning, is_declared, origin_of, read_by, root_site, root_tree}
 use Rattle.hir_collector_rules.specs.State.{Core}
 use Rattle.hir_collector_rules.specs.Steps.{path_of}
 use Rattle.hir_collector_rules.specs.Workspace.{Workspace}
@@ -30,19 +30,19 @@ use Rattle.hir_def_collector_laws.specs.Declares.{Declares, IsLookedFor, ListsFi
 use Rattle.hir_def_collector_laws.specs.Expansions.{Expansion, IsDone, IsExpansion, expanded_in}
 use Rattle.hir_def_collector_laws.specs.Written.{IsWritten, key_of}
 
--- the items of a tree; none where it is disabled at its top
-abbrev pub items_of : ItemTree → KeptForest
-items_of tree = if is_enabled tree.attributes then tree.items else no_items
+-- the items of a tree, if they are declared
+abbrev pub items_of : TreeId → ItemTree → KeptForest
+items_of id tree = if is_declared id tree then tree.items else no_items
 
 -- these are the items of a module
 pub data HasItems (tables : TablesValue) (w : Workspace) (finished : Maps) (from : Beginning) (answer : CollectedValue) (origin : ModuleOrigin) (s : Site) : KeptForest → Type 0 where
   -- those of the tree with which the run began, if it is the root
-  of_root : origin ≡ origin_of from.start → s ≡ root_site from.tree → HasItems tables w finished from answer origin s (items_of (root_tree tables w from))
+  of_root : origin ≡ origin_of from.start → s ≡ root_site from.tree → HasItems tables w finished from answer origin s (items_of from.tree (root_tree tables w from))
   -- those of its file, whose tree was asked for
   of_file : (is_mod_rs : Bool) (declaration : AstId) (declared_in : TreeId) (id : FileId)
       → origin ≡ origins.File is_mod_rs declaration declared_in (record { file_id = id; edition = answer.map.crate_data.edition }) → s.tree ≡ file_tree answer.map.crate_data.edition id
       → Contains answer.asked (Tree (file_key answer.map.id.krate answer.map.crate_data.edition id))
-      → HasItems tables w finished from answer origin s (items_of (tree_at tables w (file_key answer.map.id.krate answer.map.crate_data.edition id)).tree)
+      → HasItems tables w finished from answer origin s (items_of (file_tree answer.map.crate_data.edition id) (tree_at tables w (file_key answer.map.id.krate answer.map.crate_data.edition id)).tree)
   -- those inside the `mod name { .. }` that declares it
   inside_item : (head : Head) (name : List ℕ) (items : KeptForest) → origin ≡ inline_origin s.tree head.id → is_enabled head.attributes ≡ true
       → IsWritten tables w answer.asked (key_of answer s.tree) (holder head (inline_module name) items) → HasItems tables w finished from answer origin s items

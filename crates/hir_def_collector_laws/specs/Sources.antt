@@ -1,13 +1,17 @@
 -- Where is written what a run binds?
-use Rattle.std.specs.Prelude.{◌≡◌, false, List, Contains}
+use Rattle.std.specs.Prelude.{◌≡◌, false, List, Some, Contains, option_map}
 use Rattle.hir_base.specs.declared.ids.ModuleId.{ModuleId}
 use Rattle.hir_def_map_rules.specs.Closed.{ModuleIsThere}
 use Rattle.hir_def_map_rules.specs.WellFormed.{AreWellFormed}
 use Rattle.hir_def_map_rules.specs.Sources.{HoldsNowhere, HoldsNowhereIn, HoldsOfNoExtern, SourceTest}
-use Rattle.hir_def_map_rules.specs.State.{Map}
-use Rattle.hir_def_map_rules.specs.Overlay.{Maps, overlay}
+use Rattle.hir_def_map_rules.specs.State.{Map, crate_map}
+use Rattle.hir_def_map_rules.specs.Overlay.{Maps, Placed, overlay}
+use Rattle.hir_def_map_rules.specs.Scoping.Asking.{local_of}
+use Rattle.hir_item_tree.specs.declared.tree_id.TreeId.{TreeId}
 use Rattle.hir_item_tree.specs.declared.tree_id.TreeKey.{TreeKey}
 use Rattle.hir_tables.specs.Tables.{TablesValue}
+use Rattle.hir_collector_rules.specs.declared.start.Start.{Start}
+use Rattle.hir_collector_rules.specs.declared.start.Start.TheVariants as starts
 use Rattle.hir_collector_rules.specs.declared.source_database.Key.{Key}
 use Rattle.hir_collector_rules.specs.declared.source_database.Key.TheVariants.{Tree}
 use Rattle.hir_collector_rules.specs.Derivation.{CollectedValue, Ends}
@@ -21,9 +25,15 @@ pub record IsClearOf (t : SourceTest) (finished : Maps) (asked : List Key) (map 
   pub shown : (m : ModuleId) → ModuleIsThere (overlay finished map) m → t.shown m ≡ false
   pub read : HoldsNowhere t finished
 
+-- a block's run begins with the tree of the block, and the test holds of no `extern crate` that names a crate with which paths of the block's crate may begin
+abbrev pub BeginsClear : SourceTest → Maps → Start → TreeId → Type 0
+BeginsClear t finished (starts.Crate krate root) tree = Unit {0}
+BeginsClear t finished (starts.Block krate block holder at) tree =
+    (tree ≡ record { file = at.file_id; block = Some block }) × HoldsOfNoExtern t (local_of (option_map (λ (p : Placed). p.local) (finished (crate_map krate))))
+
 -- a run binds only what the sources write that it asked for, and what the finished maps bind, seen from modules that are there
 abbrev pub RunsBindFromSources : Type 0
 RunsBindFromSources = (t : SourceTest) (tables : TablesValue) (w : Workspace) (finished : Maps) (from : Beginning) (answer : CollectedValue)
-    → AreWellFormed (read_by w finished from.start) → StandsOnWhole w (read_by w finished from.start) from.start → Ends tables w finished from answer
-    → IsClearOf t (read_by w finished from.start) answer.asked answer.map
+    → AreWellFormed (read_by w finished from.start) → StandsOnWhole w (read_by w finished from.start) from.start
+    → BeginsClear t (read_by w finished from.start) from.start from.tree → Ends tables w finished from answer → IsClearOf t (read_by w finished from.start) answer.asked answer.map
     → HoldsNowhereIn t answer.map × HoldsOfNoExtern t answer.local

@@ -1,5 +1,5 @@
 -- Which items do the sources write that a run asked for?
-use Rattle.std.specs.Prelude.{◌≡◌, ◌≢◌, true, List, Contains}
+use Rattle.std.specs.Prelude.{◌≡◌, ◌≢◌, true, List, None, Contains}
 use Rattle.hir_base.specs.declared.ast_id.MacroCallId.{MacroCallId}
 use Rattle.hir_item_tree.specs.Collected.{is_enabled}
 use Rattle.hir_item_tree.specs.KeptForest.{Head, Holder, KeptItem, KeptForest, holder, item}
@@ -26,6 +26,6 @@ pub data IsIn (i : KeptItem) : KeptForest → Type 0 where
 -- an item of a tree that was asked for; what holds the item is enabled
 pub record IsWritten (tables : TablesValue) (w : Workspace) (asked : List Key) (key : TreeKey) (i : KeptItem) : Type 0 where
   pub key_asked : Contains asked (Tree key)
-  -- the tree isn't disabled at its top, unless it is what a call expands to
-  pub top : ((id : MacroCallId) → key.id ≢ call_tree id) → is_enabled (tree_at tables w key).tree.attributes ≡ true
+  -- the tree isn't disabled at its top, unless it is a block's or what a call expands to
+  pub top : key.id.block ≡ None → ((id : MacroCallId) → key.id ≢ call_tree id) → is_enabled (tree_at tables w key).tree.attributes ≡ true
   pub within : IsIn i (tree_at tables w key).tree.items

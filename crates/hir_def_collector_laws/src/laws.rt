@@ -1,6 +1,7 @@
 //! What holds of every run. The functions do nothing: their contracts are the laws.
 ghost use Rattle.hir_collector_rules.specs.Enums.{LastVariantPrevails};
 ghost use Rattle.hir_collector_rules.specs.Growth.{AnswersStand, AskedKeysHaveMeaning, LooksStand};
+ghost use Rattle.hir_def_collector_laws.specs.BlockKeys.{CratesAskForNoBlock};
 ghost use Rattle.hir_def_collector_laws.specs.Sources.{RunsBindFromSources};
 ghost use Rattle.hir_def_collector_laws.specs.Whole.{RunsNameWhatIsThere};
 
@@ -22,6 +23,14 @@ pub fn runs_name_what_is_there()
 /// are there.
 pub fn runs_bind_from_sources()
     ensures sources { RunsBindFromSources }
+{
+    paths_lead_to_what_is_there();
+    paths_answer_from_sources();
+}
+
+/// A crate's run asks for nothing of a block, where the maps beside it bind nothing that is written in one.
+pub fn crates_ask_for_no_block()
+    ensures none { CratesAskForNoBlock }
 {
     paths_lead_to_what_is_there();
     paths_answer_from_sources();

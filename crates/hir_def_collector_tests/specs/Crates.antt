@@ -11,11 +11,11 @@ use Rattle.hir_tables.specs.SourcePlaces.{SourcePlaceValue, file, block, expansi
 use Rattle.hir_collector_rules.specs.Workspace.{ConfigValue, config_view, transitive_by}
 use Rattle.hir_collector_rules.specs.declared.source_database.Config.{Config}
 
--- the source at a place, if it is that of a file that is there
-abbrev pub source_in : List (List ℕ × Source) → SourcePlaceValue → Option SourceValue
-source_in files (file path) = option_map source_view (lookup (is_at (slice_cmp nat_cmp path)) files)
-source_in files (block place) = None
-source_in files (expansion key) = None
+-- the source at a place, if it is that of a file that is there; each block has the same
+abbrev pub source_in : List (List ℕ × Source) → Option Source → SourcePlaceValue → Option SourceValue
+source_in files within (file path) = option_map source_view (lookup (is_at (slice_cmp nat_cmp path)) files)
+source_in files within (block place) = option_map source_view within
+source_in files within (expansion key) = None
 
 -- what a crate was handed in with
 abbrev pub config_in : List Config → Crate → Option ConfigValue

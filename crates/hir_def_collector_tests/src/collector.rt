@@ -6,13 +6,14 @@ ghost use Rattle.hir_def_collector_tests.specs.Crates.{AreTheirs, source_in};
 
 mod macros;
 
-use hir_base::ast_id::{EditionedFileId, FileId, HirFileId};
+use hir_base::ast_id::{BlockId, EditionedFileId, FileId, HirFileId, InFile, SyntaxId};
 use hir_base::cfg_options::CfgOptions;
 use hir_base::edition::Edition;
 use hir_base::file_path::FilePath;
-use hir_base::ids::{Crate, ItemContainerId, MapId, ModuleDefId};
+use hir_base::ids::{AdtId, Crate, ItemContainerId, MapId, ModuleDefId, ModuleId};
 use hir_base::macro_kind::ExpansionKey;
 use hir_base::name::Name;
+use hir_base::place::{BlockPlace, Place};
 use hir_crate_graph::crate_set::CrateSet;
 use hir_crate_graph::transitive::TransitiveDependencies;
 use hir_def_collector::collector::collected::Collected;
@@ -34,13 +35,14 @@ use std::process::Abort;
 use std::rc::Rc;
 use std::test::Fail;
 
-/// Crates by number, what each was handed in with, the files by path, and which sources a run has read.
+/// Crates by number, what each was handed in with, the files by path, and the source of each block.
 #[derive(Drop)]
 struct Crates {
     crates: Vec<CrateRoot>,
     configs: Vec<Config>,
     transitive: TransitiveDependencies,
     files: BTreeMap<FilePath, Source>,
+    within: Option<Source>,
     ghost depends: { AreTheirs configs.items transitive },
 }
 
@@ -53,7 +55,7 @@ impl SourceDatabase for Crates {
     ghost workspace = { λ d. record {
       crates = d.crates.items;
       config = config_in d.configs.items;
-      tree = λ krate source. source_tree_of (λ _. false) no_attributes (source_in d.files.entries source);
+      tree = λ krate source. source_tree_of (λ _. false) no_attributes (source_in d.files.entries d.within source);
       entry = λ key. record { present = false; error = None; inner = [] };
     } };
 
@@ -77,12 +79,12 @@ impl SourceDatabase for Crates {
     ) -> Result<Rc<SourceTree>, AllocError> {
         let front = Vec::new(alloc);
         let options = CfgOptions::new(alloc);
-        let tree = SourceTree::new(alloc, file_at(&self.files, source), &front, &options)?;
+        let tree = SourceTree::new(alloc, self.source_at(source), &front, &options)?;
         Ok(Rc::new(alloc, tree)?)
     }
 
     fn present(&self, _krate: Crate, source: SourcePlace<'_>) -> bool {
-        file_at(&self.files, source).is_some()
+        self.source_at(source).is_some()
     }
 
     fn expansion(&self, _key: &ExpansionKey) -> ExpansionLook<'_> {
@@ -94,13 +96,16 @@ impl SourceDatabase for Crates {
     }
 }
 
-/// The source at a place, if it is that of a file that is there.
-fn file_at<'a>(files: &'a BTreeMap<FilePath, Source>, source: SourcePlace<'_>) -> Option<&'a Source>
-    ensures value { option_map (λ s. source_view s.now) result ≡ source_in files.now.entries (source_value source.entry) }
-{
-    match source {
-        SourcePlace::File(path) => files.get(path),
-        SourcePlace::Block(_) | SourcePlace::Expansion(_) => None,
+impl Crates {
+    /// The source at a place, if it is that of a file that is there or of a block.
+    fn source_at(&self, source: SourcePlace<'_>) -> Option<&Source>
+        ensures value { option_map (λ s. source_view s.now) result ≡ source_in self.now.files.entries self.now.within (source_value source.entry) }
+    {
+        match source {
+            SourcePlace::File(path) => self.files.get(path),
+            SourcePlace::Block(_) => self.within.as_ref(),
+            SourcePlace::Expansion(_) => None,
+        }
     }
 }
 
@@ -283,6 +288,7 @@ fn crates_over(
         configs,
         transitive,
         files,
+        within: None,
     })
 }
 
@@ -700,4 +706,98 @@ fn traits_without_a_name(rt: HostRuntime) -> Result<(), Fail> {
         dumps(&rt, rt.alloc(), row)?;
     }
     Ok(())
+}
+
+/// `pub struct S; pub mod m { pub struct T; }`
+const HOLDER: &str = r#"{"do":"set file","file":"a.rs","unit":{"nodes":[
+{"kind":"Struct","id":[1,0],"name":"S","shape":"unit","vis":"pub"},
+{"kind":"Module","id":[2,0],"name":"m","vis":"pub","nodes":[
+    {"kind":"Struct","id":[3,0],"name":"T","shape":"unit","vis":"pub"}]}]}}"#;
+
+/// In a block of the root: `struct S; use S as Own; use m::T; use nope::X; mod file;`
+const IN_BLOCK: &str =
+    r#"{"do":"set file","file":"a.rs","unit":{"attrs":[{"path":"cfg","cfg":false}],"nodes":[
+{"kind":"Struct","id":[1,0],"name":"S","shape":"unit"},
+{"kind":"Use","id":[2,0],"tree":{"single":"S","as":"Own"}},
+{"kind":"Use","id":[3,0],"tree":{"single":"m::T"}},
+{"kind":"Use","id":[4,0],"tree":{"single":"nope::X"}},
+{"kind":"Module","id":[5,0],"name":"file"}]}}"#;
+
+const AT: SyntaxId = SyntaxId { hash: 9, index: 0 };
+
+/// The root of crate 0.
+fn holder() -> ModuleId {
+    ModuleId {
+        map: MapId::of_crate(Crate(0)),
+        index: 0,
+    }
+}
+
+/// A block of the root of crate 0.
+fn within(block: BlockId) -> Start {
+    Start::Block {
+        krate: Crate(0),
+        block,
+        holder: holder(),
+        at: InFile {
+            file_id: HirFileId::File(root(0)),
+            value: AT,
+        },
+    }
+}
+
+/// What a block of the root of crate 0 comes to beside the maps of a world.
+fn block_collected(alloc: Global, db: &mut Crates, world: &World) -> Result<Collected, Fail> {
+    let mut tables = files_of_both(alloc)?;
+    let block = tables.intern_block(BlockPlace {
+        holder: Place::new(Crate(0), Vec::new(alloc)),
+        id: AT,
+    })?;
+    let tree = TreeId::new(HirFileId::File(root(0)), Some(block));
+    Ok(collect_defs(alloc, db, world, &mut tables, within(block), tree, None)?)
+}
+
+fn in_block(alloc: Global) -> Result<Collected, Fail> {
+    let mut db = one_crate(alloc, &[("a.rs", HOLDER), ("file.rs", STRUCT)])?;
+    let world = lower_world(alloc, &mut db)?;
+    db.within = Some(source(alloc, IN_BLOCK)?);
+    block_collected(alloc, &mut db, &world)
+}
+
+/// The map in which a struct stands that a name stands for.
+fn map_of(alloc: Global, map: &DefMap, name: &str) -> Result<MapId, Fail> {
+    match entry(alloc, map, name)?.types.ok_or("a type")?.def {
+        ModuleDefId::AdtId(AdtId::StructId(id)) => Ok(id.loc.container.map),
+        _ => Err("a struct")?,
+    }
+}
+
+/// A block's own names come before those of the module that holds it, which are there too; a block is declared though
+/// disabled at its top, and the files of its modules are looked for beside the file in which it is written.
+fn names_in_block(rt: &impl Abort, alloc: Global, found: &Collected) -> Result<(), Fail> {
+    let own = found.map.id();
+    assert!(rt; own.block.is_some());
+    assert!(rt; map_of(alloc, &found.map, "Own")? == own);
+    assert!(rt; map_of(alloc, &found.map, "T")? == MapId::of_crate(Crate(0)));
+    assert_eq!(rt; found.leftover.len(), 1);
+    assert_eq!(rt; found.map.module_count(), 2);
+    Ok(())
+}
+
+/// It asks for its tree, for the maps of its crate and of what holds it, and for the file of its module.
+fn keys_of_block(rt: &impl Abort, found: &Collected) -> Result<(), Fail> {
+    let keys = found.asked.own();
+    assert_eq!(rt; keys.len(), 4);
+    assert!(rt; matches!(keys[0], Key::Tree(_)));
+    assert!(rt; keys[1] == Key::Map(MapId::of_crate(Crate(0))));
+    assert!(rt; keys[2] == Key::Map(MapId::of_crate(Crate(0))));
+    Ok(())
+}
+
+/// A run of a block beside its crate's map.
+#[test]
+fn block_beside_its_crate(rt: HostRuntime) -> Result<(), Fail> {
+    let found = in_block(rt.alloc())?;
+    names_in_block(&rt, rt.alloc(), &found)?;
+    keys_of_block(&rt, &found)
 }

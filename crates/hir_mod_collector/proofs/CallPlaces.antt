@@ -7,14 +7,13 @@ use Rattle.hir_collector_rules.specs.Calls.{AreCallsPlaced}
 use Rattle.hir_collector_rules.specs.Keys.{node_tree}
 use Rattle.hir_mod_collector.proofs.Rootless.{root_there}
 
-pub placed_grown : (tables grown : TablesValue) → KeepsTables tables grown → grown.calls ≡ tables.calls → grown.blocks ≡ tables.blocks → AreCallsPlaced tables → AreCallsPlaced grown
-placed_grown tables grown kept calls blocks placed = record {
+pub placed_grown : (tables grown : TablesValue) → KeepsTables tables grown → grown.calls ≡ tables.calls → AreCallsPlaced tables → AreCallsPlaced grown
+placed_grown tables grown kept calls placed = record {
   calls = λ n loc e.
       let at = placed.calls n loc (ap (λ (cs : List MacroCallLoc). slice_get cs n) (sym calls) ∙ e) in
       record { source = root_there tables grown (node_tree (call_node loc.kind)) kept at.source; earlier = at.earlier };
-  blocks = blocks ∙ placed.blocks;
 }
 
 -- so where a file gets a number
 pub placed_file : (tables grown : TablesValue) → KeepsTables tables grown → grown ≡ record tables { files = grown.files } → AreCallsPlaced tables → AreCallsPlaced grown
-placed_file tables grown kept others placed = placed_grown tables grown kept (ap (λ (t : TablesValue). t.calls) others) (ap (λ (t : TablesValue). t.blocks) others) placed
+placed_file tables grown kept others placed = placed_grown tables grown kept (ap (λ (t : TablesValue). t.calls) others) placed

@@ -1,5 +1,5 @@
 -- The file of a module is looked for, one candidate after another.
-use Rattle.std.proofs.Common.{◌≡◌, ◌∙◌, ◌+◌, ◌*◌, ◌-◌, ◌<◌, ◌≤◌, ℕ, true, false, List, [], ◌∷◌, ◌++◌, length, take, drop, get_or, min, Option, Some, None, refl, sym, ap, subst, arith}
+use Rattle.std.proofs.Common.{◌≡◌, ◌∙◌, ◌+◌, ◌*◌, ◌-◌, ◌<◌, ◌≤◌, ℕ, suc, true, false, List, [], ◌∷◌, ◌++◌, length, take, drop, get_or, min, Option, Some, None, refl, sym, ap, subst, arith}
 use Rattle.std.proofs.lemmas.List.{take_all}
 use Rattle.std.specs.Prelude.{option_map}
 use Rattle.std.specs.Option.{option_map_or, option_to_list}
@@ -15,13 +15,14 @@ use Rattle.hir_def_map_rules.specs.State.{Map}
 use Rattle.hir_def_map_rules.specs.Overlay.{Maps}
 use Rattle.hir_collector_rules.specs.Workspace.{Workspace, seen_of}
 use Rattle.hir_collector_rules.specs.Keys.{environment, of_tree, source_in, source_under}
-use Rattle.hir_collector_rules.specs.ModuleFiles.{AreTried, IsNumberOf, LookedAt, ModuleFile, Tried, file_key, file_reading, file_readings, file_tree, named_by, taken_by}
+use Rattle.hir_collector_rules.specs.ModuleFiles.{AreTried, IsNumberOf, IsTriedFile, LookedAt, ModuleFile, Tried, file_key, file_reading, file_readings, file_tree, named_by, taken_by}
 use Rattle.hir_collector_rules.specs.State.{Core}
 use Rattle.hir_collector_rules.specs.Steps.{Sees, keys_read, with_keys}
 use Rattle.hir_mod_collector.specs.declared.mod_resolution.LookedFile.{LookedFile}
 use Rattle.hir_collector_rules.specs.Moves.{Finds, IsHeld, LooksAt, OnceGrown}
 use Rattle.hir_mod_collector.specs.Walking.{looked_view}
-use Rattle.hir_collector_rules.proofs.ModuleFiles.{number_kept}
+use Rattle.hir_collector_rules.proofs.ModuleFiles.{absent_there, none_there_behind, number_kept}
+use Rattle.hir_collector_rules.proofs.Numbers.{tables_stay}
 use Rattle.hir_mod_collector.proofs.Outline.{held_grown, held_source}
 
 -- what a file that has a number has is held
@@ -123,6 +124,39 @@ finds_later tables later w declaring c cs old mid new f found kept looks gone fi
         → new ≡ record old { asked = with_keys old.asked (keys_read (file_reading old.map.id.krate old.map.crate_data.edition g ++ file_readings old.map.id.krate old.map.crate_data.edition rest)) }
     all_asked None e = finds.asked ∙ ap (λ (x : Core). record x { asked = with_keys x.asked (keys_read (file_readings x.map.id.krate x.map.crate_data.edition rest)) }) e
     all_asked (Some g) e = finds.asked ∙ ap (λ (x : Core). record x { asked = with_keys x.asked (keys_read (file_readings x.map.id.krate x.map.crate_data.edition rest)) }) e
+
+-- ---- what can't get a number
+
+-- the file of the first candidate is tried
+pub tried_first : (w : Workspace) (krate : Crate) (declaring : Option (List ℕ)) (c : Candidate) (cs : List Candidate) (path : List ℕ)
+    → named_by declaring c ≡ Some path → IsTriedFile w krate declaring (c ∷ cs) path
+tried_first w krate declaring c cs path names = record {
+  place = 0;
+  candidate = c;
+  is_candidate = refl;
+  names = names;
+  earlier = λ m d below at. absurd (omega arith);
+}
+
+-- that of a later one is, where the first isn't there
+pub tried_later : (tables : TablesValue) (w : Workspace) (declaring : Option (List ℕ)) (c : Candidate) (cs : List Candidate) (old mid : Core)
+    (f : Option LookedAt) (path : List ℕ) → LooksAt tables w declaring c old mid f → option_map_or (λ (g : LookedAt). g.there.present) f false ≡ false
+    → IsTriedFile w mid.map.id.krate declaring cs path → IsTriedFile w old.map.id.krate declaring (c ∷ cs) path
+tried_later tables w declaring c cs old mid f path looks gone tried = record {
+  place = suc later.place;
+  candidate = later.candidate;
+  is_candidate = later.is_candidate;
+  names = later.names;
+  earlier = none_there_behind w old.map.id.krate declaring c cs later.place absent later.earlier;
+}
+  where
+    later : IsTriedFile w old.map.id.krate declaring cs path
+    later = subst (λ (x : Core). IsTriedFile w x.map.id.krate declaring cs path) looks.asked tried
+
+    absent : option_map_or (λ path. (w.tree old.map.id.krate (file path)).present) (named_by declaring c) false ≡ false
+    absent =
+        absent_there tables w (λ id. None) old.map.id.krate old.map.crate_data.edition declaring (record { candidate = c; file = f }) gone looks.numbered
+        (looks.sees tables (tables_stay tables) (λ id. None))
 
 -- ---- how deep it goes
 

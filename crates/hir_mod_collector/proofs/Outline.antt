@@ -3,7 +3,6 @@ use Rattle.std.proofs.lemmas.Bool.{ltb-true}
 use Rattle.std.proofs.Common.{◌≡◌, ◌∙◌, ℕ, ◌+◌, ◌<◌, ◌≤◌, ◌||◌, nat_lt, if◌then◌else◌, codes, Bool, true, false, List, [], ◌∷◌, ◌++◌, map as list_map, length, Option, Some, None, inl, refl, sym, ap, subst, arith}
 use Rattle.std.specs.Prelude.{IsSome, option_map}
 use Rattle.std.specs.Option.{option_to_list}
-use Rattle.hir_base.specs.Locations.{max_locations}
 use Rattle.hir_base.specs.declared.ids.Crate.{Crate}
 use Rattle.hir_item_tree.specs.Collected.{is_enabled}
 use Rattle.hir_item_tree.specs.ItemTree.{Tree}
@@ -14,13 +13,10 @@ use Rattle.hir_mod_dir.specs.Directory.{Directory}
 use Rattle.hir_mod_dir.specs.ModuleFiles.{candidate, candidates_of, child, file_directory, inline_directory, inline_path, is_mod_rs}
 use Rattle.hir_mod_dir.specs.PathText.{joined as joined_path}
 use Rattle.hir_mod_dir.specs.declared.candidate.Candidate.{Candidate}
-use Rattle.hir_base.specs.declared.ast_id.BlockId.{BlockId}
 use Rattle.hir_base.specs.declared.ast_id.FileId.{FileId}
-use Rattle.hir_base.specs.declared.ast_id.HirFileId.{HirFileId}
-use Rattle.hir_base.specs.declared.ast_id.HirFileId.TheVariants as files
 use Rattle.hir_base.specs.declared.edition.Edition.{Edition}
 use Rattle.hir_tables.specs.SourcePlaces.{SourcePlaceValue, file as file_place}
-use Rattle.hir_tables.specs.Tables.{KeepsTables, TablesValue, file_at, source_of, source_under as place_under}
+use Rattle.hir_tables.specs.Tables.{KeepsTables, TablesValue, file_at, source_of}
 use Rattle.hir_tables.proofs.Growth.{source_of-kept}
 use Rattle.hir_def_map_rules.specs.State.{Map}
 use Rattle.hir_def_map_rules.specs.Overlay.{Maps}
@@ -32,11 +28,12 @@ use Rattle.hir_def_map_rules.specs.declared.origin.ModuleOrigin.{ModuleOrigin}
 use Rattle.hir_collector_rules.specs.Items.{file_origin, inline_origin, own_visibility}
 use Rattle.hir_collector_rules.specs.ItemIds.{module_id, node_of}
 use Rattle.hir_base.specs.declared.ast_id.AstKind.TheVariants as nodes
-use Rattle.hir_collector_rules.specs.ModuleFiles.{AreTried, IsFileMeant, IsNumberOf, IsNumbered, IsSearch, ModuleFile, Search, Tried, file_of_tree, file_tree, module_file, own_file}
+use Rattle.hir_collector_rules.specs.ModuleFiles.{AreTried, IsFileMeant, IsNumberOf, IsNumbered, IsSearch, ModuleFile, Search, Tried, file_tree, module_file, IsTriedFile, file_of_tree, own_file}
 use Rattle.hir_collector_rules.specs.Macros.{is_macro_use}
 use Rattle.hir_collector_rules.specs.Reports.{IsUnresolvedModule}
 use Rattle.hir_collector_rules.specs.State.{Core, Task, Visit, visits, joined, visits_over}
 use Rattle.hir_collector_rules.specs.Steps.{LooksFor, none, behind, closing, drops_file, inside_file, keys_read, misses_file, module_declaration, opens_file, opens_module, path_of, search_readings, visit, visits_in_file, visits_inside, with_keys}
+use Rattle.hir_collector_rules.specs.NumberedOut.{IsNumberedOut, LacksFile, lacks_file}
 use Rattle.hir_collector_rules.specs.Derivation.{IsFull, IsSpent, counted_out, numbered_out}
 use Rattle.hir_mod_collector.specs.declared.mod_collector.Inside.{Inside}
 use Rattle.hir_mod_collector.specs.declared.mod_collector.Inside.TheVariants.{Nothing, Held, File}
@@ -45,8 +42,8 @@ use Rattle.hir_collector_rules.specs.Moves.{DropsFile, Finds, Handles, HandlesTo
 use Rattle.hir_mod_collector.specs.Walking.{GoesInside, TakesFile, tasks_of}
 use Rattle.hir_collector_state.proofs.Made.{Goes, goes, made, missed_after, opened_after}
 use Rattle.hir_collector_rules.proofs.Grows.{longer_by_module}
-use Rattle.hir_collector_rules.proofs.Lists.{get_inside, get_there}
 use Rattle.hir_collector_rules.proofs.ModuleFiles.{found_at, numbers_kept}
+use Rattle.hir_collector_rules.proofs.Numbers.{still_out}
 
 -- ---- what is held stays held
 
@@ -75,17 +72,9 @@ file_there : (o : Option (List ℕ)) (place : SourcePlaceValue) → option_map f
 file_there None place e = absurd (let no : ⊥ = cc in no)
 file_there (Some path) place e = refl
 
--- so does that of the file that a tree is of, if its source is held
-pub root_meant : (tables : TablesValue) (w : Workspace) (krate : Crate) (tree : TreeId) (source : SourceTreeValue) → IsHeld tables w krate tree source → IsFileMeant tables (file_of_tree tree)
-root_meant tables w krate tree source held = go tree.file tree.block held.at
-  where
-    go : (file : HirFileId) (block : Option BlockId) → place_under tables file block ≡ Some held.place → IsFileMeant tables (own_file file block)
-    go (files.File f) None e = λ id same. subst (λ (n : FileId). IsSome (file_at tables n)) (same_file f.file_id id same) (file_there (file_at tables f.file_id) held.place e)
-    go (files.File f) (Some block) e = λ id same. absurd (let no : ⊥ = cc in no)
-    go (files.Macro call) block e = λ id same. absurd (let no : ⊥ = cc in no)
-
+-- so does that of a file whose source is held
 pub file_meant : (tables : TablesValue) (w : Workspace) (krate : Crate) (edition : Edition) (id : FileId) (source : SourceTreeValue) → IsHeld tables w krate (file_tree edition id) source → IsFileMeant tables (Some id)
-file_meant tables w krate edition id source held = root_meant tables w krate (file_tree edition id) source held
+file_meant tables w krate edition id source held = λ other same. subst (λ (n : FileId). IsSome (file_at tables n)) (same_file id other same) (file_there (file_at tables id) held.place held.at)
 
 -- the numbers of a site mean something, so do those of another one in the same source
 pub meant_inside : (tables : TablesValue) (site inner : Site) → inner.tree ≡ site.tree → inner.file ≡ site.file → IsMeantAt tables site → IsMeantAt tables inner
@@ -185,15 +174,26 @@ module _ (tables : TablesValue) (w : Workspace) (finished : Maps) (site : Site) 
         (finds.sees grown kept finished) (numbered finds grown kept));
   }
 
--- there are as many files as have numbers
-pub numbers_far : (tables : TablesValue) (w : Workspace) (finished : Maps) (old : Core) (v : Visit) → max_locations ≤ length tables.files → OnceGrown tables w (λ env. HandlesTooFar env finished old v)
-numbers_far tables w finished old v full = λ grown kept. record { spent = λ done passed rest. record { at = joined old (visits (behind v done) ∷ rest); steps = none; stuck = numbered_out (inl (more_files grown kept)) } }
-  where
-    more_files : (grown : TablesValue) → KeepsTables tables grown → max_locations ≤ length grown.files
-    more_files grown kept =
-        let last = get_there tables.files 2147483646 (omega arith) in
-        let inside : 2147483646 < length grown.files = get_inside grown.files 2147483646 last.0 (kept.files 2147483646 last.0 last.1) in
-        omega arith
+  -- the file of a candidate can't get a number
+  pub numbers_far : (path : List ℕ) → IsTriedFile w old.map.id.krate declaring candidates path → IsNumberedOut tables.files path
+      → OnceGrown tables w (λ env. HandlesTooFar env finished old next)
+  numbers_far path is out = λ grown kept. record {
+    spent = λ done passed rest.
+        let lacks : LacksFile (environment grown w) (joined old (visits (behind next done) ∷ rest)) =
+        record {
+          site = site;
+          head = head;
+          name = name;
+          rest = rest;
+          here = record { done = done; next = refl; enabled = enabled; passed = passed };
+          declaring = declaring;
+          written = written grown kept;
+          path = path;
+          tried = subst (λ (cs : List Candidate). IsTriedFile w old.map.id.krate declaring cs path) tried is;
+          out = still_out tables.files grown.files path kept.files out;
+        } in
+        record { at = joined old (visits (behind next done) ∷ rest); steps = none; stuck = numbered_out (lacks_file lacks) };
+  }
 
 -- ---- a file that is found is one deeper
 

@@ -27,7 +27,7 @@ use Rattle.hir_collector_rules.specs.Attributes.{adt_of}
 use Rattle.hir_collector_rules.specs.declared.site.Site.{Site}
 use Rattle.hir_collector_rules.specs.Keys.{Environment, absent_source}
 use Rattle.hir_collector_rules.specs.State.{Task, Visit, visits, Core, at_rest, joined, visits_over, counted}
-use Rattle.hir_collector_rules.specs.Start.{tree_visits}
+use Rattle.hir_collector_rules.specs.Start.{is_declared, tree_visits}
 use Rattle.hir_collector_rules.specs.Steps.{Steps, behind, none, drops_item, visit}
 use Rattle.hir_collector_rules.specs.TreeReads.{visits_at, visits_behind, visits_found as one_found, above}
 use Rattle.hir_collector_rules.specs.Reports.{IsUnconfigured}
@@ -428,19 +428,19 @@ module _ (site : Site) (tree : Tree) (n done : ℕ) (h : Head) (item : ModItemKi
 
 -- ---- the start
 
-disabled_visits : (site : Site) (tree : Tree) → is_enabled tree.attributes ≡ false → tree_visits site tree ≡ []
+disabled_visits : (site : Site) (tree : Tree) → is_declared site.tree tree ≡ false → tree_visits site tree ≡ []
 disabled_visits site tree e = rw e refl
 
-enabled_visits : (site : Site) (tree : Tree) → is_enabled tree.attributes ≡ true → tree_visits site tree ≡ visits_over site tree.items
+enabled_visits : (site : Site) (tree : Tree) → is_declared site.tree tree ≡ true → tree_visits site tree ≡ visits_over site tree.items
 enabled_visits site tree e = rw e refl
 
 module _ (env : Environment) (finished : Maps) (site : Site) (tree : Tree) (old : Core) where
-  -- of a tree that is disabled at its top nothing is visited
-  pub walks_disabled : is_enabled tree.attributes ≡ false → Steps env finished (joined old (tree_visits site tree)) (at_rest old)
+  -- of a tree whose items aren't declared nothing is visited
+  pub walks_disabled : is_declared site.tree tree ≡ false → Steps env finished (joined old (tree_visits site tree)) (at_rest old)
   walks_disabled disabled = subst (λ (vs : List Task). Steps env finished (joined old vs) (at_rest old)) (sym (disabled_visits site tree disabled)) none
 
   -- of another its items are
-  module _ (ids : List ModItemId) (enabled : is_enabled tree.attributes ≡ true) (all : items_at (all_items tree.items) (numbers_of ids) ≡ tree.items) where
+  module _ (ids : List ModItemId) (enabled : is_declared site.tree tree ≡ true) (all : items_at (all_items tree.items) (numbers_of ids) ≡ tree.items) where
     present_visits : visits_at tree site (numbers_of ids) ++ [] ≡ tree_visits site tree
     present_visits = append-nil (visits_at tree site (numbers_of ids)) ∙ ap (visits_over site) all ∙ sym (enabled_visits site tree enabled)
 

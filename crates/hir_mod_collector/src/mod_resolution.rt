@@ -1,13 +1,13 @@
 //! The files of outline modules.
-ghost use Rattle.std.specs.Prelude.{◌≡◌, ◌≤◌, length, false, map, option_map, IfOk, IfSome, OnOk};
+ghost use Rattle.std.specs.Prelude.{◌≡◌, ℕ, List, Some, false, map, option_map, IfOk, IfSome, OnOk};
 ghost use Rattle.std.specs.Option.{option_map_or};
-ghost use Rattle.hir_base.specs.Locations.{max_locations};
 ghost use Rattle.hir_item_tree.specs.Collected.{numbered};
 ghost use Rattle.hir_tables.specs.Tables.{KeepsTables, TablesValue};
 ghost use Rattle.hir_collector_rules.specs.State.{core_in};
 ghost use Rattle.hir_collector_rules.specs.Calls.{AreCallsPlaced};
-ghost use Rattle.hir_collector_rules.specs.ModuleFiles.{IsFileMeant, IsNumberOf, file_of_tree, file_tree, named_by, path_attribute, path_in, taken_by};
+ghost use Rattle.hir_collector_rules.specs.ModuleFiles.{IsFileMeant, IsNumberOf, IsTriedFile, file_of_tree, file_tree, named_by, path_attribute, path_in, taken_by};
 ghost use Rattle.hir_collector_rules.specs.Moves.{Finds, IsHeld, LooksAt};
+ghost use Rattle.hir_collector_rules.specs.NumberedOut.{IsNumberedOut};
 ghost use Rattle.hir_mod_collector.specs.Walking.{found_view, looked_view};
 ghost use Rattle.hir_collector_rules.specs.Waiting.{IsNoted};
 
@@ -83,16 +83,13 @@ pub fn path_of(locations: &Tables, file: Option<FileId>) -> Result<Option<FilePa
     }
 }
 
-/// The file that a tree is of, if it is one's.
+/// The file that a tree is of, or in which its block is written, if there is one.
 pub fn file_of_tree(tree: TreeId) -> Option<FileId>
     ensures value { result ≡ file_of_tree tree }
 {
-    match tree {
-        TreeId {
-            file: HirFileId::File(file),
-            block: None,
-        } => Some(file.file_id),
-        TreeId { .. } => None,
+    match tree.file {
+        HirFileId::File(file) => Some(file.file_id),
+        HirFileId::Macro(_) => None,
     }
 }
 
@@ -124,7 +121,7 @@ fn look_at<D: SourceDatabase>(
     ensures ok { IfOk result (λ file. LooksAt locations.new (D.workspace db.old) (option_map (λ p. p.now) declaring.entry) candidate.now (core_in run.old) (core_in run.new) (option_map looked_view file)) }
     ensures noted { OnOk result (IsNoted run.old run.new) }
     ensures held { IfOk result (λ file. IfSome file (λ f. IsHeld locations.new (D.workspace db.old) (core_in run.old).map.id.krate (file_tree (core_in run.old).map.crate_data.edition f.id) f.source.value)) }
-    ensures many { result ≡ Err CollectError.TooMany → max_locations ≤ length locations.new.files }
+    ensures many { result ≡ Err CollectError.TooMany → (path : List ℕ) × (named_by (option_map (λ p. p.now) declaring.entry) candidate.now ≡ Some path) × IsNumberedOut locations.new.files path }
 {
     let Some(path) = named_by(run.allocator(), declaring, candidate)? else {
         return Ok(None);
@@ -179,7 +176,8 @@ pub fn find_file<D: SourceDatabase>(
     ensures ok { IfOk result (λ file. Finds locations.new (D.workspace db.old) (option_map (λ p. p.now) declaring.entry) candidates.now (core_in run.old) (core_in run.new) (option_map found_view file)) }
     ensures noted { OnOk result (IsNoted run.old run.new) }
     ensures held { IfOk result (λ file. IfSome file (λ f. IsHeld locations.new (D.workspace db.old) (core_in run.old).map.id.krate (file_tree (core_in run.old).map.crate_data.edition f.id) f.source.value)) }
-    ensures many { result ≡ Err CollectError.TooMany → max_locations ≤ length locations.new.files }
+    ensures many { result ≡ Err CollectError.TooMany → (path : List ℕ) × IsTriedFile (D.workspace db.old) (core_in run.old).map.id.krate (option_map (λ p. p.now) declaring.entry) candidates.now path
+        × IsNumberedOut locations.new.files path }
 {
     let [candidate, others @ ..] = candidates else {
         return Ok(None);

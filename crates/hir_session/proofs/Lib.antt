@@ -1,3 +1,4 @@
 pub mod EditLaws
+pub mod SparedCrates
 pub mod RunLemmas
 pub mod FateLemmas

@@ -1,25 +1,29 @@
 -- What holds of all that a session does?
-use Rattle.std.specs.Prelude.{◌≡◌, ◌≢◌, ℕ, true, List, Option, Some, None, Contains}
+use Rattle.std.specs.Prelude.{◌≡◌, ◌≢◌, ℕ, Bool, true, false, List, Option, Some, None, Contains}
 use Rattle.hir_base.specs.ModPath.{Path}
 use Rattle.hir_base.specs.Place.{PlaceValue}
 use Rattle.hir_base.specs.declared.ast_id.EntryId.{EntryId}
 use Rattle.hir_base.specs.declared.ids.MapId.{MapId}
+use Rattle.hir_base.specs.declared.place.BlockPlace.{BlockPlace}
 use Rattle.hir_item_tree.specs.BodyTexts.{source_without_bodies}
 use Rattle.hir_item_tree.specs.Source.{SourceValue}
 use Rattle.hir_item_tree.specs.declared.tree_id.TreeKey.{TreeKey}
-use Rattle.hir_tables.specs.SourcePlaces.{ExpansionValue, SourcePlaceValue, file}
+use Rattle.hir_tables.specs.SourcePlaces.{ExpansionValue, SourcePlaceValue, block, file}
 use Rattle.hir_tables.specs.Tables as numbers
 use Rattle.hir_tables.specs.Tables.{source_of}
 use Rattle.hir_collector_rules.specs.declared.source_database.Key.{Key}
 use Rattle.hir_collector_rules.specs.declared.source_database.Key.TheVariants.{Tree, Expansion}
-use Rattle.hir_wire.specs.Edits.{EditValue, EntryValue, set_file, remove_file, set_expansion, remove_expansion}
+use Rattle.hir_wire.specs.Edits.{EditValue, EntryValue, set_file, remove_file, set_block, remove_block, set_expansion, remove_expansion}
 use Rattle.hir_wire.specs.declared.command.Shadow.{Shadow}
 use Rattle.hir_wire.specs.declared.command.MacroStyle.{MacroStyle}
 use Rattle.hir_session_answers.specs.Answers.{answer_of}
+use Rattle.hir_session_state.specs.Blocks.{block_in, place_of_block}
+use Rattle.hir_session_state.specs.Crates.{id_of}
 use Rattle.hir_session_state.specs.Entries.{entry_at}
 use Rattle.hir_session_state.specs.Files.{file_at}
 use Rattle.hir_session_state.specs.KeySources.{key_place}
-use Rattle.hir_session_state.specs.SessionState.{SessionState, Resolution, kept_of, is_marked, IsSound}
+use Rattle.hir_session_state.specs.SessionState.{SessionState, Resolution, kept_of, is_marked, standing_of, IsSound}
+use Rattle.hir_session_state.specs.Standing.{map_by}
 use Rattle.hir_session_state.specs.Changes.{Applies}
 use Rattle.hir_session_state.specs.SourceEdits.{edit_of, place_of}
 pub use Rattle.hir_session_answers.specs.Histories.{History, WasAltered, DifferOnlyWhereAltered}
@@ -103,6 +107,60 @@ abbrev pub RemoveAbsentExpansionLeavesAnswers : Type 0
 RemoveAbsentExpansionLeavesAnswers = (old new : SessionState) (key : ExpansionValue) → IsSound old
     → entry_at old.sources.entries key ≡ None → Applies old (remove_expansion key) new → AnswersAlike old new
 
+-- ---- blocks
+
+-- a block that was set is set to a source that differs in the texts of bodies alone: no mark changes
+abbrev pub BlockBodyEditsMarkNothing : Type 0
+BlockBodyEditsMarkNothing = (old new : SessionState) (place : BlockPlace) (was source : SourceValue) → IsSound old
+    → block_in old.sources.blocks (place_of_block place) ≡ Some was → source_without_bodies was ≡ source_without_bodies source → Applies old (set_block place source) new
+    → (id : MapId) → is_marked new id ≡ is_marked old id
+
+-- and no answer
+abbrev pub BlockBodyEditsLeaveAnswers : Type 0
+BlockBodyEditsLeaveAnswers = (old new : SessionState) (place : BlockPlace) (was source : SourceValue) → IsSound old
+    → block_in old.sources.blocks (place_of_block place) ≡ Some was → source_without_bodies was ≡ source_without_bodies source → Applies old (set_block place source) new
+    → AnswersAlike old new
+
+-- a block that wasn't set is, to an empty source too: each place whose run asked for it is marked
+abbrev pub SetAbsentBlockMarks : Type 0
+SetAbsentBlockMarks = (old new : SessionState) (place : BlockPlace) (source : SourceValue) (id : MapId) (found : Resolution) (key : TreeKey)
+    → block_in old.sources.blocks (place_of_block place) ≡ None → Applies old (set_block place source) new
+    → kept_of old id ≡ Some found → Contains found.asked (Tree key) → source_of old.tables key.id ≡ Some (block place)
+    → is_marked new id ≡ true
+
+-- a block that was set is removed, an empty one too: each place whose run asked for it is marked
+abbrev pub RemovePresentBlockMarks : Type 0
+RemovePresentBlockMarks = (old new : SessionState) (place : BlockPlace) (was : SourceValue) (id : MapId) (found : Resolution) (key : TreeKey)
+    → block_in old.sources.blocks (place_of_block place) ≡ Some was → Applies old (remove_block place) new
+    → kept_of old id ≡ Some found → Contains found.asked (Tree key) → source_of old.tables key.id ≡ Some (block place)
+    → is_marked new id ≡ true
+
+-- a block that isn't set is removed: no mark changes
+abbrev pub RemoveAbsentBlockMarksNothing : Type 0
+RemoveAbsentBlockMarksNothing = (old new : SessionState) (place : BlockPlace) → IsSound old
+    → block_in old.sources.blocks (place_of_block place) ≡ None → Applies old (remove_block place) new → (id : MapId) → is_marked new id ≡ is_marked old id
+
+-- and no answer
+abbrev pub RemoveAbsentBlockLeavesAnswers : Type 0
+RemoveAbsentBlockLeavesAnswers = (old new : SessionState) (place : BlockPlace) → IsSound old
+    → block_in old.sources.blocks (place_of_block place) ≡ None → Applies old (remove_block place) new → AnswersAlike old new
+
+-- whether an edit is of a block
+abbrev pub edits_block : EditValue → Bool
+edits_block (set_file path source) = false
+edits_block (remove_file path) = false
+edits_block (set_block place source) = true
+edits_block (remove_block place) = true
+edits_block (set_expansion key entry) = false
+edits_block (remove_expansion key) = false
+
+-- an edit of a block changes no mark of a crate
+abbrev pub BlockEditsSpareTheCrate : Type 0
+BlockEditsSpareTheCrate = (old new : SessionState) (edit : EditValue) (k : ℕ) → IsSound old → edits_block edit ≡ true → Applies old edit new
+    → is_marked new (id_of k) ≡ is_marked old (id_of k)
+
+-- ---- sources for which no run asked
+
 -- no run of which something is kept asked for the source at the place
 pub record IsUnasked (s : SessionState) (place : SourcePlaceValue) : Type 0 where
   pub each : (id : MapId) (found : Resolution) (key : Key) → kept_of s id ≡ Some found → Contains found.asked key → key_place s.tables key ≢ Some place
@@ -116,6 +174,12 @@ abbrev pub UnaskedSourcesMarkNothing : Type 0
 UnaskedSourcesMarkNothing = (old new : SessionState) (edit : EditValue) → IsSound old → IsUnasked old (place_of_edit edit) → Applies old edit new
     → (id : MapId) → is_marked new id ≡ is_marked old id
 
--- and no answer
+-- and no answer, unless it is of a block
 abbrev pub UnaskedSourcesLeaveAnswers : Type 0
-UnaskedSourcesLeaveAnswers = (old new : SessionState) (edit : EditValue) → IsSound old → IsUnasked old (place_of_edit edit) → Applies old edit new → AnswersAlike old new
+UnaskedSourcesLeaveAnswers = (old new : SessionState) (edit : EditValue) → IsSound old → IsUnasked old (place_of_edit edit) → edits_block edit ≡ false → Applies old edit new
+    → AnswersAlike old new
+
+-- nor, whatever it is of, one at a place whose steps end in a current map
+abbrev pub UnaskedSourcesLeaveCurrentAnswers : Type 0
+UnaskedSourcesLeaveCurrentAnswers = (old new : SessionState) (edit : EditValue) (place : PlaceValue) (id : MapId) (path : Path) (shadow : Shadow) (style : Option MacroStyle) → IsSound old
+    → IsUnasked old (place_of_edit edit) → Applies old edit new → map_by (standing_of old place) ≡ Some id → answer_of new place path shadow style ≡ answer_of old place path shadow style

@@ -2,9 +2,9 @@
 ghost use Rattle.hir_session_machine.specs.Headline.{RepliesHoldTheHeadline};
 ghost use Rattle.hir_session_answers.specs.Histories.{DifferOnlyWhereAltered};
 ghost use Rattle.hir_session_machine.specs.MachineHistories.{LinesBeginHistories};
-ghost use Rattle.hir_session.specs.Laws.{BodyEditsMarkNothing, BodyEditsLeaveAnswers, ExpansionBodyEditsMarkNothing, ExpansionBodyEditsLeaveAnswers, SetAbsentFileMarks, RemovePresentFileMarks, RemoveAbsentFileMarksNothing, RemoveAbsentFileLeavesAnswers, SetAbsentExpansionMarks, RemovePresentExpansionMarks, RemoveAbsentExpansionMarksNothing, RemoveAbsentExpansionLeavesAnswers, UnaskedSourcesMarkNothing, UnaskedSourcesLeaveAnswers};
+ghost use Rattle.hir_session.specs.Laws.{BodyEditsMarkNothing, BodyEditsLeaveAnswers, ExpansionBodyEditsMarkNothing, ExpansionBodyEditsLeaveAnswers, SetAbsentFileMarks, RemovePresentFileMarks, RemoveAbsentFileMarksNothing, RemoveAbsentFileLeavesAnswers, SetAbsentExpansionMarks, RemovePresentExpansionMarks, RemoveAbsentExpansionMarksNothing, RemoveAbsentExpansionLeavesAnswers, BlockBodyEditsMarkNothing, BlockBodyEditsLeaveAnswers, SetAbsentBlockMarks, RemovePresentBlockMarks, RemoveAbsentBlockMarksNothing, RemoveAbsentBlockLeavesAnswers, BlockEditsSpareTheCrate, UnaskedSourcesMarkNothing, UnaskedSourcesLeaveAnswers, UnaskedSourcesLeaveCurrentAnswers};
 
-use hir_def_collector_laws::laws::runs_bind_from_sources;
+use hir_def_collector_laws::laws::{crates_ask_for_no_block, runs_bind_from_sources};
 use hir_def_map::laws::{paths_answer_from_sources, paths_lead_to_what_is_there};
 use hir_item_tree::laws::body_texts_leave_the_tree;
 
@@ -80,8 +80,45 @@ pub fn remove_absent_expansion_marks_nothing()
     ensures answers { RemoveAbsentExpansionLeavesAnswers }
 {}
 
-/// An edit of a source for which no run asked leaves every mark and every answer as it is.
+/// An edit of a block that changes nothing but bodies leaves every mark and every answer as it is.
+pub fn block_body_edits_mark_nothing()
+    ensures law { BlockBodyEditsMarkNothing }
+    ensures answers { BlockBodyEditsLeaveAnswers }
+{
+    body_texts_leave_the_tree();
+}
+
+/// A block that was asked for and wasn't set makes stale what asked for it, once it is set.
+pub fn set_absent_block_marks()
+    ensures law { SetAbsentBlockMarks }
+{}
+
+/// A block that was asked for and was set makes stale what asked for it, once it is removed.
+pub fn remove_present_block_marks()
+    ensures law { RemovePresentBlockMarks }
+{}
+
+/// Removing a block that isn't set leaves every mark and every answer as it is.
+pub fn remove_absent_block_marks_nothing()
+    ensures law { RemoveAbsentBlockMarksNothing }
+    ensures answers { RemoveAbsentBlockLeavesAnswers }
+{}
+
+/// An edit of a block never marks a crate.
+pub fn block_edits_spare_the_crate()
+    ensures law { BlockEditsSpareTheCrate }
+{
+    crates_ask_for_no_block();
+}
+
+/// An edit of a source for which no run asked leaves every mark as it is, and every answer; where it sets or removes a block, the
+/// answers at places of current maps.
 pub fn unasked_sources_mark_nothing()
     ensures law { UnaskedSourcesMarkNothing }
     ensures answers { UnaskedSourcesLeaveAnswers }
-{}
+    ensures current { UnaskedSourcesLeaveCurrentAnswers }
+{
+    runs_bind_from_sources();
+    paths_answer_from_sources();
+    paths_lead_to_what_is_there();
+}

@@ -11,7 +11,7 @@ pub use hir_base::ids::Crate;
 pub use hir_base::macro_kind::{CallStyle, ExpansionKey, MacroText};
 pub use hir_base::mod_path::ModPath;
 pub use hir_base::name::Name;
-pub use hir_base::place::Place;
+pub use hir_base::place::{BlockPlace, Place, PlaceElement};
 pub use hir_item_tree::source::{Node, NodeKind, Source, Unit};
 pub use hir_lines::open_line::LINE_LIMIT;
 pub use hir_lines::output::Fault;

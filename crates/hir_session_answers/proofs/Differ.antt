@@ -1,18 +1,26 @@
 -- What is behind a place stays, or an edit altered a key that was asked for there.
-use Rattle.std.specs.Prelude.{is_none, is_some, if◌then◌else◌}
-use Rattle.std.proofs.Common.{◌≡◌, ◌⊎◌, inl, inr, ℕ, nat_lt, false, List, [], length, Option, None, Some, Result, Ok, option_map, refl, sym, subst, ap, ◌∙◌, Contains}
+use Rattle.std.specs.Prelude.{is_none, if◌then◌else◌}
+use Rattle.std.proofs.Common.{◌≡◌, ◌⊎◌, inl, inr, ℕ, nat_lt, Bool, true, false, cond, List, [], ◌∷◌, ◌++◌, length, Option, None, Some, Result, Ok, option_map, refl, sym, subst, ap, ◌∙◌, Contains}
+use Rattle.std.specs.Option.{option_and_then}
 use Rattle.hir_base.specs.ModPath.{Path}
 use Rattle.hir_base.specs.Place.{PlaceValue}
+use Rattle.hir_base.specs.contracts.ids.MapIdPartialEq.TheImpl as map_id
+use Rattle.hir_base.specs.declared.ast_id.BlockId.{BlockId}
+use Rattle.hir_base.specs.declared.ids.Crate.{Crate}
 use Rattle.hir_base.specs.declared.ids.MapId.{MapId}
 use Rattle.hir_base.specs.declared.ids.ModuleId.{ModuleId}
-use Rattle.hir_tables.specs.Tables.{KeepsTables, TablesValue}
+use Rattle.hir_base.specs.declared.place.BlockPlace.{BlockPlace}
+use Rattle.hir_base.specs.declared.place.PlaceElement.{PlaceElement}
+use Rattle.hir_base.specs.declared.place.PlaceElement.TheVariants as element
+use Rattle.hir_tables.specs.Tables.{KeepsTables, TablesValue, block_at}
 use Rattle.hir_tables.proofs.Growth.{KeepsTables-refl, KeepsTables-trans}
-use Rattle.hir_def_map.specs.WorldParts.{among, unheld}
+use Rattle.hir_def_map.specs.WorldParts.{among, is_of_some}
 use Rattle.hir_def_map.specs.Inner.PartLaws.{among_agrees}
 use Rattle.hir_def_map_rules.specs.Closed.{PathsLeadToWhatIsThere}
+use Rattle.hir_def_map_rules.specs.Inner.OverlayLaws.{exact_map}
 use Rattle.hir_def_map_rules.specs.Sources.{PathsAnswerFromSources}
-use Rattle.hir_def_map_rules.specs.Overlay.{Maps, overlay, no_maps}
-use Rattle.hir_def_map_rules.specs.State.{crate_map, root_of}
+use Rattle.hir_def_map_rules.specs.Overlay.{Maps, holders_of, overlay, no_maps}
+use Rattle.hir_def_map_rules.specs.State.{child_at, crate_map, root_of}
 use Rattle.hir_collector_rules.specs.Workspace.{Workspace}
 use Rattle.hir_collector_rules.specs.Keys.{look}
 use Rattle.hir_def_collector_laws.specs.Sources.{RunsBindFromSources}
@@ -23,29 +31,35 @@ use Rattle.hir_wire.specs.declared.command.Shadow.{Shadow}
 use Rattle.hir_wire.specs.declared.command.MacroStyle.{MacroStyle}
 use Rattle.hir_wire.specs.declared.reply.Status.TheVariants as status
 use Rattle.hir_session_state.specs.declared.error.QueryError.{QueryError}
-use Rattle.hir_session_state.specs.Crates.{CrateValue, transitive_in, follows_in, id_of}
+use Rattle.hir_session_state.specs.Blocks.{Blocks}
+use Rattle.hir_session_state.specs.Crates.{CrateValue, dependency_maps, transitive_in}
+use Rattle.hir_session_state.specs.Kept.{Resolutions, placed_by}
 use Rattle.hir_session_state.specs.SourceEdits.{edit_of, edited}
 use Rattle.hir_session_state.specs.SourceTable.{SourceTable}
-use Rattle.hir_session_state.specs.SessionState.{SessionState, Resolution, workspace_of, dependencies_of, finished_of, follows, read_of, kept_of, is_marked, IsCurrent, IsSound}
-use Rattle.hir_crate_graph.specs.Dependencies.{DependsOn}
-use Rattle.hir_crate_graph.specs.Dependencies.DependsOn.{directly, through}
+use Rattle.hir_session_state.specs.SessionState.{SessionState, Resolution, workspace_of, finished_of, follows, follows_by, held_maps, read_of, kept_of, is_marked, module_of, standing_of, IsPlace, IsSound}
+use Rattle.hir_session_state.specs.SessionState.IsPlace.{of_block, of_crate}
 use Rattle.hir_session_state.specs.Spread.{Spread}
 use Rattle.hir_session_state.specs.Spread.Spread.{here, depends}
+use Rattle.hir_session_state.specs.Standing.{Standing, block_below, block_map, child_kept, down, from_crate, is_set, kept_block, map_by, module_by, step, to_child, to_root}
+use Rattle.hir_session_state.specs.Standing.{Standing as way}
 use Rattle.hir_session_state.specs.Marks.{IsAltered, IsTouched}
 use Rattle.hir_session_state.specs.Marks.IsTouched.{before, asked_for}
 use Rattle.hir_session_state.specs.Due.{IsBehind, IsAskedBehind}
 use Rattle.hir_session_state.specs.Due.IsBehind.{itself, next}
 use Rattle.hir_session_state.specs.Changes.{Becomes, Applies, Resolves, with_sources}
-use Rattle.hir_session_answers.specs.Status.{map_of, module_below, module_in_kept, status_of}
-use Rattle.hir_session_answers.specs.Answers.{answer_by, answer_from, answer_of}
+use Rattle.hir_session_answers.specs.Status.{status_by}
+use Rattle.hir_session_answers.specs.Answers.{answer_at, answer_by, answer_from, answer_in, answer_kept, answer_of}
 use Rattle.hir_session_answers.specs.Histories.{History, WasAltered, DifferOnlyWhereAltered}
 use Rattle.hir_session_answers.specs.Histories.History.{none, edit, refresh}
-use Rattle.hir_session_state.proofs.Depending.{depended}
-use Rattle.hir_session_state.proofs.Following.{followed}
-use Rattle.hir_session_answers.proofs.Growing.{kept_answer}
-use Rattle.hir_session_answers.proofs.LeftOut.{whole}
+use Rattle.hir_session_state.proofs.Depending.{found-any}
+use Rattle.hir_session_state.proofs.Holding.{holders_hold}
+use Rattle.hir_session_state.proofs.Following.{followed_crate}
 use Rattle.hir_session_state.proofs.Names.{of_some}
-use Rattle.hir_session_state.proofs.Truth.{clash, on_bool}
+use Rattle.hir_session_state.proofs.Standing.{down-append, standing_stays, unmarked}
+use Rattle.hir_session_state.proofs.Truth.{clash, no_value, on_bool, one_value}
+use Rattle.hir_session_state.proofs.Worlds.{crates_stay}
+use Rattle.hir_session_answers.proofs.Growing.{kept_answer}
+use Rattle.hir_session_answers.proofs.LeftOut.{maps_behind, place_there, read_kept, whole}
 
 -- what is behind the place is as it was
 pub record IsSame (from to : SessionState) (id : MapId) : Type 0 where
@@ -53,29 +67,28 @@ pub record IsSame (from to : SessionState) (id : MapId) : Type 0 where
   pub tables : KeepsTables from.tables to.tables
   pub off : (j : MapId) → IsBehind from id j → is_marked to j ≡ false
   pub kept : (j : MapId) → IsBehind from id j → kept_of to j ≡ kept_of from j
+  pub sound : IsSound to
 
--- all behind an unmarked crate is unmarked
+-- all behind an unmarked place is unmarked
 pub unmarked_behind : {s : SessionState} {k j : MapId} → IsSound s → is_marked s k ≡ false → IsBehind s k j → is_marked s j ≡ false
 unmarked_behind sound off itself = off
 unmarked_behind {s} {k} sound off (next j d behind among) = sound.closed j d (unmarked_behind sound off behind) among
 
--- what an unmarked crate depends on is unmarked
-pub record IsClosed (s : SessionState) : Type 0 where
-  pub closed : (k d : MapId) → is_marked s k ≡ false → Contains (follows s k) d → is_marked s d ≡ false
+-- where the crates and what is kept of a place are the same, it follows the same
+pub follows_alike : (from to : SessionState) (id : MapId) → to.crates ≡ from.crates → kept_of to id ≡ kept_of from id → follows to id ≡ follows from id
+follows_alike from to id crates kept = go id.block
+  where
+    go : (o : Option BlockId) → follows_by to id o ≡ follows_by from id o
+    go None = ap (λ (cs : List CrateValue). dependency_maps cs id.krate) crates
+    go (Some b) = ap (λ (o : Option Resolution). crate_map id.krate ∷ held_maps o) kept
 
--- so it is after an edit
-pub closed_after : {old new : SessionState} {sources : SourceTable} → Becomes old sources new → IsClosed new
-closed_after {old} {new} is = record {
-  closed = λ k d off among. on_bool (is_marked new d)
-      (λ on. clash (is.all k (depends k d (subst (λ (cs : List CrateValue). Contains (follows_in cs k) d) is.crates among) (is.only d on))) off)
-      (λ h. h);
-}
-
--- all that was behind a crate is unmarked where the crate still is
-pub unmarked_still : {from to : SessionState} {k j : MapId} → to.crates ≡ from.crates → IsClosed to → is_marked to k ≡ false → IsBehind from k j → is_marked to j ≡ false
-unmarked_still alike closed off itself = off
-unmarked_still alike closed off (next j d behind among) =
-    closed.closed j d (unmarked_still alike closed off behind) (subst (λ (cs : List CrateValue). Contains (follows_in cs j) d) (sym alike) among)
+-- all that was behind a place is unmarked where the place still is
+pub unmarked_still : {from to : SessionState} {k j : MapId} → to.crates ≡ from.crates → IsSound to
+    → ((i : MapId) → IsBehind from k i → is_marked to i ≡ false → kept_of to i ≡ kept_of from i) → is_marked to k ≡ false → IsBehind from k j → is_marked to j ≡ false
+unmarked_still alike sound kept off itself = off
+unmarked_still {from} {to} alike sound kept off (next j d behind among) =
+    let still = unmarked_still alike sound kept off behind in
+    sound.closed j d still (subst (λ (ids : List MapId). Contains ids d) (sym (follows_alike from to j alike (kept j behind still))) among)
 
 -- what was marked shows a key that was altered
 pub what_marked : {from mid : SessionState} {k : MapId} (w : Workspace) → IsSame from mid k → {j : MapId} → Spread (follows mid) (IsTouched mid w) j → IsBehind from k j
@@ -83,26 +96,28 @@ pub what_marked : {from mid : SessionState} {k : MapId} (w : Workspace) → IsSa
 what_marked w same (here j (before m)) behind = clash m (same.off j behind)
 what_marked w same (here j (asked_for key r is has ne)) behind =
     (key, record { place = j; found = r; behind = behind; is = sym (same.kept j behind) ∙ is; asked = has }, ne)
-what_marked w same (depends j d among sp) behind =
-    what_marked w same sp (next j d behind (subst (λ (cs : List CrateValue). Contains (follows_in cs j) d) same.crates among))
+what_marked {from} {mid} w same (depends j d among sp) behind =
+    what_marked w same sp (next j d behind (subst (λ (ids : List MapId). Contains ids d) (follows_alike from mid j same.crates (same.kept j behind)) among))
 
 -- the workspace that an accepted edit leaves is the edited one
 workspace-becomes : {old new : SessionState} {sources : SourceTable} → Becomes old sources new → workspace_of new ≡ workspace_of (with_sources old sources)
 workspace-becomes is = rw (is.crates, is.sources_are) refl
 
--- an edit leaves all that is behind the crate as it was, or alters a key that was asked for there
+-- an edit leaves all that is behind the place as it was, or alters a key that was asked for there
 pub same_after_edit : {from mid to : SessionState} {k : MapId} (e : EditValue) → IsSame from mid k → Applies mid e to
     → IsSame from to k ⊎ ((key : Key) × IsAskedBehind from k key × IsAltered mid.tables (workspace_of mid) (workspace_of to) key)
 same_after_edit {from} {mid} {to} {k} e same is = on_bool (is_marked to k)
     (λ on. let hit = what_marked (workspace_of (with_sources mid (edited mid.sources (edit_of e)))) same (is.only k on) itself in
     inr (hit.0, hit.1, λ h. hit.2 (subst (λ (w : Workspace). look mid.tables w no_maps hit.0 ≡ look mid.tables (workspace_of mid) no_maps hit.0) (workspace-becomes is) h)))
     (λ still.
-    let off = λ (j : MapId) (behind : IsBehind from k j). unmarked_still (is.crates ∙ same.crates) (closed_after is) still behind in
+    let kept = λ (j : MapId) (behind : IsBehind from k j) (off : is_marked to j ≡ false). is.kept j off ∙ same.kept j behind in
+    let off = λ (j : MapId) (behind : IsBehind from k j). unmarked_still (is.crates ∙ same.crates) is.sound kept still behind in
     inl (record {
       crates = is.crates ∙ same.crates;
       tables = subst (λ (t : TablesValue). KeepsTables from.tables t) (sym is.tables) same.tables;
       off = off;
-      kept = λ j behind. is.kept j (off j behind) ∙ same.kept j behind;
+      kept = λ j behind. kept j behind (off j behind);
+      sound = is.sound;
     }))
 
 -- and a refresh leaves it so
@@ -112,10 +127,11 @@ same_after_refresh same is = record {
   tables = KeepsTables-trans _ _ _ same.tables is.tables;
   off = λ j behind. ap (λ (o : Option Resolution). is_none o) (is.others j (same.off j behind)) ∙ same.off j behind;
   kept = λ j behind. is.others j (same.off j behind) ∙ same.kept j behind;
+  sound = is.sound;
 }
 
 pub same_at_first : {from : SessionState} {k : MapId} → IsSound from → is_marked from k ≡ false → IsSame from from k
-same_at_first sound off = record { crates = refl; tables = KeepsTables-refl _; off = λ j behind. unmarked_behind sound off behind; kept = λ j behind. refl }
+same_at_first sound off = record { crates = refl; tables = KeepsTables-refl _; off = λ j behind. unmarked_behind sound off behind; kept = λ j behind. refl; sound = sound }
 
 pub same_or_altered : {from : SessionState} {k : MapId} → IsSound from → is_marked from k ≡ false → {to : SessionState} → (h : History from to)
     → IsSame from to k ⊎ ((key : Key) × IsAskedBehind from k key × WasAltered key h)
@@ -132,68 +148,240 @@ same_or_altered sound off (refresh mid to done earlier is) = elim (same_or_alter
   | inr hit ↦ inr (hit.0, hit.1, hit.2)
 ]
 
--- the maps of the crates on which a crate stands are behind its own
-behind_from : {s : SessionState} {id : MapId} {j i : ℕ} → IsBehind s id (id_of j) → DependsOn (dependencies_of s) j i → IsBehind s id (id_of i)
-behind_from {s} behind (directly k d among) = next (id_of k) (crate_map d) behind (followed s.crates (id_of k) d among)
-behind_from {s} behind (through k i d among rest) = behind_from (next (id_of k) (crate_map d) behind (followed s.crates (id_of k) d among)) rest
+-- ---- what is read
 
 -- the same finished maps are read
-same_read : {from to : SessionState} (k : ℕ) → IsSound from → IsSame from to (id_of k) → read_of to (id_of k) ≡ read_of from (id_of k)
-same_read {from} {to} k sound same =
-    ap (λ (cs : List CrateValue). among (transitive_in cs k) [] (finished_of to)) same.crates
-    ∙ among_agrees (transitive_in from.crates k) [] (finished_of to) (finished_of from)
-    (λ j h.
-    let of = of_some (transitive_in from.crates k) j h in
-    let own : j ≡ crate_map j.krate = λ i. record { krate = j.krate; block = of.0 i } in
-    subst (λ (x : MapId). finished_of to x ≡ finished_of from x) (sym own)
-    (ap (option_map (λ (r : Resolution). unheld r.map r.local)) (same.kept (crate_map j.krate) (behind_from itself ((depended sound k j.krate).0 of.1)))))
+pub same_read_of : {from to : SessionState} (id : MapId) (r : Resolution) → IsSound from → kept_of from id ≡ Some r → IsSame from to id → read_of to id ≡ read_of from id
+same_read_of {from} {to} id r sound is same =
+    (λ i. among (transitive_in (same.crates i) id.krate.0) (holders_of (finished i)) (finished_of to))
+    ∙ among_agrees (transitive_in from.crates id.krate.0) (holders_of (finished_of from id)) (finished_of to) (finished_of from)
+    (λ j h. ap (option_map placed_by) (same.kept j (behind j h)))
+  where
+    finished : finished_of to id ≡ finished_of from id
+    finished = ap (option_map placed_by) (same.kept id itself)
 
-on_option : {A X : Type 0} (o : Option X) → (o ≡ None → A) → ((x : X) → o ≡ Some x → A) → A
-on_option None f g = f refl
-on_option (Some x) f g = g x refl
+    holders_are : holders_of (finished_of from id) ≡ r.holders
+    holders_are = ap (λ (o : Option Resolution). holders_of (option_map placed_by o)) is
 
--- what a query is answered over these crates, these tables and what is kept
-abbrev answer_over : (place : PlaceValue) (path : Path) (shadow : Shadow) (style : Option MacroStyle) → List CrateValue → TablesValue → Maps → Option Resolution → Result Answer QueryError
-answer_over place path shadow style crates tables read kept =
-    answer_by
-    (if nat_lt place.krate.0 (length crates) then
-    (if is_none kept then status.Stale else (if is_some (module_in_kept kept place.elements) then status.Current else status.Unknown)) else
-    status.Unknown)
-    (answer_from tables read kept (module_in_kept kept place.elements) path shadow style)
+    own_crate : (o : Option BlockId) → id.block ≡ o → IsBehind from id (crate_map id.krate)
+    own_crate None of = let own : id ≡ crate_map id.krate = λ i. record { krate = id.krate; block = of i } in subst (IsBehind from id) own itself
+    own_crate (Some b) of = next id (crate_map id.krate) itself (followed_crate from id b of)
 
-module _ {from to : SessionState} (place : PlaceValue) (path : Path) (shadow : Shadow) (style : Option MacroStyle) (sound : IsSound from) (same : IsSame from to (map_of place)) where
-  -- but for the tables a query has the same answer
-  over_tables : answer_of to place path shadow style ≡ answer_over place path shadow style from.crates to.tables (read_of from (map_of place)) (kept_of from (map_of place))
-  over_tables = λ i. answer_over place path shadow style (same.crates i) to.tables (same_read place.krate.0 sound same i) (same.kept (map_of place) itself i)
+    outwards : (i d : MapId) → IsBehind from id i → Contains (follows from i) d → IsBehind from id d
+    outwards i d b followed = next i d b followed
 
-  -- where the tables are the same it has the same answer
-  pub alike_answer : to.tables ≡ from.tables → answer_of to place path shadow style ≡ answer_of from place path shadow style
-  alike_answer tables = over_tables ∙ ap (λ (t : TablesValue). answer_over place path shadow style from.crates t (read_of from (map_of place)) (kept_of from (map_of place))) tables
+    behind : (j : MapId) → is_of_some (transitive_in from.crates id.krate.0) (holders_of (finished_of from id)) j ≡ true → IsBehind from id j
+    behind j h = elim (of_some (transitive_in from.crates id.krate.0) (holders_of (finished_of from id)) j h) [
+      | inl crate ↦
+          let own : j ≡ crate_map j.krate = λ i. record { krate = j.krate; block = crate.0 i } in
+          subst (IsBehind from id) (sym own) (crates_stay from sound from.sources from.kept (IsBehind from id) outwards (λ i b. refl) id.krate (own_crate id.block refl) j.krate crate.1)
+      | inr held ↦
+          let one = found-any (λ (m : ModuleId). map_id.ghosts.eq m.map j) (holders_of (finished_of from id)) held in
+          subst (IsBehind from id) (exact_map one.0.map j one.2)
+          (holders_hold from sound {P = IsBehind from id} outwards r.holders id r is refl itself one.0 (subst (λ (ms : List ModuleId). Contains ms one.0) holders_are one.1))
+    ]
 
-  module _ (runs : RunsBindFromSources) (answers : PathsAnswerFromSources) (leads : PathsLeadToWhatIsThere) (off : is_marked from (map_of place) ≡ false) where
-    abbrev now : IsCurrent from (map_of place)
-    now = sound.current (map_of place) off
+-- ---- a name that isn't there
 
-    found_answer : (o : Option ModuleId) → module_below now.found.map (root_of now.found.map.id) place.elements ≡ o
-        → answer_from to.tables (read_of from (map_of place)) (Some now.found) o path shadow style ≡ answer_from from.tables (read_of from (map_of place)) (Some now.found) o path shadow style
-    found_answer None s = refl
-    found_answer (Some m) s = ap (λ (a : Answer). Ok a)
-        (kept_answer from.tables to.tables same.tables (overlay (read_of from (map_of place)) now.found.map) now.found.local m path shadow style
-        (whole runs answers leads from sound place.krate.0 off place.elements m path shadow style s))
+-- what a step to a child leads to where it isn't there
+lacks_child : (id : MapId) (o : Option ModuleId) (j : MapId) → to_child id o ≡ way.lacks j → id ≡ j
+lacks_child id None j e = cc
+lacks_child id (Some m) j e = go (map_id.ghosts.eq m.map id) e
+  where
+    go : (b : Bool) → cond b (way.at m) (way.lacks id) ≡ way.lacks j → id ≡ j
+    go true f = absurd (let no : ⊥ = cc in no)
+    go false f = cc
 
-    kept_answer_from : answer_from to.tables (read_of from (map_of place)) (kept_of from (map_of place)) (module_in_kept (kept_of from (map_of place)) place.elements) path shadow style
-        ≡ answer_from from.tables (read_of from (map_of place)) (kept_of from (map_of place)) (module_in_kept (kept_of from (map_of place)) place.elements) path shadow style
-    kept_answer_from = subst
-        (λ (o : Option Resolution). answer_from to.tables (read_of from (map_of place)) o (module_in_kept o place.elements) path shadow style
-        ≡ answer_from from.tables (read_of from (map_of place)) o (module_in_kept o place.elements) path shadow style) (sym now.is)
-        (found_answer (module_below now.found.map (root_of now.found.map.id) place.elements) refl)
+module _ (tables : TablesValue) (blocks : Blocks) (kept : Resolutions) (krate : Crate) where
+  abbrev on : List PlaceElement → Standing → List PlaceElement → Standing
+  on start st steps = down tables blocks kept krate start st steps
 
-    -- and so it has where they grew
-    pub same_answer : answer_of to place path shadow style ≡ answer_of from place path shadow style
-    same_answer = over_tables ∙ ap (answer_by (status_of from place)) kept_answer_from
+  -- no steps lead on from there
+  pub lacks_on : (start : List PlaceElement) (id : MapId) (steps : List PlaceElement) → on start (way.lacks id) steps ≡ way.lacks id
+  lacks_on start id [] = refl
+  lacks_on start id (element.Module name ∷ more) = lacks_on (start ++ element.Module name ∷ []) id more
+  lacks_on start id (element.Block b ∷ more) = lacks_on (start ++ element.Block b ∷ []) id more
+
+  -- steps lead to a module, whose map has no child of the next name, and the others lead nowhere
+  pub record IsLacking (start : List PlaceElement) (st : Standing) (steps : List PlaceElement) (id : MapId) : Type 0 where
+    pub first : List PlaceElement
+    pub name : List ℕ
+    pub others : List PlaceElement
+    pub at_last : ModuleId
+    pub split : steps ≡ first ++ element.Module name ∷ others
+    pub leads : on start st first ≡ way.at at_last
+    pub lacks : to_child at_last.map (child_kept kept at_last name) ≡ way.lacks id
+
+  no_root : {A : Type 0} (o : Option Resolution) (id : MapId) → to_root o ≡ way.lacks id → A
+  no_root None id e = absurd (let no : ⊥ = cc in no)
+  no_root (Some r) id e = absurd (let no : ⊥ = cc in no)
+
+  last_step : (start : List PlaceElement) (st : Standing) (e : PlaceElement) (more : List PlaceElement) (id : MapId) → step tables blocks kept krate start st e ≡ way.lacks id
+      → (st ≡ way.lacks id) ⊎ IsLacking start st (e ∷ more) id
+  last_step start (way.at m) (element.Module name) more id f = inr (record { first = []; name = name; others = more; at_last = m; split = refl; leads = refl; lacks = f })
+  last_step start (way.at m) (element.Block b) more id f = go (is_set blocks (block_below krate start b)) f
+    where
+      go : {A : Type 0} (t : Bool) → cond t (to_root (kept_block tables kept (block_below krate start b))) way.unset ≡ way.lacks id → A
+      go true g = no_root (kept_block tables kept (block_below krate start b)) id g
+      go false g = absurd (let no : ⊥ = cc in no)
+  last_step start (way.lacks j) (element.Module name) more id f = inl f
+  last_step start (way.lacks j) (element.Block b) more id f = inl f
+  last_step start way.stale (element.Module name) more id f = absurd (let no : ⊥ = cc in no)
+  last_step start way.stale (element.Block b) more id f = go (is_set blocks (block_below krate start b)) f
+    where
+      go : {A : Type 0} (t : Bool) → cond t way.stale way.unset ≡ way.lacks id → A
+      go true g = absurd (let no : ⊥ = cc in no)
+      go false g = absurd (let no : ⊥ = cc in no)
+  last_step start way.unset (element.Module name) more id f = absurd (let no : ⊥ = cc in no)
+  last_step start way.unset (element.Block b) more id f = absurd (let no : ⊥ = cc in no)
+
+  pub lacking : (start : List PlaceElement) (st : Standing) (steps : List PlaceElement) (id : MapId) → on start st steps ≡ way.lacks id → (st ≡ way.lacks id) ⊎ IsLacking start st steps id
+  lacking start st [] id f = inl f
+  lacking start st (e ∷ more) id f = elim (lacking (start ++ e ∷ []) (step tables blocks kept krate start st e) more id f) [
+    | inl last ↦ last_step start st e more id last
+    | inr later ↦ inr (record {
+      first = e ∷ later.first;
+      name = later.name;
+      others = later.others;
+      at_last = later.at_last;
+      split = ap (λ (xs : List PlaceElement). e ∷ xs) later.split;
+      leads = later.leads;
+      lacks = later.lacks;
+    })
+  ]
+
+-- ---- where a place leads
+
+module _ {from to : SessionState} (id : MapId) (sound : IsSound from) (same : IsSame from to id) where
+  outwards_behind : (i d : MapId) → IsBehind from id i → Contains (follows from i) d → IsBehind from id d
+  outwards_behind i d b among = next i d b among
+
+  -- a block of which something is kept stays set
+  stays_set : (b : BlockId) (place : BlockPlace) → block_at from.tables b ≡ Some place → IsBehind from id (block_map place.holder.krate b) → is_set from.sources.blocks place ≡ true
+      → is_set to.sources.blocks place ≡ true
+  stays_set b place means behind was = go (same.sound.placed (block_map place.holder.krate b) (same.off (block_map place.holder.krate b) behind))
+    where
+      go : IsPlace to (block_map place.holder.krate b) → is_set to.sources.blocks place ≡ true
+      go (of_crate alone within) = no_value (sym alone)
+      go (of_block c other is_c other_means own within set) =
+          let number : b ≡ c = one_value is_c in
+          let one : other ≡ place = one_value (sym other_means ∙ ap (block_at to.tables) (sym number) ∙ same.tables.blocks b.0 place means) in
+          subst (λ (x : BlockPlace). is_set to.sources.blocks x ≡ true) one set
+
+  -- a place that leads into what is behind leads there still
+  pub leads_still : (place : PlaceValue) (m : ModuleId) → standing_of from place ≡ way.at m → IsBehind from id m.map → standing_of to place ≡ way.at m
+  leads_still place m leads behind = standing_stays from sound (IsBehind from id) outwards_behind to.tables to.sources to.kept same.tables same.kept stays_set place m leads behind
+
+  -- where a name isn't there in a map behind, it still isn't
+  pub lacks_still : (place : PlaceValue) (j : MapId) → standing_of from place ≡ way.lacks j → IsBehind from id j → standing_of to place ≡ way.lacks j
+  lacks_still place j lacks behind = go (kept_of from (crate_map place.krate)) refl lacks
+    where
+      -- the rest of the way
+      rest : (first others : List PlaceElement) (name : List ℕ) (m : ModuleId) → place.elements ≡ first ++ element.Module name ∷ others → to_child m.map (child_kept from.kept m name) ≡ way.lacks j
+          → (o : Option Resolution) → kept_of to (crate_map place.krate) ≡ o
+          → from_crate to.tables to.sources.blocks to.kept o (record { krate = place.krate; elements = first }) ≡ way.at m → standing_of to place ≡ way.lacks j
+      rest first others name m split lack None is_kept leads = absurd (let no : ⊥ = cc in no)
+      rest first others name m split lack (Some r) is_kept leads =
+          let own : m.map ≡ j = lacks_child m.map (child_kept from.kept m name) j lack in
+          let kept : kept_of to m.map ≡ kept_of from m.map = same.kept m.map (subst (IsBehind from id) (sym own) behind) in
+          let child : to_child m.map (child_kept to.kept m name) ≡ way.lacks j =
+          ap (λ (o : Option Resolution). to_child m.map (option_and_then (λ (x : Resolution). child_at x.map m.index name) o)) kept ∙ lack in
+          let goes = λ (start : List PlaceElement) (st : Standing) (steps : List PlaceElement). down to.tables to.sources.blocks to.kept place.krate start st steps in
+          ap (λ (o : Option Resolution). from_crate to.tables to.sources.blocks to.kept o place) is_kept
+          ∙ ap (goes [] (way.at (root_of r.map.id))) split
+          ∙ down-append to.tables to.sources.blocks to.kept place.krate [] (way.at (root_of r.map.id)) first (element.Module name ∷ others)
+          ∙ ap (λ (st : Standing). goes first st (element.Module name ∷ others)) leads
+          ∙ ap (λ (st : Standing). goes (first ++ element.Module name ∷ []) st others) child
+          ∙ lacks_on to.tables to.sources.blocks to.kept place.krate (first ++ element.Module name ∷ []) j others
+
+      go : (o : Option Resolution) → kept_of from (crate_map place.krate) ≡ o → from_crate from.tables from.sources.blocks from.kept o place ≡ way.lacks j → standing_of to place ≡ way.lacks j
+      go None is_kept f = absurd (let no : ⊥ = cc in no)
+      go (Some r) is_kept f = elim (lacking from.tables from.sources.blocks from.kept place.krate [] (way.at (root_of r.map.id)) place.elements j f) [
+        | inl never ↦ absurd (let wrong : ⊥ = cc in wrong)
+        | inr at ↦
+            let own : at.at_last.map ≡ j = lacks_child at.at_last.map (child_kept from.kept at.at_last at.name) j at.lacks in
+            let leads : standing_of from (record { krate = place.krate; elements = at.first }) ≡ way.at at.at_last =
+            ap (λ (o : Option Resolution). from_crate from.tables from.sources.blocks from.kept o (record { krate = place.krate; elements = at.first })) is_kept ∙ at.leads in
+            let still = leads_still (record { krate = place.krate; elements = at.first }) at.at_last leads (subst (IsBehind from id) (sym own) behind) in
+            rest at.first at.others at.name at.at_last at.split at.lacks (kept_of to (crate_map place.krate)) refl still
+      ]
+
+-- ---- answers
+
+-- no answer is given where a name isn't there
+unknown_over : (b : Bool) (x y : Result Answer QueryError) → answer_by (if b then status.Unknown else status.Unknown) x ≡ answer_by (if b then status.Unknown else status.Unknown) y
+unknown_over true x y = refl
+unknown_over false x y = refl
+
+-- what is answered where steps lead so, of so many crates
+abbrev answer_where : PlaceValue → Path → Shadow → Option MacroStyle → SessionState → ℕ → Standing → Option ModuleId → Result Answer QueryError
+answer_where place path shadow style s count st m = answer_by (if nat_lt place.krate.0 count then status_by st else status.Unknown) (answer_at s m path shadow style)
+
+module _ {from to : SessionState} (place : PlaceValue) (path : Path) (shadow : Shadow) (style : Option MacroStyle) (sound : IsSound from) where
+  -- at a name that isn't there
+  pub alike_lacking : (id : MapId) → IsSame from to id → standing_of from place ≡ way.lacks id → answer_of to place path shadow style ≡ answer_of from place path shadow style
+  alike_lacking id same lacks =
+      ap (λ (st : Standing). answer_where place path shadow style to (length to.crates) st (module_of to place)) (lacks_still id sound same place id lacks itself)
+      ∙ ap (λ (cs : List CrateValue). answer_where place path shadow style to (length cs) (way.lacks id) (module_of to place)) same.crates
+      ∙ unknown_over (nat_lt place.krate.0 (length from.crates)) (answer_kept to place path shadow style) (answer_kept from place path shadow style)
+      ∙ ap (λ (st : Standing). answer_where place path shadow style from (length from.crates) st (module_of from place)) (sym lacks)
+
+  module _ (runs : RunsBindFromSources) (answers : PathsAnswerFromSources) (leads : PathsLeadToWhatIsThere) where
+    -- from a module
+    pub alike_at : (m : ModuleId) → IsSame from to m.map → standing_of from place ≡ way.at m → answer_of to place path shadow style ≡ answer_of from place path shadow style
+    alike_at m same at =
+        let there = place_there from sound place m (ap module_by at) in
+        let r : Resolution = there.found in
+        let kept : kept_of to m.map ≡ Some r = same.kept m.map itself ∙ there.is in
+        let all = subst (λ (read : Maps). answer_in to.tables (overlay read r.map) r.local m path shadow style ≡ answer_in from.tables (overlay read r.map) r.local m path shadow style)
+        (sym (read_kept from m.map r there.is))
+        (kept_answer from.tables to.tables same.tables (maps_behind from m.map r) r.local m path shadow style (whole runs answers leads from sound m r there.is there.there path shadow style)) in
+        let over : answer_at to (Some m) path shadow style ≡ answer_at from (Some m) path shadow style =
+        ap (λ (o : Option Resolution). answer_from to.tables (read_of to m.map) o m path shadow style) kept
+        ∙ ap (λ (read : Maps). answer_from to.tables read (Some r) m path shadow style) (same_read_of m.map r sound there.is same)
+        ∙ ap (λ (a : Answer). Ok a) all
+        ∙ ap (λ (o : Option Resolution). answer_from from.tables (read_of from m.map) o m path shadow style) (sym there.is) in
+        ap (λ (st : Standing). answer_where place path shadow style to (length to.crates) st (module_by st)) (leads_still m.map sound same place m at itself)
+        ∙ ap (λ (cs : List CrateValue). answer_where place path shadow style to (length cs) (way.at m) (Some m)) same.crates
+        ∙ ap (answer_by (if nat_lt place.krate.0 (length from.crates) then status.Current else status.Unknown)) over
+        ∙ ap (λ (st : Standing). answer_where place path shadow style from (length from.crates) st (module_by st)) (sym at)
+
+    -- so a query has the same answer
+    pub same_answer : (id : MapId) → map_by (standing_of from place) ≡ Some id → IsSame from to id → answer_of to place path shadow style ≡ answer_of from place path shadow style
+    same_answer id ends same = go (standing_of from place) refl ends
+      where
+        go : (st : Standing) → standing_of from place ≡ st → map_by st ≡ Some id → answer_of to place path shadow style ≡ answer_of from place path shadow style
+        go (way.at m) is e = alike_at m (subst (IsSame from to) (sym (one_value e)) same) is
+        go (way.lacks j) is e = alike_lacking j (subst (IsSame from to) (sym (one_value e)) same) is
+        go way.stale is e = no_value e
+        go way.unset is e = no_value e
+
+-- the map in which the steps of a place end is kept
+pub ends_unmarked : (s : SessionState) → IsSound s → (place : PlaceValue) (id : MapId) → map_by (standing_of s place) ≡ Some id → is_marked s id ≡ false
+ends_unmarked s sound place id ends = go (standing_of s place) refl ends
+  where
+    kept_at : (at : PlaceValue) (m : ModuleId) → standing_of s at ≡ way.at m → is_marked s m.map ≡ false
+    kept_at at m is = let there = place_there s sound at m (ap module_by is) in unmarked s m.map there.found there.is
+
+    lacking_in : (j : MapId) (o : Option Resolution) → kept_of s (crate_map place.krate) ≡ o → from_crate s.tables s.sources.blocks s.kept o place ≡ way.lacks j → is_marked s j ≡ false
+    lacking_in j None is_kept f = absurd (let no : ⊥ = cc in no)
+    lacking_in j (Some r) is_kept f = elim (lacking s.tables s.sources.blocks s.kept place.krate [] (way.at (root_of r.map.id)) place.elements j f) [
+      | inl never ↦ absurd (let wrong : ⊥ = cc in wrong)
+      | inr at ↦
+          let own : at.at_last.map ≡ j = lacks_child at.at_last.map (child_kept s.kept at.at_last at.name) j at.lacks in
+          subst (λ (x : MapId). is_marked s x ≡ false) own
+          (kept_at (record { krate = place.krate; elements = at.first }) at.at_last
+          (ap (λ (o : Option Resolution). from_crate s.tables s.sources.blocks s.kept o (record { krate = place.krate; elements = at.first })) is_kept ∙ at.leads))
+    ]
+
+    go : (st : Standing) → standing_of s place ≡ st → map_by st ≡ Some id → is_marked s id ≡ false
+    go (way.at m) is e = subst (λ (x : MapId). is_marked s x ≡ false) (one_value e) (kept_at place m is)
+    go (way.lacks j) is e = subst (λ (x : MapId). is_marked s x ≡ false) (one_value e) (lacking_in j (kept_of s (crate_map place.krate)) refl is)
+    go way.stale is e = no_value e
+    go way.unset is e = no_value e
 
 pub differ_only : RunsBindFromSources → PathsAnswerFromSources → PathsLeadToWhatIsThere → DifferOnlyWhereAltered
-differ_only runs answers leads from to place path shadow style sound off h = elim (same_or_altered sound off h) [
-  | inl same ↦ inl (same_answer place path shadow style sound same runs answers leads off)
+differ_only runs answers leads from to place id path shadow style sound ends h = elim (same_or_altered sound (ends_unmarked from sound place id ends) h) [
+  | inl same ↦ inl (same_answer place path shadow style sound runs answers leads id ends same)
   | inr hit ↦ inr hit
 ]

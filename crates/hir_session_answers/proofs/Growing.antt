@@ -15,6 +15,7 @@ use Rattle.hir_base.specs.declared.ids.ModuleId.{ModuleId}
 use Rattle.hir_base.specs.declared.macro_kind.MacroCallLoc.{MacroCallLoc}
 use Rattle.hir_base.specs.declared.macro_kind.MacroId.{MacroId}
 use Rattle.hir_base.specs.declared.macro_kind.MacroId.TheVariants as macro
+use Rattle.hir_base.specs.declared.place.BlockPlace.{BlockPlace}
 use Rattle.hir_scope.specs.PerNs.{Item}
 use Rattle.hir_scope.specs.declared.imports.ImportOrExternCrate.{ImportOrExternCrate}
 use Rattle.hir_scope.specs.declared.imports.ImportOrExternCrate.TheVariants as import
@@ -22,7 +23,7 @@ use Rattle.hir_scope.specs.declared.imports.ImportOrGlob.{ImportOrGlob}
 use Rattle.hir_scope.specs.declared.imports.ImportOrGlob.TheVariants as value_import
 use Rattle.hir_scope.specs.declared.visibility.Visibility.{Visibility}
 use Rattle.hir_scope.specs.declared.visibility.Visibility.TheVariants as vis
-use Rattle.hir_tables.specs.Tables.{TablesValue, KeepsTables, call_at}
+use Rattle.hir_tables.specs.Tables.{TablesValue, KeepsTables, block_at, call_at}
 use Rattle.hir_def_map_rules.specs.Diagnostics.{call_node}
 use Rattle.hir_def_map_rules.specs.Scoping.{resolution_of}
 use Rattle.hir_def_map_rules.specs.State.{Local, ModuleValue}
@@ -38,9 +39,10 @@ use Rattle.hir_wire.specs.declared.answer.SourceKind.{SourceKind}
 use Rattle.hir_wire.specs.declared.command.MacroStyle.{MacroStyle}
 use Rattle.hir_wire.specs.declared.command.Shadow.{Shadow}
 use Rattle.hir_session_answers.specs.Answers.{answer_in, asking_of}
+use Rattle.hir_session_state.specs.Standing.{most_calls}
 use Rattle.hir_session_answers.specs.LeavesOut.{LeavesNothingOut}
-use Rattle.hir_session_answers.specs.SourceCalls.{and_call, file_source, most_calls, source_call, source_of, source_within}
-use Rattle.hir_session_answers.specs.SourceItems.{adt_definition, answered_macro, answered_type, answered_value, definition_of, import_source, item_in, item_of, macro_definition, maybe_source, module_by, module_definition, together, value_import_source, visibility_source}
+use Rattle.hir_session_answers.specs.SourceCalls.{and_call, block_source, file_source, source_call, source_of, source_within}
+use Rattle.hir_session_answers.specs.SourceItems.{adt_definition, answered_macro, answered_type, answered_value, block_definition, definition_of, import_source, item_in, item_of, macro_definition, maybe_source, module_by, module_definition, together, value_import_source, visibility_source}
 use Rattle.hir_session_state.proofs.Truth.{clash}
 
 -- what was there stays
@@ -67,8 +69,15 @@ all d e i j v w (inr a) (inr b) (inl none) = inl (ap (together d i) none ∙ no_
 all d e i j v w (inr a) (inr b) (inr c) = inr (λ k. together (a k) (b k) (c k))
 
 module _ (few more : TablesValue) (keeps : KeepsTables few more) where
+  block_stays : (b : BlockId) → Stays (block_at few b) (block_at more b)
+  block_stays b = go (block_at few b) refl
+    where
+      go : (o : Option BlockPlace) → block_at few b ≡ o → Stays (block_at few b) (block_at more b)
+      go None s = inl s
+      go (Some place) s = inr (keeps.blocks b.0 place s ∙ sym s)
+
   within_stays : (n : ℕ) (file : HirFileId) (block : Option BlockId) → Stays (source_within n few file block) (source_within n more file block)
-  within_stays n file (Some b) = inl refl
+  within_stays n file (Some b) = mapped block_source (block_at few b) (block_at more b) (block_stays b)
   within_stays n (File f) None = mapped file_source (slice_get few.files f.file_id.0) (slice_get more.files f.file_id.0) (go (slice_get few.files f.file_id.0) refl)
     where
       go : (o : Option (List ℕ)) → slice_get few.files f.file_id.0 ≡ o → Stays (slice_get few.files f.file_id.0) (slice_get more.files f.file_id.0)
@@ -102,7 +111,7 @@ module _ (few more : TablesValue) (keeps : KeepsTables few more) where
   by_origin krate (origin.CrateRoot file) = inr refl
   by_origin krate (origin.File is_mod_rs at tree file) = item_stays krate _ at.file_id tree.block at.id
   by_origin krate (origin.Inline tree at) = item_stays krate _ at.file_id tree.block at.id
-  by_origin krate (origin.BlockExpr id block) = inl refl
+  by_origin krate (origin.BlockExpr id block) = mapped (block_definition krate) (block_at few id) (block_at more id) (block_stays id)
 
   adt_stays : (a : AdtId) → Stays (adt_definition few a) (adt_definition more a)
   adt_stays (adt.StructId i) = item_stays i.loc.container.map.krate _ i.loc.file_id i.loc.block i.loc.id

@@ -1,8 +1,5 @@
--- Nothing is left out of an answer: what a path names in a current crate is written in files, or in what calls expand to.
-use Rattle.std.specs.Prelude.{◌≡◌, ℕ, zero, suc, ◌<◌, ◌≤◌, Bool, true, false, not, ◌||◌, is_some, IsSome, slice_get, Contains, List, [], ◌∷◌, Option, None, Some, option_map, option_and_then}
-use Rattle.std.specs.BTreeMap.{is_at}
-use Rattle.std.specs.Cmp.Lexicographic.{slice_cmp}
-use Rattle.std.specs.Ordering.{nat_cmp}
+-- Nothing is left out of an answer: what a path names in a current map is written in files and blocks, or in what calls expand to.
+use Rattle.std.specs.Prelude.{◌≡◌, ℕ, zero, suc, ◌<◌, ◌≤◌, Bool, true, false, not, ◌||◌, is_some, IsSome, slice_get, Contains, List, cond, Option, None, Some, option_map, option_and_then}
 use Rattle.std.proofs.Common.{ap, arith, refl, subst, sym, ◌∙◌}
 use mathlib.Core.Bool.{true≢false}
 use Rattle.hir_base.specs.ModPath.{Path}
@@ -18,13 +15,13 @@ use Rattle.hir_base.specs.declared.ids.AdtId.TheVariants as adt
 use Rattle.hir_base.specs.declared.ids.Crate.{Crate}
 use Rattle.hir_base.specs.declared.ids.ModuleDefId.{ModuleDefId}
 use Rattle.hir_base.specs.declared.ids.ModuleDefId.TheVariants as def
+use Rattle.hir_base.specs.declared.ids.MapId.{MapId}
 use Rattle.hir_base.specs.declared.ids.ModuleId.{ModuleId}
+use Rattle.hir_base.specs.contracts.ids.MapIdPartialEq.TheImpl as map_id
 use Rattle.hir_base.specs.declared.macro_kind.MacroCallLoc.{MacroCallLoc}
 use Rattle.hir_base.specs.declared.macro_kind.MacroId.{MacroId}
 use Rattle.hir_base.specs.declared.macro_kind.MacroId.TheVariants as macro
 use Rattle.hir_base.specs.declared.place.BlockPlace.{BlockPlace}
-use Rattle.hir_base.specs.declared.place.PlaceElement.{PlaceElement}
-use Rattle.hir_base.specs.declared.place.PlaceElement.TheVariants as element
 use Rattle.hir_scope.specs.declared.imports.ImportOrExternCrate.{ImportOrExternCrate}
 use Rattle.hir_scope.specs.declared.imports.ImportOrExternCrate.TheVariants as import
 use Rattle.hir_scope.specs.declared.imports.ImportOrGlob.{ImportOrGlob}
@@ -33,17 +30,16 @@ use Rattle.hir_scope.specs.PerNs.{Item}
 use Rattle.hir_scope.specs.declared.visibility.Visibility.{Visibility}
 use Rattle.hir_scope.specs.declared.visibility.Visibility.TheVariants as vis
 use Rattle.hir_def_map_rules.specs.Closed.{AreThere, IsThere, ModuleIsThere, PathsLeadToWhatIsThere}
-use Rattle.hir_def_map_rules.specs.WellFormed.{HasNoDanglingReference}
-use Rattle.hir_def_map.specs.WorldParts.{unheld}
-use Rattle.hir_def_map_rules.specs.References.{crate_map, is_missing, any_reference_in, reference_to, test_of, test_visibility, FailsAtItem}
-use Rattle.hir_def_map_rules.proofs.Referred.{module_parts}
-use Rattle.hir_def_map_rules.proofs.NoneOf.{none_at, none_found, not_first, not_second}
+use Rattle.hir_def_map_rules.specs.WellFormed.{AreWellFormed}
+use Rattle.hir_def_map_rules.specs.References.{is_missing, reference_to, test_of, test_visibility, FailsAtItem}
+use Rattle.hir_def_map_rules.proofs.NoneOf.{none_at, not_first, not_second}
 use Rattle.hir_def_map_rules.specs.Scoping.{resolution_of}
-use Rattle.hir_def_map_rules.specs.Scoping.Asking.{Asking}
+use Rattle.hir_def_map_rules.specs.Inner.OverlayLaws.{same_id}
+use Rattle.hir_def_map_rules.specs.Scoping.Asking.{Asking, local_of}
 use Rattle.hir_def_map_rules.specs.Sources.{HoldsNowhere, HoldsNowhereIn, HoldsOfNoExtern, HoldsOfNone, PathsAnswerFromSources, SourceTest, on_adt, on_def, on_import, on_macro, on_macro_item, on_origin, on_some, on_type, on_value, on_value_def, on_value_import, on_visibility}
-use Rattle.hir_def_map_rules.specs.State.{Map, ModuleValue, child_at, child_of, module_at, root_of}
-use Rattle.hir_def_map_rules.specs.Overlay.{Maps, Placed, overlay, module_in}
-use Rattle.hir_def_map_rules.proofs.StaysWellFormed.{Extends-overlay, IsClosed-overlay, LocalIsThere-begins, module_there}
+use Rattle.hir_def_map_rules.specs.State.{ModuleValue, crate_map, module_at}
+use Rattle.hir_def_map_rules.specs.Overlay.{Maps, Placed, holders_of, overlay, module_in, placed_in}
+use Rattle.hir_def_map_rules.proofs.StaysWellFormed.{Extends-overlay, IsClosed-overlay, LocalIsThere-begins}
 use Rattle.hir_def_map_rules.proofs.StaysSourced.{HoldsNowhere-overlay}
 use Rattle.hir_def_map_rules.specs.declared.origin.ModuleOrigin.{ModuleOrigin}
 use Rattle.hir_def_map_rules.specs.declared.origin.ModuleOrigin.TheVariants as origin
@@ -51,13 +47,13 @@ use Rattle.hir_def_map_rules.specs.declared.reference.Reference.TheVariants as n
 use Rattle.hir_item_tree.specs.declared.tree_id.TreeId.{TreeId}
 use Rattle.hir_item_tree.specs.declared.tree_id.TreeKey.{TreeKey}
 use Rattle.hir_tables.specs.SourcePlaces.{file, block as block_place, expansion}
-use Rattle.hir_tables.specs.Tables.{TablesValue, call_at, entry_at, source_of as source_of_tree}
+use Rattle.hir_tables.specs.Tables.{TablesValue, block_at, call_at, entry_at, source_of as source_of_tree}
 use Rattle.hir_def_map_rules.specs.Diagnostics.{call_node}
 use Rattle.hir_collector_rules.specs.Calls.{AreCallsPlaced, IsPlacedBelow}
 use Rattle.hir_collector_rules.specs.Derivation.{Ends}
-use Rattle.hir_collector_rules.specs.Keys.{HasMeaning}
-use Rattle.hir_def_collector_laws.specs.Sources.{IsClearOf, RunsBindFromSources}
-use Rattle.hir_collector_rules.specs.Start.{root_key}
+use Rattle.hir_collector_rules.specs.Start.{Beginning, read_by}
+use Rattle.hir_def_collector_laws.specs.Sources.{BeginsClear, IsClearOf, RunsBindFromSources}
+use Rattle.hir_def_collector_laws.specs.Whole.{StandsOnWhole}
 use Rattle.hir_collector_rules.specs.declared.source_database.Key.TheVariants as keys
 use Rattle.hir_wire.specs.declared.answer.AnswerVisibility.{AnswerVisibility}
 use Rattle.hir_wire.specs.declared.answer.Definition.{Definition}
@@ -67,19 +63,21 @@ use Rattle.hir_wire.specs.declared.answer.SourceKind.{SourceKind}
 use Rattle.hir_wire.specs.declared.command.MacroStyle.{MacroStyle}
 use Rattle.hir_wire.specs.declared.command.Shadow.{Shadow}
 use Rattle.hir_session_answers.specs.Answers.{answer_in, asking_of}
-use Rattle.hir_crate_graph.specs.CrateSet.{has_crate}
-use Rattle.hir_session_state.specs.Crates.{transitive_in, id_of}
 use Rattle.hir_session_answers.specs.LeavesOut.{LeavesNothingOut}
-use Rattle.hir_session_state.specs.SessionState.{SessionState, Resolution, finished_of, is_marked, read_of, beginning_of, workspace_of, IsSound}
-use Rattle.hir_session_answers.specs.SourceCalls.{and_call, file_source, most_calls, source_call, source_of, source_within}
-use Rattle.hir_session_answers.specs.SourceItems.{adt_definition, answered_macro, answered_type, answered_value, definition_of, import_source, item_of, macro_definition, maybe_source, module_by, module_definition, together, value_import_source, visibility_source}
-use Rattle.hir_session_answers.specs.Status.{module_below}
-use Rattle.hir_session_state.proofs.Names.{among_at, among_there}
-use Rattle.hir_session_state.proofs.Resolving.{behind_current, behind_extends, behind_whole, own_absent, root_means, stands_on_whole}
-use Rattle.hir_session_state.proofs.Depending.{depended}
-use Rattle.hir_session_state.proofs.Following.{follows_unmarked}
+use Rattle.hir_session_state.specs.Kept.{collected_of, placed_by}
+use Rattle.hir_session_state.specs.SessionState.{SessionState, Resolution, beginning_by, finished_of, kept_of, module_of, read_of, read_under, standing_of, workspace_of, IsSound}
+use Rattle.hir_session_state.specs.Standing.{most_calls}
+use Rattle.hir_session_answers.specs.SourceCalls.{and_call, block_source, file_source, source_call, source_of, source_within}
+use Rattle.hir_session_answers.specs.SourceItems.{adt_definition, answered_macro, answered_type, answered_value, block_definition, definition_of, import_source, item_of, macro_definition, maybe_source, module_by, module_definition, together, value_import_source, visibility_source}
 use Rattle.hir_session_answers.proofs.LowerLaws.{asked_keys_have_meaning}
-use Rattle.hir_session_state.proofs.Worlds.{AgreeOn-refl, DependsOn-below, DependsOn-holds}
+use Rattle.hir_session_state.proofs.Holding.{start_holders}
+use Rattle.hir_session_state.proofs.Standing.{at_module, block_begun, kept_gives, module_there}
+use Rattle.hir_session_state.proofs.Truth.{one_value}
+use Rattle.hir_session_state.proofs.Worlds.{AgreeOn-refl}
+use Rattle.hir_def_map.specs.WorldParts.{among}
+use Rattle.hir_base.specs.Place.{PlaceValue}
+use Rattle.hir_session_state.specs.Crates.{transitive_in}
+use Rattle.hir_session_answers.proofs.ReadMaps.{krate_is, own_apart, rank, read_whole, reads, stood_on_whole}
 
 -- ---- options
 
@@ -91,58 +89,86 @@ pub mapped_some : {A B : Type 0} (f : A → B) (o : Option A) → is_some (optio
 mapped_some f None = refl
 mapped_some f (Some x) = refl
 
--- ---- the crates on which a current crate stands
+-- ---- a run of which something is kept
 
-unmarked_behind : (s : SessionState) → IsSound s → (k : ℕ) → is_marked s (id_of k) ≡ false → (c : Crate) → has_crate (transitive_in s.crates k) c ≡ true → is_marked s (crate_map c) ≡ false
-unmarked_behind s sound k off c behind = DependsOn-holds {P = λ i. is_marked s (id_of i) ≡ false} (λ i d p among. follows_unmarked sound i d p among) ((depended sound k c).0 behind) off
+module _ (s : SessionState) (sound : IsSound s) (id : MapId) (r : Resolution) (is : kept_of s id ≡ Some r) where
+  -- what its run begins with
+  abbrev pub start_of : Beginning
+  start_of = (kept_gives s sound id r is).from
 
--- what is kept of a current crate
-abbrev pub current_of : (s : SessionState) → IsSound s → (k : ℕ) → is_marked s (id_of k) ≡ false → Resolution
-current_of s sound k off = (sound.current (id_of k) off).found
+  pub ended_of : Ends s.tables (workspace_of s) (finished_of s) start_of (collected_of r)
+  ended_of = (kept_gives s sound id r is).resolved.ends (workspace_of s) (finished_of s) AgreeOn-refl
 
-own_apart : (s : SessionState) (sound : IsSound s) (k : ℕ) (off : is_marked s (id_of k) ≡ false) → read_of s (id_of k) (current_of s sound k off).map.id ≡ None
-own_apart s sound k off = ap (read_of s (id_of k)) (sound.current (id_of k) off).gives.own ∙ own_absent s k sound
+  -- it reads what the place does
+  pub start_read : read_by (workspace_of s) (finished_of s) start_of.start ≡ read_under s id r.holders
+  start_read =
+      let holders = start_holders s id r (kept_gives s sound id r is) in
+      λ i. among (transitive_in s.crates (krate_is s sound id r is i).0) (sym holders i) (finished_of s)
 
--- ---- what current crates bind, under a test of sources that holds of no tree that a run asked for
+  -- a block's run begins with the tree of the block, and with the crates of its crate's map
+  begins_clear : (t : SourceTest) → ((b : BlockId) → id.block ≡ Some b → HoldsOfNoExtern t (local_of (option_map (λ (p : Placed). p.local) (read_under s id r.holders (crate_map id.krate)))))
+      → BeginsClear t (read_under s id r.holders) start_of.start start_of.tree
+  begins_clear t local = go id.block refl
+    where
+      go : (o : Option BlockId) → id.block ≡ o → BeginsClear t (read_under s id r.holders) start_of.start start_of.tree
+      go None of =
+          let begun = one_value (subst (λ (o : Option BlockId). beginning_by s id.krate o ≡ Some start_of) of (kept_gives s sound id r is).begun) in
+          subst (λ (x : Beginning). BeginsClear t (read_under s id r.holders) x.start x.tree) begun tt
+      go (Some b) of =
+          let begun = block_begun s id.krate b start_of (subst (λ (o : Option BlockId). beginning_by s id.krate o ≡ Some start_of) of (kept_gives s sound id r is).begun) in
+          subst (λ (x : Beginning). BeginsClear t (read_under s id r.holders) x.start x.tree) begun.is (refl, local b of)
+
+-- ---- what current maps bind, under a test of sources that holds of no tree that a run asked for
 
 module _ (runs : RunsBindFromSources) (s : SessionState) (sound : IsSound s) (t : SourceTest)
-    (written : (j : ℕ) (off : is_marked s (id_of j) ≡ false) (key : TreeKey) → Contains (current_of s sound j off).asked (keys.Tree key) → t.holder key.id.file key.id.block ≡ false) where
-  -- it holds of no module that is there beside the maps that a crate reads
-  abbrev ShowsThere : ℕ → Resolution → Type 0
-  ShowsThere j r = (m : ModuleId) → ModuleIsThere (overlay (read_of s (id_of j)) r.map) m → t.shown m ≡ false
+    (written : (j : MapId) (f : Resolution) → kept_of s j ≡ Some f → (key : TreeKey) → Contains f.asked (keys.Tree key) → t.holder key.id.file key.id.block ≡ false) where
+  -- it holds of no module that is there beside the maps that a place reads
+  abbrev ShowsThere : MapId → Resolution → Type 0
+  ShowsThere j f = (m : ModuleId) → ModuleIsThere (overlay (read_under s j f.holders) f.map) m → t.shown m ≡ false
 
   abbrev Nowhere : Resolution → Type 0
-  Nowhere r = HoldsNowhereIn t r.map × HoldsOfNoExtern t r.local
+  Nowhere f = HoldsNowhereIn t f.map × HoldsOfNoExtern t f.local
 
-  reads : (j : ℕ) (off : is_marked s (id_of j) ≡ false) → ShowsThere j (current_of s sound j off)
-      → ((i : ℕ) → i < j → (still : is_marked s (id_of i) ≡ false) → ShowsThere i (current_of s sound i still) → Nowhere (current_of s sound i still))
-      → HoldsNowhere t (read_of s (id_of j))
-  reads j off shows below id placed e =
-      let own : Resolution = current_of s sound j off in
-      let unmarked = unmarked_behind s sound j off in
-      let there = among_there (transitive_in s.crates j) (finished_of s) id placed e in
-      let w = behind_current s j sound unmarked id.krate there.1 in
-      let same : id ≡ crate_map id.krate = λ i. record { krate = id.krate; block = there.0 i } in
-      let is : placed ≡ unheld w.found.map w.found.local =
-      (let both : Some placed ≡ Some (unheld w.found.map w.found.local) = sym e ∙ ap (read_of s (id_of j)) same ∙ among_at (transitive_in s.crates j) s.kept id.krate w.found there.1 w.is in cc) in
-      let lower : id.krate.0 < j = DependsOn-below sound.below ((depended sound j id.krate).0 there.1) in
-      let seen : ShowsThere id.krate.0 w.found =
-      λ m h. shows m (Extends-overlay (read_of s (id_of j)) own.map (own_apart s sound j off) (named.Module m) (behind_extends s j sound unmarked id.krate there.1 (named.Module m) h)) in
-      let bound : Nowhere w.found = below id.krate.0 lower (unmarked id.krate there.1) seen in
-      subst (λ (p : Placed). HoldsNowhereIn t p.map) (sym is) bound.0
+  apart : (j : MapId) (f : Resolution) → kept_of s j ≡ Some f → read_under s j f.holders f.map.id ≡ None
+  apart j f is = ap (read_under s j f.holders) (kept_gives s sound j f is).own ∙ own_apart s sound j f is
 
-  binds : (n j : ℕ) → j < n → (off : is_marked s (id_of j) ≡ false) → ShowsThere j (current_of s sound j off) → Nowhere (current_of s sound j off)
-  binds zero j low off shows = absurd (omega arith)
-  binds (suc n) j low off shows =
-      let now = sound.current (id_of j) off in
-      let unmarked = unmarked_behind s sound j off in
-      let clear : IsClearOf t (read_of s (id_of j)) now.found.asked now.found.map =
-      record { written = written j off; shown = shows; read = reads j off shows (λ i lower still seen. binds n i (omega arith) still seen) } in
-      runs t s.tables (workspace_of s) (finished_of s) (beginning_of s (id_of j)) now.found
-      (behind_whole s j sound unmarked)
-      (stands_on_whole s j sound unmarked)
-      (now.gives.resolved.ends (workspace_of s) (finished_of s) AgreeOn-refl)
-      clear
+  -- it holds of no module that is there beside the maps that a map reads which is read
+  seen_in : (j : MapId) (f : Resolution) (is : kept_of s j ≡ Some f) → ShowsThere j f → (id : MapId) (placed : Placed) (e : read_under s j f.holders id ≡ Some placed)
+      → ShowsThere id (reads s sound j f is id placed e).found
+  seen_in j f is shows id placed e m h =
+      shows m (Extends-overlay (read_under s j f.holders) f.map (apart j f is) (named.Module m) ((reads s sound j f is id placed e).extends (named.Module m) h))
+
+  bound_reads : (j : MapId) (f : Resolution) → kept_of s j ≡ Some f → ShowsThere j f
+      → ((i : MapId) (g : Resolution) → kept_of s i ≡ Some g → rank i g < rank j f → ShowsThere i g → Nowhere g) → HoldsNowhere t (read_under s j f.holders)
+  bound_reads j f is shows below id placed e =
+      let own = reads s sound j f is id placed e in
+      subst (λ (p : Placed). HoldsNowhereIn t p.map) (sym own.map) (below id own.found own.is_kept own.lower (seen_in j f is shows id placed e)).0
+
+  -- nor of the crates with which paths may begin in a map that is read
+  local_clear : (j : MapId) (f : Resolution) (is : kept_of s j ≡ Some f) → ShowsThere j f
+      → ((i : MapId) (g : Resolution) → kept_of s i ≡ Some g → rank i g < rank j f → ShowsThere i g → Nowhere g) → (id : MapId)
+      → HoldsOfNoExtern t (local_of (option_map (λ (p : Placed). p.local) (read_under s j f.holders id)))
+  local_clear j f is shows below id = go (read_under s j f.holders id) refl
+    where
+      go : (o : Option Placed) → read_under s j f.holders id ≡ o → HoldsOfNoExtern t (local_of (option_map (λ (p : Placed). p.local) o))
+      go None e = refl
+      go (Some placed) e =
+          let own = reads s sound j f is id placed e in
+          subst (λ (p : Placed). HoldsOfNoExtern t p.local) (sym own.map) (below id own.found own.is_kept own.lower (seen_in j f is shows id placed e)).1
+
+  binds : (n : ℕ) (j : MapId) (f : Resolution) → kept_of s j ≡ Some f → rank j f < n → ShowsThere j f → Nowhere f
+  binds zero j f is low shows = absurd (let no : rank j f < 0 = low in omega arith)
+  binds (suc n) j f is low shows =
+      let start = sym (start_read s sound j f is) in
+      let below = λ (i : MapId) (g : Resolution) (there : kept_of s i ≡ Some g) (lower : rank i g < rank j f) (seen : ShowsThere i g). binds n i g there (let less : rank i g < n = omega arith in less) seen in
+      let clear : IsClearOf t (read_under s j f.holders) f.asked f.map = record { written = written j f is; shown = shows; read = bound_reads j f is shows below } in
+      runs t s.tables (workspace_of s) (finished_of s) (start_of s sound j f is) (collected_of f)
+      (subst AreWellFormed start (read_whole s sound j f is))
+      (subst (λ (maps : Maps). StandsOnWhole (workspace_of s) maps (start_of s sound j f is).start) start (stood_on_whole s sound j f is))
+      (subst (λ (maps : Maps). BeginsClear t maps (start_of s sound j f is).start (start_of s sound j f is).tree) start
+      (begins_clear s sound j f is t (λ b of. local_clear j f is shows below (crate_map j.krate))))
+      (ended_of s sound j f is)
+      (subst (λ (maps : Maps). IsClearOf t maps f.asked f.map) start clear)
 
 -- ---- source items of what such a test doesn't hold of
 
@@ -159,7 +185,7 @@ module _ (tables : TablesValue) (maps : Maps) where
   by_origin krate (origin.CrateRoot root) f = refl
   by_origin krate (origin.File is_mod_rs at tree number) f = item_there krate _ at.file_id tree.block at.id f
   by_origin krate (origin.Inline tree at) f = item_there krate _ at.file_id tree.block at.id f
-  by_origin krate (origin.BlockExpr id block) f = absurd (true≢false f)
+  by_origin krate (origin.BlockExpr id block) f = mapped_some (block_definition krate) (block_at tables id) ∙ sym (mapped_some block_source (block_at tables id)) ∙ present _ f
 
   adt_there : (a : AdtId) → on_adt unsourced a ≡ false → is_some (adt_definition tables a) ≡ true
   adt_there (adt.StructId i) f = item_there i.loc.container.map.krate _ i.loc.file_id i.loc.block i.loc.id f
@@ -294,144 +320,132 @@ file_there tables f means = go (slice_get tables.files f.file_id.0) means
     go None h = absurd (let wrong : ⊥ = cc in wrong)
     go (Some path) h = refl
 
+-- a block that a number means
+block_there : (tables : TablesValue) (held : HirFileId) (b : BlockId) → IsSome (source_of_tree tables (record { file = held; block = Some b })) → is_some (option_map block_source (block_at tables b)) ≡ true
+block_there tables held b means = go (block_at tables b) means
+  where
+    go : (o : Option BlockPlace) → IsSome (option_map block_place o) → is_some (option_map block_source o) ≡ true
+    go None h = absurd (let wrong : ⊥ = cc in wrong)
+    go (Some place) h = refl
+
 module _ (tables : TablesValue) (placed : AreCallsPlaced tables) where
-  -- the number of a block means nothing
-  no_block : (b : BlockId) → IsSome (option_map block_place (slice_get tables.blocks b.0)) → ⊥
-  no_block b means = go (slice_get tables.blocks b.0) (ap (λ (bs : List BlockPlace). slice_get bs b.0) placed.blocks) means
-    where
-      go : (o : Option BlockPlace) → o ≡ None → IsSome (option_map block_place o) → ⊥
-      go None e h = let wrong : ⊥ = cc in wrong
-      go (Some place) e h = let wrong : ⊥ = cc in wrong
-
-  bare : (held : HirFileId) (block : Option BlockId) → IsSome (source_of_tree tables (record { file = held; block = block })) → block ≡ None
-  bare held None means = refl
-  bare held (Some b) means = absurd (no_block b means)
-
   -- few calls can stand in one another where a call before the one of this number is written
-  few_around : (n m : ℕ) (held : HirFileId) (block : Option BlockId) → m ≤ n → ((c : MacroCallId) → held ≡ Macro c → block ≡ None → c.0 < m) → block ≡ None → most_calls held ≤ n
-  few_around n m (File f) block low earlier none = omega arith
-  few_around n m (Macro c) block low earlier none = let before : c.0 < m = earlier c refl none in omega arith
+  few_around : (n m : ℕ) (held : HirFileId) → m ≤ n → ((c : MacroCallId) → held ≡ Macro c → c.0 < m) → most_calls held ≤ n
+  few_around n m (File f) low earlier = omega arith
+  few_around n m (Macro c) low earlier = let before : c.0 < m = earlier c refl in omega arith
 
   -- what holds a tree that has a number, where as many calls may stand in one another as can
-  numbered_within : (n : ℕ) (held : HirFileId) (block : Option BlockId) → most_calls held ≤ n → IsSome (source_of_tree tables (record { file = held; block = block }))
+  numbered_within : (n : ℕ) (held : HirFileId) (block : Option BlockId) → (block ≡ None → most_calls held ≤ n) → IsSome (source_of_tree tables (record { file = held; block = block }))
       → is_some (source_within n tables held block) ≡ true
-  numbered_within n held (Some b) low means = absurd (no_block b means)
+  numbered_within n held (Some b) low means = block_there tables held b means
   numbered_within n (File f) None low means = file_there tables f means
-  numbered_within zero (Macro c) None low means = absurd (omega arith)
+  numbered_within zero (Macro c) None low means = absurd (let bound : suc c.0 ≤ zero = low refl in omega arith)
   numbered_within (suc n) (Macro c) None low means = go (call_at tables c) refl means (λ held block. numbered_within n held block)
     where
       inside : MacroCallLoc → Option ItemSource
       inside call = option_map (and_call (source_call call.kind)) (source_within n tables (call_node call.kind).file_id (call_node call.kind).block)
 
       within : c.0 ≤ n
-      within = let below : suc c.0 ≤ suc n = low in omega arith
+      within = let below : suc c.0 ≤ suc n = low refl in omega arith
 
       of_call : (call : MacroCallLoc) → call_at tables c ≡ Some call
-          → ((held : HirFileId) (block : Option BlockId) → most_calls held ≤ n → IsSome (source_of_tree tables (record { file = held; block = block })) → is_some (source_within n tables held block) ≡ true)
+          → ((held : HirFileId) (block : Option BlockId) → (block ≡ None → most_calls held ≤ n) → IsSome (source_of_tree tables (record { file = held; block = block })) → is_some (source_within n tables held block) ≡ true)
           → is_some (option_and_then inside (call_at tables c)) ≡ true
       of_call call e next =
           let node : AstId = call_node call.kind in
           let own : IsPlacedBelow tables c.0 node = placed.calls c.0 call e in
-          let none : node.block ≡ None = bare node.file_id node.block own.source in
-          let there : is_some (source_within n tables node.file_id node.block) ≡ true = next node.file_id node.block (few_around n c.0 node.file_id node.block within own.earlier none) own.source in
+          let there : is_some (source_within n tables node.file_id node.block) ≡ true =
+          next node.file_id node.block (λ none. few_around n c.0 node.file_id within (λ m same. own.earlier m same none)) own.source in
           subst (λ (o : Option MacroCallLoc). is_some (option_and_then inside o) ≡ true) (sym e)
           (mapped_some (and_call (source_call call.kind)) (source_within n tables node.file_id node.block) ∙ there)
 
       go : (o : Option MacroCallLoc) → call_at tables c ≡ o → IsSome (option_map expansion (option_and_then (λ (call : MacroCallLoc). entry_at tables call.entry) o))
-          → ((held : HirFileId) (block : Option BlockId) → most_calls held ≤ n → IsSome (source_of_tree tables (record { file = held; block = block })) → is_some (source_within n tables held block) ≡ true)
+          → ((held : HirFileId) (block : Option BlockId) → (block ≡ None → most_calls held ≤ n) → IsSome (source_of_tree tables (record { file = held; block = block })) → is_some (source_within n tables held block) ≡ true)
           → is_some (option_and_then inside (call_at tables c)) ≡ true
       go None e h next = absurd (let wrong : ⊥ = cc in wrong)
       go (Some call) e h next = of_call call e next
 
   -- so each tree that has a number is held by something
   numbered_there : (id : TreeId) → IsSome (source_of_tree tables id) → is_some (source_of tables id.file id.block) ≡ true
-  numbered_there id means = numbered_within (most_calls id.file) id.file id.block (omega arith) means
+  numbered_there id means = numbered_within (most_calls id.file) id.file id.block (λ none. omega arith) means
 
--- a tree that the run for a current crate asked for is of a file, or of what a call expands to
-pub asked_there : (s : SessionState) (sound : IsSound s) (j : ℕ) (off : is_marked s (id_of j) ≡ false) (key : TreeKey) → Contains (current_of s sound j off).asked (keys.Tree key)
+-- a tree that the run for a current place asked for is of a file or a block, or of what a call expands to
+pub asked_there : (s : SessionState) (sound : IsSound s) (id : MapId) (r : Resolution) → kept_of s id ≡ Some r → (key : TreeKey) → Contains r.asked (keys.Tree key)
     → is_some (source_of s.tables key.id.file key.id.block) ≡ true
-asked_there s sound j off key asked =
-    let now = sound.current (id_of j) off in
-    let ended : Ends s.tables (workspace_of s) (finished_of s) (beginning_of s (id_of j)) now.found = now.gives.resolved.ends (workspace_of s) (finished_of s) AgreeOn-refl in
-    let rooted : HasMeaning s.tables (root_key (beginning_of s (id_of j)).start (beginning_of s (id_of j)).tree) = root_means s sound (id_of j) (sound.placed (id_of j) off) in
-    let means : IsSome (source_of_tree s.tables key.id) = asked_keys_have_meaning s.tables (workspace_of s) (finished_of s) (beginning_of s (id_of j)) now.found rooted ended (keys.Tree key) asked in
+asked_there s sound id r is key asked =
+    let gives = kept_gives s sound id r is in
+    let means : IsSome (source_of_tree s.tables key.id) =
+    asked_keys_have_meaning s.tables (workspace_of s) (finished_of s) gives.from (collected_of r) gives.meant (ended_of s sound id r is) (keys.Tree key) asked in
     numbered_there s.tables sound.calls key.id means
 
 -- ---- the module that a place names
 
-module _ (finished : Maps) (map : Map) (names : HasNoDanglingReference (overlay finished map) map) where
-  child_there : (at : ℕ) (name : List ℕ) (next : ModuleId) → child_at map at name ≡ Some next → ModuleIsThere (overlay finished map) next
-  child_there at name next e = go (module_at map at) refl e
-    where
-      go : (o : Option ModuleValue) → module_at map at ≡ o → child_of o name ≡ Some next → ModuleIsThere (overlay finished map) next
-      go None s f = absurd cc
-      go (Some v) s f =
-          let missing = is_missing (overlay finished map) in
-          present (is_some (module_in (overlay finished map) next))
-          (none_found (λ (x : ModuleId). missing (named.Module x)) (is_at (slice_cmp nat_cmp name)) v.children next
-          (module_parts missing v (none_at (any_reference_in missing) map.modules names.modules at v s)).children f)
+-- a module is there, in a map that is kept
+pub record IsThereAt (s : SessionState) (m : ModuleId) : Type 0 where
+  pub found : Resolution
+  pub is : kept_of s m.map ≡ Some found
+  pub module_ : is_some (module_at found.map m.index) ≡ true
+  pub there : ModuleIsThere (overlay (read_under s m.map found.holders) found.map) m
 
-  -- steps down from a module that is there lead to one
-  below_there : (elements : List PlaceElement) (from at : ModuleId) → ModuleIsThere (overlay finished map) from → module_below map from elements ≡ Some at
-      → ModuleIsThere (overlay finished map) at
-  below_there [] from at there e = let same : from ≡ at = cc in subst (λ (m : ModuleId). ModuleIsThere (overlay finished map) m) same there
-  below_there (element.Module name ∷ more) from at there e = go (λ next. below_there more next at) (child_at map from.index name) refl e
-    where
-      go : ((next : ModuleId) → ModuleIsThere (overlay finished map) next → module_below map next more ≡ Some at → ModuleIsThere (overlay finished map) at)
-          → (o : Option ModuleId) → child_at map from.index name ≡ o → option_and_then (λ (next : ModuleId). module_below map next more) o ≡ Some at
-          → ModuleIsThere (overlay finished map) at
-      go onward None s f = absurd cc
-      go onward (Some next) s f = onward next (child_there from.index name next s) f
-  below_there (element.Block id ∷ more) from at there e = absurd cc
+-- so is one that a place names
+pub place_there : (s : SessionState) → IsSound s → (place : PlaceValue) (m : ModuleId) → module_of s place ≡ Some m → IsThereAt s m
+place_there s sound place m named =
+    let kept = module_there s sound place m (at_module (standing_of s place) m named) in
+    let read : Maps = read_under s m.map kept.found.holders in
+    let own : map_id.ghosts.eq m.map kept.found.map.id ≡ true = ap (λ (x : MapId). map_id.ghosts.eq m.map x) (kept_gives s sound m.map kept.found kept.is).own ∙ same_id m.map in
+    record {
+      found = kept.found;
+      is = kept.is;
+      module_ = kept.there;
+      there = ap (λ (b : Bool). is_some (option_and_then (λ (p : Placed). module_at p.map m.index) (cond b (Some (placed_in read kept.found.map)) (read m.map)))) own ∙ kept.there;
+    }
 
 -- ---- answers
 
--- the maps on which a current crate stands, it among them
-abbrev pub maps_behind : (s : SessionState) (sound : IsSound s) (k : ℕ) → is_marked s (id_of k) ≡ false → Maps
-maps_behind s sound k off = overlay (read_of s (id_of k)) (current_of s sound k off).map
+-- the maps on which a current place stands, its own among them
+abbrev pub maps_behind : SessionState → MapId → Resolution → Maps
+maps_behind s id r = overlay (read_under s id r.holders) r.map
 
 -- what they bind, and the crates with which its tables may begin, have sources
 pub record IsSourced (s : SessionState) (maps : Maps) (r : Resolution) : Type 0 where
   pub bound : HoldsNowhere (unsourced s.tables maps) maps
   pub begun : HoldsOfNoExtern (unsourced s.tables maps) r.local
 
-pub sourced : RunsBindFromSources → (s : SessionState) (sound : IsSound s) (k : ℕ) (off : is_marked s (id_of k) ≡ false)
-    → IsSourced s (maps_behind s sound k off) (current_of s sound k off)
-sourced runs s sound k off =
-    let r : Resolution = current_of s sound k off in
-    let maps : Maps = maps_behind s sound k off in
+pub sourced : RunsBindFromSources → (s : SessionState) (sound : IsSound s) (id : MapId) (r : Resolution) → kept_of s id ≡ Some r → IsSourced s (maps_behind s id r) r
+sourced runs s sound id r is =
+    let maps : Maps = maps_behind s id r in
     let test : SourceTest = unsourced s.tables maps in
-    let written : (j : ℕ) (off : is_marked s (id_of j) ≡ false) (key : TreeKey) → Contains (current_of s sound j off).asked (keys.Tree key) → test.holder key.id.file key.id.block ≡ false =
-    λ j off key asked. ap not (asked_there s sound j off key asked) in
+    let written : (j : MapId) (f : Resolution) → kept_of s j ≡ Some f → (key : TreeKey) → Contains f.asked (keys.Tree key) → test.holder key.id.file key.id.block ≡ false =
+    λ j f there key asked. ap not (asked_there s sound j f there key asked) in
     let shows : (m : ModuleId) → ModuleIsThere maps m → test.shown m ≡ false = λ m there. ap not there in
-    let own = binds runs s sound test written (suc k) k (omega arith) off shows in
+    let own = binds runs s sound test written (suc (rank id r)) id r is (omega arith) shows in
     record {
-      bound = HoldsNowhere-overlay test (read_of s (id_of k)) r.map (reads runs s sound test written k off shows (binds runs s sound test written k)) own.0;
+      bound = HoldsNowhere-overlay test (read_under s id r.holders) r.map
+          (bound_reads runs s sound test written id r is shows (λ i g there lower seen. binds runs s sound test written (rank id r) i g there lower seen)) own.0;
       begun = own.1;
     }
 
--- an answer from a module of a current crate leaves nothing out
-pub whole : RunsBindFromSources → PathsAnswerFromSources → PathsLeadToWhatIsThere → (s : SessionState) (sound : IsSound s) (k : ℕ) (off : is_marked s (id_of k) ≡ false)
-    → (elements : List PlaceElement) (at : ModuleId) (path : Path) (shadow : Shadow) (style : Option MacroStyle)
-    → module_below (current_of s sound k off).map (root_of (current_of s sound k off).map.id) elements ≡ Some at
-    → LeavesNothingOut
-    (resolution_of (overlay (read_of s (id_of k)) (current_of s sound k off).map) (asking_of (current_of s sound k off).local shadow style) at path).resolved_def
-    (answer_in s.tables (overlay (read_of s (id_of k)) (current_of s sound k off).map) (current_of s sound k off).local at path shadow style)
-whole runs answers leads s sound k off elements at path shadow style is =
-    let now = sound.current (id_of k) off in
-    let r : Resolution = now.found in
-    let maps : Maps = overlay (read_of s (id_of k)) r.map in
+-- what a kept place reads, where it is looked up
+pub read_kept : (s : SessionState) (id : MapId) (r : Resolution) → kept_of s id ≡ Some r → read_of s id ≡ read_under s id r.holders
+read_kept s id r is = ap (λ (o : Option Resolution). read_under s id (holders_of (option_map placed_by o))) is
+
+-- an answer from a module of a current map leaves nothing out
+pub whole : RunsBindFromSources → PathsAnswerFromSources → PathsLeadToWhatIsThere → (s : SessionState) (sound : IsSound s) (m : ModuleId) (r : Resolution) (is : kept_of s m.map ≡ Some r)
+    → ModuleIsThere (maps_behind s m.map r) m → (path : Path) (shadow : Shadow) (style : Option MacroStyle)
+    → LeavesNothingOut (resolution_of (maps_behind s m.map r) (asking_of r.local shadow style) m path).resolved_def (answer_in s.tables (maps_behind s m.map r) r.local m path shadow style)
+whole runs answers leads s sound m r is there path shadow style =
+    let gives = kept_gives s sound m.map r is in
+    let read : Maps = read_under s m.map r.holders in
+    let maps : Maps = maps_behind s m.map r in
     let test : SourceTest = unsourced s.tables maps in
-    let written : IsSourced s maps r = sourced runs s sound k off in
+    let written : IsSourced s maps r = sourced runs s sound m.map r is in
     let asking : Asking = asking_of r.local shadow style in
-    let apart = own_apart s sound k off in
-    let closed = IsClosed-overlay (read_of s (id_of k)) r.map apart (behind_whole s k sound (unmarked_behind s sound k off)) now.gives.names in
-    let root = module_there (read_of s (id_of k)) r.map 0 now.gives.names.root in
-    let there = below_there (read_of s (id_of k)) r.map now.gives.names elements (root_of r.map.id) at root is in
-    let none : HoldsOfNone test (resolution_of maps asking at path).resolved_def = answers test maps asking at path written.bound written.begun in
-    let lead : AreThere maps (resolution_of maps asking at path).resolved_def = leads maps asking at path closed (LocalIsThere-begins maps r.local now.gives.begins) there in
+    let alone : read r.map.id ≡ None = ap read gives.own ∙ own_apart s sound m.map r is in
+    let closed = IsClosed-overlay read r.map alone (read_whole s sound m.map r is) gives.names in
+    let none : HoldsOfNone test (resolution_of maps asking m path).resolved_def = answers test maps asking m path written.bound written.begun in
+    let lead : AreThere maps (resolution_of maps asking m path).resolved_def = leads maps asking m path closed (LocalIsThere-begins maps r.local gives.reaches) there in
     record {
-      types = types s.tables maps written.bound (resolution_of maps asking at path).resolved_def.types none.types lead.types;
-      values = values s.tables maps written.bound (resolution_of maps asking at path).resolved_def.values none.values;
-      macros = macros s.tables maps written.bound (resolution_of maps asking at path).resolved_def.macros none.macros;
+      types = types s.tables maps written.bound (resolution_of maps asking m path).resolved_def.types none.types lead.types;
+      values = values s.tables maps written.bound (resolution_of maps asking m path).resolved_def.values none.values;
+      macros = macros s.tables maps written.bound (resolution_of maps asking m path).resolved_def.macros none.macros;
     }

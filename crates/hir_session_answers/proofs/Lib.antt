@@ -1,5 +1,7 @@
 pub mod LowerLaws
-pub mod CallLemmas
+pub mod Walks
+pub mod ReadMaps
+pub mod Defined
 pub mod LeftOut
 pub mod Reported
 pub mod Told

@@ -24,8 +24,8 @@ pub paths_answer : PathsAnswerFromSources
 paths_answer t maps asking from path nowhere externs = paths_from_sources t maps nowhere asking externs from path.kind path.segments
 
 pub runs_bind : RunsBindFromSources
-runs_bind t tables w finished from answer whole stands e clear =
-    ends_sourced t paths_answer paths_lead (read_by w finished from.start) whole tables w finished from answer refl stands e clear
+runs_bind t tables w finished from answer whole stands begins e clear =
+    ends_sourced t paths_answer paths_lead (read_by w finished from.start) whole tables w finished from answer refl stands begins e clear
 
 pub runs_name : RunsNameWhatIsThere
 runs_name tables w finished from answer whole stands e =

@@ -24,8 +24,8 @@ use Rattle.hir_wire.specs.declared.reply.Status.{Status}
 use Rattle.hir_wire.specs.declared.reply.Status.TheVariants as status
 use Rattle.hir_session_state.specs.declared.error.QueryError.{QueryError}
 use Rattle.hir_session_state.specs.declared.error.QueryError.TheVariants as error
-use Rattle.hir_session_state.specs.SessionState.{SessionState, Resolution, kept_of, read_of}
-use Rattle.hir_session_answers.specs.Status.{status_of, map_of, module_of}
+use Rattle.hir_session_state.specs.SessionState.{SessionState, Resolution, kept_of, module_of, read_of}
+use Rattle.hir_session_answers.specs.Status.{status_of}
 use Rattle.hir_session_answers.specs.SourceItems.{answered_type, answered_value, answered_macro}
 
 -- the shadow mode that a query asks for
@@ -56,11 +56,10 @@ named_by tables maps r = record {
 abbrev pub answer_in : TablesValue → Maps → Local → ModuleId → Path → Shadow → Option MacroStyle → Answer
 answer_in tables maps local m path shadow style = named_by tables maps (resolution_of maps (asking_of local shadow style) m path)
 
--- the answer over what is kept, from a module of it, beside the finished maps that its crate reads
-abbrev pub answer_from : TablesValue → Maps → Option Resolution → Option ModuleId → Path → Shadow → Option MacroStyle → Result Answer QueryError
+-- the answer over what is kept, from a module of it, beside the finished maps that it reads
+abbrev pub answer_from : TablesValue → Maps → Option Resolution → ModuleId → Path → Shadow → Option MacroStyle → Result Answer QueryError
 answer_from tables read None m path shadow style = Err error.UnknownPlace
-answer_from tables read (Some r) None path shadow style = Err error.UnknownPlace
-answer_from tables read (Some r) (Some m) path shadow style = Ok (answer_in tables (overlay read r.map) r.local m path shadow style)
+answer_from tables read (Some r) m path shadow style = Ok (answer_in tables (overlay read r.map) r.local m path shadow style)
 
 -- the answer, where the place's answers stand so
 abbrev pub answer_by : Status → Result Answer QueryError → Result Answer QueryError
@@ -68,9 +67,14 @@ answer_by status.Current answer = answer
 answer_by status.Stale answer = Err error.StalePlace
 answer_by status.Unknown answer = Err error.UnknownPlace
 
+-- what a path means in a module of a current map
+abbrev pub answer_at : SessionState → Option ModuleId → Path → Shadow → Option MacroStyle → Result Answer QueryError
+answer_at s None path shadow style = Err error.UnknownPlace
+answer_at s (Some m) path shadow style = answer_from s.tables (read_of s m.map) (kept_of s m.map) m path shadow style
+
 -- what a path means over what is kept
 abbrev pub answer_kept : SessionState → PlaceValue → Path → Shadow → Option MacroStyle → Result Answer QueryError
-answer_kept s place path shadow style = answer_from s.tables (read_of s (map_of place)) (kept_of s (map_of place)) (module_of s place) path shadow style
+answer_kept s place path shadow style = answer_at s (module_of s place) path shadow style
 
 -- the answer to a query
 abbrev pub answer_of : SessionState → PlaceValue → Path → Shadow → Option MacroStyle → Result Answer QueryError

@@ -8,18 +8,21 @@ use Rattle.hir_wire.specs.declared.reply.Status.{Status}
 use Rattle.hir_wire.specs.declared.reply.Status.TheVariants as status
 use Rattle.hir_session_state.specs.declared.error.QueryError.{QueryError}
 use Rattle.hir_session_state.specs.declared.error.QueryError.TheVariants as error
-use Rattle.hir_session_state.specs.SessionState.{SessionState, Resolution, finished_of, kept_of}
-use Rattle.hir_session_answers.specs.Status.{map_of, module_of, status_of}
+use Rattle.hir_session_state.specs.SessionState.{SessionState, Resolution, finished_of, kept_of, module_of}
+use Rattle.hir_session_answers.specs.Status.{status_of}
 
--- the scopes of the map that is kept, beside finished maps, where it has the module
-abbrev pub dump_from : Maps → Option Resolution → Option ModuleId → Result (List ℕ) QueryError
-dump_from finished None m = Err error.UnknownPlace
-dump_from finished (Some r) None = Err error.UnknownPlace
-dump_from finished (Some r) (Some m) = Ok (dump_of (overlay finished r.map) r.map.id)
+-- the scopes of what is kept of a map, and those of what holds it
+abbrev pub dump_from : Maps → Option Resolution → Result (List ℕ) QueryError
+dump_from finished None = Err error.UnknownPlace
+dump_from finished (Some r) = Ok (dump_of (overlay finished r.map) r.map.id)
 
--- the scopes of the whole map in which the place lies
+-- those of the map in which a module lies
+abbrev pub dump_around : SessionState → Option ModuleId → Result (List ℕ) QueryError
+dump_around s None = Err error.UnknownPlace
+dump_around s (Some m) = dump_from (finished_of s) (kept_of s m.map)
+
 abbrev pub dump_kept : SessionState → PlaceValue → Result (List ℕ) QueryError
-dump_kept s place = dump_from (finished_of s) (kept_of s (map_of place)) (module_of s place)
+dump_kept s place = dump_around s (module_of s place)
 
 -- the text, where the place's answers stand so
 abbrev pub dump_by : Status → Result (List ℕ) QueryError → Result (List ℕ) QueryError

@@ -1,16 +1,17 @@
 -- When may two answers to one query differ?
-use Rattle.std.specs.Prelude.{◌≡◌, ◌⊎◌, false, List, Option}
+use Rattle.std.specs.Prelude.{◌≡◌, ◌⊎◌, List, Option, Some}
+use Rattle.hir_base.specs.declared.ids.MapId.{MapId}
 use Rattle.hir_base.specs.ModPath.{Path}
 use Rattle.hir_base.specs.Place.{PlaceValue}
 use Rattle.hir_collector_rules.specs.declared.source_database.Key.{Key}
 use Rattle.hir_wire.specs.Edits.{EditValue}
 use Rattle.hir_wire.specs.declared.command.Shadow.{Shadow}
 use Rattle.hir_wire.specs.declared.command.MacroStyle.{MacroStyle}
-use Rattle.hir_session_state.specs.SessionState.{SessionState, workspace_of, is_marked, IsSound}
+use Rattle.hir_session_state.specs.SessionState.{SessionState, standing_of, workspace_of, IsSound}
+use Rattle.hir_session_state.specs.Standing.{map_by}
 use Rattle.hir_session_state.specs.Marks.{IsAltered}
 use Rattle.hir_session_state.specs.Due.{IsAskedBehind}
 use Rattle.hir_session_state.specs.Changes.{Applies, Resolves}
-use Rattle.hir_session_answers.specs.Status.{map_of}
 use Rattle.hir_session_answers.specs.Answers.{answer_of}
 
 -- edits and refreshes in any order; a refused edit changes nothing, and a refused refresh is one that did less
@@ -25,9 +26,10 @@ WasAltered key none = ⊥
 WasAltered key (edit mid to e earlier is) = IsAltered mid.tables (workspace_of mid) (workspace_of to) key ⊎ WasAltered key earlier
 WasAltered key (refresh mid to done earlier is) = WasAltered key earlier
 
--- two answers to a query differ only where an edit between them altered a key that was asked for behind the first
+-- two answers to a query, of which the first was asked in a place whose steps end in a current map, differ only where an edit between them altered a key that was
+-- asked for behind the first
 abbrev pub DifferOnlyWhereAltered : Type 0
-DifferOnlyWhereAltered = (from to : SessionState) (place : PlaceValue) (path : Path) (shadow : Shadow) (style : Option MacroStyle)
-    → IsSound from → is_marked from (map_of place) ≡ false → (h : History from to)
+DifferOnlyWhereAltered = (from to : SessionState) (place : PlaceValue) (id : MapId) (path : Path) (shadow : Shadow) (style : Option MacroStyle)
+    → IsSound from → map_by (standing_of from place) ≡ Some id → (h : History from to)
     → (answer_of to place path shadow style ≡ answer_of from place path shadow style)
-    ⊎ ((key : Key) × IsAskedBehind from (map_of place) key × WasAltered key h)
+    ⊎ ((key : Key) × IsAskedBehind from id key × WasAltered key h)

@@ -1,4 +1,5 @@
 pub mod Status
+pub mod Walking
 pub mod SourceCalls
 pub mod SourceItems
 pub mod Answers

@@ -1,19 +1,22 @@
 -- What holds syntax, through the calls whose expansions lead to it?
-use Rattle.std.specs.Prelude.{ℕ, zero, suc, List, [], ◌∷◌, ◌++◌, Option, None, Some, option_map}
+use Rattle.std.specs.Prelude.{ℕ, zero, suc, List, [], ◌∷◌, ◌++◌, reverse, Option, None, Some, option_map}
 use Rattle.std.specs.Option.{option_and_then}
-use Rattle.hir_base.specs.declared.ast_id.AstId.{AstId}
 use Rattle.hir_base.specs.declared.ast_id.BlockId.{BlockId}
 use Rattle.hir_base.specs.declared.ast_id.HirFileId.{HirFileId}
 use Rattle.hir_base.specs.declared.ast_id.HirFileId.TheVariants.{File, Macro}
 use Rattle.hir_base.specs.declared.macro_kind.MacroCallKind.{MacroCallKind}
 use Rattle.hir_base.specs.declared.macro_kind.MacroCallKind.TheVariants as calls
 use Rattle.hir_base.specs.declared.macro_kind.MacroCallLoc.{MacroCallLoc}
-use Rattle.hir_tables.specs.Tables.{TablesValue, call_at, file_at}
+use Rattle.hir_tables.specs.Tables.{TablesValue, block_at, call_at, file_at}
+use Rattle.hir_base.specs.declared.place.BlockPlace.{BlockPlace}
+use Rattle.hir_session_state.specs.Blocks.{place_of_block}
+use Rattle.hir_session_state.specs.Standing.{most_calls}
 use Rattle.hir_def_map_rules.specs.Diagnostics.{call_node}
 use Rattle.hir_wire.specs.declared.answer.ItemSource.{ItemSource}
 use Rattle.hir_wire.specs.declared.answer.SourceCall.{SourceCall}
 use Rattle.hir_wire.specs.declared.answer.SourceCallKind.{SourceCallKind}
 use Rattle.hir_wire.specs.declared.answer.SourceCallKind.TheVariants as kind
+use Rattle.hir_wire.specs.declared.answer.SourceRoot.{SourceRoot}
 use Rattle.hir_wire.specs.declared.answer.SourceRoot.TheVariants as root
 
 -- how a macro is called
@@ -30,29 +33,37 @@ source_call call = record { node = (call_node call).kind; id = (call_node call).
 abbrev pub file_source : List ℕ → ItemSource
 file_source path = record { root = root.File path; calls = [] }
 
--- the path of what holds syntax, where that is a file of the tables
-abbrev pub path_of : TablesValue → HirFileId → Option (List ℕ)
-path_of t (File f) = file_at t f.file_id
-path_of t (Macro c) = None
+-- the block at a place
+abbrev pub block_source : BlockPlace → ItemSource
+block_source b = record { root = root.Block (place_of_block b); calls = [] }
 
 -- the expansion of a call in it
 abbrev pub and_call : SourceCall → ItemSource → ItemSource
 and_call call held = record held { calls = held.calls ++ call ∷ [] }
 
--- what holds syntax: a file of the tables, or what a call expands to, where at most so many stand in one another; no block
--- is set
+-- what holds syntax: a file or a block of the tables, or what a call expands to, where at most so many stand in one another
 abbrev pub source_within : ℕ → TablesValue → HirFileId → Option BlockId → Option ItemSource
-source_within n t file (Some b) = None
+source_within n t file (Some b) = option_map block_source (block_at t b)
 source_within n t (File f) None = option_map file_source (file_at t f.file_id)
 source_within zero t (Macro c) None = None
 source_within (suc n) t (Macro c) None =
     option_and_then (λ (call : MacroCallLoc). option_map (and_call (source_call call.kind)) (source_within n t (call_node call.kind).file_id (call_node call.kind).block)) (call_at t c)
 
--- how many calls can stand in one another, where each stands in what calls with smaller numbers expand to
-abbrev pub most_calls : HirFileId → ℕ
-most_calls (File f) = 0
-most_calls (Macro c) = suc c.0
-
 -- what holds syntax
 abbrev pub source_of : TablesValue → HirFileId → Option BlockId → Option ItemSource
 source_of t id block = source_within (most_calls id) t id block
+
+-- ---- how the code finds it; no public clause speaks of this
+
+-- what holds syntax outside of all calls
+abbrev pub root_in : TablesValue → HirFileId → Option BlockId → Option SourceRoot
+root_in t file (Some b) = option_map (λ place. root.Block (place_of_block place)) (block_at t b)
+root_in t (File f) None = option_map root.File (file_at t f.file_id)
+root_in t (Macro c) None = None
+
+abbrev pub rooted : Option SourceRoot → Option ItemSource
+rooted r = option_map (λ x. record { root = x; calls = [] }) r
+
+-- what stands in expansions of these calls, the innermost first
+abbrev pub and_calls : List SourceCall → ItemSource → ItemSource
+and_calls calls held = record held { calls = held.calls ++ reverse calls }

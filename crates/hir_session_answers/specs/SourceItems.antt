@@ -28,7 +28,9 @@ use Rattle.hir_scope.specs.declared.visibility.Visibility.TheVariants as vis
 use Rattle.hir_def_map_rules.specs.Overlay.{Maps, module_in}
 use Rattle.hir_def_map_rules.specs.declared.origin.ModuleOrigin.{ModuleOrigin}
 use Rattle.hir_def_map_rules.specs.declared.origin.ModuleOrigin.TheVariants as origin
-use Rattle.hir_tables.specs.Tables.{TablesValue}
+use Rattle.hir_tables.specs.Tables.{TablesValue, block_at}
+use Rattle.hir_base.specs.declared.place.BlockPlace.{BlockPlace}
+use Rattle.hir_session_state.specs.Blocks.{place_of_block}
 use Rattle.hir_wire.specs.declared.answer.AnswerItem.{AnswerItem}
 use Rattle.hir_wire.specs.declared.answer.AnswerVisibility.{AnswerVisibility}
 use Rattle.hir_wire.specs.declared.answer.AnswerVisibility.TheVariants as answer_vis
@@ -57,12 +59,16 @@ crate_of (container.ModuleId m) = m.map.krate
 crate_of (container.ImplId i) = i.loc.container.map.krate
 crate_of (container.TraitId t) = t.loc.container.map.krate
 
--- the crate's root, or the module's node; a block is none
+-- the root of a block, where it has a place
+abbrev pub block_definition : Crate → BlockPlace → Definition
+block_definition krate b = definition.BlockRoot krate (place_of_block b)
+
+-- the crate's root, the block, or the module's node
 abbrev pub module_by : TablesValue → Crate → ModuleOrigin → Option Definition
 module_by tables krate (origin.CrateRoot file) = Some (definition.CrateRoot krate)
 module_by tables krate (origin.File is_mod_rs at tree file) = item_of tables krate (source.Node kind.Module) at.file_id tree.block at.id
 module_by tables krate (origin.Inline tree at) = item_of tables krate (source.Node kind.Module) at.file_id tree.block at.id
-module_by tables krate (origin.BlockExpr id block) = None
+module_by tables krate (origin.BlockExpr id block) = option_map (block_definition krate) (block_at tables id)
 
 -- a module of one of the maps, by its node
 abbrev pub module_definition : TablesValue → Maps → ModuleId → Option Definition

@@ -2,9 +2,7 @@
 ghost use Rattle.std.specs.Prelude.{◌≡◌, IfOk};
 ghost use Rattle.std.specs.Option.{option_and_then};
 ghost use Rattle.hir_def_map.specs.DefMaps.{maps_of};
-ghost use Rattle.hir_def_map_rules.specs.State.{root_of};
 ghost use Rattle.hir_session_answers.specs.SourceItems.{import_source, value_import_source, maybe_source, together, answered_type, answered_value, answered_macro};
-ghost use Rattle.hir_session_answers.specs.Status.{module_below};
 ghost use Rattle.hir_session_answers.specs.Answers.{shadow_mode_of, sub_ns_of, answer_in};
 
 use crate::source_items::definitions::{definition_at, macro_at};
@@ -12,9 +10,7 @@ use crate::source_items::imports::{import_at, value_import_at};
 use crate::source_items::visibilities::visibility_at;
 use hir_base::ids::ModuleId;
 use hir_base::mod_path::ModPath;
-use hir_base::place::PlaceElement;
 use hir_def_map::def_maps::DefMaps;
-use hir_def_map::nameres::DefMap;
 use hir_def_map::nameres::local_def_map::LocalDefMap;
 use hir_def_map::nameres::path_resolution::{BuiltinShadowMode, MacroSubNs, ResolveMode};
 use hir_scope::imports::{ImportOrExternCrate, ImportOrGlob};
@@ -23,23 +19,6 @@ use hir_tables::Tables;
 use hir_wire::answer::{Answer, AnswerItem, AnswerVisibility, Definition, ImportSource};
 use hir_wire::command::{MacroStyle, Shadow};
 use std::alloc::{AllocError, Global};
-
-/// The module to which the steps lead down from a map's root.
-pub fn module_below_root(map: &DefMap, elements: &[PlaceElement]) -> Option<ModuleId>
-    ensures value { result ≡ module_below map.now (root_of map.now.id) elements.now }
-{
-    let mut at = map.root();
-    for element in elements {
-        match element {
-            PlaceElement::Module(name) => match map.child(at.index, name) {
-                Some(child) => at = child,
-                None => return None,
-            },
-            PlaceElement::Block(_) => return None,
-        }
-    }
-    Some(at)
-}
 
 fn shadow_mode(shadow: Shadow) -> BuiltinShadowMode
     ensures value { result ≡ shadow_mode_of shadow }

@@ -2,5 +2,7 @@
 #![tactic(auto)]
 
 pub mod answers;
+pub mod definition_files;
 pub mod diagnostics;
 pub mod source_items;
+pub mod standing;

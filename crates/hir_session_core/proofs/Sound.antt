@@ -1,35 +1,56 @@
 -- An edit, and the resolution of a place, leave a sound session.
-use Rattle.std.proofs.Common.{◌≡◌, ◌≢◌, ◌⊎◌, inl, inr, ℕ, zero, suc, ◌<◌, true, false, is_some, List, [], ◌∷◌, length, arith, Option, Some, None, refl, sym, ap, ◌∙◌, subst, Contains}
 use Rattle.std.specs.Prelude.{is_none, map}
+use Rattle.std.proofs.Common.{◌≡◌, ◌≢◌, ◌⊎◌, inl, inr, ℕ, zero, suc, ◌<◌, Bool, true, false, ◌||◌, is_some, List, [], ◌∷◌, length, arith, Option, Some, None, option_map, refl, sym, ap, ◌∙◌, subst, Contains}
+use Rattle.hir_base.specs.contracts.ids.MapIdPartialEq.TheImpl as map_id
+use Rattle.hir_base.specs.declared.ast_id.BlockId.{BlockId}
+use Rattle.hir_base.specs.declared.ast_id.EditionedFileId.{EditionedFileId}
+use Rattle.hir_base.specs.declared.ast_id.SyntaxId.{SyntaxId}
 use Rattle.hir_base.specs.declared.ids.Crate.{Crate}
 use Rattle.hir_base.specs.declared.ids.MapId.{MapId}
+use Rattle.hir_base.specs.declared.ids.ModuleId.{ModuleId}
+use Rattle.hir_base.specs.declared.place.BlockPlace.{BlockPlace}
+use Rattle.hir_tables.specs.SourcePlaces.{block}
+use Rattle.hir_tables.specs.Tables.{TablesValue, block_at}
+use Rattle.hir_tables.proofs.Growth.{KeepsTables-refl}
+use Rattle.hir_def_map_rules.specs.Inner.OverlayLaws.{exact_map}
 use Rattle.hir_def_map_rules.specs.References.{refers_to}
 use Rattle.hir_def_map.specs.Removal.{Depends}
 use Rattle.hir_def_map.specs.Removal.Depends.{itself, through}
 use Rattle.hir_def_map_rules.specs.State.{crate_map}
-use Rattle.hir_def_map_rules.specs.Overlay.{no_maps}
-use Rattle.hir_collector_rules.specs.Keys.{AgreeOn}
-use Rattle.hir_collector_rules.specs.Workspace.{Workspace}
+use Rattle.hir_def_map_rules.specs.Overlay.{holders_under, no_maps}
+use Rattle.hir_collector_rules.specs.Keys.{AgreeOn, Look, look, of_entry, of_input, of_map, of_text, of_tree, of_variants, source_under}
+use Rattle.hir_collector_rules.specs.Start.{Beginning, holder_of, root_key}
+use Rattle.hir_collector_rules.specs.Workspace.{Workspace, seen_of}
+use Rattle.hir_collector_rules.proofs.Asks.{still_asked}
+use Rattle.std.proofs.lemmas.List.Elements.{Contains-append_left}
+use Rattle.hir_collector_rules.specs.declared.source_database.Key.{Key}
 use Rattle.hir_crate_graph.specs.CrateSet.{has_crate}
-use Rattle.hir_session_state.specs.Crates.{CrateValue, transitive_in, id_of}
+use Rattle.hir_session_state.specs.Crates.{CrateValue, begins_in_block, transitive_in, id_of}
 use Rattle.hir_session_state.specs.SourceEdits.{SourceEditValue, edited as made}
 use Rattle.hir_session_state.specs.SourceTable.{SourceTable, workspace_in}
 use Rattle.hir_session_state.specs.Kept.{Resolutions, kept_in, names_in, names_of, AreForgotten}
-use Rattle.hir_session_state.specs.SessionState.{SessionState, Resolution, workspace_of, finished_of, follows, kept_of, is_marked, IsResolutionOf, IsCurrent, IsPlace, IsSound}
+use Rattle.hir_crate_graph.specs.Dependencies.{DependsOn}
+use Rattle.hir_crate_graph.specs.Dependencies.DependsOn.{directly, through as depends_through}
+use Rattle.hir_session_state.specs.SessionState.{SessionState, Resolution, dependencies_of, workspace_of, finished_of, follows, follows_by, held_maps, kept_of, is_marked, IsResolutionOf, IsCurrent, IsPlace, IsSound}
+use Rattle.hir_session_state.specs.SessionState.IsPlace.{of_block, of_crate}
 use Rattle.hir_session_state.specs.Spread.{Spread}
 use Rattle.hir_session_state.specs.Spread.Spread.{here, depends}
+use Rattle.hir_session_state.specs.Standing.{block_map, is_set}
 use Rattle.hir_session_state.specs.Marks.{IsTouched}
 use Rattle.hir_session_state.specs.Marks.IsTouched.{before, asked_for}
 use Rattle.hir_session_state.specs.EditedSources.{AreHit}
 use Rattle.hir_session_state.specs.Changes.{Becomes}
-use Rattle.hir_session_state.specs.Due.{Grows, Resolved}
+use Rattle.hir_session_state.specs.Due.{Resolved}
 use Rattle.hir_session_state.proofs.Depending.{depended}
-use Rattle.hir_session_state.proofs.Following.{dependency_behind, followed, follows_unmarked, spread_on}
+use Rattle.hir_session_state.proofs.Following.{behind_block, dependency_behind, followed, followed_crate, followed_holder, spread_on}
+use Rattle.hir_session_state.proofs.Holding.{first_holder, held_block, holder_kept, holders_hold}
 use Rattle.hir_session_state.proofs.Ids.{of_number, on_id}
-use Rattle.hir_session_state.proofs.Names.{among-names}
-use Rattle.hir_session_core.proofs.Naming.{names-behind}
-use Rattle.hir_session_state.proofs.Truth.{clash, on_bool}
-use Rattle.hir_session_state.proofs.Worlds.{AgreeOn-refl, IsResolutionOf-stays, DependsOn-below, DependsOn-holds}
+use Rattle.hir_session_state.proofs.Names.{among-names, holds}
+use Rattle.hir_session_state.proofs.Standing.{beginning_stays, block_begun, kept_gives}
+use Rattle.hir_session_state.proofs.Truth.{clash, on_bool, one_value}
+use Rattle.hir_session_state.proofs.Worlds.{AgreeOn-refl, DependsOn-holds, IsKeptBehind, IsResolutionOf-stays, kept_behind}
+use Rattle.hir_session_core.specs.Progress.{follows_under, AreFollowedCurrent}
+use Rattle.hir_session_core.proofs.Naming.{kept_ended, names-behind}
 
 -- ---- what is kept
 
@@ -53,29 +74,53 @@ unmarked_some None e = clash refl e
 unmarked_some (Some r) e = refl
 
 module _ (s : SessionState) (sound : IsSound s) where
-  -- what is kept of a place is a resolution of it
-  gives : (id : MapId) (r : Resolution) → kept_of s id ≡ Some r → IsResolutionOf s id r
-  gives id r is =
-      let now = sound.current id (some_unmarked (kept_of s id) r is) in
-      let same : now.found ≡ r = (let both : Some now.found ≡ Some r = sym now.is ∙ is in cc) in
-      subst (λ (x : Resolution). IsResolutionOf s id x) same now.gives
-
-  -- it names maps of crates on which its own stands
+  -- what is kept of a place names maps of crates on which its own stands, and those in which the modules lie that hold it
   names_stand : (id other : MapId) (r : Resolution) → kept_of s id ≡ Some r → refers_to r.map r.local other ≡ true
-      → (other ≡ id_of other.krate.0) × (has_crate (transitive_in s.crates id.krate.0) other.krate ≡ true)
+      → ((other ≡ id_of other.krate.0) × (has_crate (transitive_in s.crates id.krate.0) other.krate ≡ true)) ⊎ (holds r.holders other ≡ true)
   names_stand id other r is names =
-      let p = gives id r is in
-      let of_crate : r.map.id.block ≡ None = ap (λ (x : MapId). x.block) p.own ∙ (sound.placed id (some_unmarked (kept_of s id) r is)).of_crate in
-      let among = among-names (transitive_in s.crates id.krate.0) (finished_of s) r.map r.local of_crate p.unheld p.names p.begins other names in
-      (of_number other among.0, among.1)
+      let p = kept_gives s sound id r is in
+      elim (among-names (transitive_in s.crates id.krate.0) r.holders (finished_of s) r.map r.local p.names p.reaches other names) [
+        | inl of ↦ inl (of_number other of.0, of.1)
+        | inr held ↦ inr held
+      ]
 
   -- and those that it follows
   names_followed : (id d : MapId) (r : Resolution) → kept_of s id ≡ Some r → Contains (follows s id) d → names_in s.kept id d ≡ true
   names_followed id d r is among =
       ap (λ (o : Option Resolution). names_of o d) is
-      ∙ names-behind s sound id r (gives id r is) d among
+      ∙ names-behind s sound id r is d among
 
   -- ---- what spreads
+
+  -- what is spread to the map in which one of its holders lies is spread to a place
+  spread_held : {P : MapId → Type 0} (hs : List ModuleId) (id : MapId) (r : Resolution) → kept_of s id ≡ Some r → r.holders ≡ hs → (other : MapId) → holds hs other ≡ true
+      → Spread (follows s) P other → Spread (follows s) P id
+  spread_held [] id r is of other held sp = clash held refl
+  spread_held {P} (h ∷ rest) id r is of other held sp =
+      let p = kept_gives s sound id r is in
+      let first = first_holder s id r p h rest of in
+      let block_of = held_block s id r p h first.0 in
+      let kept = holder_kept s id r p h first.0 in
+      depends id h.map (followed_holder s id block_of.0 r h block_of.1 is first.0)
+      (on_bool (map_id.ghosts.eq h.map other)
+      (λ same. subst (λ (x : MapId). Spread (follows s) P x) (sym (exact_map h.map other same)) sp)
+      (λ apart. spread_held {P = P} rest h.map kept.found kept.is (first.1 kept.found kept.is) other (beside (map_id.ghosts.eq h.map other) apart held) sp))
+    where
+      beside : (b : Bool) → b ≡ false → (b || holds rest other) ≡ true → holds rest other ≡ true
+      beside true e f = clash refl e
+      beside false e f = f
+
+  -- to what a place stands on as a crate
+  spread_crate : {P : MapId → Type 0} (id : MapId) (r : Resolution) → kept_of s id ≡ Some r → (other : Crate) → has_crate (transitive_in s.crates id.krate.0) other ≡ true
+      → Spread (follows s) P (crate_map other) → Spread (follows s) P id
+  spread_crate {P} id r is other behind sp = go id.block refl
+    where
+      own : Spread (follows s) P (crate_map id.krate)
+      own = spread_on s ((depended sound id.krate.0 other).0 behind) sp
+
+      go : (o : Option BlockId) → id.block ≡ o → Spread (follows s) P id
+      go None none = subst (λ (x : MapId). Spread (follows s) P x) (sym (of_number id none)) own
+      go (Some b) of = depends id (crate_map id.krate) (followed_crate s id b of) own
 
   -- what depends on a place by what is named depends on it directly or through others
   spread_named : {P : MapId → Type 0} {on id : MapId} → Depends (names_in s.kept) on id → Spread (follows s) P on → Spread (follows s) P id
@@ -84,10 +129,10 @@ module _ (s : SessionState) (sound : IsSound s) where
       (λ none. clash names (ap (λ (o : Option Resolution). names_of o other) none))
       (λ r is.
       let n : refers_to r.map r.local other ≡ true = sym (ap (λ (o : Option Resolution). names_of o other) is) ∙ names in
-      let stands = names_stand id other r is n in
-      let own = of_number id (sound.placed id (some_unmarked (kept_of s id) r is)).of_crate in
-      subst (λ (x : MapId). Spread (follows s) P x) (sym own)
-      (spread_on s.crates ((depended sound id.krate.0 other.krate).0 stands.1) (subst (λ (x : MapId). Spread (follows s) P x) stands.0 (spread_named d sp))))
+      elim (names_stand id other r is n) [
+        | inl crate ↦ spread_crate id r is other.krate crate.1 (subst (λ (x : MapId). Spread (follows s) P x) crate.0 (spread_named d sp))
+        | inr held ↦ spread_held r.holders id r is refl other held (spread_named d sp)
+      ])
 
 -- what is in a spread set is in it for a reason
 spread_cases : {A : Type 0} {follows : MapId → List MapId} {P : MapId → Type 0} {id : MapId} → (P id → A) → ((d : MapId) → Contains (follows id) d → Spread follows P d → A)
@@ -115,6 +160,32 @@ any_of P (x ∷ xs) each = elim (each x (zero, omega arith, refl)) [
 
 -- ---- an edit
 
+-- what a block's run begins with is asked for
+root_asked : (s : SessionState) (sound : IsSound s) (id : MapId) (r : Resolution) (is : kept_of s id ≡ Some r)
+    → Contains r.asked (root_key (kept_gives s sound id r is).from.start (kept_gives s sound id r is).from.tree)
+root_asked s sound id r is =
+    let from = (kept_gives s sound id r is).from in
+    let ended = kept_ended s sound id r is in
+    subst (λ (ks : List Key). Contains ks (root_key from.start from.tree)) (sym ended.asked_is)
+    (Contains-append_left ended.last.core.asked _ (root_key from.start from.tree) (still_asked ended.derived (root_key from.start from.tree) (0, omega arith, refl)))
+
+-- whether what is seen is there
+abbrev is_there : Look → Bool
+is_there (of_tree t) = t.present
+is_there (of_variants vs) = false
+is_there (of_text text) = false
+is_there (of_input text) = false
+is_there (of_entry e) = false
+is_there (of_map m) = false
+
+-- the tree of a block is there where the block is set
+root_seen : (crates : List CrateValue) (tables : TablesValue) (t : SourceTable) (b : BlockId) (place : BlockPlace) (holder : ModuleId) (file : EditionedFileId) (id : SyntaxId) (from : Beginning)
+    → block_at tables b ≡ Some place → begins_in_block place.holder.krate b holder file id ≡ from
+    → is_there (look tables (workspace_in crates t) no_maps (root_key from.start from.tree)) ≡ is_set t.blocks place
+root_seen crates tables t b place holder file id from means begins =
+    subst (λ (x : Beginning). is_there (look tables (workspace_in crates t) no_maps (root_key x.start x.tree)) ≡ is_set t.blocks place) begins
+    (ap (λ (o : Option BlockPlace). is_there (of_tree (seen_of (source_under (workspace_in crates t) place.holder.krate (option_map block o))))) means)
+
 module _ (s : SessionState) (sound : IsSound s) (F : SourceTable) (hits : List MapId) (K : Resolutions)
     (hit : AreHit s.tables (workspace_of s) (workspace_in s.crates F) s.kept hits) (forgotten : AreForgotten s.kept hits K) where
   abbrev edited : Workspace
@@ -141,29 +212,62 @@ module _ (s : SessionState) (sound : IsSound s) (F : SourceTable) (hits : List M
       untouched : (id : MapId) (r : Resolution) → kept_of s id ≡ Some r → AgreeOn s.tables r.asked (workspace_of s) no_maps edited no_maps → ¬ IsTouched s edited id
       untouched id r is alike (before m) = clash m (some_unmarked (kept_of s id) r is)
       untouched id r is alike (asked_for key q there has ne) =
-          let same : q ≡ r = (let both : Some q ≡ Some r = sym there ∙ is in cc) in
+          let same : q ≡ r = one_value (sym there ∙ is) in
           ne (alike.same key (subst (λ (x : Resolution). Contains x.asked key) same has))
 
-  reached_or : (n : ℕ) (id : MapId) → id.krate.0 < n → IsReached id ⊎ (¬ IsReached id)
-  reached_or zero id low = absurd (omega arith)
-  reached_or (suc n) id low = elim (touched_or id) [
+  -- a place is reached or not where so is each that it follows
+  reached_by : (id : MapId) → ((d : MapId) → Contains (follows s id) d → IsReached d ⊎ (¬ IsReached d)) → IsReached id ⊎ (¬ IsReached id)
+  reached_by id each = elim (touched_or id) [
     | inl does ↦ inl (here id does)
-    | inr hasnt ↦ elim (any_of IsReached (follows s id) (λ d among.
-        let c = dependency_behind s.crates id d among in
-        let lower : c.0.0 < id.krate.0 = sound.below id.krate.0 c.0 c.1 in
-        let number : d.krate.0 ≡ c.0.0 = ap (λ (x : MapId). x.krate.0) c.2 in
-        reached_or n d (omega arith))) [
-          | inl found ↦ inl (depends id found.0 found.1 found.2)
-          | inr none ↦ inr (λ sp. spread_cases hasnt (λ d among rest. none d among rest) sp)
-        ]
+    | inr hasnt ↦ elim (any_of IsReached (follows s id) each) [
+      | inl found ↦ inl (depends id found.0 found.1 found.2)
+      | inr none ↦ inr (λ sp. spread_cases hasnt (λ d among rest. none d among rest) sp)
+    ]
   ]
+
+  -- of crates, by their numbers
+  reached_crate : (n : ℕ) (krate : Crate) → krate.0 < n → IsReached (crate_map krate) ⊎ (¬ IsReached (crate_map krate))
+  reached_crate zero krate low = absurd (omega arith)
+  reached_crate (suc n) krate low = reached_by (crate_map krate) (λ d among.
+      let c = dependency_behind s krate d among in
+      let lower : c.0.0 < krate.0 = sound.below krate.0 c.0 c.1 in
+      subst (λ (x : MapId). IsReached x ⊎ (¬ IsReached x)) (sym c.2) (reached_crate n c.0 (omega arith)))
+
+  -- of blocks, by the module that holds one
+  reached_by_holder : (id : MapId) (r : Resolution) → kept_of s id ≡ Some r → ((h : ModuleId) → r.map.holder ≡ Some h → IsReached h.map ⊎ (¬ IsReached h.map)) → IsReached id ⊎ (¬ IsReached id)
+  reached_by_holder id r is of_holder = go id.block refl
+    where
+      go : (o : Option BlockId) → id.block ≡ o → IsReached id ⊎ (¬ IsReached id)
+      go None none = subst (λ (x : MapId). IsReached x ⊎ (¬ IsReached x)) (sym (of_number id none)) (reached_crate (suc id.krate.0) id.krate (omega arith))
+      go (Some b) is_block = reached_by id (λ d among. elim (behind_block s id b is_block d among) [
+        | inl own ↦ subst (λ (x : MapId). IsReached x ⊎ (¬ IsReached x)) (sym own) (reached_crate (suc id.krate.0) id.krate (omega arith))
+        | inr h ↦ subst (λ (x : MapId). IsReached x ⊎ (¬ IsReached x)) (sym h.at)
+            (of_holder h.holder (subst (λ (x : Resolution). x.map.holder ≡ Some h.holder) (one_value (sym h.is ∙ is)) h.held))
+      ])
+
+  -- and so of all the modules around it
+  reached_held : (hs : List ModuleId) (id : MapId) (r : Resolution) → kept_of s id ≡ Some r → r.holders ≡ hs → IsReached id ⊎ (¬ IsReached id)
+  reached_held [] id r is of = reached_by_holder id r is (λ h held.
+      let kept = holder_kept s id r (kept_gives s sound id r is) h held in
+      absurd (let wrong : [] ≡ h ∷ kept.found.holders = sym of ∙ kept.holders in let no : ⊥ = cc in no))
+  reached_held (g ∷ rest) id r is of = reached_by_holder id r is (λ h held.
+      let p = kept_gives s sound id r is in
+      let first = first_holder s id r p g rest of in
+      let same : g ≡ h = one_value (sym first.0 ∙ held) in
+      let kept = holder_kept s id r p g first.0 in
+      subst (λ (x : ModuleId). IsReached x.map ⊎ (¬ IsReached x.map)) same (reached_held rest g.map kept.found kept.is (first.1 kept.found kept.is)))
+
+  reached_or : (id : MapId) → IsReached id ⊎ (¬ IsReached id)
+  reached_or id = on_kept (kept_of s id)
+      (λ none. inl (here id (before (none_marked (kept_of s id) none))))
+      (λ r is. reached_held r.holders id r is refl)
 
   -- of what isn't reached what was kept stays
   unreached_stays : (id : MapId) → (¬ IsReached id) → kept_in K id ≡ kept_of s id
   unreached_stays id apart = forgotten.stay id (λ on among d. apart (spread_named s sound d (here on (hit_touched on among))))
 
   gone_reached : (id : MapId) → kept_in K id ≡ None → IsReached id
-  gone_reached id none = elim (reached_or (suc id.krate.0) id (omega arith)) [
+  gone_reached id none = elim (reached_or id) [
     | inl does ↦ does
     | inr hasnt ↦ here id (before (none_marked (kept_of s id) (sym (unreached_stays id hasnt) ∙ none)))
   ]
@@ -182,49 +286,78 @@ module _ (s : SessionState) (sound : IsSound s) (F : SourceTable) (hits : List M
       (λ r is. forgotten.named id d (names_followed s sound id d r is among)
       (unmarked_some (kept_of s d) (sound.closed id d (some_unmarked (kept_of s id) r is) among)) (reached_gone sp))
 
-  -- of what is kept still, the same is
-  stays : (id : MapId) → is_none (kept_in K id) ≡ false → kept_in K id ≡ kept_of s id
+  -- ---- what is kept still
+
+  abbrev IsKeptStill : MapId → Type 0
+  IsKeptStill id = is_none (kept_in K id) ≡ false
+
+  -- the same is
+  stays : (id : MapId) → IsKeptStill id → kept_in K id ≡ kept_of s id
   stays id off = elim (forgotten.fewer id) [ inl same ↦ same | inr none ↦ clash (none_marked (kept_in K id) none) off ]
 
-  was_unmarked : (id : MapId) → is_none (kept_in K id) ≡ false → is_marked s id ≡ false
+  was_unmarked : (id : MapId) → IsKeptStill id → is_marked s id ≡ false
   was_unmarked id off = sym (ap (λ (o : Option Resolution). is_none o) (stays id off)) ∙ off
 
-  closed_still : (id d : MapId) → is_none (kept_in K id) ≡ false → Contains (follows s id) d → is_none (kept_in K d) ≡ false
+  closed_still : (id d : MapId) → IsKeptStill id → Contains (follows s id) d → IsKeptStill d
   closed_still id d off among = on_bool (is_none (kept_in K d))
       (λ on. clash (none_marked (kept_in K id) (reached_gone (depends id d among (gone_reached d (marked_none (kept_in K d) on))))) off)
       (λ h. h)
 
-  behind_still : (id : MapId) → is_none (kept_in K id) ≡ false → (c : Crate) → has_crate (transitive_in s.crates id.krate.0) c ≡ true → kept_in K (crate_map c) ≡ kept_of s (crate_map c)
-  behind_still id off c behind =
-      let own = of_number id (sound.placed id (was_unmarked id off)).of_crate in
-      let from : is_none (kept_in K (id_of id.krate.0)) ≡ false = ap (λ (x : MapId). is_none (kept_in K x)) (sym own) ∙ off in
-      stays (crate_map c)
-      (DependsOn-holds {P = λ (i : ℕ). is_none (kept_in K (id_of i)) ≡ false}
-      (λ j d p among. closed_still (id_of j) (crate_map d) p (followed s.crates (id_of j) d among)) ((depended sound id.krate.0 c).0 behind) from)
+  unhit : (id : MapId) → IsKeptStill id → (r : Resolution) → kept_of s id ≡ Some r → AgreeOn s.tables r.asked (workspace_of s) no_maps edited no_maps
+  unhit id off r is = elim (judged id r is) [
+    | inl does ↦ clash (none_marked (kept_in K id) (forgotten.gone id does)) off
+    | inr alike ↦ alike
+  ]
+
+  -- a block that is kept still is set: its run asked for its tree
+  set_still : (b : BlockId) (place : BlockPlace) → block_at s.tables b ≡ Some place → IsKeptStill (block_map place.holder.krate b) → is_set s.sources.blocks place ≡ true → is_set F.blocks place ≡ true
+  set_still b place means off set = on_kept (kept_of s (block_map place.holder.krate b))
+      (λ none. clash (none_marked (kept_of s (block_map place.holder.krate b)) none) (was_unmarked (block_map place.holder.krate b) off))
+      (λ r is.
+      let p = kept_gives s sound (block_map place.holder.krate b) r is in
+      let begun = block_begun s place.holder.krate b p.from p.begun in
+      let same = (unhit (block_map place.holder.krate b) off r is).same (root_key p.from.start p.from.tree) (root_asked s sound (block_map place.holder.krate b) r is) in
+      sym (root_seen s.crates s.tables F b place begun.holder begun.file begun.place.id p.from means begun.is)
+      ∙ ap is_there same
+      ∙ root_seen s.crates s.tables s.sources b place begun.holder begun.file begun.place.id p.from means begun.is
+      ∙ set)
 
   -- an edit leaves a sound session
   pub applied_sound : IsSound (record s { sources = F; kept = K })
   applied_sound = record {
     few = sound.few;
     below = sound.below;
-    placed = λ id off. let was = sound.placed id (was_unmarked id off) in record { of_crate = was.of_crate; within = was.within };
-    closed = closed_still;
+    placed = λ id off. placed_still id off (sound.placed id (was_unmarked id off));
+    closed = λ id d off among. closed_still id d off (subst (λ (ds : List MapId). Contains ds d) (follows_still id off id.block) among);
     current = λ id off.
         let now = sound.current id (was_unmarked id off) in
         record {
           found = now.found;
           is = stays id off ∙ now.is;
-          gives = IsResolutionOf-stays s F K id now.found now.gives (behind_still id off) (unhit id off now.found now.is);
+          gives = IsResolutionOf-stays s F K id now.found now.gives
+              (kept_behind s sound F K IsKeptStill closed_still stays id now.found now.is off)
+              (beginning_stays s sound IsKeptStill closed_still s.tables F K (KeepsTables-refl _) stays set_still id now.gives.from now.gives.begun (holder_still id now.found now.is now.gives off))
+              (unhit id off now.found now.is);
         };
     rooted = sound.rooted;
     calls = sound.calls;
   }
     where
-      unhit : (id : MapId) → is_none (kept_in K id) ≡ false → (r : Resolution) → kept_of s id ≡ Some r → AgreeOn s.tables r.asked (workspace_of s) no_maps edited no_maps
-      unhit id off r is = elim (judged id r is) [
-        | inl does ↦ clash (none_marked (kept_in K id) (forgotten.gone id does)) off
-        | inr alike ↦ alike
-      ]
+      placed_still : (id : MapId) → IsKeptStill id → IsPlace s id → IsPlace (record s { sources = F; kept = K }) id
+      placed_still id off (of_crate none within) = of_crate none within
+      placed_still id off (of_block b place is means own within set) =
+          let is_id : id ≡ block_map place.holder.krate b = λ i. record { krate = sym own i; block = is i } in
+          of_block b place is means own within (set_still b place means (subst IsKeptStill is_id off) set)
+
+      follows_still : (id : MapId) → IsKeptStill id → (o : Option BlockId) → follows_by (record s { sources = F; kept = K }) id o ≡ follows_by s id o
+      follows_still id off None = refl
+      follows_still id off (Some b) = ap (λ (o : Option Resolution). crate_map id.krate ∷ held_maps o) (stays id off)
+
+      holder_still : (id : MapId) (r : Resolution) → kept_of s id ≡ Some r → (p : IsResolutionOf s id r) → IsKeptStill id → (h : ModuleId) → holder_of p.from.start ≡ Some h → IsKeptStill h.map
+      holder_still id r is p off h held =
+          let in_map : r.map.holder ≡ Some h = p.holder ∙ held in
+          let of = held_block s id r p h in_map in
+          closed_still id h.map off (followed_holder s id of.0 r h of.1 is in_map)
 
   -- and has its effect
   pub becomes : Becomes s F (record s { sources = F; kept = K })
@@ -261,82 +394,143 @@ pub free_own : (s : SessionState) (id : MapId) (r : Resolution) → r.map.id ≡
 free_own s id r own on = ap (kept_of s) own ∙ marked_none (kept_of s id) on
 
 -- the place is resolved once its resolution is kept
-pub resolved_of : (old s : SessionState) (K : Resolutions) (id : MapId) (r : Resolution) → Grows old s → r.map.id ≡ id → kept_in K r.map.id ≡ Some r
-    → ((j : MapId) → j ≢ r.map.id → kept_in K j ≡ kept_of s j) → Resolved old id r (record s { kept = K })
-resolved_of old s K id r grown own kept_here others = record {
-  crates = grown.crates;
-  tables = grown.tables;
-  sources = grown.sources;
+pub resolved_of : (s : SessionState) (K : Resolutions) (id : MapId) (r : Resolution) → r.map.id ≡ id → kept_in K r.map.id ≡ Some r
+    → ((j : MapId) → j ≢ r.map.id → kept_in K j ≡ kept_of s j) → Resolved s id r (record s { kept = K })
+resolved_of s K id r own kept_here others = record {
+  crates = refl;
+  tables = KeepsTables-refl _;
+  sources = refl;
   here = ap (kept_in K) (sym own) ∙ kept_here;
-  others = λ j ne. others j (λ e. ne (e ∙ own)) ∙ ap (λ (kept : Resolutions). kept_in kept j) grown.kept;
+  others = λ j ne. others j (λ e. ne (e ∙ own));
 }
 
-module _ (s : SessionState) (k : ℕ) (r : Resolution) (K : Resolutions) (sound : IsSound s) (within : k < length s.crates)
-    (first : (j : ℕ) → j < k → is_marked s (id_of j) ≡ false) (on : is_marked s (id_of k) ≡ true) (found : IsResolutionOf s (id_of k) r)
-    (kept_here : kept_in K (id_of k) ≡ Some r) (kept_else : (j : MapId) → j ≢ id_of k → kept_in K j ≡ kept_of s j) where
-  -- what was unmarked still is
-  still_unmarked : (j : MapId) → is_marked s j ≡ false → is_none (kept_in K j) ≡ false
-  still_unmarked j off = on_id j (id_of k)
-      (λ e. clash on (ap (is_marked s) (sym e) ∙ off))
-      (λ ne. ap (λ (o : Option Resolution). is_none o) (kept_else j ne) ∙ off)
+module _ (s : SessionState) (id : MapId) (r : Resolution) (K : Resolutions) (sound : IsSound s) (place : IsPlace s id) (on : is_marked s id ≡ true) (found : IsResolutionOf s id r)
+    (behind : AreFollowedCurrent s id r.map.holder) (kept_here : kept_in K id ≡ Some r) (kept_else : (j : MapId) → j ≢ id → kept_in K j ≡ kept_of s j) where
+  -- what was unmarked still is, and is as it was
+  abbrev WasUnmarked : MapId → Type 0
+  WasUnmarked j = is_marked s j ≡ false
 
-  was : (j : MapId) → j ≢ id_of k → is_none (kept_in K j) ≡ false → is_marked s j ≡ false
+  outwards : (j d : MapId) → WasUnmarked j → Contains (follows s j) d → WasUnmarked d
+  outwards j d off among = sound.closed j d off among
+
+  as_it_was : (j : MapId) → WasUnmarked j → kept_in K j ≡ kept_of s j
+  as_it_was j off = kept_else j (λ e. clash on (ap (is_marked s) (sym e) ∙ off))
+
+  still_unmarked : (j : MapId) → WasUnmarked j → is_none (kept_in K j) ≡ false
+  still_unmarked j off = ap (λ (o : Option Resolution). is_none o) (as_it_was j off) ∙ off
+
+  was : (j : MapId) → j ≢ id → is_none (kept_in K j) ≡ false → WasUnmarked j
   was j ne off = sym (ap (λ (o : Option Resolution). is_none o) (kept_else j ne)) ∙ off
 
-  stays_resolved : (j : MapId) (x : Resolution) → ((c : Crate) → has_crate (transitive_in s.crates j.krate.0) c ≡ true → is_marked s (crate_map c) ≡ false) → IsResolutionOf s j x
-      → IsResolutionOf (record s { kept = K }) j x
-  stays_resolved j x unmarked p = IsResolutionOf-stays s s.sources K j x p
-      (λ c behind. kept_else (crate_map c) (λ e. clash on (ap (is_marked s) (sym e) ∙ unmarked c behind))) AgreeOn-refl
+  abbrev kept_now : SessionState
+  kept_now = record s { kept = K }
 
-  -- what the crate stands on comes before it
-  before_it : (c : Crate) → has_crate (transitive_in s.crates k) c ≡ true → is_marked s (crate_map c) ≡ false
-  before_it c behind = first c.0 (DependsOn-below sound.below ((depended sound k c).0 behind))
+  stays_resolved : (j : MapId) (x : Resolution) (p : IsResolutionOf s j x) → IsKeptBehind s s.sources K j x → ((h : ModuleId) → holder_of p.from.start ≡ Some h → WasUnmarked h.map)
+      → IsResolutionOf kept_now j x
+  stays_resolved j x p kept held = IsResolutionOf-stays s s.sources K j x p kept
+      (beginning_stays s sound WasUnmarked outwards s.tables s.sources K (KeepsTables-refl _) as_it_was (λ b at means off set. set) j p.from p.begun held) AgreeOn-refl
 
-  -- what an unmarked place stands on is unmarked
-  behind_it : (j : MapId) → is_marked s j ≡ false → (c : Crate) → has_crate (transitive_in s.crates j.krate.0) c ≡ true → is_marked s (crate_map c) ≡ false
-  behind_it j off c behind =
-      let own = of_number j (sound.placed j off).of_crate in
-      DependsOn-holds {P = λ (i : ℕ). is_marked s (id_of i) ≡ false} (λ i d p among. follows_unmarked sound i d p among) ((depended sound j.krate.0 c).0 behind)
-      (ap (is_marked s) (sym own) ∙ off)
+  -- what it follows is current
+  follows_now : (d : MapId) → Contains (follows kept_now id) d → WasUnmarked d
+  follows_now d among = go id.block refl
+    where
+      go : (o : Option BlockId) → id.block ≡ o → WasUnmarked d
+      go None none = behind d (subst (λ (o : Option BlockId). Contains (follows_under s id o r.map.holder) d) (sym none) (subst (λ (o : Option BlockId). Contains (follows_by kept_now id o) d) none among))
+      go (Some b) of =
+          behind d (subst (λ (o : Option BlockId). Contains (follows_under s id o r.map.holder) d) (sym of)
+          (subst (λ (o : Option Resolution). Contains (crate_map id.krate ∷ held_maps o) d) kept_here
+          (subst (λ (o : Option BlockId). Contains (follows_by kept_now id o) d) of among)))
 
-  -- a marked crate was resolved that comes after no other marked one: the session stays sound
-  pub resolved_sound : IsSound (record s { kept = K })
+  holder_now : (h : ModuleId) → r.map.holder ≡ Some h → WasUnmarked h.map
+  holder_now h held =
+      let of = held_block s id r found h held in
+      follows_now h.map (followed_holder kept_now id of.0 r h of.1 kept_here held)
+
+  own_now : (b : BlockId) → id.block ≡ Some b → WasUnmarked (crate_map id.krate)
+  own_now b of = follows_now (crate_map id.krate) (followed_crate kept_now id b of)
+
+  -- what the crate of the place stands on is current
+  crates_now : (c : Crate) → has_crate (transitive_in s.crates id.krate.0) c ≡ true → WasUnmarked (crate_map c)
+  crates_now c among = go id.block refl
+    where
+      all_behind : ((d : Crate) → Contains (dependencies_of s id.krate.0) d → WasUnmarked (crate_map d)) → WasUnmarked (crate_map c)
+      all_behind direct = first ((depended sound id.krate.0 c).0 among)
+        where
+          first : DependsOn (dependencies_of s) id.krate.0 c.0 → WasUnmarked (crate_map c)
+          first (directly k d h) = direct d h
+          first (depends_through k i d h rest) = DependsOn-holds {P = λ (j : ℕ). WasUnmarked (id_of j)} (λ j e off member. outwards (id_of j) (crate_map e) off (followed s (record { 0 = j }) e member)) rest (direct d h)
+
+      go : (o : Option BlockId) → id.block ≡ o → WasUnmarked (crate_map c)
+      go None none = all_behind (λ d h. follows_now (crate_map d)
+          (subst (λ (x : MapId). Contains (follows kept_now x) (crate_map d)) (sym (of_number id none)) (followed kept_now id.krate d h)))
+      go (Some b) of = all_behind (λ d h. outwards (crate_map id.krate) (crate_map d) (own_now b of) (followed s id.krate d h))
+
+  behind_now : IsKeptBehind s s.sources K id r
+  behind_now = record {
+    crates = λ c among. as_it_was (crate_map c) (crates_now c among);
+    own = λ b of. as_it_was (crate_map id.krate) (own_now b of);
+    holders = λ h among. as_it_was h.map (each h among);
+  }
+    where
+      each : (h : ModuleId) → Contains r.holders h → WasUnmarked h.map
+      each h among = go r.map.holder refl
+        where
+          go : (o : Option ModuleId) → r.map.holder ≡ o → WasUnmarked h.map
+          go None alone =
+              let none : Contains [] h = subst (λ (hs : List ModuleId). Contains hs h) (found.holders ∙ ap (holders_under (finished_of s) r.map.id) alone) among in
+              absurd (let past : none.0 < 0 = none.1 in omega arith)
+          go (Some g) held =
+              let first = holder_kept s id r found g held in
+              one_of g (holder_now g held) first.found first.is (subst (λ (hs : List ModuleId). Contains hs h) first.holders among)
+            where
+              one_of : (g : ModuleId) → WasUnmarked g.map → (f : Resolution) → kept_of s g.map ≡ Some f → Contains (g ∷ f.holders) h → WasUnmarked h.map
+              one_of g off f is (zero, within, eq) = subst (λ (m : ModuleId). WasUnmarked m.map) eq off
+              one_of g off f is (suc n, within, eq) = holders_hold s sound {P = WasUnmarked} outwards f.holders g.map f is refl off h (n, omega arith, eq)
+
+  -- a marked place was resolved on which all that it depends is current: the session stays sound
+  pub resolved_sound : IsSound kept_now
   resolved_sound = record {
     few = sound.few;
     below = sound.below;
-    placed = λ j off. on_id j (id_of k)
-        (λ e. subst (λ (x : MapId). IsPlace (record s { kept = K }) x) (sym e) (record { of_crate = refl; within = within }))
-        (λ ne. let old = sound.placed j (was j ne off) in record { of_crate = old.of_crate; within = old.within });
-    closed = λ j d off among. still_unmarked d (on_id j (id_of k)
-        (λ e.
-        let c = dependency_behind s.crates j d among in
-        let number : j.krate.0 ≡ k = ap (λ (x : MapId). x.krate.0) e in
-        let lower : c.0.0 < j.krate.0 = sound.below j.krate.0 c.0 c.1 in
-        ap (is_marked s) c.2 ∙ first c.0.0 (omega arith))
-        (λ ne. sound.closed j d (was j ne off) among));
-    current = λ j off. on_id j (id_of k)
-        (λ e. subst (λ (x : MapId). IsCurrent (record s { kept = K }) x) (sym e) (record { found = r; is = kept_here; gives = stays_resolved (id_of k) r before_it found }))
+    placed = λ j off. on_id j id
+        (λ e. subst (λ (x : MapId). IsPlace kept_now x) (sym e) (same_place id place))
+        (λ ne. same_place j (sound.placed j (was j ne off)));
+    closed = λ j d off among. still_unmarked d (on_id j id
+        (λ e. follows_now d (subst (λ (x : MapId). Contains (follows kept_now x) d) e among))
+        (λ ne. sound.closed j d (was j ne off) (subst (λ (ds : List MapId). Contains ds d) (follows_as_before j ne j.block) among)));
+    current = λ j off. on_id j id
+        (λ e. subst (λ (x : MapId). IsCurrent kept_now x) (sym e) (record {
+          found = r;
+          is = kept_here;
+          gives = stays_resolved id r found behind_now (λ h held. holder_now h (found.holder ∙ held));
+        }))
         (λ ne.
-        let now = sound.current j (was j ne off) in
-        record { found = now.found; is = kept_else j ne ∙ now.is; gives = stays_resolved j now.found (behind_it j (was j ne off)) now.gives });
+        let unmarked_before : WasUnmarked j = was j ne off in
+        let now = sound.current j unmarked_before in
+        record {
+          found = now.found;
+          is = kept_else j ne ∙ now.is;
+          gives = stays_resolved j now.found now.gives (kept_behind s sound s.sources K WasUnmarked outwards as_it_was j now.found now.is unmarked_before)
+              (λ h held.
+              let in_map : now.found.map.holder ≡ Some h = now.gives.holder ∙ held in
+              let of = held_block s j now.found now.gives h in_map in
+              outwards j h.map unmarked_before (followed_holder s j of.0 now.found h of.1 now.is in_map));
+        });
     rooted = sound.rooted;
     calls = sound.calls;
   }
+    where
+      same_place : (j : MapId) → IsPlace s j → IsPlace kept_now j
+      same_place j (of_crate none within) = of_crate none within
+      same_place j (of_block b at is means own within set) = of_block b at is means own within set
 
--- ---- a resolution over tables that grew
+      follows_as_before : (j : MapId) → j ≢ id → (o : Option BlockId) → follows_by kept_now j o ≡ follows_by s j o
+      follows_as_before j ne None = refl
+      follows_as_before j ne (Some b) = ap (λ (o : Option Resolution). crate_map j.krate ∷ held_maps o) (kept_else j ne)
 
-module _ (old s : SessionState) (k : ℕ) (r : Resolution) (grown : Grows old s) (found : IsResolutionOf s (id_of k) r)
-    (first : (j : ℕ) → j < k → is_marked old (id_of j) ≡ false) (on : is_marked old (id_of k) ≡ true) where
-  -- what was marked is marked
-  same_mark : (id : MapId) → is_marked s id ≡ is_marked old id
-  same_mark id = ap (λ (kept : Resolutions). is_none (kept_in kept id)) grown.kept
-
-  pub free_grown : kept_of s r.map.id ≡ None
-  free_grown = free_own s (id_of k) r found.own (same_mark (id_of k) ∙ on)
-
-  -- the session stays sound
-  pub resolved_grown : (K : Resolutions) → k < length old.crates → kept_in K r.map.id ≡ Some r → ((j : MapId) → j ≢ r.map.id → kept_in K j ≡ kept_of s j) → IsSound (record s { kept = K })
-  resolved_grown K within kept_here others =
-      resolved_sound s k r K grown.sound (subst (λ (cs : List CrateValue). k < length cs) (sym grown.crates) within)
-      (λ j low. same_mark (id_of j) ∙ first j low) (same_mark (id_of k) ∙ on) found
-      (ap (kept_in K) (sym found.own) ∙ kept_here) (λ j ne. others j (λ e. ne (e ∙ found.own)))
+-- where no crate before it is marked, what a crate depends on is current
+pub followed_crates : (s : SessionState) → IsSound s → (k : ℕ) → ((j : ℕ) → j < k → is_marked s (id_of j) ≡ false) → (holder : Option ModuleId) → AreFollowedCurrent s (id_of k) holder
+followed_crates s sound k first holder d among =
+    let c = dependency_behind s (record { 0 = k }) d among in
+    let lower : c.0.0 < k = sound.below k c.0 c.1 in
+    ap (is_marked s) c.2 ∙ first c.0.0 lower

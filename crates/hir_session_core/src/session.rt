@@ -1,40 +1,38 @@
-//! The session: what is handed in, and what is kept of each crate that was resolved.
+//! The session: what is handed in, and what is kept of each crate and each block that was resolved.
 //!
 //! A run of the import rules for a crate notes each key that it asks for: what a file or an expansion has under the crate, the
-//! variants of an enum, the text of a macro and the input of a call, the map of a crate on which it depends. What it comes to
-//! is kept, with these keys.
+//! variants of an enum, the text of a macro and the input of a call, the map of a crate on which it depends. So does a run for a
+//! block, which asks for its own source too, and for the maps of its crate and of what holds it. What it comes to is kept, with
+//! these keys.
 //!
 //! An edit of a source compares what the source has with what it gets, at the keys of those runs that asked for it. Where one
 //! is altered the place is marked, and so is each place that depends on it: what is kept of them is dropped, and that is all
-//! that a mark is. A refresh runs the import rules for the marked places, in the order of the crates' numbers, so that a run finds
-//! what it depends on.
+//! that a mark is. A refresh runs the import rules for the marked places: for crates in the order of their numbers, and then for
+//! blocks, an outer one before those within it, so that a run finds what it depends on.
 //!
 //! The one difficulty: no query looks at a source. What is kept of a place is right because it is what the import rules could
 //! have given just now, over the present sources: the invariant of a session says so of each place, and an edit or a refresh that ends
 //! early leaves it true.
-ghost use Rattle.std.specs.Prelude.{◌≡◌, ℕ, ◌<◌, ◌++◌, ◌∷◌, [], map, true, false, length, None, Some, IfOk, OnOk, OnErr, IfErr, ◌≤◌, ◌⊎◌, Ok, Err};
+ghost use Rattle.std.specs.Prelude.{◌≡◌, map, length, None, Some, IfOk, OnOk, OnErr, IfErr, ◌≤◌, ◌⊎◌, Ok, Err};
 ghost use Rattle.hir_base.specs.Refusal.{Gives};
-ghost use Rattle.hir_collector_rules.specs.Derivation.{IsOverlong, collected_view};
 ghost use Rattle.hir_wire.specs.CommandValue.{crate_input_view};
 ghost use Rattle.hir_tables.specs.SourcePlaces.{expansion_value};
 ghost use Rattle.hir_wire.specs.Edits.{edit_view, entry_view};
 ghost use Rattle.hir_session_state.specs.Beginning.{Begins};
 ghost use Rattle.hir_item_tree.specs.Source.{source_view};
 ghost use Rattle.hir_session_state.specs.SourceEdits.{edited, of_expansion, of_file};
-ghost use Rattle.hir_session_state.specs.Crates.{id_of};
-ghost use Rattle.hir_session_state.specs.SessionState.{SessionState, Resolution, workspace_of, finished_of, beginning_of, is_marked, IsResolutionOf, IsSound};
-ghost use Rattle.hir_session_state.specs.Due.{root_place, Grows, Resolved, HasOverlongRun};
 ghost use Rattle.hir_session_state.specs.Refusals.{first_out_of_order, verdict_of_new, IsNewMemory, verdict_of_apply, verdict_of_expansion, verdict_of_removal, verdict_of_source, IsEditMemory};
-ghost use Rattle.hir_session_state.specs.Changes.{Becomes, Applies, Refreshes, RefreshesPartly};
+ghost use Rattle.hir_session_state.specs.Changes.{Becomes, Applies};
 
+mod blocks;
+mod pending;
 mod queries;
+mod refresh;
 
 use hir_base::file_path::FilePath;
-use hir_base::ids::{Crate, MapId};
+use hir_base::ids::Crate;
 use hir_base::limit::Limit;
 use hir_base::macro_kind::ExpansionKey;
-use hir_base::place::Place;
-use hir_collector_rules::collected::Collected;
 use hir_item_tree::check::check;
 use hir_item_tree::source::Source;
 use hir_session_invalidation::inputs::Inputs;
@@ -42,7 +40,7 @@ use hir_session_invalidation::invalidate::{Invalidation, invalidated};
 use hir_session_sources::beginning::{crates_of, first_late};
 use hir_session_sources::source_edit::SourceEdit;
 use hir_session_state::askers::Askers;
-use hir_session_state::error::{EditError, NewSessionError, RefreshError};
+use hir_session_state::error::{EditError, NewSessionError};
 use hir_session_state::front::{has_deep_condition, has_long_path};
 use hir_session_state::kept::Kept;
 use hir_session_state::known_crates::names_known;
@@ -77,14 +75,6 @@ impl Model for Session {
     ghost view = { λ s. state_of s.inputs s.tables s.kept };
 
     ghost invariant = { λ s. IsSound (state_of s.inputs s.tables s.kept) × AreNoted s.tables s.kept s.askers };
-}
-
-/// Puts the place of a crate's root at the end.
-fn note(alloc: Global, done: &mut Vec<Place>, k: u32) -> Result<(), AllocError>
-    ensures ok { OnOk result (done.new.items ≡ done.old.items ++ root_place (id_of k) ∷ []) }
-{
-    done.push(Place::new(Crate(k), Vec::new(alloc)))?;
-    Ok(())
 }
 
 /// Whether a source is within the limits, and has each id once. How deep its items nest is looked at first,
@@ -271,63 +261,12 @@ impl Session {
         match edit {
             Edit::SetFile { file, source } => self.set_file(alloc, file, source)?,
             Edit::RemoveFile { file } => self.remove_file(alloc, &file)?,
+            Edit::SetBlock { place, source } => self.set_block(alloc, place, source)?,
+            Edit::RemoveBlock { place } => self.remove_block(alloc, &place)?,
             Edit::SetExpansion { key, entry } => self.set_expansion(alloc, key, entry)?,
             Edit::RemoveExpansion { key } => self.remove_expansion(alloc, &key)?,
         }
         Ok(())
-    }
-
-    /// Whether nothing is kept of a crate.
-    fn is_marked_at(&self, k: u32) -> bool
-        ensures value { result ≡ is_marked self.now (id_of k) }
-    {
-        self.kept.get(MapId::of_crate(Crate(k))).is_none()
-    }
-
-    /// What a run gives for a crate, beside the maps of those before it.
-    fn found_at(&mut self, alloc: Global, k: u32) -> Result<Collected, RefreshError>
-        requires within { k < length self.old.crates }
-        requires first { (j : ℕ) → j < k → is_marked self.old (id_of j) ≡ false }
-        ensures grown { Grows self.old self.new }
-        ensures found { IfOk result (λ r. IsResolutionOf self.new (id_of k) (collected_view r)) }
-        ensures many { result ≡ Err RefreshError.TooMany → IsOverlong self.new.tables (workspace_of self.new) (finished_of self.new) (beginning_of self.new (id_of k)) }
-    {
-        self.inputs
-            .resolve(alloc, &mut self.tables, self.kept.world(), k)
-    }
-
-    /// Resolves the first marked crate.
-    fn resolve_at(&mut self, alloc: Global, k: u32) -> Result<(), RefreshError>
-        requires within { k < length self.old.crates }
-        requires first { (j : ℕ) → j < k → is_marked self.old (id_of j) ≡ false }
-        requires marked { is_marked self.old (id_of k) ≡ true }
-        ensures ok { OnOk result ((r : Resolution) × Resolved self.old (id_of k) r self.new) }
-        ensures sound { IsSound self.new }
-        ensures many { result ≡ Err RefreshError.TooMany → IsOverlong self.new.tables (workspace_of self.new) (finished_of self.new) (beginning_of self.new (id_of k)) }
-        ensures err { OnErr result (Grows self.old self.new) }
-    {
-        let found = self.found_at(alloc, k)?;
-        self.askers
-            .note(&self.tables, &found.asked, MapId::of_crate(Crate(k)))?;
-        self.kept.keep(found)?;
-        Ok(())
-    }
-
-    /// Resolves what is marked, in order, and lists it.
-    pub fn refresh(&mut self, alloc: Global) -> Result<Vec<Place>, RefreshError>
-        ensures refreshes { IfOk result (λ done. Refreshes self.old done.items self.new) }
-        ensures none_stale { OnOk result ((k : ℕ) → k < length self.new.crates → is_marked self.new (id_of k) ≡ false) }
-        ensures err { OnErr result (RefreshesPartly self.old self.new) }
-        ensures many { result ≡ Err RefreshError.TooMany → HasOverlongRun self.new }
-    {
-        let mut done = Vec::new(alloc);
-        for k in 0..self.inputs.crates().len() as u32 {
-            if self.is_marked_at(k) {
-                note(alloc, &mut done, k)?;
-                self.resolve_at(alloc, k)?;
-            }
-        }
-        Ok(done)
     }
 }
 

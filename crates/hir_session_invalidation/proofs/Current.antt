@@ -5,10 +5,11 @@ use Rattle.std.specs.Cmp.Lexicographic.{slice_cmp}
 use Rattle.std.specs.Cmp.{first_so, second_so}
 use Rattle.std.specs.Ordering.{nat_cmp}
 use Rattle.hir_base.specs.contracts.ids.CrateOrd.TheImpl as crate_order
+use Rattle.hir_base.specs.contracts.place.BlockPlaceOrd.TheImpl as block_order
 use Rattle.hir_base.specs.declared.ids.Crate.{Crate}
 use Rattle.hir_item_tree.specs.Source.{SourceValue}
 use Rattle.hir_item_tree.specs.SourceTree.{SourceTreeValue}
-use Rattle.hir_tables.specs.SourcePlaces.{ExpansionValue, SourcePlaceValue, expansion, file}
+use Rattle.hir_tables.specs.SourcePlaces.{SourcePlaceValue, block, expansion, file}
 use Rattle.hir_collector_rules.specs.Workspace.{Workspace}
 use Rattle.hir_session_sources.specs.declared.source_trees.SourceTrees.{SourceTrees}
 use Rattle.hir_session_state.specs.Crates.{CrateValue}
@@ -16,6 +17,7 @@ use Rattle.hir_session_state.specs.Entries.{expansion_cmp}
 use Rattle.hir_session_state.specs.SourceEdits.{SourceEditValue, edited, place_of, source_by}
 use Rattle.hir_session_state.specs.SourceTable.{SourceTable, tree_under, workspace_in}
 use Rattle.hir_session_sources.specs.SourceTrees.{CrateTrees, AreCurrent, AreTreesOf, is_kept_at, is_place, tree_by, tree_in}
+use Rattle.hir_session_sources.proofs.BlockLemmas.{exact_blocks}
 use Rattle.hir_session_sources.proofs.Changing.{equal_crate, same_crate}
 use Rattle.hir_session_sources.proofs.Expansions.{exact_expansions}
 use Rattle.hir_session_sources.proofs.SourceLemmas.{exact_paths, place_same, source-other, source-there}
@@ -45,6 +47,11 @@ kept_here (file path) krate (file at) c on =
     let here = is_at (slice_cmp nat_cmp path) at in
     let under = is_at (crate_order.ghosts.cmp krate) c in
     (ap file (exact_paths.same path at (first_so here under on)), equal_crate krate c (second_so here under on))
+kept_here (block place) krate (block at) c on =
+    let here = is_at (block_order.ghosts.cmp place) at in
+    let under = nat_eq krate.0 c.0 in
+    let both = second_so (nat_eq place.holder.krate.0 krate.0) (here && under) on in
+    (ap block (exact_blocks.same place at (first_so here under both)), same_crate krate c (second_so here under both))
 kept_here (expansion key) krate (expansion at) c on =
     let here = is_at (expansion_cmp key) at in
     let under = nat_eq krate.0 c.0 in
@@ -94,11 +101,11 @@ dropped_current crates table edit old new are gone others = record {
 }
 
 -- and all else is as it was
-pub dropped_same : (w : Workspace) (key : ExpansionValue) (old new : SourceTrees) → AreCurrent w old
-    → ((c : Crate) → tree_in new (expansion key) c ≡ None)
-    → ((p : SourcePlaceValue) (c : Crate) → is_place (expansion key) p ≡ false → tree_in new p c ≡ tree_in old p c) → AreCurrent w new
-dropped_same w key old new are gone others = record {
-  each = λ p c t is. on_bool (is_place (expansion key) p)
-      (λ on. none_some (tree_in new p c) t (ap (λ (q : SourcePlaceValue). tree_in new q c) (sym (place_same (expansion key) p on)) ∙ gone c) is)
+pub dropped_same : (w : Workspace) (at : SourcePlaceValue) (old new : SourceTrees) → AreCurrent w old
+    → ((c : Crate) → tree_in new at c ≡ None)
+    → ((p : SourcePlaceValue) (c : Crate) → is_place at p ≡ false → tree_in new p c ≡ tree_in old p c) → AreCurrent w new
+dropped_same w at old new are gone others = record {
+  each = λ p c t is. on_bool (is_place at p)
+      (λ on. none_some (tree_in new p c) t (ap (λ (q : SourcePlaceValue). tree_in new q c) (sym (place_same at p on)) ∙ gone c) is)
       (λ off. are.each p c t (sym (others p c off) ∙ is));
 }

@@ -35,12 +35,12 @@ impl<'a> EditedSource<'a> {
         }
     }
 
-    /// Whether what stands beside the items of an expansion stays what it is; a file has nothing of that.
+    /// Whether what stands beside the items of an expansion stays what it is; a file and a block have nothing of that.
     pub fn leaves_beside(&self) -> bool
         ensures exact { IsTrue result ↔ IsSeenAlike self.now.inputs.now.sources (edit_value self.now.edit) }
     {
         match self.edit {
-            SourceEdit::File { .. } => true,
+            SourceEdit::File { .. } | SourceEdit::Block { .. } => true,
             SourceEdit::Expansion { key, new } => is_same_look(
                 self.inputs.sources().entry(key),
                 new,

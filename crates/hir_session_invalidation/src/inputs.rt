@@ -7,7 +7,8 @@ ghost use Rattle.hir_wire.specs.Edits.{entry_view};
 ghost use Rattle.hir_def_map.specs.World.{finished_in};
 ghost use Rattle.hir_collector_rules.specs.Calls.{AreCallsPlaced};
 ghost use Rattle.hir_collector_rules.specs.Derivation.{IsOverlong, collected_view};
-ghost use Rattle.hir_session_state.specs.Crates.{beginning_in};
+ghost use Rattle.hir_session_state.specs.Blocks.{place_of_block, with_block, without_block};
+ghost use Rattle.hir_session_state.specs.Crates.{begins_in_block, beginning_in};
 ghost use Rattle.hir_session_state.specs.Entries.{with_entry, without_entry};
 ghost use Rattle.hir_session_state.specs.Files.{with_file, without_file};
 ghost use Rattle.hir_session_state.specs.Inputs.{workspace_by};
@@ -15,10 +16,11 @@ ghost use Rattle.hir_session_state.specs.SessionState.{IsResolved};
 ghost use Rattle.hir_session_state.specs.SourceTable.{source_at, tree_under};
 ghost use Rattle.hir_session_sources.specs.SourceTrees.{AreTreesOf};
 
-use crate::sources::{Sources, collect};
+use crate::sources::{HeldBlock, Sources, collect, collect_block};
 use hir_base::file_path::FilePath;
 use hir_base::ids::Crate;
 use hir_base::macro_kind::ExpansionKey;
+use hir_base::place::BlockPlace;
 use hir_collector_rules::collected::Collected;
 use hir_def_map::world::World;
 use hir_item_tree::source::Source;
@@ -60,7 +62,7 @@ impl Model for Inputs {
 impl Inputs {
     /// These crates without sources.
     pub fn new(alloc: Global, crates: Crates) -> Inputs
-        ensures value { result ≡ record { crates = crates; sources = record { files = []; entries = [] } } }
+        ensures value { result ≡ record { crates = crates; sources = record { files = []; blocks = []; entries = [] } } }
     {
         Inputs {
             crates,
@@ -92,7 +94,10 @@ impl Inputs {
     {
         match self.trees.get(place, krate) {
             Some(tree) => Ok(tree.clone()?),
-            None => source_tree(alloc, &self.crates, krate, place, self.sources.get(place)),
+            None => {
+                let source = self.sources.get(place)?;
+                source_tree(alloc, &self.crates, krate, place, source)
+            }
         }
     }
 
@@ -133,6 +138,24 @@ impl Inputs {
     {
         self.sources.remove_file(path);
         self.trees.replace(path, trees);
+    }
+
+    /// Sets a block. What it had under its crate isn't kept.
+    pub fn set_block(&mut self, place: BlockPlace, source: Source) -> Result<(), AllocError>
+        ensures ok { OnOk result (self.new ≡ record self.old { sources = record self.old.sources { blocks = with_block self.old.sources.blocks (place_of_block place) (source_view source) } }) }
+        ensures err { OnErr result (self.new ≡ self.old) }
+    {
+        self.trees.remove_block(&place);
+        self.sources.set_block(place, source)
+    }
+
+    /// Removes a block. What it had under its crate isn't kept.
+    pub fn remove_block(&mut self, place: &BlockPlace) -> Result<(), AllocError>
+        ensures ok { OnOk result (self.new ≡ record self.old { sources = record self.old.sources { blocks = without_block self.old.sources.blocks (place_of_block place.now) } }) }
+        ensures err { OnErr result (self.new ≡ self.old) }
+    {
+        self.trees.remove_block(place);
+        self.sources.remove_block(place)
     }
 
     /// Sets an expansion. What it had under the crate that calls isn't kept.
@@ -180,6 +203,34 @@ impl Inputs {
             trees,
         };
         let found = collect(alloc, &mut sources, tables, world, k);
+        self.trees = sources.trees;
+        found
+    }
+
+    /// Resolves a block in the module that holds it, over the present sources, beside finished maps. What the sources have
+    /// under its crate is kept.
+    pub fn resolve_block(
+        &mut self,
+        alloc: Global,
+        tables: &mut Tables,
+        world: &World,
+        at: HeldBlock,
+    ) -> Result<Collected, RefreshError>
+        ensures same { self.new ≡ self.old }
+        ensures kept { KeepsTables tables.old tables.new }
+        ensures placed { AreCallsPlaced tables.old → AreCallsPlaced tables.new }
+        ensures resolved { IfOk result (λ found. IsResolved tables.new (workspace_by self.old) (finished_in world.now.maps)
+            (begins_in_block at.krate at.block at.holder at.file at.id) (collected_view found)) }
+        ensures many { result ≡ Err RefreshError.TooMany
+            → IsOverlong tables.new (workspace_by self.old) (finished_in world.now.maps) (begins_in_block at.krate at.block at.holder at.file at.id) }
+    {
+        let trees = replace(&mut self.trees, SourceTrees::new(alloc));
+        let mut sources = Sources {
+            crates: &self.crates,
+            table: &self.sources,
+            trees,
+        };
+        let found = collect_block(alloc, &mut sources, tables, world, at);
         self.trees = sources.trees;
         found
     }

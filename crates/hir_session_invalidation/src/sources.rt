@@ -5,13 +5,14 @@ ghost use Rattle.hir_tables.specs.Tables.{KeepsTables};
 ghost use Rattle.hir_def_map.specs.World.{finished_in};
 ghost use Rattle.hir_collector_rules.specs.Calls.{AreCallsPlaced};
 ghost use Rattle.hir_collector_rules.specs.Derivation.{IsOverlong, collected_view};
-ghost use Rattle.hir_session_state.specs.Crates.{begins_at, beginning_in};
+ghost use Rattle.hir_collector_rules.specs.Start.{beginning};
+ghost use Rattle.hir_session_state.specs.Crates.{begins_in_block, beginning_in};
 ghost use Rattle.hir_session_state.specs.SessionState.{IsResolved};
 ghost use Rattle.hir_session_state.specs.SourceTable.{source_at, tree_under, workspace_in};
 ghost use Rattle.hir_session_sources.specs.SourceTrees.{AreCurrent, current_prop};
 
-use hir_base::ast_id::{EditionedFileId, HirFileId};
-use hir_base::ids::Crate;
+use hir_base::ast_id::{BlockId, EditionedFileId, HirFileId, InFile, SyntaxId};
+use hir_base::ids::{Crate, ModuleId};
 use hir_base::macro_kind::ExpansionKey;
 use hir_collector_rules::collected::Collected;
 use hir_collector_rules::source_database::{Config, CrateRoot, ExpansionLook, SourceDatabase};
@@ -53,7 +54,8 @@ impl<'a> Sources<'a> {
         if let Some(tree) = self.trees.get(place, krate) {
             return Ok(tree.clone()?);
         }
-        let tree = source_tree(alloc, self.crates, krate, place, self.table.get(place))?;
+        let source = self.table.get(place)?;
+        let tree = source_tree(alloc, self.crates, krate, place, source)?;
         self.trees.set(alloc, place, krate, tree.clone()?)?;
         Ok(tree)
     }
@@ -92,7 +94,7 @@ impl<'a> SourceDatabase for Sources<'a> {
     }
 
     fn present(&self, _krate: Crate, source: SourcePlace<'_>) -> bool {
-        self.table.get(source).is_some()
+        self.table.has(source)
     }
 
     fn expansion(&self, key: &ExpansionKey) -> ExpansionLook<'_> {
@@ -100,28 +102,33 @@ impl<'a> SourceDatabase for Sources<'a> {
     }
 }
 
-/// Runs the import rules for a crate from its root file.
+/// A block that has a number, the module that holds it, the file in which that is written, and the block's node there.
+#[derive(Clone, Copy)]
+pub struct HeldBlock {
+    pub krate: Crate,
+    pub block: BlockId,
+    pub holder: ModuleId,
+    pub file: EditionedFileId,
+    pub id: SyntaxId,
+}
+
+/// Runs the import rules from a start, beside finished maps.
 fn run(
     alloc: Global,
     sources: &mut Sources<'_>,
     tables: &mut Tables,
     world: &World,
-    krate: Crate,
-    root: EditionedFileId,
+    start: Start,
+    tree: TreeId,
 ) -> Result<Collected, RefreshError>
     ensures same { workspace_in sources.new.crates.now sources.new.table.now ≡ workspace_in sources.old.crates.now sources.old.table.now }
     ensures kept { KeepsTables tables.old tables.new }
     ensures placed { AreCallsPlaced tables.old → AreCallsPlaced tables.new }
     ensures resolved { IfOk result (λ found. IsResolved tables.new (workspace_in sources.old.crates.now sources.old.table.now)
-        (finished_in world.now.maps) (begins_at krate root) (collected_view found)) }
+        (finished_in world.now.maps) (beginning start tree None) (collected_view found)) }
     ensures many { result ≡ Err RefreshError.TooMany
-        → IsOverlong tables.new (workspace_in sources.old.crates.now sources.old.table.now) (finished_in world.now.maps) (begins_at krate root) }
+        → IsOverlong tables.new (workspace_in sources.old.crates.now sources.old.table.now) (finished_in world.now.maps) (beginning start tree None) }
 {
-    let start = Start::Crate { krate, root };
-    let tree = TreeId {
-        file: HirFileId::File(root),
-        block: None,
-    };
     let found = collect_defs(alloc, sources, world, tables, start, tree, None)?;
     Ok(found)
 }
@@ -144,5 +151,44 @@ pub fn collect(
         → IsOverlong tables.new (workspace_in sources.old.crates.now sources.old.table.now) (finished_in world.now.maps) (beginning_in sources.old.crates.now k) }
 {
     let root = sources.crates.as_slice()[k as usize].root();
-    run(alloc, sources, tables, world, Crate(k), root)
+    let krate = Crate(k);
+    let start = Start::Crate { krate, root };
+    let tree = TreeId {
+        file: HirFileId::File(root),
+        block: None,
+    };
+    run(alloc, sources, tables, world, start, tree)
+}
+
+/// Runs the import rules for a block in the module that holds it, beside finished maps.
+pub fn collect_block(
+    alloc: Global,
+    sources: &mut Sources<'_>,
+    tables: &mut Tables,
+    world: &World,
+    at: HeldBlock,
+) -> Result<Collected, RefreshError>
+    ensures same { workspace_in sources.new.crates.now sources.new.table.now ≡ workspace_in sources.old.crates.now sources.old.table.now }
+    ensures kept { KeepsTables tables.old tables.new }
+    ensures placed { AreCallsPlaced tables.old → AreCallsPlaced tables.new }
+    ensures resolved { IfOk result (λ found. IsResolved tables.new (workspace_in sources.old.crates.now sources.old.table.now)
+        (finished_in world.now.maps) (begins_in_block at.krate at.block at.holder at.file at.id) (collected_view found)) }
+    ensures many { result ≡ Err RefreshError.TooMany
+        → IsOverlong tables.new (workspace_in sources.old.crates.now sources.old.table.now) (finished_in world.now.maps) (begins_in_block at.krate at.block at.holder at.file at.id) }
+{
+    let file_id = HirFileId::File(at.file);
+    let start = Start::Block {
+        krate: at.krate,
+        block: at.block,
+        holder: at.holder,
+        at: InFile {
+            file_id,
+            value: at.id,
+        },
+    };
+    let tree = TreeId {
+        file: file_id,
+        block: Some(at.block),
+    };
+    run(alloc, sources, tables, world, start, tree)
 }

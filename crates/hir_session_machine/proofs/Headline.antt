@@ -1,5 +1,5 @@
 -- What holds of all replies.
-use Rattle.std.proofs.Common.{◌≡◌, ◌⊎◌, inl, inr, ℕ, zero, suc, ◌<◌, arith, ap, slice_get, Bool, true, false, nat_le, nat_lt, List, [], ◌∷◌, length, Option, Some, None, Result, Ok, Err, refl, sym, subst, ◌∙◌}
+use Rattle.std.proofs.Common.{◌≡◌, ◌⊎◌, inl, inr, ℕ, zero, suc, ◌<◌, arith, ap, slice_get, Bool, true, false, nat_le, List, [], ◌∷◌, length, Option, Some, None, Result, Ok, Err, refl, sym, subst, ◌∙◌}
 use Rattle.hir_base.specs.ModPath.{Path}
 use Rattle.hir_base.specs.Place.{PlaceValue}
 use Rattle.hir_base.specs.declared.ids.Crate.{Crate}
@@ -16,8 +16,8 @@ use Rattle.hir_wire.specs.declared.reply.Reply.TheVariants as reply
 use Rattle.hir_session_state.specs.declared.error.QueryError.{QueryError}
 use Rattle.hir_session_state.specs.declared.error.QueryError.TheVariants as query_error
 use Rattle.hir_lines.specs.declared.open_line.TheConstants.{LINE_LIMIT}
-use Rattle.hir_session_state.specs.SessionState.{SessionState, is_marked, IsSound}
-use Rattle.hir_session_answers.specs.Status.{map_of}
+use Rattle.hir_session_state.specs.SessionState.{SessionState, standing_of, IsSound}
+use Rattle.hir_session_state.specs.Standing.{map_by}
 use Rattle.hir_session_answers.specs.Answers.{answer_of}
 use Rattle.hir_def_collector_laws.specs.Sources.{RunsBindFromSources}
 use Rattle.hir_def_map_rules.specs.Closed.{PathsLeadToWhatIsThere}
@@ -29,7 +29,7 @@ use Rattle.hir_session_machine.specs.Machine.AnswersCommand.{finds_no_memory, be
 use Rattle.hir_session_machine.specs.Machine.AnswersLine.{finds_no_memory_for_line, reads_no_command, carries_out}
 use Rattle.hir_session_machine.specs.AnsweredLines.{AnswersWithin, AnswersInput, AnswersLines}
 use Rattle.hir_session_machine.specs.Headline.{Query, Asks, AsksDiagnostics, Alters, IsAlteredBetween, Stands, AreAllTold, RepliesHoldTheHeadline, state_at}
-use Rattle.hir_session_state.proofs.Truth.{on_bool}
+use Rattle.hir_session_state.proofs.Standing.{at_module, unmarked}
 use Rattle.hir_session_answers.proofs.Differ.{IsSame, same_after_edit, same_after_refresh, same_at_first, same_answer}
 use Rattle.hir_session_machine.proofs.Histories.{after_input, begun_input, history_sound, one_value}
 use Rattle.hir_session_answers.proofs.Stand.{stands}
@@ -96,18 +96,9 @@ answered_within true line asks (inl done) = answered_by_line asks done
 answered_within true line asks (inr lost) = let told = lost.0 in absurd (let wrong : ⊥ = cc in wrong)
 answered_within false line asks skipped = let told = skipped.0 in absurd (let wrong : ⊥ = cc in wrong)
 
--- where there is an answer, the crate isn't marked
-unmarked_where_answered : (s : SessionState) (place : PlaceValue) (path : Path) (shadow : Shadow) (style : Option MacroStyle) (a : Answer)
-    → answer_of s place path shadow style ≡ Ok a → is_marked s (map_of place) ≡ false
-unmarked_where_answered s place path shadow style a is = on_bool (is_marked s (map_of place))
-    (λ stale. on_bool (nat_lt place.krate.0 (length s.crates))
-    (λ within. absurd (let wrong : ⊥ = cc (rw (within, stale) at is) in wrong))
-    (λ past. absurd (let wrong : ⊥ = cc (rw past at is) in wrong)))
-    (λ off. off)
-
 -- ---- what lies between two replies
 
--- a session is there again, and what is behind the crate is as it was, or the line altered a key that was asked for
+-- a session is there again, and what is behind the map is as it was, or the line altered a key that was asked for
 abbrev KeepsOrAlters : SessionState → MapId → MachineState → List ℕ → MachineState → Type 0
 KeepsOrAlters from k old line new = (to : SessionState) × (new ≡ Some to)
     × (IsSame from to k ⊎ ((key : Key) × IsAskedBehind from k key × Alters old line new key))
@@ -296,16 +287,19 @@ differ_at runs paths leads zero (suc n) q one other old (line ∷ lines) (answer
     let read : reading_of line ≡ Ok (resolve q.place q.path q.shadow q.style) = ap reading_of (first_of first.is) ∙ first.read in
     let was = answered_within (nat_le (length line) LINE_LIMIT) line read (subst (λ (r : Reply). AnswersInput old line r done.0) (first_of told) done.1) in
     let sound = good was.at was.before in
-    let off = unmarked_where_answered was.at q.place q.path q.shadow q.style one was.is in
+    let first_stands = stands runs paths leads was.at q.place q.path q.shadow q.style one sound was.is in
+    let m = first_stands.asked_from in
+    let off = unmarked was.at m.map first_stands.found first_stands.stands.kept in
+    let ends = ap map_by (at_module (standing_of was.at q.place) m first_stands.named) in
     let now = answered_at n q other done.0 lines answers new done.2 (record { line = second.line; is = second.is; read = second.read }) again in
-    elim (kept_up_to was.at (map_of q.place) n done.0 lines answers new done.2 was.at was.after (same_at_first sound off) (within_list lines n second.is)) [
+    elim (kept_up_to was.at m.map n done.0 lines answers new done.2 was.at was.after (same_at_first sound off) (within_list lines n second.is)) [
       | inl kept ↦
           let there : kept.session ≡ now.0 = one_value (sym kept.is ∙ now.1) in
-          let alike = same_answer q.place q.path q.shadow q.style sound (subst (λ (x : SessionState). IsSame was.at x (map_of q.place)) there kept.same) runs paths leads off in
+          let alike = same_answer q.place q.path q.shadow q.style sound runs paths leads m.map ends (subst (λ (x : SessionState). IsSame was.at x m.map) there kept.same) in
           inl (let given : (Ok other) ≡ (Ok one) = sym now.2 ∙ alike ∙ was.is in cc)
       | inr hit ↦ inr (record {
         key = hit.key;
-        asked = (was.at, was.before, hit.asked);
+        asked = record { session = was.at; is = was.before; asked_from = m; named = first_stands.named; behind = hit.asked };
         at = suc hit.at;
         after = omega arith;
         before = (let high : hit.at < n = hit.before in omega arith);

@@ -3,7 +3,7 @@ use Rattle.std.specs.Prelude.{◌≡◌, ◌⊎◌, ℕ, zero, suc, ◌<◌, Lis
 use Rattle.hir_base.specs.ModPath.{Path}
 use Rattle.hir_base.specs.Place.{PlaceValue}
 use Rattle.hir_base.specs.declared.ids.Crate.{Crate}
-use Rattle.hir_base.specs.declared.ids.MapId.{MapId}
+use Rattle.hir_base.specs.declared.ids.ModuleId.{ModuleId}
 use Rattle.hir_collector_rules.specs.declared.source_database.Key.{Key}
 use Rattle.hir_wire.specs.CommandValue.{diagnostics, edit, resolve}
 use Rattle.hir_wire.specs.Commands.{reading_of}
@@ -14,11 +14,10 @@ use Rattle.hir_wire.specs.declared.command.MacroStyle.{MacroStyle}
 use Rattle.hir_wire.specs.declared.diagnostic.Diagnostic.{Diagnostic}
 use Rattle.hir_wire.specs.declared.reply.Reply.{Reply}
 use Rattle.hir_wire.specs.declared.reply.Reply.TheVariants as reply
-use Rattle.hir_session_state.specs.SessionState.{SessionState, workspace_of}
+use Rattle.hir_session_state.specs.SessionState.{SessionState, module_of, workspace_of}
 use Rattle.hir_session_state.specs.Marks.{IsAltered}
 use Rattle.hir_session_state.specs.Due.{IsAskedBehind}
 use Rattle.hir_session_state.specs.Changes.{Applies}
-use Rattle.hir_session_answers.specs.Status.{map_of}
 use Rattle.hir_session_answers.specs.AnswersStand.{AnswersStand}
 use Rattle.hir_session_answers.specs.DiagnosticsStand.{DiagnosticsStand}
 use Rattle.hir_session_machine.specs.Machine.{MachineState, first_state}
@@ -62,9 +61,13 @@ pub record Alters (old : MachineState) (line : List ℕ) (new : MachineState) (k
   pub applied : Applies from made to
   pub altered : IsAltered from.tables (workspace_of from) (workspace_of to) key
 
--- a run behind the place asked for the key, in the session that there is
-abbrev pub IsAskedIn : MachineState → MapId → Key → Type 0
-IsAskedIn m id key = (s : SessionState) × (m ≡ Some s) × IsAskedBehind s id key
+-- a run behind the map in which a place lies asked for the key, in the session that there is
+pub record IsAskedIn (m : MachineState) (place : PlaceValue) (key : Key) : Type 0 where
+  pub session : SessionState
+  pub is : m ≡ Some session
+  pub asked_from : ModuleId
+  pub named : module_of session place ≡ Some asked_from
+  pub behind : IsAskedBehind session asked_from.map key
 
 module _ (old : MachineState) (lines : List (List ℕ)) (answers : List Reply) (new : MachineState) (done : AnswersLines old lines answers new) where
   abbrev pub state_before : ℕ → MachineState
@@ -85,7 +88,7 @@ module _ (old : MachineState) (lines : List (List ℕ)) (answers : List Reply) (
   -- a line between the two numbers is an edit that altered a key which was asked for behind the first answer
   pub record IsAlteredBetween (m n : ℕ) (place : PlaceValue) : Type 0 where
     pub key : Key
-    pub asked : IsAskedIn (state_before m) (map_of place) key
+    pub asked : IsAskedIn (state_before m) place key
     pub at : ℕ
     pub after : m < at
     pub before : at < n

@@ -4,6 +4,7 @@ pub mod EntryLemmas
 pub mod OptionLemmas
 pub mod Lookups
 pub mod Expansions
+pub mod BlockLemmas
 pub mod SourceLemmas
 pub mod TreeLemmas
 pub mod Changing

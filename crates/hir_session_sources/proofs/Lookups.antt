@@ -1,9 +1,14 @@
 -- What is found in lists of entries by exact keys, before a change and after it.
-use Rattle.std.proofs.Common.{◌≡◌, true, false, cond, not, filter, map, Ordering, Less, Equal, Greater, List, [], ◌∷◌, Option, Some, None, refl, sym, ap, ◌∙◌}
+use Rattle.std.proofs.Common.{◌≡◌, Bool, true, false, cond, not, filter, map, Ordering, Less, Equal, Greater, List, [], ◌∷◌, Option, Some, None, option_map, refl, sym, ap, ◌∙◌}
 use Rattle.std.specs.Ordering.{match_ordering, is_eq}
 use Rattle.std.specs.BTreeMap.{insert_entry, is_at}
-use Rattle.std.specs.Map.{lookup}
-use Rattle.hir_session_state.proofs.Truth.{clash, on_bool}
+use Rattle.std.specs.Cmp.{IsTotalOrder}
+use Rattle.std.specs.List.Sorted.{IsStrictlySortedBy}
+use Rattle.std.specs.Map.{keys_of, lookup, set_value}
+use Rattle.std.proofs.lemmas.Map.{lookup-none}
+use Rattle.std.proofs.lemmas.Map.Entries.{none_below_head}
+use Rattle.std.proofs.lemmas.Map.Keys.{sorted_tail}
+use Rattle.hir_session_state.proofs.Truth.{clash, no_value, on_bool}
 
 -- two keys are tied exactly where they are the same
 pub record IsExact {K : Type 0} (cmp : K → K → Ordering) : Type 0 where
@@ -90,3 +95,62 @@ module _ {K L X : Type 0} (f : K → L) (cmp : K → K → Ordering) (other : L 
       (λ on. let too : is_at (other (f k)) (f e.0) ≡ true = ap is_eq (sym (alike k e.0)) ∙ on in rw (on, too) (renamed-without k es))
       (λ off. let too : is_at (other (f k)) (f e.0) ≡ false = ap is_eq (sym (alike k e.0)) ∙ off in
       rw (off, too) (ap (λ (rest : List (L × X)). (f e.0, e.1) ∷ rest) (renamed-without k es)))
+
+-- ---- entries that are found by what their keys are
+
+module _ {K L X : Type 0} (f : K → L) (test : L → Bool) where
+  abbrev keyed : List (K × X) → List (L × X)
+  keyed es = map (λ e. (f e.0, e.1)) es
+
+  pub lookup-keyed : (es : List (K × X)) → lookup (λ (k : K). test (f k)) es ≡ lookup test (keyed es)
+  lookup-keyed [] = refl
+  lookup-keyed (e ∷ es) = ap (λ (rest : Option X). cond (test (f e.0)) (Some e.1) rest) (lookup-keyed es)
+
+  pub keyed-without : (es : List (K × X)) → keyed (filter (λ (e : K × X). not (test (f e.0))) es) ≡ filter (λ (e : L × X). not (test e.0)) (keyed es)
+  keyed-without [] = refl
+  keyed-without (e ∷ es) = on_bool (test (f e.0))
+      (λ on. rw on (keyed-without es))
+      (λ off. rw off (ap (λ (rest : List (L × X)). (f e.0, e.1) ∷ rest) (keyed-without es)))
+
+-- ---- entries with other values
+
+module _ {K X Y : Type 0} (g : X → Y) where
+  abbrev pub valued : List (K × X) → List (K × Y)
+  valued es = map (λ e. (e.0, g e.1)) es
+
+  pub lookup-valued : (test : K → Bool) (es : List (K × X)) → lookup test (valued es) ≡ option_map g (lookup test es)
+  lookup-valued test [] = refl
+  lookup-valued test (e ∷ es) = on_bool (test e.0) (λ on. rw on refl) (λ off. rw off (lookup-valued test es))
+
+  pub valued-insert_entry : (cmp : K → K → Ordering) (es : List (K × X)) (k : K) (x : X) → valued (insert_entry cmp es k x) ≡ insert_entry cmp (valued es) k (g x)
+  valued-insert_entry cmp [] k x = refl
+  valued-insert_entry cmp (e ∷ es) k x = by (cmp k e.0) (valued-insert_entry cmp es k x)
+    where
+      by : (r : Ordering) → valued (insert_entry cmp es k x) ≡ insert_entry cmp (valued es) k (g x)
+          → valued (match_ordering r ((k, x) ∷ e ∷ es) ((e.0, x) ∷ es) (e ∷ insert_entry cmp es k x))
+          ≡ match_ordering r ((k, g x) ∷ (e.0, g e.1) ∷ valued es) ((e.0, g x) ∷ valued es) ((e.0, g e.1) ∷ insert_entry cmp (valued es) k (g x))
+      by Less more = refl
+      by Equal more = refl
+      by Greater more = ap (λ (rest : List (K × Y)). (e.0, g e.1) ∷ rest) more
+
+  pub valued-without : (test : K → Bool) (es : List (K × X)) → valued (filter (λ (e : K × X). not (test e.0)) es) ≡ filter (λ (e : K × Y). not (test e.0)) (valued es)
+  valued-without test [] = refl
+  valued-without test (e ∷ es) = on_bool (test e.0)
+      (λ on. rw on (valued-without test es))
+      (λ off. rw off (ap (λ (rest : List (K × Y)). (e.0, g e.1) ∷ rest) (valued-without test es)))
+
+-- ---- a value that is written over
+
+module _ {K X : Type 0} (cmp : K → K → Ordering) (total : IsTotalOrder cmp) where
+  -- what is set at a key that is there stands where that stood
+  pub insert_entry-there : (es : List (K × X)) (k : K) (x w : X) → IsStrictlySortedBy cmp (keys_of es) → lookup (is_at (cmp k)) es ≡ Some w → insert_entry cmp es k x ≡ set_value (is_at (cmp k)) es x
+  insert_entry-there [] k x w sorted found = no_value found
+  insert_entry-there (e ∷ es) k x w sorted found = by (cmp k e.0) refl (λ more. insert_entry-there es k x w (sorted_tail cmp e.0 (keys_of es) sorted) more)
+    where
+      by : (r : Ordering) → cmp k e.0 ≡ r → (lookup (is_at (cmp k)) es ≡ Some w → insert_entry cmp es k x ≡ set_value (is_at (cmp k)) es x)
+          → match_ordering r ((k, x) ∷ e ∷ es) ((e.0, x) ∷ es) (e ∷ insert_entry cmp es k x) ≡ cond (is_eq (cmp k e.0)) ((e.0, x) ∷ es) (e ∷ set_value (is_at (cmp k)) es x)
+      by Less p more = no_value (sym (lookup-none (is_at (cmp k)) (e ∷ es) (none_below_head total k e es sorted p)) ∙ found)
+      by Equal p more = rw p refl
+      by Greater p more =
+          let rest : lookup (is_at (cmp k)) es ≡ Some w = sym (ap (λ (r : Ordering). cond (is_eq r) (Some e.1) (lookup (is_at (cmp k)) es)) p) ∙ found in
+          rw p (ap (λ (left : List (K × X)). e ∷ left) (more rest))

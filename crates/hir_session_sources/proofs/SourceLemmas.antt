@@ -5,7 +5,9 @@ use Rattle.std.specs.Cmp.Lexicographic.{slice_cmp, bytes_decides}
 use Rattle.std.specs.BTreeMap.{is_at}
 use Rattle.std.proofs.lemmas.Map.Text.{is_eq-slice_cmp}
 use Rattle.hir_base.specs.declared.ast_id.AstKind.TheVariants.{MacroDef, MacroRules}
+use Rattle.hir_base.specs.contracts.place.BlockPlaceOrd.TheImpl as block_order
 use Rattle.hir_base.specs.declared.ast_id.EntryId.{EntryId}
+use Rattle.hir_base.specs.declared.place.BlockPlace.{BlockPlace}
 use Rattle.hir_base.specs.declared.macro_kind.MacroId.TheVariants as macros
 use Rattle.hir_item_tree.specs.Source.{SourceValue}
 use Rattle.hir_item_tree.specs.SourceTree.{SourceTreeValue, variants_of}
@@ -20,19 +22,21 @@ use Rattle.hir_collector_rules.specs.Keys.{entry_under, input_of, look, of_entry
 use Rattle.hir_collector_rules.specs.declared.source_database.Key.{Key}
 use Rattle.hir_collector_rules.specs.declared.source_database.Key.TheVariants as keys
 use Rattle.hir_wire.specs.Edits.{EntryValue}
+use Rattle.hir_session_state.specs.Blocks.{Blocks, block_in, blocks_with, place_of_block}
 use Rattle.hir_session_state.specs.Crates.{CrateValue}
 use Rattle.hir_session_state.specs.Entries.{Entries, entries_with, entry_at, expansion_cmp, look_of, source_of as source_in_entry}
 use Rattle.hir_session_state.specs.Files.{Files, edited_at, file_at}
 use Rattle.hir_session_state.specs.KeySources.{key_place, key_tree, tree_place}
-use Rattle.hir_session_state.specs.SourceEdits.{SourceEditValue, IsSeenAlike, edited, of_expansion, of_file, place_of, source_by}
+use Rattle.hir_session_state.specs.SourceEdits.{SourceEditValue, IsSeenAlike, edited, of_block, of_expansion, of_file, place_of, source_by}
 use Rattle.hir_session_state.specs.SourceTable.{SourceTable, source_at, tree_under, workspace_in}
 use Rattle.hir_session_sources.specs.SourceTrees.{is_place}
 use Rattle.hir_session_state.specs.EditedSources.{seen_at}
+use Rattle.hir_session_sources.proofs.BlockLemmas.{block_in-edited, exact_blocks, root-block}
 use Rattle.hir_session_sources.proofs.Expansions.{exact_expansions}
 use Rattle.hir_session_sources.proofs.Lookups.{IsExact, at_same, lookup-insert_entry, lookup-without}
 use Rattle.hir_session_state.proofs.Truth.{clash, on_bool, no_value, one_value}
 
--- ---- files and expansions
+-- ---- files, blocks and expansions
 
 -- the test at a path says that two paths are the same
 pub exact_paths : IsExact (slice_cmp nat_cmp)
@@ -53,10 +57,17 @@ entry_at-entries_with : (entries : Entries) (key : ExpansionValue) (there : Opti
 entry_at-entries_with entries key (Some entry) q = lookup-insert_entry expansion_cmp exact_expansions entries key entry q
 entry_at-entries_with entries key None q = lookup-without expansion_cmp exact_expansions entries key q
 
+-- and so is the block of one
+block_at-edited : (blocks : Blocks) (place : BlockPlace) (there : Option SourceValue) (q : BlockPlace)
+    → block_in (blocks_with blocks (place_of_block place) there) (place_of_block q) ≡ cond (is_at (block_order.ghosts.cmp place) q) there (block_in blocks (place_of_block q))
+block_at-edited blocks place there q =
+    block_in-edited blocks (place_of_block place) there (place_of_block q) ∙ ap (λ (b : Bool). cond b there (block_in blocks (place_of_block q))) (root-block place q)
+
 -- ---- places
 
 pub place_same : (p q : SourcePlaceValue) → is_place p q ≡ true → p ≡ q
 place_same (file p) (file q) on = ap file (exact_paths.same p q on)
+place_same (block p) (block q) on = ap block (exact_blocks.same p q on)
 place_same (expansion p) (expansion q) on = ap expansion (exact_expansions.same p q on)
 place_same p q on = clash on refl
 
@@ -66,6 +77,7 @@ same_place edit q same = subst (λ (p : SourcePlaceValue). is_place (place_of ed
   where
     go : (e : SourceEditValue) → is_place (place_of e) (place_of e) ≡ true
     go (of_file path new) = exact_paths.own path
+    go (of_block place new) = exact_blocks.own place
     go (of_expansion key new) = exact_expansions.own key
 
 of_cond : (b : Bool) (x y : Option EntryValue) → source_in_entry (cond b x y) ≡ cond b (source_in_entry x) (source_in_entry y)
@@ -78,6 +90,9 @@ pub source_at-edited : (t : SourceTable) (edit : SourceEditValue) (q : SourcePla
 source_at-edited t (of_file path new) (file q) = file_at-edited_at t.files path new q
 source_at-edited t (of_file path new) (block q) = refl
 source_at-edited t (of_file path new) (expansion q) = refl
+source_at-edited t (of_block place new) (file q) = refl
+source_at-edited t (of_block place new) (block q) = block_at-edited t.blocks place new q
+source_at-edited t (of_block place new) (expansion q) = refl
 source_at-edited t (of_expansion key new) (file q) = refl
 source_at-edited t (of_expansion key new) (block q) = refl
 source_at-edited t (of_expansion key new) (expansion q) =
@@ -151,6 +166,7 @@ module _ (crates : List CrateValue) (tables : TablesValue) (t : SourceTable) (ed
   -- what stands beside the items of an expansion that isn't edited
   entry-other : (e : SourceEditValue) (key : ExpansionValue) → expansion key ≢ place_of e → entry_at (edited t e).entries key ≡ entry_at t.entries key
   entry-other (of_file path new) key ne = refl
+  entry-other (of_block place new) key ne = refl
   entry-other (of_expansion k new) key ne =
       entry_at-entries_with t.entries k new key
       ∙ ap (λ (b : Bool). cond b new (entry_at t.entries key))
@@ -165,6 +181,7 @@ module _ (crates : List CrateValue) (tables : TablesValue) (t : SourceTable) (ed
       → (now_is : EntryLook) → now_is ≡ look_of (entry_at t.entries key) → (after_is : EntryLook) → after_is ≡ look_of (entry_at (edited t e).entries key)
       → (IsSeenAlike t e → after_is ≡ now_is) × (after_is ≡ now_is → IsSeenAlike t e)
   entry-edited (of_file path new) key same n n_is a a_is = absurd (let wrong : ⊥ = cc in wrong)
+  entry-edited (of_block place new) key same n n_is a a_is = absurd (let wrong : ⊥ = cc in wrong)
   entry-edited (of_expansion k new) key same n n_is a a_is =
       let is : key ≡ k = cc in
       let there : a ≡ look_of new =

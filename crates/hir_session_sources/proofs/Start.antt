@@ -120,12 +120,11 @@ below_from n (i ∷ is) (c ∷ cs) made none (suc k) d among = on_bool (has_late
     (λ late. absurd (let wrong : ⊥ = cc (rw late at none) in wrong))
     (λ early. let lower : d.0 < n + 1 + k = below_from (n + 1) is cs made.1 (rw early at none) k d among in omega arith)
 
--- where neither a call nor a block has a number
+-- where no call has a number
 none_placed : (t : TablesValue) → t ≡ record { files = t.files; blocks = []; entries = []; calls = [] } → AreCallsPlaced t
 none_placed t is = record {
   calls = λ n loc e.
       let gone : None ≡ Some loc = sym (ap (λ (x : TablesValue). slice_get x.calls n) is) ∙ e in absurd (let wrong : ⊥ = cc in wrong);
-  blocks = ap (λ (x : TablesValue). x.blocks) is;
 }
 
 -- a session is sound when it begins
@@ -145,7 +144,7 @@ begins_sound inputs s few ordered is =
 
 -- the parts of a session that begins
 pub begins_with : (inputs : List CrateInput) (crates : List CrateValue) (tables : TablesValue) (sources : SourceTable) (kept : Resolutions)
-    → AreMade (map crate_input_view inputs) crates → AreRooted tables crates → sources ≡ record { files = []; entries = [] } → ((id : MapId) → kept_in kept id ≡ None)
+    → AreMade (map crate_input_view inputs) crates → AreRooted tables crates → sources ≡ record { files = []; blocks = []; entries = [] } → ((id : MapId) → kept_in kept id ≡ None)
     → (first : TablesValue) → first ≡ record { files = []; blocks = []; entries = []; calls = [] } → tables ≡ record first { files = tables.files }
     → Begins (map crate_input_view inputs) (record { crates = crates; tables = tables; sources = sources; kept = kept })
 begins_with inputs crates tables sources kept made rooted none is_kept first empty others = record {

@@ -4,10 +4,11 @@ use Rattle.hir_item_tree.specs.Source.{source_view}
 use Rattle.hir_tables.specs.SourcePlaces.{expansion_value}
 use Rattle.hir_wire.specs.Edits.{entry_view}
 use Rattle.hir_session_sources.specs.declared.source_edit.SourceEdit.{SourceEdit}
-use Rattle.hir_session_sources.specs.declared.source_edit.SourceEdit.TheVariants.{File, Expansion}
-use Rattle.hir_session_state.specs.SourceEdits.{SourceEditValue, of_file, of_expansion}
+use Rattle.hir_session_sources.specs.declared.source_edit.SourceEdit.TheVariants.{File, Block, Expansion}
+use Rattle.hir_session_state.specs.SourceEdits.{SourceEditValue, of_file, of_block, of_expansion}
 
 -- the value of what the code has
 abbrev pub edit_value : SourceEdit → SourceEditValue
 edit_value (File path new) = of_file path.now (option_map (λ s. source_view s.now) new)
+edit_value (Block place new) = of_block place.now (option_map (λ s. source_view s.now) new)
 edit_value (Expansion key new) = of_expansion (expansion_value key.now) (option_map (λ e. entry_view e.now) new)

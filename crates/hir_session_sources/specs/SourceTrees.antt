@@ -10,6 +10,7 @@ use Rattle.std.specs.declared.alloc.Global.{Global}
 use Rattle.std.specs.declared.rc.Rc.{Rc}
 use Rattle.hir_base.specs.declared.ids.Crate.{Crate}
 use Rattle.hir_base.specs.contracts.ids.CrateOrd.TheImpl as crate_order
+use Rattle.hir_base.specs.contracts.place.BlockPlaceOrd.TheImpl as block_order
 use Rattle.hir_item_tree.specs.SideCodes.{coded_source_tree}
 use Rattle.hir_item_tree.specs.Source.{SourceValue}
 use Rattle.hir_item_tree.specs.SourceTree.{SourceTreeValue}
@@ -28,23 +29,26 @@ CrateTrees = BTreeMap Crate (Rc SourceTreeValue Global)
 abbrev pub tree_by : CrateTrees → Crate → Option SourceTreeValue
 tree_by trees krate = option_map (λ t. t.value) (get crate_order.ghosts.cmp trees krate)
 
--- what is kept of the source at a place under a crate: of an expansion what it has under the crate that calls, and of a
--- block nothing
+-- what is kept of the source at a place under a crate: of a block what it has under its own, and of an expansion what it has under
+-- the crate that calls
 abbrev pub tree_in : SourceTrees → SourcePlaceValue → Crate → Option SourceTreeValue
 tree_in trees (file path) krate = option_and_then (λ kept. tree_by kept krate) (lookup (is_at (slice_cmp nat_cmp path)) trees.by_path.entries)
-tree_in trees (block place) krate = None
+tree_in trees (block place) krate =
+    if nat_eq place.holder.krate.0 krate.0 then option_map (λ t. t.value) (lookup (is_at (block_order.ghosts.cmp place)) trees.by_block.entries) else None
 tree_in trees (expansion key) krate =
     if nat_eq key.caller.0 krate.0 then option_map (λ t. t.value) (lookup (is_at (expansion_cmp key)) (by_value trees.by_key.entries)) else None
 
 -- whether something that is kept of a place under a crate is found at this place under this crate
 abbrev pub is_kept_at : SourcePlaceValue → Crate → SourcePlaceValue → Crate → Bool
 is_kept_at (file path) krate (file at) c = is_at (slice_cmp nat_cmp path) at && is_at (crate_order.ghosts.cmp krate) c
+is_kept_at (block place) krate (block at) c = nat_eq place.holder.krate.0 krate.0 && (is_at (block_order.ghosts.cmp place) at && nat_eq krate.0 c.0)
 is_kept_at (expansion key) krate (expansion at) c = nat_eq key.caller.0 krate.0 && (is_at (expansion_cmp key) at && nat_eq krate.0 c.0)
 is_kept_at _ krate _ c = false
 
 -- whether the places are the same
 abbrev pub is_place : SourcePlaceValue → SourcePlaceValue → Bool
 is_place (file path) (file other) = is_at (slice_cmp nat_cmp path) other
+is_place (block place) (block other) = is_at (block_order.ghosts.cmp place) other
 is_place (expansion key) (expansion other) = is_at (expansion_cmp key) other
 is_place _ _ = false
 

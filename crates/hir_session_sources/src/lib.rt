@@ -1,7 +1,8 @@
-//! The crates, files and expansions that were handed in, and what sources have under crates.
+//! The crates, files, blocks and expansions that were handed in, and what sources have under crates.
 #![tactic(auto)]
 
 pub mod beginning;
+pub mod blocks;
 mod copied_key;
 pub mod crate_info;
 pub mod crates;

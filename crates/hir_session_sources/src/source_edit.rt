@@ -8,6 +8,7 @@ ghost use Rattle.hir_session_sources.specs.EditValues.{edit_value};
 use crate::seen_entry::source_in;
 use hir_base::file_path::FilePath;
 use hir_base::macro_kind::ExpansionKey;
+use hir_base::place::BlockPlace;
 use hir_item_tree::source::Source;
 use hir_tables::SourcePlace;
 use hir_wire::edit::ExpansionEntry;
@@ -17,6 +18,10 @@ use hir_wire::edit::ExpansionEntry;
 pub enum SourceEdit<'a> {
     File {
         path: &'a FilePath,
+        new: Option<&'a Source>,
+    },
+    Block {
+        place: &'a BlockPlace,
         new: Option<&'a Source>,
     },
     Expansion {
@@ -32,6 +37,7 @@ impl<'a> SourceEdit<'a> {
     {
         match self {
             SourceEdit::File { path, new: _ } => SourcePlace::File(path),
+            SourceEdit::Block { place, new: _ } => SourcePlace::Block(place),
             SourceEdit::Expansion { key, new: _ } => SourcePlace::Expansion(key),
         }
     }
@@ -42,6 +48,7 @@ impl<'a> SourceEdit<'a> {
     {
         match self {
             SourceEdit::File { path: _, new } => new,
+            SourceEdit::Block { place: _, new } => new,
             SourceEdit::Expansion { key: _, new } => source_in(new),
         }
     }

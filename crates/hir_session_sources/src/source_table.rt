@@ -1,27 +1,31 @@
 //! The sources of a session.
-ghost use Rattle.std.specs.Prelude.{◌≡◌, [], OnOk, OnErr, option_map};
+ghost use Rattle.std.specs.Prelude.{◌≡◌, [], None, Some, is_some, IfOk, OnOk, OnErr, option_map};
 ghost use Rattle.hir_item_tree.specs.Source.{source_view};
 ghost use Rattle.hir_tables.specs.SourcePlaces.{expansion_value, source_value};
 ghost use Rattle.hir_wire.specs.Edits.{entry_view};
+ghost use Rattle.hir_session_state.specs.Blocks.{blocks_with, place_of_block};
 ghost use Rattle.hir_session_state.specs.Entries.{entry_at, with_entry, without_entry};
 ghost use Rattle.hir_session_state.specs.Files.{with_file, without_file};
 ghost use Rattle.hir_session_state.specs.SourceTable.{source_at};
 
+use crate::blocks::Blocks;
 use crate::entries::Entries;
 use crate::files::Files;
 use crate::seen_entry::source_in;
 use hir_base::file_path::FilePath;
 use hir_base::macro_kind::ExpansionKey;
+use hir_base::place::BlockPlace;
 use hir_item_tree::source::Source;
 use hir_tables::SourcePlace;
 use hir_wire::edit::ExpansionEntry;
 use std::alloc::{AllocError, Global};
 use std::marker::Model;
 
-/// The files and the expansions that are there.
+/// The files, the blocks and the expansions that are there.
 #[derive(Drop)]
 pub struct SourceTable {
     files: Files,
+    blocks: Blocks,
     entries: Entries,
 }
 
@@ -33,15 +37,16 @@ impl Model for SourceTable {
 
     ghost coded = { coded_table };
 
-    ghost view = { λ t. record { files = t.files; entries = t.entries } };
+    ghost view = { λ t. record { files = t.files; blocks = t.blocks; entries = t.entries } };
 }
 
 impl SourceTable {
     pub fn new(alloc: Global) -> SourceTable
-        ensures value { result ≡ record { files = []; entries = [] } }
+        ensures value { result ≡ record { files = []; blocks = []; entries = [] } }
     {
         SourceTable {
             files: Files::new(alloc),
+            blocks: Blocks::new(alloc),
             entries: Entries::new(alloc),
         }
     }
@@ -52,14 +57,31 @@ impl SourceTable {
         &self.files
     }
 
-    /// The source at a place, if it is there.
-    pub fn get(&self, place: SourcePlace<'_>) -> Option<&Source>
-        ensures value { option_map (λ s. source_view s.now) result ≡ source_at self.now (source_value place.entry) }
+    pub fn blocks(&self) -> &Blocks
+        ensures value { result.now ≡ self.now.blocks }
+    {
+        &self.blocks
+    }
+
+    /// The source at a place, if it is there. The steps to a block take memory.
+    pub fn get(&self, place: SourcePlace<'_>) -> Result<Option<&Source>, AllocError>
+        ensures value { IfOk result (λ found. option_map (λ s. source_view s.now) found ≡ source_at self.now (source_value place.entry)) }
     {
         match place {
-            SourcePlace::File(path) => self.files.get(path),
-            SourcePlace::Block(_) => None,
-            SourcePlace::Expansion(key) => source_in(self.entries.get(key)),
+            SourcePlace::File(path) => Ok(self.files.get(path)),
+            SourcePlace::Block(place) => self.blocks.at(place),
+            SourcePlace::Expansion(key) => Ok(source_in(self.entries.get(key))),
+        }
+    }
+
+    /// Whether there is a source at a place.
+    pub fn has(&self, place: SourcePlace<'_>) -> bool
+        ensures value { result ≡ is_some (source_at self.now (source_value place.entry)) }
+    {
+        match place {
+            SourcePlace::File(path) => self.files.get(path).is_some(),
+            SourcePlace::Block(place) => self.blocks.has(place),
+            SourcePlace::Expansion(key) => self.entries.get(key).is_some(),
         }
     }
 
@@ -83,6 +105,22 @@ impl SourceTable {
         ensures value { self.new ≡ record self.old { files = without_file self.old.files path.now } }
     {
         self.files.remove(path);
+    }
+
+    /// Sets a block.
+    pub fn set_block(&mut self, place: BlockPlace, source: Source) -> Result<(), AllocError>
+        ensures ok { OnOk result (self.new ≡ record self.old { blocks = blocks_with self.old.blocks (place_of_block place) (Some (source_view source)) }) }
+        ensures err { OnErr result (self.new ≡ self.old) }
+    {
+        self.blocks.set(place, source)
+    }
+
+    /// Removes a block. The steps to it take memory.
+    pub fn remove_block(&mut self, place: &BlockPlace) -> Result<(), AllocError>
+        ensures ok { OnOk result (self.new ≡ record self.old { blocks = blocks_with self.old.blocks (place_of_block place.now) None }) }
+        ensures err { OnErr result (self.new ≡ self.old) }
+    {
+        self.blocks.remove(place)
     }
 
     /// Sets an expansion.

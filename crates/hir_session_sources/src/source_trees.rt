@@ -1,14 +1,14 @@
 //! What sources have under the crates that asked for them.
 //!
 //! It is kept by the place of a source, and then by crate. A run hands in the place and has the tables for itself, so no
-//! number is at hand by which `Trees` would find it. An expansion is asked for under the crate that calls; what it has under
-//! others is made anew.
+//! number is at hand by which `Trees` would find it. A block is asked for under its own crate, and an expansion under the crate
+//! that calls; what they have under others is made anew.
 ghost use Rattle.std.specs.Prelude.{◌≡◌, None, Some, IfOk, OnOk, OnErr, option_map, if◌then◌else◌, false};
 ghost use Rattle.hir_base.specs.declared.ids.Crate.{Crate};
 ghost use Rattle.hir_base.specs.CfgOptions.{is_set};
 ghost use Rattle.hir_item_tree.specs.Source.{source_view};
 ghost use Rattle.hir_item_tree.specs.SourceTree.{SourceTreeValue, source_tree_of};
-ghost use Rattle.hir_tables.specs.SourcePlaces.{SourcePlaceValue, expansion, expansion_value, file, source_value};
+ghost use Rattle.hir_tables.specs.SourcePlaces.{SourcePlaceValue, block, expansion, expansion_value, file, source_value};
 ghost use Rattle.hir_session_state.specs.SourceTable.{front_in, tree_under};
 ghost use Rattle.hir_session_sources.specs.SourceTrees.{is_kept_at, is_place, tree_by, tree_in};
 
@@ -19,6 +19,7 @@ use hir_base::cfg_options::CfgOptions;
 use hir_base::file_path::FilePath;
 use hir_base::ids::Crate;
 use hir_base::macro_kind::ExpansionKey;
+use hir_base::place::BlockPlace;
 use hir_item_tree::source::Source;
 use hir_item_tree::source_tree::SourceTree;
 use hir_tables::SourcePlace;
@@ -29,11 +30,22 @@ use std::rc::Rc;
 /// What one source has under crates.
 pub type CrateTrees = BTreeMap<Crate, Rc<SourceTree>>;
 
-/// What each file has under each crate that asked for it, and each expansion under the crate that calls.
+/// What each file has under each crate that asked for it, each block under its own, and each expansion under the crate that calls.
 #[derive(Drop)]
 pub struct SourceTrees {
     by_path: BTreeMap<FilePath, BTreeMap<Crate, Rc<SourceTree>>>,
+    by_block: BTreeMap<BlockPlace, Rc<SourceTree>>,
     by_key: BTreeMap<ExpansionKey, Rc<SourceTree>>,
+}
+
+/// The same place; no text is copied.
+pub fn copied_place(place: &BlockPlace) -> Result<BlockPlace, AllocError>
+    ensures value { IfOk result (λ p. p ≡ place.now) }
+{
+    Ok(BlockPlace {
+        holder: place.holder.clone()?,
+        id: place.id,
+    })
 }
 
 impl SourceTrees {
@@ -42,6 +54,7 @@ impl SourceTrees {
     {
         SourceTrees {
             by_path: BTreeMap::new(alloc),
+            by_block: BTreeMap::new(alloc),
             by_key: BTreeMap::new(alloc),
         }
     }
@@ -52,6 +65,16 @@ impl SourceTrees {
         match self.by_path.get(path) {
             Some(kept) => kept.get(&krate),
             None => None,
+        }
+    }
+
+    fn of_block(&self, place: &BlockPlace, krate: Crate) -> Option<&Rc<SourceTree>>
+        ensures value { option_map (λ t. t.now.value) result ≡ tree_in self.now (block place.now) krate }
+    {
+        if place.holder.krate() == krate {
+            self.by_block.get(place)
+        } else {
+            None
         }
     }
 
@@ -71,7 +94,7 @@ impl SourceTrees {
     {
         match place {
             SourcePlace::File(path) => self.of_file(path, krate),
-            SourcePlace::Block(_) => None,
+            SourcePlace::Block(place) => self.of_block(place, krate),
             SourcePlace::Expansion(key) => self.of_expansion(key, krate),
         }
     }
@@ -99,6 +122,23 @@ impl SourceTrees {
                 Ok(())
             }
         }
+    }
+
+    fn set_of_block(
+        &mut self,
+        place: &BlockPlace,
+        krate: Crate,
+        tree: Rc<SourceTree>,
+    ) -> Result<(), AllocError>
+        ensures ok { OnOk result ((p : SourcePlaceValue) (c : Crate) → tree_in self.new p c
+            ≡ (if is_kept_at (block place.now) krate p c then Some tree.value else tree_in self.old p c)) }
+        ensures err { OnErr result ((p : SourcePlaceValue) (c : Crate) → tree_in self.new p c ≡ tree_in self.old p c) }
+    {
+        if place.holder.krate() == krate {
+            let place = copied_place(place)?;
+            self.by_block.insert(place, tree)?;
+        }
+        Ok(())
     }
 
     fn set_of_expansion(
@@ -133,7 +173,7 @@ impl SourceTrees {
     {
         match place {
             SourcePlace::File(path) => self.set_of_file(alloc, path, krate, tree),
-            SourcePlace::Block(_) => Ok(()),
+            SourcePlace::Block(place) => self.set_of_block(place, krate, tree),
             SourcePlace::Expansion(key) => self.set_of_expansion(alloc, key, krate, tree),
         }
     }
@@ -147,6 +187,14 @@ impl SourceTrees {
             Some(kept) => *kept = trees,
             None => {}
         }
+    }
+
+    /// Drops what is kept of a block.
+    pub fn remove_block(&mut self, place: &BlockPlace)
+        ensures gone { (c : Crate) → tree_in self.new (block place.now) c ≡ None }
+        ensures others { (p : SourcePlaceValue) (c : Crate) → is_place (block place.now) p ≡ false → tree_in self.new p c ≡ tree_in self.old p c }
+    {
+        self.by_block.remove(place);
     }
 
     /// Drops what is kept of an expansion.

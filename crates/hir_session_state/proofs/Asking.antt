@@ -1,6 +1,5 @@
 -- For which sources the runs of places asked.
-use Rattle.std.proofs.Common.{◌≡◌, ◌≢◌, ◌⊎◌, ◌∙◌, ap, sym, subst, zero, suc, ◌<◌, true, false, Option, Some, None, List, [], ◌∷◌, inl, inr, arith, Contains}
-use Rattle.std.specs.Prelude.{is_none}
+use Rattle.std.proofs.Common.{◌≡◌, ◌≢◌, ◌⊎◌, ◌∙◌, ap, sym, subst, zero, suc, ◌<◌, true, Some, None, List, [], ◌∷◌, inl, inr, arith, Contains}
 use Rattle.std.proofs.lemmas.List.Elements.{Contains-append_cases}
 use Rattle.hir_base.specs.declared.ids.Crate.{Crate}
 use Rattle.hir_base.specs.declared.ids.MapId.{MapId}
@@ -10,14 +9,14 @@ use Rattle.hir_collector_rules.specs.Growth.{AskedKeysHaveMeaning}
 use Rattle.hir_collector_rules.specs.Keys.{HasMeaning, map_keys}
 use Rattle.hir_collector_rules.specs.declared.source_database.Key.{Key}
 use Rattle.hir_session_state.specs.Askers.{is_asker, AreNoted, KeepsAskers}
-use Rattle.hir_session_state.specs.Kept.{Resolutions, kept_in}
-use Rattle.hir_session_state.specs.SessionState.{SessionState, Resolution, IsSound, workspace_of, finished_of, beginning_of, is_marked}
+use Rattle.hir_session_state.specs.Kept.{Resolutions, collected_of, kept_in}
+use Rattle.hir_session_state.specs.SessionState.{SessionState, Resolution, IsSound, workspace_of, finished_of}
 use Rattle.hir_session_state.specs.SourceNumbers.{asked_number}
 use Rattle.hir_session_state.specs.declared.askers.Askers.{Askers}
 use Rattle.hir_session_state.specs.declared.source_number.SourceNumber.{SourceNumber}
 use Rattle.hir_session_state.proofs.Ids.{on_id}
 use Rattle.hir_session_state.proofs.NumberLemmas.{asked-kept}
-use Rattle.hir_session_state.proofs.Resolving.{root_means}
+use Rattle.hir_session_state.proofs.Standing.{kept_gives}
 use Rattle.hir_session_state.proofs.Worlds.{AgreeOn-refl}
 
 -- ---- the keys of a run
@@ -84,9 +83,5 @@ module _ (tables : TablesValue) (kept : Resolutions) (askers : Askers) (noted : 
 -- the keys of what is kept have a meaning
 pub kept_meant : AskedKeysHaveMeaning → (s : SessionState) → IsSound s → (id : MapId) (r : Resolution) (key : Key) → kept_in s.kept id ≡ Some r → Contains r.asked key → HasMeaning s.tables key
 kept_meant law s sound id r key is among =
-    let off : is_marked s id ≡ false = ap (λ (o : Option Resolution). is_none o) is in
-    let now = sound.current id off in
-    let same : now.found ≡ r = one_run (sym now.is ∙ is) in
-    law s.tables (workspace_of s) (finished_of s) (beginning_of s id) now.found (root_means s sound id (sound.placed id off))
-    (now.gives.resolved.ends (workspace_of s) (finished_of s) AgreeOn-refl) key
-    (subst (λ (x : Resolution). Contains x.asked key) (sym same) among)
+    let p = kept_gives s sound id r is in
+    law s.tables (workspace_of s) (finished_of s) p.from (collected_of r) p.meant (p.resolved.ends (workspace_of s) (finished_of s) AgreeOn-refl) key among

@@ -4,10 +4,10 @@ use Rattle.std.specs.Option.{option_map}
 use Rattle.std.specs.BTreeMap.{BTreeMap, get, is_at, IsUnchanged}
 use Rattle.std.specs.Map.{lookup}
 use Rattle.hir_base.specs.declared.ids.MapId.{MapId}
+use Rattle.hir_base.specs.declared.ids.ModuleId.{ModuleId}
 use Rattle.hir_base.specs.contracts.ids.MapIdOrd.TheImpl as map_order
 use Rattle.hir_base.specs.contracts.ids.MapIdPartialEq.TheImpl as map_id
 use Rattle.hir_def_map.specs.declared.world.finished.Finished.{Finished}
-use Rattle.hir_def_map.specs.WorldParts.{unheld}
 use Rattle.hir_def_map_rules.specs.Inner.OverlayLaws.{exact_map, same_id}
 use Rattle.hir_def_map.specs.declared.world.insert.InsertError.{InsertError}
 use Rattle.hir_def_map.specs.declared.world.insert.InsertError.TheVariants.{Unchecked, Memory}
@@ -16,12 +16,11 @@ use Rattle.hir_def_map_rules.specs.References.{is_well_formed}
 use Rattle.hir_def_map.specs.Removal.{Depends, refers_in as names_between, refers_of as between_of}
 use Rattle.hir_def_map.specs.Removal.Depends.{itself, through}
 use Rattle.hir_def_map_rules.specs.State.{Local, Map}
-use Rattle.hir_def_map_rules.specs.Overlay.{Maps, Placed, holders_or, holders_under, map_in, no_maps, placed_with, with_map}
-use Rattle.hir_def_map.specs.World.{finished_in, local_in, placed_of}
-use Rattle.hir_collector_rules.specs.Derivation.{CollectedValue}
+use Rattle.hir_def_map_rules.specs.Overlay.{Maps, Placed, holders_or, holders_under, no_maps, placed_with, with_map}
+use Rattle.hir_def_map.specs.World.{finished_in, placed_of}
 use Rattle.hir_session_state.specs.declared.runs.KeptRun.{KeptRun}
-use Rattle.hir_session_state.specs.Kept.{Resolutions, finished_by, kept_in, names_in, names_of, entry_with, resolution_at, resolution_from, resolutions_in, AreForgotten, AreUnheld}
-use Rattle.hir_session_state.proofs.Ids.{equal_id, on_id, other_id, own_id}
+use Rattle.hir_session_state.specs.Kept.{Resolution, Resolutions, finished_by, held, kept_in, names_in, names_of, entry_with, placed_by, resolution_at, resolution_from, resolutions_in, AreForgotten}
+use Rattle.hir_session_state.proofs.Ids.{equal_id, other_id}
 use Rattle.hir_session_state.proofs.Truth.{both_true, clash, on_bool, on_same}
 
 abbrev pub Store : Type 0
@@ -57,18 +56,24 @@ kept_at : (maps : Store) (runs : Runs) (id : MapId)
 unfolding resolutions_in
 kept_at maps runs id = found_from runs id maps.entries
 
-at_found : (o : Option Finished) (run : Option KeptRun)
-    → resolution_from (option_map (λ (p : Placed). p.map) (option_map placed_of o)) (option_map (λ (f : Finished). f.local) o) run
-    ≡ option_map (λ (f : Finished). resolution_at f run) o
+at_found : (o : Option Finished) (run : Option KeptRun) → resolution_from (option_map placed_of o) run ≡ option_map (λ (f : Finished). resolution_at f run) o
 at_found None run = refl
 at_found (Some f) run = refl
 
--- it is the map and its beginnings with what is kept of the run
-pub kept_from : (maps : Store) (runs : Runs) (id : MapId) (map : Option Map) (local : Option Local) (run : Option KeptRun)
-    → map ≡ map_in (finished_in maps) id → local ≡ local_in maps id → run ≡ run_in runs id → resolution_from map local run ≡ kept_in (resolutions_in maps runs) id
+-- it is what is finished, with what is kept of the run
+pub kept_found : (maps : Store) (runs : Runs) (id : MapId) (found : Option Finished) (run : Option KeptRun) → found ≡ found_in maps id → run ≡ run_in runs id
+    → resolution_from (option_map placed_of found) run ≡ kept_in (resolutions_in maps runs) id
+kept_found maps runs id found run is_found is_run =
+    (λ i. resolution_from (option_map placed_of (is_found i)) (is_run i))
+    ∙ at_found (found_in maps id) (run_in runs id)
+    ∙ sym (kept_at maps runs id)
+
+-- it is the map in its place with that
+pub kept_from : (maps : Store) (runs : Runs) (id : MapId) (placed : Option Placed) (run : Option KeptRun) → placed ≡ finished_in maps id → run ≡ run_in runs id
+    → resolution_from placed run ≡ kept_in (resolutions_in maps runs) id
 unfolding finished_in
-kept_from maps runs id map local run is_map is_local is_run =
-    (λ i. resolution_from (is_map i) (is_local i) (is_run i))
+kept_from maps runs id placed run is_placed is_run =
+    (λ i. resolution_from (is_placed i) (is_run i))
     ∙ at_found (found_in maps id) (run_in runs id)
     ∙ sym (kept_at maps runs id)
 
@@ -86,34 +91,22 @@ pub none_kept : (maps : Store) (runs : Runs) → finished_in maps ≡ no_maps �
 unfolding finished_in
 none_kept maps runs none id = kept_none maps runs id (not_found (found_in maps id) (ap (λ (all : Maps). all id) none))
 
-pub none_held : (maps : Store) → finished_in maps ≡ no_maps → AreUnheld maps
-unfolding finished_in
-none_held maps none = record {
-  each = λ id f e. let wrong : None ≡ Some f = sym (not_found (found_in maps id) (ap (λ (all : Maps). all id) none)) ∙ e in absurd cc;
-}
-
 -- ---- the maps of which they tell
 
 -- the maps in the world are those of which the list tells
-pub told : (maps : Store) (runs : Runs) → AreUnheld maps → finished_in maps ≡ finished_by (resolutions_in maps runs)
+pub told : (maps : Store) (runs : Runs) → finished_in maps ≡ finished_by (resolutions_in maps runs)
 unfolding finished_in
-told maps runs alone = λ i id. (go id (found_in maps id) refl ∙ sym (ap (option_map (λ (r : CollectedValue). unheld r.map r.local)) (kept_at maps runs id))) i
+told maps runs = λ i id. (go id (found_in maps id) ∙ sym (ap (option_map placed_by) (kept_at maps runs id))) i
   where
-    go : (id : MapId) (o : Option Finished) → found_in maps id ≡ o
-        → option_map placed_of o ≡ option_map (λ (r : CollectedValue). unheld r.map r.local) (option_map (λ (f : Finished). resolution_at f (run_in runs id)) o)
-    go id None s = refl
-    go id (Some f) s = λ i. Some (record { map = f.map; local = f.local; holders = alone.each id f s i })
+    go : (id : MapId) (o : Option Finished) → option_map placed_of o ≡ option_map placed_by (option_map (λ (f : Finished). resolution_at f (run_in runs id)) o)
+    go id None = refl
+    go id (Some f) = refl
 
 -- ---- the same maps
 
 pub same_resolutions : (old new : Store) (runs : Runs) → IsUnchanged old new → resolutions_in new runs ≡ resolutions_in old runs
 unfolding resolutions_in
 same_resolutions old new runs same = ap (λ (es : List (MapId × Finished)). map (entry_with runs) es) same
-
-pub same_held : (old new : Store) → IsUnchanged old new → AreUnheld old → AreUnheld new
-same_held old new same alone = record {
-  each = λ id f e. alone.each id f (ap (λ (es : List (MapId × Finished)). lookup (is_at (map_order.ghosts.cmp id)) es) (sym same) ∙ e);
-}
 
 -- the same runs
 pub same_runs : (maps : Store) (old new : Runs) → IsUnchanged old new → resolutions_in maps new ≡ resolutions_in maps old
@@ -136,18 +129,16 @@ run_aside maps old new id alike none = runs_aside old new id alike maps.entries 
 -- ---- one more
 
 -- no map stands where nothing is kept
-pub absent : (maps : Store) (runs : Runs) → AreUnheld maps → (kept : Resolutions) → resolutions_in maps runs ≡ kept → (id : MapId) → kept_in kept id ≡ None
-    → finished_in maps id ≡ None
-absent maps runs alone kept is id free =
-    ap (λ (all : Maps). all id) (told maps runs alone ∙ ap finished_by is) ∙ ap (option_map (λ (r : CollectedValue). unheld r.map r.local)) free
+pub absent : (maps : Store) (runs : Runs) (kept : Resolutions) → resolutions_in maps runs ≡ kept → (id : MapId) → kept_in kept id ≡ None → finished_in maps id ≡ None
+absent maps runs kept is id free = ap (λ (all : Maps). all id) (told maps runs ∙ ap finished_by is) ∙ ap (option_map placed_by) free
 
 -- so a complete one may join
-pub may_join_there : (maps : Store) (runs : Runs) → AreUnheld maps → (kept : Resolutions) → resolutions_in maps runs ≡ kept → (map : Map) (local : Local)
+pub may_join_there : (maps : Store) (runs : Runs) (kept : Resolutions) → resolutions_in maps runs ≡ kept → (map : Map) (local : Local)
     → kept_in kept map.id ≡ None → is_well_formed (finished_by kept) map local ≡ true → may_join (finished_in maps) map local ≡ true
-may_join_there maps runs alone kept is map local free complete =
+may_join_there maps runs kept is map local free complete =
     both_true (not (is_some (finished_in maps map.id))) (is_well_formed (finished_in maps) map local)
-    (ap (λ (o : Option Placed). not (is_some o)) (absent maps runs alone kept is map.id free))
-    (ap (λ (finished : Maps). is_well_formed finished map local) (told maps runs alone ∙ ap finished_by is) ∙ complete)
+    (ap (λ (o : Option Placed). not (is_some o)) (absent maps runs kept is map.id free))
+    (ap (λ (finished : Maps). is_well_formed finished map local) (told maps runs ∙ ap finished_by is) ∙ complete)
 
 -- what may join is refused for want of memory alone
 pub only_memory : (may : Bool) (why : InsertError) → may ≡ true → IsReason may why → why ≡ Memory
@@ -156,59 +147,34 @@ only_memory may Memory joins also = refl
 
 module _ (old new : Store) (runs runs' : Runs) (map : Map) (local : Local) (run : KeptRun)
     (maps : (id : MapId) → finished_in new id ≡ with_map (finished_in old) map local id)
-    (locals : (id : MapId) → local_in new id ≡ cond (is_at (map_order.ghosts.cmp map.id) id) (Some local) (local_in old id))
     (here : run_in runs' map.id ≡ Some run) (others : (j : MapId) → is_at (map_order.ghosts.cmp map.id) j ≡ false → run_in runs' j ≡ run_in runs j)
     (none : finished_in old map.id ≡ None) where
-  placed_here : finished_in new map.id ≡ Some (placed_with (finished_in old) map local)
+  -- the map where these modules hold it
+  abbrev held_by : List ModuleId → Placed
+  held_by holders = record { map = map; local = local; holders = holders }
+
+  placed_here : finished_in new map.id ≡ Some (held_by (holders_under (finished_in old) map.id map.holder))
   placed_here =
-      maps map.id ∙ ap (λ (b : Bool). cond b (Some (placed_with (finished_in old) map local)) (finished_in old map.id)) (same_id map.id)
+      maps map.id
+      ∙ ap (λ (b : Bool). cond b (Some (placed_with (finished_in old) map local)) (finished_in old map.id)) (same_id map.id)
+      ∙ ap (λ (o : Option Placed). Some (held_by (holders_or o (holders_under (finished_in old) map.id map.holder)))) none
 
-  local_here : local_in new map.id ≡ Some local
-  local_here = locals map.id ∙ ap (λ (b : Bool). cond b (Some local) (local_in old map.id)) (own_id map.id)
-
-  -- what is kept of the place is what was found
-  pub kept_here : kept_in (resolutions_in new runs') map.id ≡ Some (record { map = map; local = local; leftover = run.leftover.items; round_limit_met = run.round_limit_met; asked = run.asked })
-  kept_here =
-      sym (kept_from new runs' map.id (Some map) (Some local) (Some run)
-      (sym (ap (option_map (λ (p : Placed). p.map)) placed_here)) (sym local_here) (sym here))
+  -- what is kept of the place is what was found, and what holds it
+  pub kept_here : kept_in (resolutions_in new runs') map.id
+      ≡ Some (held (record { map = map; local = local; leftover = run.leftover.items; round_limit_met = run.round_limit_met; asked = run.asked })
+      (holders_under (finished_in old) map.id map.holder))
+  kept_here = sym (kept_from new runs' map.id (Some (held_by (holders_under (finished_in old) map.id map.holder))) (Some run) (sym placed_here) (sym here))
 
   placed_else : (id : MapId) → id ≢ map.id → finished_in new id ≡ finished_in old id
   placed_else id ne = on_bool (map_id.ghosts.eq id map.id)
       (λ e. absurd (ne (exact_map id map.id e)))
       (λ e. maps id ∙ ap (λ (b : Bool). cond b (Some (placed_with (finished_in old) map local)) (finished_in old id)) e)
 
-  local_else : (id : MapId) → id ≢ map.id → local_in new id ≡ local_in old id
-  local_else id ne = locals id ∙ ap (λ (b : Bool). cond b (Some local) (local_in old id)) (other_id map.id id ne)
-
   -- and of each other what was
   pub kept_else : (id : MapId) → id ≢ map.id → kept_in (resolutions_in new runs') id ≡ kept_in (resolutions_in old runs) id
   kept_else id ne =
-      sym (kept_from new runs' id (map_in (finished_in new) id) (local_in new id) (run_in runs' id) refl refl refl)
-      ∙ kept_from old runs id (map_in (finished_in new) id) (local_in new id) (run_in runs' id)
-      (ap (option_map (λ (p : Placed). p.map)) (placed_else id ne)) (local_else id ne) (others id (other_id map.id id ne))
-
-  own_holders : map.holder ≡ None → holders_under (finished_in old) map.id map.holder ≡ []
-  own_holders alone = ap (holders_under (finished_in old) map.id) alone
-
-  -- nothing holds one of them
-  pub still_unheld : map.holder ≡ None → AreUnheld old → AreUnheld new
-  unfolding finished_in
-  still_unheld alone was = record {
-    each = λ id f e. on_id id map.id
-        (λ same.
-        let placed : option_map placed_of (Some f) ≡ Some (placed_with (finished_in old) map local) = ap (option_map placed_of) (sym e) ∙ ap (finished_in new) same ∙ placed_here in
-        let is : placed_of f ≡ placed_with (finished_in old) map local = cc in
-        ap (λ (p : Placed). p.holders) is ∙ ap (λ (o : Option Placed). holders_or o (holders_under (finished_in old) map.id map.holder)) none ∙ own_holders alone)
-        (λ ne. held_by id f e (found_in old id) refl (placed_else id ne));
-  }
-    where
-      held_by : (id : MapId) (f : Finished) → found_in new id ≡ Some f → (o : Option Finished) → found_in old id ≡ o
-          → option_map placed_of (found_in new id) ≡ option_map placed_of (found_in old id) → f.holders.items ≡ []
-      held_by id f e None s same = absurd (let wrong : Some (placed_of f) ≡ None = ap (option_map placed_of) (sym e) ∙ same ∙ ap (option_map placed_of) s in let none : ⊥ = cc in none)
-      held_by id f e (Some g) s same =
-          let both : Some (placed_of f) ≡ Some (placed_of g) = ap (option_map placed_of) (sym e) ∙ same ∙ ap (option_map placed_of) s in
-          let is : placed_of f ≡ placed_of g = cc in
-          ap (λ (p : Placed). p.holders) is ∙ was.each id g s
+      sym (kept_from new runs' id (finished_in new id) (run_in runs' id) refl refl)
+      ∙ kept_from old runs id (finished_in new id) (run_in runs' id) (placed_else id ne) (others id (other_id map.id id ne))
 
 -- ---- fewer
 
@@ -222,7 +188,7 @@ module _ (old new : Store) (runs : Runs) (on : MapId)
     (stays : (id : MapId) → ¬ Depends (names_between old) on id → found_in new id ≡ found_in old id) where
   -- a kept resolution names what its map does
   names_alike : (id other : MapId) → names_in (resolutions_in old runs) id other ≡ names_between old id other
-  names_alike id other = ap (λ (o : Option CollectedValue). names_of o other) (kept_at old runs id) ∙ go (found_in old id)
+  names_alike id other = ap (λ (o : Option Resolution). names_of o other) (kept_at old runs id) ∙ go (found_in old id)
     where
       go : (o : Option Finished) → names_of (option_map (λ (f : Finished). resolution_at f (run_in runs id)) o) other ≡ between_of o other
       go None = refl
@@ -237,12 +203,6 @@ module _ (old new : Store) (runs : Runs) (on : MapId)
       ∙ ap (option_map (λ (f : Finished). resolution_at f (run_in runs id))) (stays id (λ d. none (Depends-more (λ j k n. names_alike j k ∙ n) d)))
       ∙ sym (kept_at old runs id)
 
-  pub fewer_unheld : AreUnheld old → AreUnheld new
-  fewer_unheld was = record { each = λ id f e. was.each id f (sym (same id f e) ∙ e) }
-    where
-      same : (id : MapId) (f : Finished) → found_in new id ≡ Some f → found_in new id ≡ found_in old id
-      same id f e = stays id (λ d. let wrong : None ≡ Some f = sym (gone id d) ∙ e in cc)
-
 -- ---- one after another
 
 -- what is left once nothing is kept of the first so many places
@@ -255,7 +215,7 @@ pub record IsForgetting (old : Resolutions) (ids : List MapId) (n : ℕ) (new : 
 pub forgetting-start : (old : Resolutions) (ids : List MapId) → IsForgetting old ids 0 old
 forgetting-start old ids = record {
   gone = λ k d below. absurd (omega arith);
-  named = λ id other names there none. clash there (ap (λ (o : Option CollectedValue). is_some o) none);
+  named = λ id other names there none. clash there (ap (λ (o : Option Resolution). is_some o) none);
   fewer = λ id. inl refl;
   stay = λ id none. refl;
 }
@@ -265,7 +225,7 @@ module _ (old mid new : Resolutions) (ids : List MapId) (n : ℕ) (on : MapId) (
     (gone : (id : MapId) → Depends (names_in mid) on id → kept_in new id ≡ None)
     (stays : (id : MapId) → ¬ Depends (names_in mid) on id → kept_in new id ≡ kept_in mid id) where
   -- what is there is what was
-  there : (id : MapId) (r : CollectedValue) → kept_in mid id ≡ Some r → kept_in mid id ≡ kept_in old id
+  there : (id : MapId) (r : Resolution) → kept_in mid id ≡ Some r → kept_in mid id ≡ kept_in old id
   there id r s = elim (so_far.fewer id) [
     | inl same ↦ same
     | inr none ↦ absurd (let wrong : None ≡ Some r = sym none ∙ s in let both : ⊥ = cc in both)
@@ -275,14 +235,14 @@ module _ (old mid new : Resolutions) (ids : List MapId) (n : ℕ) (on : MapId) (
   names_fewer : (id other : MapId) → names_in mid id other ≡ true → names_in old id other ≡ true
   names_fewer id other names = go (kept_in mid id) refl names
     where
-      go : (o : Option CollectedValue) → kept_in mid id ≡ o → names_of o other ≡ true → names_in old id other ≡ true
+      go : (o : Option Resolution) → kept_in mid id ≡ o → names_of o other ≡ true → names_in old id other ≡ true
       go None s e = clash e refl
-      go (Some r) s e = ap (λ (o : Option CollectedValue). names_of o other) (sym (there id r s) ∙ s) ∙ e
+      go (Some r) s e = ap (λ (o : Option Resolution). names_of o other) (sym (there id r s) ∙ s) ∙ e
 
   either : (id : MapId) → (kept_in new id ≡ kept_in mid id) ⊎ (kept_in new id ≡ None)
   either id = go (kept_in new id) refl
     where
-      go : (o : Option CollectedValue) → kept_in new id ≡ o → (kept_in new id ≡ kept_in mid id) ⊎ (kept_in new id ≡ None)
+      go : (o : Option Resolution) → kept_in new id ≡ o → (kept_in new id ≡ kept_in mid id) ⊎ (kept_in new id ≡ None)
       go None s = inr s
       go (Some r) s = inl (stays id (λ d. let wrong : None ≡ Some r = sym (gone id d) ∙ s in cc))
 
@@ -298,16 +258,16 @@ module _ (old mid new : Resolutions) (ids : List MapId) (n : ℕ) (on : MapId) (
   named_still : (id other : MapId) → names_in old id other ≡ true → is_some (kept_in old other) ≡ true → kept_in new other ≡ None → kept_in new id ≡ None
   named_still id other names was none = go (kept_in new id) refl
     where
-      falls : (r : CollectedValue) → kept_in new id ≡ Some r → kept_in mid id ≡ kept_in new id → (o : Option CollectedValue) → kept_in mid other ≡ o → kept_in new id ≡ None
+      falls : (r : Resolution) → kept_in new id ≡ Some r → kept_in mid id ≡ kept_in new id → (o : Option Resolution) → kept_in mid other ≡ o → kept_in new id ≡ None
       falls r s stayed None e = sym stayed ∙ so_far.named id other names was e
       falls r s stayed (Some q) e =
           let names_mid : names_in mid id other ≡ true =
-          ap (λ (o : Option CollectedValue). names_of o other) (there id r (stayed ∙ s)) ∙ names in
+          ap (λ (o : Option Resolution). names_of o other) (there id r (stayed ∙ s)) ∙ names in
           let apart : ¬ Depends (names_in mid) on id = λ d. (let wrong : None ≡ Some r = sym (gone id d) ∙ s in cc) in
           let apart_too : ¬ Depends (names_in mid) on other = λ d. apart (through id other names_mid d) in
           absurd (let wrong : None ≡ Some q = sym none ∙ stays other apart_too ∙ e in let both : ⊥ = cc in both)
 
-      go : (o : Option CollectedValue) → kept_in new id ≡ o → kept_in new id ≡ None
+      go : (o : Option Resolution) → kept_in new id ≡ o → kept_in new id ≡ None
       go None s = s
       go (Some r) s = elim (either id) [
         | inl same ↦ falls r s (sym same) (kept_in mid other) refl

@@ -1,40 +1,48 @@
 -- What a map names is there, also among more maps.
-use Rattle.std.proofs.Common.{◌≡◌, ◌∙◌, ap, sym, subst, refl, ℕ, Bool, true, false, not, ◌&&◌, ◌||◌, is_none, is_some, cond, Option, Some, None, List, [], ◌⊎◌, inl, inr}
+use Rattle.std.proofs.Common.{◌≡◌, ◌∙◌, ap, sym, subst, refl, ℕ, Bool, true, false, not, ◌&&◌, ◌||◌, is_none, is_some, cond, Option, Some, None, List, [], ◌∷◌, ◌⊎◌, inl, inr}
 use Rattle.std.specs.Option.{option_map, option_and_then}
 use Rattle.std.specs.List.{list_any}
 use Rattle.std.specs.BTreeMap.{is_at}
 use Rattle.hir_base.specs.declared.ast_id.BlockId.{BlockId}
 use Rattle.hir_base.specs.declared.ids.Crate.{Crate}
 use Rattle.hir_base.specs.declared.ids.MapId.{MapId}
+use Rattle.hir_base.specs.declared.ids.ModuleId.{ModuleId}
 use Rattle.hir_base.specs.contracts.ids.MapIdOrd.TheImpl as map_order
 use Rattle.hir_base.specs.contracts.ids.MapIdPartialEq.TheImpl as map_id
 use Rattle.hir_def_map_rules.specs.declared.reference.Reference.{Reference}
 use Rattle.hir_def_map_rules.specs.declared.reference.Reference.TheVariants as named
-use Rattle.hir_def_map.specs.WorldParts.{among, are_of_some, is_of_some, unheld}
+use Rattle.hir_def_map.specs.WorldParts.{among, are_of_some, is_of_some}
 use Rattle.hir_def_map.specs.Inner.PartLaws.{among-only, among-there}
 use Rattle.hir_def_map_rules.specs.Inner.OverlayLaws.{exact_map}
 use Rattle.hir_def_map_rules.proofs.WellFormed.{complete, HasNoDanglingExtern-more, HasNoDanglingReference-more}
 use Rattle.hir_def_map_rules.specs.WellFormed.{AreWellFormed, HasNoDanglingExtern, Extends, IsWellFormed, HasNoDanglingReference}
-use Rattle.hir_def_map_rules.specs.References.{is_well_formed, is_missing, is_there, lies_in, map_of_reference, any_reference_in, refers_to, any_own_crate, any_reference, prelude_reference, test_crate, test_extern, test_of}
+use Rattle.hir_def_map_rules.specs.References.{is_holder_for, is_well_formed, is_missing, is_there, lies_in, map_of_reference, any_reference_in, refers_to, any_own_crate, any_reference, prelude_reference, test_crate, test_extern, test_of}
 use Rattle.hir_def_map_rules.proofs.Fails.{of_less}
 use Rattle.hir_def_map_rules.proofs.Referred.{module_less}
 use Rattle.hir_def_map_rules.proofs.NoneOf.{neither, none_of_less}
 use Rattle.hir_def_map_rules.specs.State.{Local, Map, crate_map, module_at, variants_at}
-use Rattle.hir_def_map_rules.specs.Overlay.{Maps, Placed, overlay, holders_under, map_in, placed_in}
-use Rattle.hir_collector_rules.specs.Derivation.{CollectedValue}
+use Rattle.hir_def_map_rules.specs.Overlay.{Maps, Placed, overlay, holders_of, holders_under, map_in, module_in, placed_in}
 use Rattle.hir_crate_graph.specs.CrateSet.{has_crate}
-use Rattle.hir_session_state.specs.Kept.{Resolutions, finished_by, kept_in}
+use Rattle.hir_scope.specs.ModuleTree.{same_crate}
+use Rattle.hir_session_state.specs.Kept.{Resolution, Resolutions, finished_by, kept_in, placed_by}
 use Rattle.hir_session_state.proofs.Ids.{equal_id, own_id}
-use Rattle.hir_session_state.proofs.Truth.{and_left, and_right, clash, on_bool}
+use Rattle.hir_session_state.proofs.Truth.{and_left, and_right, both_true, clash, no_value, on_bool, one_value, or_right}
 
 -- ---- a test that holds of nothing that a map names
 
 module _ (test other : Reference → Bool) (less : (n : Reference) → test n ≡ false → other n ≡ false) where
-  -- a crate's map, of whose names the one test holds of none, names nothing of which the other holds
-  names_less : (map : Map) (local : Local) → map.id.block ≡ None → map.holder ≡ None → list_any (any_reference_in test) map.modules ≡ false
+  own_less : (id : MapId) → any_own_crate test id ≡ false → any_own_crate other id ≡ false
+  own_less id e = go (is_some id.block) e
+    where
+      go : (b : Bool) → (b && test_crate test id.krate) ≡ false → (b && test_crate other id.krate) ≡ false
+      go true f = less (named.Map (crate_map id.krate)) f
+      go false f = refl
+
+  -- a map, of whose names the one test holds of none, names nothing of which the other holds
+  names_less : (map : Map) (local : Local) → any_own_crate test map.id ≡ false → test_of test (option_map named.Module map.holder) ≡ false → list_any (any_reference_in test) map.modules ≡ false
       → test_of test (prelude_reference map.prelude) ≡ false → list_any (test_crate test) map.crate_data.dependencies ≡ false → list_any (test_extern test) local ≡ false
       → any_reference other map local ≡ false
-  names_less map local of_crate no_holder modules prelude dependencies begins =
+  names_less map local own_crate holder modules prelude dependencies begins =
       let p = test_of other (prelude_reference map.prelude) in
       let h = test_of other (option_map named.Module map.holder) in
       let e = list_any (test_extern other) local in
@@ -43,10 +51,10 @@ module _ (test other : Reference → Bool) (less : (n : Reference) → test n �
       neither (list_any (any_reference_in other) map.modules) (p || (h || (e || (d || o))))
       (none_of_less (any_reference_in test) (any_reference_in other) (module_less test other less) map.modules modules)
       (neither p (h || (e || (d || o))) (of_less test other less (prelude_reference map.prelude) prelude)
-      (neither h (e || (d || o)) (ap (λ x. test_of other (option_map named.Module x)) no_holder)
+      (neither h (e || (d || o)) (of_less test other less (option_map named.Module map.holder) holder)
       (neither e (d || o) (none_of_less (test_extern test) (test_extern other) (λ x f. less (named.Module x.1.0) f) local begins)
       (neither d o (none_of_less (test_crate test) (test_crate other) (λ x f. less (named.Map (crate_map x)) f) map.crate_data.dependencies dependencies)
-      (ap (λ x. is_some x && test_crate other map.id.krate) of_crate)))))
+      (own_less map.id own_crate)))))
 
 -- ---- what a map names is there
 
@@ -77,13 +85,18 @@ lies_elsewhere maps id gone n e = on_bool (lies_in id n)
     (λ lies. clash (ap (λ (x : MapId). is_some (maps x)) (sym (equal_id (map_of_reference n) id lies)) ∙ there_in maps n (not_missing maps n e)) gone)
     (λ f. f)
 
-module _ (finished : Maps) (map : Map) (local : Local) (of_crate : map.id.block ≡ None) (alone : map.holder ≡ None) (names : HasNoDanglingReference (overlay finished map) map)
+-- so is a holder
+held_named : (maps : Maps) (id : MapId) (o : Option ModuleId) → is_holder_for maps id o ≡ true → test_of (is_missing maps) (option_map named.Module o) ≡ false
+held_named maps id None e = refl
+held_named maps id (Some h) e = ap not (and_right (same_crate h.map.krate id.krate) (is_some (module_in maps h)) e)
+
+module _ (finished : Maps) (map : Map) (local : Local) (names : HasNoDanglingReference (overlay finished map) map)
     (begins : HasNoDanglingExtern (overlay finished map) local) where
   named_there : (id : MapId) → any_reference (lies_in id) map local ≡ true → is_some (overlay finished map id) ≡ true
   named_there id some = on_bool (is_some (overlay finished map id))
       (λ e. e)
       (λ gone. clash some (names_less (is_missing (overlay finished map)) (lies_in id) (lies_elsewhere (overlay finished map) id gone) map local
-      of_crate alone names.modules names.prelude names.dependencies begins))
+      names.own_crate (held_named (overlay finished map) map.id map.holder names.held) names.modules names.prelude names.dependencies begins))
 
   -- each other map that a map names is finished
   pub names-within : (id : MapId) → refers_to map local id ≡ true → is_some (finished id) ≡ true
@@ -98,37 +111,55 @@ module _ (finished : Maps) (map : Map) (local : Local) (of_crate : map.id.block 
       off true f = clash f refl
       off false f = refl
 
--- ---- maps of some crates
+-- ---- maps of some crates and of some holders
 
--- an id that is of some crates, and of no holder, is that of the map of one of those
-pub of_some : (crates : List Crate) (id : MapId) → is_of_some crates [] id ≡ true → (id.block ≡ None) × (has_crate crates id.krate ≡ true)
-of_some crates id e = go id.block (has_crate crates id.krate) e
+-- whether one of some modules lies in a map
+abbrev pub holds : List ModuleId → MapId → Bool
+holds holders id = list_any (λ (h : ModuleId). map_id.ghosts.eq h.map id) holders
+
+-- an id that is of some crates and holders is that of the map of one of those crates, or of one in which a holder lies
+pub of_some : (crates : List Crate) (holders : List ModuleId) (id : MapId) → is_of_some crates holders id ≡ true
+    → ((id.block ≡ None) × (has_crate crates id.krate ≡ true)) ⊎ (holds holders id ≡ true)
+of_some crates holders id e = go id.block refl (has_crate crates id.krate) refl (holds holders id) refl e
   where
-    go : (x : Option BlockId) (b : Bool) → ((is_none x && b) || false) ≡ true → (x ≡ None) × (b ≡ true)
-    go (Some x) b f = clash f refl
-    go None false f = clash f refl
-    go None true f = (refl, refl)
+    go : (x : Option BlockId) → id.block ≡ x → (b : Bool) → has_crate crates id.krate ≡ b → (c : Bool) → holds holders id ≡ c → ((is_none x && b) || c) ≡ true
+        → ((id.block ≡ None) × (has_crate crates id.krate ≡ true)) ⊎ (holds holders id ≡ true)
+    go None x true b c s f = inl (x, b)
+    go None x false b true s f = inr s
+    go None x false b false s f = clash f refl
+    go (Some y) x b t true s f = inr s
+    go (Some y) x true t false s f = clash f refl
+    go (Some y) x false t false s f = clash f refl
 
 -- and those are such ids
+pub is_crate_of_some : (crates : List Crate) (holders : List ModuleId) (id : MapId) → id.block ≡ None → has_crate crates id.krate ≡ true → is_of_some crates holders id ≡ true
+is_crate_of_some crates holders id none has = λ i. (is_none (none i) && has i) || holds holders id
+
+pub is_held_of_some : (crates : List Crate) (holders : List ModuleId) (id : MapId) → holds holders id ≡ true → is_of_some crates holders id ≡ true
+is_held_of_some crates holders id held = or_right (is_none id.block && has_crate crates id.krate) (holds holders id) held
+
 pub is_some_crate : (crates : List Crate) (krate : Crate) → has_crate crates krate ≡ true → is_of_some crates [] (crate_map krate) ≡ true
-is_some_crate crates krate has = ap (λ (b : Bool). (true && b) || false) has
+is_some_crate crates krate has = is_crate_of_some crates [] (crate_map krate) refl has
 
 -- what is there among the maps of some crates is the map of one of those
 pub among_there : (crates : List Crate) (f : Maps) (id : MapId) (placed : Placed) → among crates [] f id ≡ Some placed
     → (id.block ≡ None) × (has_crate crates id.krate ≡ true) × (f id ≡ Some placed)
 among_there crates f id placed e =
     let only = among-only crates [] f id placed e in
-    let of = of_some crates id only.0 in
-    (of.0, of.1, only.1)
+    elim (of_some crates [] id only.0) [
+      | inl of ↦ (of.0, of.1, only.1)
+      | inr held ↦ clash held refl
+    ]
 
--- a map beside those of some crates names only maps of those
-pub among-names : (crates : List Crate) (f : Maps) (map : Map) (local : Local) → map.id.block ≡ None → map.holder ≡ None → HasNoDanglingReference (overlay (among crates [] f) map) map
-    → HasNoDanglingExtern (overlay (among crates [] f) map) local → (id : MapId) → refers_to map local id ≡ true → (id.block ≡ None) × (has_crate crates id.krate ≡ true)
-among-names crates f map local of_crate alone names begins id e = go (among crates [] f id) refl (names-within (among crates [] f) map local of_crate alone names begins id e)
+-- a map beside those of some crates and holders names only maps of those
+pub among-names : (crates : List Crate) (holders : List ModuleId) (f : Maps) (map : Map) (local : Local) → HasNoDanglingReference (overlay (among crates holders f) map) map
+    → HasNoDanglingExtern (overlay (among crates holders f) map) local → (id : MapId) → refers_to map local id ≡ true
+    → ((id.block ≡ None) × (has_crate crates id.krate ≡ true)) ⊎ (holds holders id ≡ true)
+among-names crates holders f map local names begins id e = go (among crates holders f id) refl (names-within (among crates holders f) map local names begins id e)
   where
-    go : (o : Option Placed) → among crates [] f id ≡ o → is_some o ≡ true → (id.block ≡ None) × (has_crate crates id.krate ≡ true)
+    go : (o : Option Placed) → among crates holders f id ≡ o → is_some o ≡ true → ((id.block ≡ None) × (has_crate crates id.krate ≡ true)) ⊎ (holds holders id ≡ true)
     go None s there = clash there refl
-    go (Some p) s there = let found = among_there crates f id p s in (found.0, found.1)
+    go (Some p) s there = of_some crates holders id (among-only crates holders f id p s).0
 
 -- ---- more maps
 
@@ -152,112 +183,149 @@ Extends-by one other same (named.Module m) e = alike (λ (x : Map). module_at x 
 Extends-by one other same (named.Enum n) e = alike (λ (x : Map). variants_at x n) (one n.loc.container.map) (other n.loc.container.map) (same n.loc.container.map) e
 Extends-by one other same (named.Map id) e = alike_there (one id) (other id) (same id) e
 
--- a map among those of some crates is as it is among all
-among_or : (crates : List Crate) (f : Maps) (id : MapId) → (map_in (among crates [] f) id ≡ map_in f id) ⊎ (among crates [] f id ≡ None)
-among_or crates f id = go (among crates [] f id) refl
+-- a map among those of some crates and holders is as it is among all
+among_or : (crates : List Crate) (holders : List ModuleId) (f : Maps) (id : MapId) → (map_in (among crates holders f) id ≡ map_in f id) ⊎ (among crates holders f id ≡ None)
+among_or crates holders f id = go (among crates holders f id) refl
   where
-    go : (o : Option Placed) → among crates [] f id ≡ o → (map_in (among crates [] f) id ≡ map_in f id) ⊎ (among crates [] f id ≡ None)
+    go : (o : Option Placed) → among crates holders f id ≡ o → (map_in (among crates holders f) id ≡ map_in f id) ⊎ (among crates holders f id ≡ None)
     go None s = inr s
-    go (Some p) s = inl (ap (option_map (λ (x : Placed). x.map)) (s ∙ sym (among_there crates f id p s).2))
+    go (Some p) s = inl (ap (option_map (λ (x : Placed). x.map)) (s ∙ sym (among-only crates holders f id p s).1))
 
--- what is there beside the maps of some crates is there beside all
-pub Extends-all : (crates : List Crate) (f : Maps) (map : Map) → Extends (overlay (among crates [] f) map) (overlay f map)
-Extends-all crates f map = Extends-by (overlay (among crates [] f) map) (overlay f map) (λ id. go id (map_id.ghosts.eq id map.id))
+-- what is there beside the maps of some crates and holders is there beside all
+pub Extends-all : (crates : List Crate) (holders : List ModuleId) (f : Maps) (map : Map) → Extends (overlay (among crates holders f) map) (overlay f map)
+Extends-all crates holders f map = Extends-by (overlay (among crates holders f) map) (overlay f map) (λ id. go id (map_id.ghosts.eq id map.id))
   where
     go : (id : MapId) (b : Bool)
-        → (option_map (λ (p : Placed). p.map) (cond b (Some (placed_in (among crates [] f) map)) (among crates [] f id)) ≡ option_map (λ (p : Placed). p.map) (cond b (Some (placed_in f map)) (f id)))
-        ⊎ (cond b (Some (placed_in (among crates [] f) map)) (among crates [] f id) ≡ None)
+        → (option_map (λ (p : Placed). p.map) (cond b (Some (placed_in (among crates holders f) map)) (among crates holders f id))
+        ≡ option_map (λ (p : Placed). p.map) (cond b (Some (placed_in f map)) (f id)))
+        ⊎ (cond b (Some (placed_in (among crates holders f) map)) (among crates holders f id) ≡ None)
     go id true = inl refl
-    go id false = among_or crates f id
+    go id false = among_or crates holders f id
 
--- a map that names only what is there among the maps of some crates may stand beside all
-pub joins : (crates : List Crate) (f : Maps) (map : Map) (local : Local) → HasNoDanglingReference (overlay (among crates [] f) map) map → HasNoDanglingExtern (overlay (among crates [] f) map) local
-    → is_well_formed f map local ≡ true
-joins crates f map local names begins =
+-- a map that names only what is there among the maps of some crates and holders may stand beside all
+pub joins : (crates : List Crate) (holders : List ModuleId) (f : Maps) (map : Map) (local : Local) → HasNoDanglingReference (overlay (among crates holders f) map) map
+    → HasNoDanglingExtern (overlay (among crates holders f) map) local → is_well_formed f map local ≡ true
+joins crates holders f map local names begins =
     complete f map local
-    (HasNoDanglingReference-more (overlay (among crates [] f) map) (overlay f map) (Extends-all crates f map) map names)
-    (HasNoDanglingExtern-more (overlay (among crates [] f) map) (overlay f map) (Extends-all crates f map) local begins)
+    (HasNoDanglingReference-more (overlay (among crates holders f) map) (overlay f map) (Extends-all crates holders f map) map names)
+    (HasNoDanglingExtern-more (overlay (among crates holders f) map) (overlay f map) (Extends-all crates holders f map) local begins)
 
--- ---- the maps of the crates on which a crate stands
+-- ---- the maps on which a run stands
 
--- what is kept of a crate names only what is kept of those on which it stands
-pub record IsKeptWhole (behind : List Crate) (kept : Resolutions) (krate : Crate) : Type 0 where
-  pub found : CollectedValue
-  pub is : kept_in kept (crate_map krate) ≡ Some found
-  pub own : found.map.id ≡ crate_map krate
-  pub unheld : found.map.holder ≡ None
-  pub names : HasNoDanglingReference (overlay (among behind [] (finished_by kept)) found.map) found.map
-  pub begins : HasNoDanglingExtern (overlay (among behind [] (finished_by kept)) found.map) found.local
+-- what is kept of a place names only what is kept of those on which it stands
+pub record IsKeptWhole (behind : ℕ → List Crate) (kept : Resolutions) (id : MapId) : Type 0 where
+  pub found : Resolution
+  pub is : kept_in kept id ≡ Some found
+  pub own : found.map.id ≡ id
+  pub holders : found.holders ≡ holders_under (finished_by kept) id found.map.holder
+  pub names : HasNoDanglingReference (overlay (among (behind id.krate.0) found.holders (finished_by kept)) found.map) found.map
+  pub begins : HasNoDanglingExtern (overlay (among (behind id.krate.0) found.holders (finished_by kept)) found.map) found.local
 
 -- the map of a crate among those of some
-pub among_at : (crates : List Crate) (kept : Resolutions) (krate : Crate) (found : CollectedValue) → has_crate crates krate ≡ true → kept_in kept (crate_map krate) ≡ Some found
-    → among crates [] (finished_by kept) (crate_map krate) ≡ Some (unheld found.map found.local)
-among_at crates kept krate found has is =
-    among-there crates [] (finished_by kept) (crate_map krate) (unheld found.map found.local) (is_some_crate crates krate has)
-    (ap (option_map (λ (r : CollectedValue). unheld r.map r.local)) is) refl
+pub among_at : (crates : List Crate) (kept : Resolutions) (krate : Crate) (found : Resolution) → has_crate crates krate ≡ true → kept_in kept (crate_map krate) ≡ Some found → found.holders ≡ []
+    → among crates [] (finished_by kept) (crate_map krate) ≡ Some (placed_by found)
+among_at crates kept krate found has is alone =
+    among-there crates [] (finished_by kept) (crate_map krate) (placed_by found) (is_some_crate crates krate has)
+    (ap (option_map placed_by) is) (ap (are_of_some crates []) alone)
 
--- a map among those of some crates is as it is among more
-among_more : (few more : List Crate) (f : Maps) (id : MapId) → ((p : Placed) → f id ≡ Some p → p.holders ≡ []) → (has_crate few id.krate ≡ true → has_crate more id.krate ≡ true)
-    → (map_in (among few [] f) id ≡ map_in (among more [] f) id) ⊎ (among few [] f id ≡ None)
-among_more few more f id alone grows = go (among few [] f id) refl
+-- modules that lie in such maps
+of_all : (crates : List Crate) (holders hs : List ModuleId) (id : MapId) → are_of_some crates holders hs ≡ true → holds hs id ≡ true → is_of_some crates holders id ≡ true
+of_all crates holders [] id all held = clash held refl
+of_all crates holders (h ∷ hs) id all held =
+    go (λ f. of_all crates holders hs id (and_right (is_of_some crates holders h.map) (are_of_some crates holders hs) all) f) (map_id.ghosts.eq h.map id) refl held
   where
-    go : (o : Option Placed) → among few [] f id ≡ o → (map_in (among few [] f) id ≡ map_in (among more [] f) id) ⊎ (among few [] f id ≡ None)
-    go None s = inr s
-    go (Some p) s =
-        let there = among_there few f id p s in
-        let is : among more [] f id ≡ Some p =
-        among-there more [] f id p (of_crate id.block there.0 (grows there.1)) there.2 (ap (are_of_some more []) (alone p there.2)) in
-        inl (ap (option_map (λ (x : Placed). x.map)) (s ∙ sym is))
-      where
-        of_crate : (x : Option BlockId) → x ≡ None → has_crate more id.krate ≡ true → ((is_none x && has_crate more id.krate) || false) ≡ true
-        of_crate x none has = λ i. (is_none (none i) && has i) || false
+    go : (holds hs id ≡ true → is_of_some crates holders id ≡ true) → (b : Bool) → map_id.ghosts.eq h.map id ≡ b → (b || holds hs id) ≡ true → is_of_some crates holders id ≡ true
+    go behind true same f = ap (is_of_some crates holders) (sym (exact_map h.map id same)) ∙ and_left (is_of_some crates holders h.map) (are_of_some crates holders hs) all
+    go behind false other f = behind f
 
--- nothing holds a map of which what is kept tells
-finished_alone : (kept : Resolutions) (id : MapId) (p : Placed) → finished_by kept id ≡ Some p → p.holders ≡ []
-finished_alone kept id p e = go (kept_in kept id) e
-  where
-    go : (o : Option CollectedValue) → option_map (λ (r : CollectedValue). unheld r.map r.local) o ≡ Some p → p.holders ≡ []
-    go None f = absurd (let wrong : ⊥ = cc in wrong)
-    go (Some r) f = let same : unheld r.map r.local ≡ p = cc in sym (ap (λ (x : Placed). x.holders) same)
+-- those that lie in some of the maps lie in more
+are_among : (few more : List Crate) (one other : List ModuleId) → ((id : MapId) → is_of_some few one id ≡ true → is_of_some more other id ≡ true) → (hs : List ModuleId)
+    → are_of_some few one hs ≡ true → are_of_some more other hs ≡ true
+are_among few more one other grows [] e = e
+are_among few more one other grows (h ∷ hs) e =
+    both_true (is_of_some more other h.map) (are_of_some more other hs)
+    (grows h.map (and_left (is_of_some few one h.map) (are_of_some few one hs) e))
+    (are_among few more one other grows hs (and_right (is_of_some few one h.map) (are_of_some few one hs) e))
 
-module _ (behind : ℕ → List Crate) (kept : Resolutions) (crates : List Crate)
-    (whole : (krate : Crate) → has_crate crates krate ≡ true → IsKeptWhole (behind krate.0) kept krate)
-    (closed : (krate c : Crate) → has_crate crates krate ≡ true → has_crate (behind krate.0) c ≡ true → has_crate crates c ≡ true) where
-  -- what a crate's map names is there among the maps of the crates
-  pub Extends-behind : (krate : Crate) (has : has_crate crates krate ≡ true)
-      → Extends (overlay (among (behind krate.0) [] (finished_by kept)) (whole krate has).found.map) (among crates [] (finished_by kept))
-  Extends-behind krate has = Extends-by (overlay (among (behind krate.0) [] (finished_by kept)) (whole krate has).found.map) (among crates [] (finished_by kept)) each
+module _ (behind : ℕ → List Crate) (kept : Resolutions) (crates : List Crate) (holders : List ModuleId)
+    (whole : (id : MapId) (r : Resolution) → kept_in kept id ≡ Some r → IsKeptWhole behind kept id)
+    (closed : (id : MapId) (c : Crate) → is_of_some crates holders id ≡ true → has_crate (behind id.krate.0) c ≡ true → has_crate crates c ≡ true) where
+  abbrev all : Maps
+  all = among crates holders (finished_by kept)
+
+  -- a map on which one of those stands is one of those
+  stands_among : (id : MapId) (hs : List ModuleId) → is_of_some crates holders id ≡ true → are_of_some crates holders hs ≡ true → (j : MapId) → is_of_some (behind id.krate.0) hs j ≡ true
+      → is_of_some crates holders j ≡ true
+  stands_among id hs here held j of = elim (of_some (behind id.krate.0) hs j of) [
+    | inl crate ↦ is_crate_of_some crates holders j crate.0 (closed id j.krate here crate.1)
+    | inr lies ↦ of_all crates holders hs j held lies
+  ]
+
+  -- the maps on which a place stands
+  abbrev below : (id : MapId) → IsKeptWhole behind kept id → Maps
+  below id w = among (behind id.krate.0) w.found.holders (finished_by kept)
+
+  -- what the map of one of those names is there among those
+  pub Extends-behind : (id : MapId) (w : IsKeptWhole behind kept id) → is_of_some crates holders id ≡ true → are_of_some crates holders w.found.holders ≡ true
+      → Extends (overlay (below id w) w.found.map) all
+  Extends-behind id w here held = Extends-by (overlay (below id w) w.found.map) all each
     where
-      each : (id : MapId) → (map_in (overlay (among (behind krate.0) [] (finished_by kept)) (whole krate has).found.map) id ≡ map_in (among crates [] (finished_by kept)) id)
-          ⊎ (overlay (among (behind krate.0) [] (finished_by kept)) (whole krate has).found.map id ≡ None)
-      each id =
-          let w = whole krate has in
-          let m : Map = w.found.map in
-          let below : Maps = among (behind krate.0) [] (finished_by kept) in
-          let all : Maps = among crates [] (finished_by kept) in
-          on_bool (map_id.ghosts.eq id m.id)
+      more : (j : MapId) → is_of_some (behind id.krate.0) w.found.holders j ≡ true → is_of_some crates holders j ≡ true
+      more j of = stands_among id w.found.holders here held j of
+
+      own_there : all w.found.map.id ≡ Some (placed_by w.found)
+      own_there = ap all w.own ∙ among-there crates holders (finished_by kept) id (placed_by w.found) here (ap (option_map placed_by) w.is) held
+
+      each : (j : MapId) → (map_in (overlay (below id w) w.found.map) j ≡ map_in all j) ⊎ (overlay (below id w) w.found.map j ≡ None)
+      each j = on_bool (map_id.ghosts.eq j w.found.map.id)
           (λ e. inl (
-          ap (λ (b : Bool). option_map (λ (p : Placed). p.map) (cond b (Some (placed_in below m)) (below id))) e
-          ∙ sym (ap (map_in all) (exact_map id m.id e ∙ w.own) ∙ ap (option_map (λ (p : Placed). p.map)) (among_at crates kept krate w.found has w.is))))
-          (λ e.
-          let here : overlay below m id ≡ below id = ap (λ (b : Bool). cond b (Some (placed_in below m)) (below id)) e in
-          elim (among_more (behind krate.0) crates (finished_by kept) id (finished_alone kept id) (closed krate id.krate has)) [
-            | inl same ↦ inl (ap (option_map (λ (p : Placed). p.map)) here ∙ same)
-            | inr none ↦ inr (here ∙ none)
-          ])
+          ap (λ (b : Bool). option_map (λ (p : Placed). p.map) (cond b (Some (placed_in (below id w) w.found.map)) (below id w j))) e
+          ∙ sym (ap (map_in all) (exact_map j w.found.map.id e) ∙ ap (option_map (λ (p : Placed). p.map)) own_there)))
+          (λ e. beside (ap (λ (b : Bool). cond b (Some (placed_in (below id w) w.found.map)) (below id w j)) e) (below id w j) refl)
+        where
+          beside : overlay (below id w) w.found.map j ≡ below id w j → (o : Option Placed) → below id w j ≡ o → (map_in (overlay (below id w) w.found.map) j ≡ map_in all j) ⊎ (overlay (below id w) w.found.map j ≡ None)
+          beside at None s = inr (at ∙ s)
+          beside at (Some p) s =
+              let only = among-only (behind id.krate.0) w.found.holders (finished_by kept) j p s in
+              let is : all j ≡ Some p =
+              among-there crates holders (finished_by kept) j p (more j only.0) only.1 (are_among (behind id.krate.0) crates w.found.holders holders more p.holders only.2) in
+              inl (ap (option_map (λ (x : Placed). x.map)) (at ∙ s ∙ sym is))
+
+  -- the holders of one of those are among them
+  holders_among : (id : MapId) (o : Option ModuleId) (hs : List ModuleId) → hs ≡ holders_under (finished_by kept) id o → are_of_some crates holders hs ≡ true → hs ≡ holders_under all id o
+  holders_among id None hs e held = e
+  holders_among id (Some h) hs e held = go (same_crate h.map.krate id.krate) (finished_by kept h.map) refl e (all h.map) refl
+    where
+      go : (b : Bool) (o : Option Placed) → finished_by kept h.map ≡ o → hs ≡ cond (b && is_some o) (h ∷ holders_of o) [] → (a : Option Placed) → all h.map ≡ a
+          → hs ≡ cond (b && is_some a) (h ∷ holders_of a) []
+      go false o s f a t = f
+      go true None s f None t = f
+      go true None s f (Some p) t = no_value (sym s ∙ (among-only crates holders (finished_by kept) h.map p t).1)
+      go true (Some p) s f a t =
+          let both : are_of_some crates holders (h ∷ p.holders) ≡ true = ap (are_of_some crates holders) (sym f) ∙ held in
+          let found : all h.map ≡ Some p =
+          among-there crates holders (finished_by kept) h.map p (and_left (is_of_some crates holders h.map) (are_of_some crates holders p.holders) both) s
+          (and_right (is_of_some crates holders h.map) (are_of_some crates holders p.holders) both) in
+          f ∙ ap (λ (x : Option Placed). cond (is_some x) (h ∷ holders_of x) []) (sym found ∙ t)
 
   -- each of the maps names only what is there
-  pub whole-among : AreWellFormed (among crates [] (finished_by kept))
+  pub whole-among : AreWellFormed all
   whole-among id placed e =
-      let all : Maps = among crates [] (finished_by kept) in
-      let there = among_there crates (finished_by kept) id placed e in
-      let w = whole id.krate there.1 in
-      let same : id ≡ crate_map id.krate = λ i. record { krate = id.krate; block = there.0 i } in
-      let is : placed ≡ unheld w.found.map w.found.local =
-      (let both : Some placed ≡ Some (unheld w.found.map w.found.local) = sym e ∙ ap all same ∙ among_at crates kept id.krate w.found there.1 w.is in cc) in
-      subst (λ (p : Placed). IsWellFormed all id p) (sym is) (record {
-        own = w.own ∙ sym same;
-        holders = sym (ap (holders_under all id) w.unheld);
-        names = HasNoDanglingReference-more (overlay (among (behind id.krate.0) [] (finished_by kept)) w.found.map) all (Extends-behind id.krate there.1) w.found.map w.names;
-        begins = HasNoDanglingExtern-more (overlay (among (behind id.krate.0) [] (finished_by kept)) w.found.map) all (Extends-behind id.krate there.1) w.found.local w.begins;
-      })
+      let only = among-only crates holders (finished_by kept) id placed e in
+      go (kept_in kept id) refl only.1 only.0 only.2
+    where
+      go : (o : Option Resolution) → kept_in kept id ≡ o → option_map placed_by o ≡ Some placed → is_of_some crates holders id ≡ true → are_of_some crates holders placed.holders ≡ true
+          → IsWellFormed all id placed
+      go None s f here held = no_value f
+      go (Some r) s f here held =
+          let w = whole id r s in
+          let same : r ≡ w.found = one_value (sym s ∙ w.is) in
+          let is : placed ≡ placed_by w.found = sym (one_value f) ∙ ap placed_by same in
+          let held_too : are_of_some crates holders w.found.holders ≡ true = ap (λ (p : Placed). are_of_some crates holders p.holders) (sym is) ∙ held in
+          let more = Extends-behind id w here held_too in
+          subst (λ (p : Placed). IsWellFormed all id p) (sym is) (record {
+            own = w.own;
+            holders = holders_among id w.found.map.holder w.found.holders w.holders held_too;
+            names = HasNoDanglingReference-more (overlay (below id w) w.found.map) all more w.found.map w.names;
+            begins = HasNoDanglingExtern-more (overlay (below id w) w.found.map) all more w.found.local w.begins;
+          })

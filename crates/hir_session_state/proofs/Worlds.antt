@@ -1,21 +1,25 @@
--- The finished maps that a crate reads stay while what is kept of the crates on which it stands does.
-use Rattle.std.proofs.Common.{◌≡◌, ◌≢◌, ℕ, zero, suc, ◌<◌, List, [], ◌∷◌, ◌++◌, true, arith, Option, option_map, refl, sym, ap, ◌∙◌, subst, Contains, eq-eqb}
+-- The finished maps that a place reads stay while what is kept of the crates and holders on which it stands does.
+use Rattle.std.proofs.Common.{◌≡◌, ◌≢◌, ◌⊎◌, inl, inr, ℕ, zero, suc, ◌<◌, List, [], ◌∷◌, ◌++◌, length, true, ◌&&◌, cond, is_some, arith, Option, Some, None, option_map, refl, sym, ap, ◌∙◌, subst, Contains, eq-eqb}
+use Rattle.hir_base.specs.contracts.ids.MapIdPartialEq.TheImpl as map_id
+use Rattle.hir_base.specs.declared.ast_id.BlockId.{BlockId}
 use Rattle.hir_base.specs.declared.ids.Crate.{Crate}
 use Rattle.hir_base.specs.declared.ids.MapId.{MapId}
+use Rattle.hir_base.specs.declared.ids.ModuleId.{ModuleId}
 use Rattle.hir_base.specs.declared.macro_kind.MacroId.{MacroId}
 use Rattle.hir_base.specs.declared.macro_kind.MacroId.TheVariants as macros
+use Rattle.hir_scope.specs.ModuleTree.{same_crate}
 use Rattle.hir_tables.specs.Tables.{TablesValue}
 use Rattle.hir_def_map.specs.Inner.PartLaws.{among_agrees}
-use Rattle.hir_def_map.specs.WorldParts.{unheld}
+use Rattle.hir_def_map_rules.specs.Inner.OverlayLaws.{exact_map}
 use Rattle.hir_def_map_rules.specs.WellFormed.{HasNoDanglingExtern, HasNoDanglingReference}
-use Rattle.hir_def_map_rules.specs.Overlay.{Maps, Placed, overlay, no_maps}
+use Rattle.hir_def_map_rules.specs.Overlay.{Maps, Placed, holders_of, holders_under, overlay, no_maps}
 use Rattle.hir_def_map_rules.specs.State.{crate_map}
 use Rattle.hir_collector_rules.specs.Causes.{HasCause}
-use Rattle.hir_collector_rules.specs.Causes.HasCause.{root_tree, declared_enum, candidate, of_call, dependency}
+use Rattle.hir_collector_rules.specs.Causes.HasCause.{root_tree, of_holder, declared_enum, candidate, of_call, dependency}
 use Rattle.hir_collector_rules.specs.Calls.{Expanding, call_key, expansion_readings, text_readings}
 use Rattle.hir_collector_rules.specs.Derivation.{Ends}
 use Rattle.hir_collector_rules.specs.Keys.{AgreeOn, look, map_key, of_map}
-use Rattle.hir_collector_rules.specs.Start.{Beginning, krate_of}
+use Rattle.hir_collector_rules.specs.Start.{Beginning, held_keys, holder_keys, holders_by, krate_of}
 use Rattle.hir_collector_rules.specs.State.{State}
 use Rattle.hir_collector_rules.specs.Steps.{keys_read}
 use Rattle.hir_collector_rules.specs.Workspace.{Workspace, transitive_dependencies_in}
@@ -23,14 +27,18 @@ use Rattle.hir_collector_rules.specs.declared.macro_directive.MacroDirective.{Ma
 use Rattle.hir_collector_rules.specs.declared.source_database.Key.{Key}
 use Rattle.hir_collector_rules.specs.declared.source_database.Key.TheVariants as keys
 use Rattle.hir_crate_graph.specs.CrateSet.{has_crate}
-use Rattle.hir_session_state.specs.Crates.{transitive_in}
+use Rattle.hir_session_state.specs.Crates.{begins_in_block, id_of, transitive_in}
 use Rattle.hir_session_state.specs.SourceTable.{SourceTable}
-use Rattle.hir_session_state.specs.Kept.{Resolutions, finished_by, kept_in}
-use Rattle.hir_session_state.specs.SessionState.{SessionState, Resolution, workspace_of, beginning_of, finished_of, read_of, kept_of, IsResolved, IsResolutionOf}
+use Rattle.hir_session_state.specs.Kept.{Resolutions, collected_of, finished_by, kept_in, placed_by}
+use Rattle.hir_session_state.specs.SessionState.{SessionState, Resolution, workspace_of, beginning_by, beginning_of, finished_of, follows, read_under, kept_of, IsResolutionOf, IsSound}
 use Rattle.hir_crate_graph.specs.Dependencies.{DependsOn}
 use Rattle.hir_crate_graph.specs.Dependencies.DependsOn.{directly, through}
-use Rattle.hir_session_state.proofs.Depending.{any-found}
-use Rattle.hir_session_state.proofs.Names.{of_some}
+use Rattle.hir_session_state.proofs.Depending.{any-found, depended, found-any}
+use Rattle.hir_session_state.proofs.Following.{followed, followed_crate, followed_holder}
+use Rattle.hir_session_state.proofs.Holding.{block_held, held_block, holder_kept, holders_hold, start_holders}
+use Rattle.hir_session_state.proofs.Names.{holds, of_some}
+use Rattle.hir_session_state.proofs.Standing.{kept_gives}
+use Rattle.hir_session_state.proofs.Truth.{one_value}
 
 -- ---- the crates on which a crate stands
 
@@ -92,14 +100,32 @@ of_no_call own d (macros.ProcMacroId m) x id among =
     one_of_three (keys.Input own d.ast_id) (keys.Expansion x.entry) (keys.Tree (call_key own x.id)) (keys.Map id) among
     (λ e. let wrong : ⊥ = cc in wrong) (λ e. let wrong : ⊥ = cc in wrong) (λ e. let wrong : ⊥ = cc in wrong)
 
--- a map is asked for because the run's crate depends on its crate
-of_dependency : {tables : TablesValue} {w : Workspace} {finished : Maps} {from : Beginning} {last : State} {id : MapId} → HasCause tables w finished from last (keys.Map id)
-    → (c : Crate) × Contains (transitive_dependencies_in w (krate_of from.start)) c × (keys.Map id ≡ map_key c)
-of_dependency (root_tree is) = absurd (let wrong : ⊥ = cc in wrong)
-of_dependency (declared_enum home n listed is) = absurd (let wrong : ⊥ = cc in wrong)
-of_dependency (candidate at passed of) = let is = of.is in absurd (let wrong : ⊥ = cc in wrong)
-of_dependency {id = id} (of_call at passed of) = absurd (of_no_call at.core.map.id.krate of.call of.makro of.seen id of.among)
-of_dependency (dependency c among is) = (c, among, is)
+-- a map is asked for because the run's crate depends on its crate, or because it is that of what holds the run's block
+of_map_key : {tables : TablesValue} {w : Workspace} {finished : Maps} {from : Beginning} {last : State} {id : MapId} → HasCause tables w finished from last (keys.Map id)
+    → ((c : Crate) × Contains (transitive_dependencies_in w (krate_of from.start)) c × (keys.Map id ≡ map_key c)) ⊎ Contains (held_keys from.start (holders_by finished from.start)) (keys.Map id)
+of_map_key (root_tree is) = absurd (let wrong : ⊥ = cc in wrong)
+of_map_key (of_holder among) = inr among
+of_map_key (declared_enum home n listed is) = absurd (let wrong : ⊥ = cc in wrong)
+of_map_key (candidate at passed of) = let is = of.is in absurd (let wrong : ⊥ = cc in wrong)
+of_map_key {id = id} (of_call at passed of) = absurd (of_no_call at.core.map.id.krate of.call of.makro of.seen id of.among)
+of_map_key (dependency c among is) = inl (c, among, is)
+
+same_map : {i j : MapId} → keys.Map i ≡ keys.Map j → i ≡ j
+same_map e = cc
+
+-- a holder's key is among those of the holders
+of_holder_keys : (hs : List ModuleId) (j : MapId) → Contains (holder_keys hs) (keys.Map j) → (h : ModuleId) × Contains hs h × (h.map ≡ j)
+of_holder_keys [] j h = absurd (let past : h.0 < 0 = h.1 in omega arith)
+of_holder_keys (x ∷ xs) j (zero, within, is) = (x, (zero, omega arith, refl), same_map is)
+of_holder_keys (x ∷ xs) j (suc n, within, is) =
+    let rest = of_holder_keys xs j (n, omega arith, is) in
+    (rest.0, (suc rest.1.0, (let below : rest.1.0 < length xs = rest.1.1 in omega arith), rest.1.2), rest.2)
+
+-- a holder that lies in a map is listed
+of_holds : (hs : List ModuleId) (j : MapId) → holds hs j ≡ true → (h : ModuleId) × Contains hs h × (h.map ≡ j)
+of_holds hs j held =
+    let found = found-any (λ (h : ModuleId). map_id.ghosts.eq h.map j) hs held in
+    (found.0, found.1, exact_map found.0.map j found.2)
 
 -- ---- a session that changes
 
@@ -108,59 +134,154 @@ module _ (s : SessionState) (F : SourceTable) (K : Resolutions) where
   abbrev pub changed : SessionState
   changed = record s { sources = F; kept = K }
 
-  -- what is kept of the crates on which a crate stands is as it was
-  abbrev pub IsKeptBehind : MapId → Type 0
-  IsKeptBehind id = (c : Crate) → has_crate (transitive_in s.crates id.krate.0) c ≡ true → kept_in K (crate_map c) ≡ kept_of s (crate_map c)
+  -- what is kept of the crates and of the holders on which a place stands is as it was
+  pub record IsKeptBehind (id : MapId) (r : Resolution) : Type 0 where
+    pub crates : (c : Crate) → has_crate (transitive_in s.crates id.krate.0) c ≡ true → kept_in K (crate_map c) ≡ kept_of s (crate_map c)
+    pub own : (b : BlockId) → id.block ≡ Some b → kept_in K (crate_map id.krate) ≡ kept_of s (crate_map id.krate)
+    pub holders : (h : ModuleId) → Contains r.holders h → kept_in K h.map ≡ kept_of s h.map
 
-  -- so is the map that is finished
-  finished_stays : (id : MapId) (c : Crate) → IsKeptBehind id → has_crate (transitive_in s.crates id.krate.0) c ≡ true → finished_by K (crate_map c) ≡ finished_of s (crate_map c)
-  finished_stays id c kept behind = ap (option_map (λ (r : Resolution). unheld r.map r.local)) (kept c behind)
+  -- so is a map that is finished
+  finished_stays : (j : MapId) → kept_in K j ≡ kept_of s j → finished_by K j ≡ finished_of s j
+  finished_stays j same = ap (option_map placed_by) same
 
-  pub read_stays : (id : MapId) → IsKeptBehind id → read_of changed id ≡ read_of s id
-  read_stays id kept = among_agrees (transitive_in s.crates id.krate.0) [] (finished_by K) (finished_of s)
-      (λ j h.
-      let of = of_some (transitive_in s.crates id.krate.0) j h in
-      let same : j ≡ crate_map j.krate = λ i. record { krate = j.krate; block = of.0 i } in
-      subst (λ (x : MapId). finished_by K x ≡ finished_of s x) (sym same) (finished_stays id j.krate kept of.1))
+  pub read_stays : (id : MapId) (r : Resolution) → IsKeptBehind id r → read_under changed id r.holders ≡ read_under s id r.holders
+  read_stays id r kept = among_agrees (transitive_in s.crates id.krate.0) r.holders (finished_by K) (finished_of s)
+      (λ j h. elim (of_some (transitive_in s.crates id.krate.0) r.holders j h) [
+        | inl crate ↦
+            let same : j ≡ crate_map j.krate = λ i. record { krate = j.krate; block = crate.0 i } in
+            subst (λ (x : MapId). finished_by K x ≡ finished_of s x) (sym same) (finished_stays (crate_map j.krate) (kept.crates j.krate crate.1))
+        | inr held ↦
+            let one = of_holds r.holders j held in
+            subst (λ (x : MapId). finished_by K x ≡ finished_of s x) one.2 (finished_stays one.0.map (kept.holders one.0 one.1))
+      ])
 
-  -- what is seen at the key of such a crate's map
-  map_stays : (id : MapId) (c : Crate) (key : Key) → IsKeptBehind id → has_crate (transitive_in s.crates id.krate.0) c ≡ true → key ≡ map_key c
-      → look s.tables (workspace_of changed) (finished_of changed) key ≡ look s.tables (workspace_of s) (finished_of s) key
-  map_stays id c key kept behind is = subst (λ (x : Key). look s.tables (workspace_of changed) (finished_of changed) x ≡ look s.tables (workspace_of s) (finished_of s) x) (sym is)
-      (ap (λ (o : Option Placed). of_map o) (finished_stays id c kept behind))
+  holders_stay : (id : MapId) (r : Resolution) → IsResolutionOf s id r → IsKeptBehind id r → r.holders ≡ holders_under (finished_of changed) r.map.id r.map.holder
+  holders_stay id r p kept = p.holders ∙ sym (go r.map.holder refl)
+    where
+      go : (o : Option ModuleId) → r.map.holder ≡ o → holders_under (finished_of changed) r.map.id o ≡ holders_under (finished_of s) r.map.id o
+      go None held = refl
+      go (Some h) held =
+          let first = holder_kept s id r p h held in
+          let among : Contains r.holders h = subst (λ (hs : List ModuleId). Contains hs h) (sym first.holders) (zero, omega arith, refl) in
+          ap (λ (o : Option Placed). cond (same_crate h.map.krate r.map.id.krate && is_some o) (h ∷ holders_of o) []) (finished_stays h.map (kept.holders h among))
+
+  -- what is seen at the key of such a map
+  map_stays : (j : MapId) → kept_in K j ≡ kept_of s j → look s.tables (workspace_of changed) (finished_of changed) (keys.Map j) ≡ look s.tables (workspace_of s) (finished_of s) (keys.Map j)
+  map_stays j same = ap (λ (o : Option Placed). of_map o) (finished_stays j same)
+
+  -- a key of what holds a run
+  held_stays : (id : MapId) (r : Resolution) (p : IsResolutionOf s id r) → IsKeptBehind id r → (j : MapId) → Contains (held_keys p.from.start (holders_by (finished_of s) p.from.start)) (keys.Map j)
+      → kept_in K j ≡ kept_of s j
+  held_stays id r p kept j among = go id.block refl
+    where
+      one_of : (b : BlockId) → id.block ≡ Some b → (hs : List ModuleId) → hs ≡ r.holders → Contains (map_key id.krate ∷ holder_keys hs) (keys.Map j) → kept_in K j ≡ kept_of s j
+      one_of b of hs same (zero, within, is) = subst (λ (x : MapId). kept_in K x ≡ kept_of s x) (same_map is) (kept.own b of)
+      one_of b of hs same (suc n, within, is) =
+          let one = of_holder_keys hs j (n, omega arith, is) in
+          subst (λ (x : MapId). kept_in K x ≡ kept_of s x) one.2 (kept.holders one.0 (subst (λ (xs : List ModuleId). Contains xs one.0) same one.1))
+
+      go : (o : Option BlockId) → id.block ≡ o → kept_in K j ≡ kept_of s j
+      go None of =
+          let begun = one_value (subst (λ (o : Option BlockId). beginning_by s id.krate o ≡ Some p.from) of p.begun) in
+          let none : Contains [] (keys.Map j) = subst (λ (x : Beginning). Contains (held_keys x.start (holders_by (finished_of s) x.start)) (keys.Map j)) (sym begun) among in
+          absurd (let past : none.0 < 0 = none.1 in omega arith)
+      go (Some b) of =
+          let one = block_held s id r p b of in
+          one_of b of (holders_by (finished_of s) (begins_in_block id.krate b one.begun.holder one.begun.file one.begun.place.id).start)
+          (ap (λ (x : Beginning). holders_by (finished_of s) x.start) one.begun.is ∙ sym (start_holders s id r p))
+          (subst (λ (x : Beginning). Contains (held_keys x.start (holders_by (finished_of s) x.start)) (keys.Map j)) (sym one.begun.is) among)
 
   -- what is seen at a key, where no map counts
   key_stays : (finished : Maps) (from : Beginning) (last : State) (key : Key) → HasCause s.tables (workspace_of s) finished from last key → look s.tables (workspace_of changed) no_maps key ≡ look s.tables (workspace_of s) no_maps key
-      → ((c : Crate) → Contains (transitive_in s.crates (krate_of from.start).0) c → key ≡ map_key c
-      → look s.tables (workspace_of changed) (finished_of changed) key ≡ look s.tables (workspace_of s) (finished_of s) key)
+      → ((j : MapId) → key ≡ keys.Map j → HasCause s.tables (workspace_of s) finished from last (keys.Map j) → kept_in K j ≡ kept_of s j)
       → look s.tables (workspace_of changed) (finished_of changed) key ≡ look s.tables (workspace_of s) (finished_of s) key
   key_stays finished from last (keys.Tree key) cause alike by_map = alike
   key_stays finished from last (keys.Variants id) cause alike by_map = alike
   key_stays finished from last (keys.Text id) cause alike by_map = alike
   key_stays finished from last (keys.Input krate ast) cause alike by_map = alike
   key_stays finished from last (keys.Expansion id) cause alike by_map = alike
-  key_stays finished from last (keys.Map id) cause alike by_map = let of = of_dependency cause in by_map of.0 of.1 of.2
+  key_stays finished from last (keys.Map id) cause alike by_map = map_stays id (by_map id refl cause)
+
+  -- what a run's crate is
+  krate_begun : (id : MapId) (r : Resolution) (p : IsResolutionOf s id r) → krate_of p.from.start ≡ id.krate
+  krate_begun id r p = go id.block refl
+    where
+      go : (o : Option BlockId) → id.block ≡ o → krate_of p.from.start ≡ id.krate
+      go None of =
+          let begun = one_value (subst (λ (o : Option BlockId). beginning_by s id.krate o ≡ Some p.from) of p.begun) in
+          ap (λ (x : Beginning). krate_of x.start) (sym begun)
+      go (Some b) of = ap (λ (x : Beginning). krate_of x.start) (sym (block_held s id r p b of).begun.is)
 
   -- what agrees where no map counts agrees beside the maps
-  pub agrees_on_all : (id : MapId) (r : Resolution) → IsResolved s.tables (workspace_of s) (finished_of s) (beginning_of s id) r → IsKeptBehind id
+  pub agrees_on_all : (id : MapId) (r : Resolution) → IsResolutionOf s id r → IsKeptBehind id r
       → AgreeOn s.tables r.asked (workspace_of s) no_maps (workspace_of changed) no_maps
       → AgreeOn s.tables r.asked (workspace_of s) (finished_of s) (workspace_of changed) (finished_of changed)
-  agrees_on_all id r resolved kept alike =
-      let ended : Ends s.tables (workspace_of s) (finished_of s) (beginning_of s id) r = resolved.ends (workspace_of s) (finished_of s) AgreeOn-refl in
+  agrees_on_all id r p kept alike =
+      let ended : Ends s.tables (workspace_of s) (finished_of s) p.from (collected_of r) = p.resolved.ends (workspace_of s) (finished_of s) AgreeOn-refl in
       record {
         crates = alike.crates;
         config = alike.config;
-        same = λ key h. key_stays (finished_of s) (beginning_of s id) ended.last key (ended.caused key h) (alike.same key h)
-            (λ c among is. map_stays id c key kept (has_listed (transitive_in s.crates id.krate.0) c among) is);
+        same = λ key h. key_stays (finished_of s) p.from ended.last key (ended.caused key h) (alike.same key h) (λ j is cause. by_cause j cause);
       }
+    where
+      by_cause : {last : State} (j : MapId) → HasCause s.tables (workspace_of s) (finished_of s) p.from last (keys.Map j) → kept_in K j ≡ kept_of s j
+      by_cause j cause = elim (of_map_key cause) [
+        | inl of ↦
+            let among : Contains (transitive_in s.crates id.krate.0) of.0 = subst (λ (k : Crate). Contains (transitive_in s.crates k.0) of.0) (krate_begun id r p) of.1 in
+            subst (λ (x : MapId). kept_in K x ≡ kept_of s x) (sym (same_map of.2)) (kept.crates of.0 (has_listed (transitive_in s.crates id.krate.0) of.0 among))
+        | inr held ↦ held_stays id r p kept j held
+      ]
 
-  -- a resolution stands where what it asked for is as it was
-  pub IsResolutionOf-stays : (id : MapId) (r : Resolution) → IsResolutionOf s id r → IsKeptBehind id
+  -- a resolution stands where what it asked for is as it was, and where its run begins as it did
+  pub IsResolutionOf-stays : (id : MapId) (r : Resolution) (p : IsResolutionOf s id r) → IsKeptBehind id r → beginning_of changed id ≡ Some p.from
       → AgreeOn s.tables r.asked (workspace_of s) no_maps (workspace_of changed) no_maps → IsResolutionOf changed id r
-  IsResolutionOf-stays id r p kept alike = record {
-    resolved = record { ends = λ u finished same. p.resolved.ends u finished (AgreeOn-trans (agrees_on_all id r p.resolved kept alike) same) };
+  IsResolutionOf-stays id r p kept begun alike = record {
+    from = p.from;
+    begun = begun;
+    meant = p.meant;
+    resolved = record { ends = λ u finished same. p.resolved.ends u finished (AgreeOn-trans (agrees_on_all id r p kept alike) same) };
     own = p.own;
-    unheld = p.unheld;
-    names = subst (λ (maps : Maps). HasNoDanglingReference (overlay maps r.map) r.map) (sym (read_stays id kept)) p.names;
-    begins = subst (λ (maps : Maps). HasNoDanglingExtern (overlay maps r.map) r.local) (sym (read_stays id kept)) p.begins;
+    holder = p.holder;
+    holders = holders_stay id r p kept;
+    names = subst (λ (maps : Maps). HasNoDanglingReference (overlay maps r.map) r.map) (sym (read_stays id r kept)) p.names;
+    reaches = subst (λ (maps : Maps). HasNoDanglingExtern (overlay maps r.map) r.local) (sym (read_stays id r kept)) p.reaches;
   }
+
+-- ---- where what a place stands on is as it was
+
+module _ (s : SessionState) (sound : IsSound s) (F : SourceTable) (K : Resolutions) (Stays : MapId → Type 0)
+    (outwards : (id d : MapId) → Stays id → Contains (follows s id) d → Stays d) (same : (id : MapId) → Stays id → kept_in K id ≡ kept_of s id) where
+  -- so is what is kept of the crates on which a crate stands
+  pub crates_stay : (krate : Crate) → Stays (crate_map krate) → (c : Crate) → has_crate (transitive_in s.crates krate.0) c ≡ true → Stays (crate_map c)
+  crates_stay krate stays c behind =
+      DependsOn-holds {P = λ (i : ℕ). Stays (id_of i)} (λ j d p among. outwards (id_of j) (crate_map d) p (followed s (record { 0 = j }) d among)) ((depended sound krate.0 c).0 behind) stays
+
+  -- a place whose crate and whose holder stay stands on what stays
+  pub behind_stays : (id : MapId) (r : Resolution) → IsResolutionOf s id r → Stays (crate_map id.krate) → ((h : ModuleId) → r.map.holder ≡ Some h → Stays h.map) → IsKeptBehind s F K id r
+  behind_stays id r p own held = record {
+    crates = λ c behind. same (crate_map c) (crates_stay id.krate own c behind);
+    own = λ b of. same (crate_map id.krate) own;
+    holders = λ h among. same h.map (all r.map.holder refl h among);
+  }
+    where
+      all : (o : Option ModuleId) → r.map.holder ≡ o → (h : ModuleId) → Contains r.holders h → Stays h.map
+      all None alone h among =
+          let none : Contains [] h = subst (λ (hs : List ModuleId). Contains hs h) (p.holders ∙ ap (holders_under (finished_of s) r.map.id) alone) among in
+          absurd (let past : none.0 < 0 = none.1 in omega arith)
+      all (Some g) is h among =
+          let first = holder_kept s id r p g is in
+          one_of g (held g is) first.found first.is (subst (λ (hs : List ModuleId). Contains hs h) first.holders among)
+        where
+          one_of : (g : ModuleId) → Stays g.map → (f : Resolution) → kept_of s g.map ≡ Some f → Contains (g ∷ f.holders) h → Stays h.map
+          one_of g stays f kept (zero, within, eq) = subst (λ (m : ModuleId). Stays m.map) eq stays
+          one_of g stays f kept (suc n, within, eq) = holders_hold s sound {P = Stays} outwards f.holders g.map f kept refl stays h (n, omega arith, eq)
+
+  -- what is kept of a place that stays stands on what stays
+  pub kept_behind : (id : MapId) (r : Resolution) → kept_of s id ≡ Some r → Stays id → IsKeptBehind s F K id r
+  kept_behind id r is stays =
+      let p = kept_gives s sound id r is in
+      behind_stays id r p (own id.block refl) (λ h held. let of = held_block s id r p h held in outwards id h.map stays (followed_holder s id of.0 r h of.1 is held))
+    where
+      own : (o : Option BlockId) → id.block ≡ o → Stays (crate_map id.krate)
+      own None of = let is : id ≡ crate_map id.krate = λ i. record { krate = id.krate; block = of i } in subst Stays is stays
+      own (Some b) of = outwards id (crate_map id.krate) stays (followed_crate s id b of)

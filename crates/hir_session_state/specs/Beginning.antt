@@ -9,7 +9,6 @@ use Rattle.hir_base.specs.declared.ids.MapId.{MapId}
 use Rattle.hir_session_state.specs.Crates.{CrateValue, crate_in}
 use Rattle.hir_tables.specs.Tables.{TablesValue, file_at, KeepsTables}
 use Rattle.hir_session_state.specs.SessionState.{SessionState, kept_of}
-use Rattle.hir_session_state.specs.Refusals.{dependency_crates}
 
 -- a dependency as a run sees it
 abbrev pub dependency_of : HandedIn → Dependency
@@ -55,5 +54,5 @@ pub record Begins (inputs : List CrateInputValue) (s : SessionState) : Type 0 wh
   pub rooted : AreRooted s.tables s.crates
   -- and nothing else has a number
   pub tables : s.tables ≡ record { files = s.tables.files; blocks = []; entries = []; calls = [] }
-  pub sources : s.sources ≡ record { files = []; entries = [] }
+  pub sources : s.sources ≡ record { files = []; blocks = []; entries = [] }
   pub kept : (id : MapId) → kept_of s id ≡ None

@@ -1,5 +1,5 @@
 -- What do the calls of a session change?
-use Rattle.std.specs.Prelude.{◌≡◌, true, false, List, ◌++◌}
+use Rattle.std.specs.Prelude.{◌≡◌, true, false, List}
 use Rattle.hir_base.specs.Place.{PlaceValue}
 use Rattle.hir_base.specs.declared.ids.MapId.{MapId}
 use Rattle.hir_wire.specs.Edits.{EditValue}
@@ -7,7 +7,7 @@ use Rattle.hir_session_state.specs.SourceEdits.{edit_of, edited}
 use Rattle.hir_session_state.specs.SourceTable.{SourceTable}
 use Rattle.hir_session_state.specs.SessionState.{SessionState, workspace_of, kept_of, is_marked, IsSound}
 use Rattle.hir_session_state.specs.Marks.{marks_after}
-use Rattle.hir_session_state.specs.Due.{due_places}
+use Rattle.hir_session_state.specs.Due.{AreResolved, IsNext}
 use Rattle.hir_tables.specs.Tables.{KeepsTables}
 
 -- the session with other sources
@@ -29,20 +29,20 @@ pub record Becomes (old : SessionState) (sources : SourceTable) (new : SessionSt
 abbrev pub Applies : SessionState → EditValue → SessionState → Type 0
 Applies old edit new = Becomes old (edited old.sources (edit_of edit)) new
 
--- the places of the list, the first that were due, were resolved in turn, and nothing else was
+-- the places of the list were resolved, each when it was the next that was due, and nothing else was
 pub record Resolves (old : SessionState) (done : List PlaceValue) (new : SessionState) : Type 0 where
   pub crates : new.crates ≡ old.crates
   pub tables : KeepsTables old.tables new.tables
   pub sources : new.sources ≡ old.sources
-  pub due : due_places old ≡ done ++ due_places new
+  pub in_turn : AreResolved old done new
   pub others : (id : MapId) → is_marked old id ≡ false → kept_of new id ≡ kept_of old id
   -- what isn't marked is what the import rules could have given just now
   pub sound : IsSound new
 
--- the refresh resolved all that was due
+-- the refresh resolved all that was due: nothing is next
 pub record Refreshes (old : SessionState) (done : List PlaceValue) (new : SessionState) : Type 0 where
   pub resolves : Resolves old done new
-  pub listed : done ≡ due_places old
+  pub all : (place : PlaceValue) → ¬ IsNext new place
 
 -- the refresh ended early: what it had resolved stays, and all else is still marked
 pub record RefreshesPartly (old new : SessionState) : Type 0 where

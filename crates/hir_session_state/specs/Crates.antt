@@ -1,5 +1,5 @@
 -- What is a crate of a session?
-use Rattle.std.specs.Prelude.{◌≡◌, ℕ, false, List, [], length, map, Option, None, option_map, slice_get, slice_index_or}
+use Rattle.std.specs.Prelude.{◌≡◌, ℕ, false, List, [], length, map, Option, None, Some, option_map, slice_get, slice_index_or}
 use Rattle.hir_item_tree.specs.Attributes.{no_attributes}
 use Rattle.hir_item_tree.specs.declared.tree_id.TreeId.{TreeId}
 use Rattle.hir_base.specs.declared.ast_id.FileId.{FileId}
@@ -9,6 +9,9 @@ use Rattle.hir_base.specs.declared.cfg.CfgAtom.{CfgAtom}
 use Rattle.hir_base.specs.declared.edition.Edition.TheVariants.{Edition2024}
 use Rattle.hir_base.specs.declared.ids.Crate.{Crate}
 use Rattle.hir_base.specs.declared.ids.MapId.{MapId}
+use Rattle.hir_base.specs.declared.ids.ModuleId.{ModuleId}
+use Rattle.hir_base.specs.declared.ast_id.BlockId.{BlockId}
+use Rattle.hir_base.specs.declared.ast_id.SyntaxId.{SyntaxId}
 use Rattle.hir_crate_graph.specs.Dependencies.{AreTransitive, transitive_dependencies}
 use Rattle.hir_def_map_rules.specs.State.{crate_map}
 use Rattle.hir_collector_rules.specs.Workspace.{ConfigValue, direct_by}
@@ -55,9 +58,9 @@ pub record AreTransitiveOf (crates : List CrateValue) (lists : List (List Crate)
 abbrev pub id_of : ℕ → MapId
 id_of k = crate_map (record { 0 = k })
 
--- the maps that the map of a crate follows: those of the crates on which it depends
-abbrev pub follows_in : List CrateValue → MapId → List MapId
-follows_in crates id = map crate_map (dependencies_in crates id.krate.0)
+-- the maps of the crates on which a crate directly depends
+abbrev pub dependency_maps : List CrateValue → Crate → List MapId
+dependency_maps crates krate = map crate_map (dependencies_in crates krate.0)
 
 -- the options that are set in it
 abbrev pub options_in : List CrateValue → ℕ → List CfgAtom
@@ -78,3 +81,8 @@ begins_at krate root = beginning (starts.Crate krate root) (tree_of_root root) N
 -- what the run for the crate of this number begins with
 abbrev pub beginning_in : List CrateValue → ℕ → Beginning
 beginning_in crates k = begins_at (record { 0 = k }) (root_of (crate_in crates k))
+
+-- what the run for a block begins with: its number, the module that holds it, the file of that module, and its node there
+abbrev pub begins_in_block : Crate → BlockId → ModuleId → EditionedFileId → SyntaxId → Beginning
+begins_in_block krate b holder file id =
+    beginning (starts.Block krate b holder (record { file_id = File file; value = id })) (record { file = File file; block = Some b }) None

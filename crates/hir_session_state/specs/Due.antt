@@ -1,29 +1,42 @@
 -- What is due, and what stands behind an answer?
-use Rattle.std.specs.Prelude.{◌≡◌, ◌≢◌, ℕ, ◌+◌, List, [], ◌∷◌, Some, filter, map, Contains}
+use Rattle.std.specs.Prelude.{◌≡◌, ◌≢◌, IsTrue, ℕ, ◌<◌, ◌≤◌, true, List, [], ◌∷◌, None, Some, length, Contains}
+use Rattle.std.specs.Ordering.{is_le}
+use Rattle.hir_base.specs.Locations.{max_locations}
 use Rattle.hir_base.specs.Place.{PlaceValue}
 use Rattle.hir_base.specs.declared.ids.MapId.{MapId}
+use Rattle.hir_base.specs.declared.ids.ModuleId.{ModuleId}
+use Rattle.hir_base.specs.declared.place.BlockPlace.{BlockPlace}
 use Rattle.hir_collector_rules.specs.Derivation.{IsOverlong}
+use Rattle.hir_collector_rules.specs.Start.{Beginning}
 use Rattle.hir_collector_rules.specs.declared.source_database.Key.{Key}
-use Rattle.hir_session_state.specs.Crates.{CrateValue, id_of}
-use Rattle.hir_session_state.specs.SessionState.{SessionState, Resolution, workspace_of, beginning_of, follows, kept_of, is_marked, finished_of, IsSound}
+use Rattle.hir_session_state.specs.Blocks.{block_cmp, place_of_block}
+use Rattle.hir_session_state.specs.Crates.{id_of}
+use Rattle.hir_session_state.specs.Standing.{block_number, is_set, place_of_map}
+use Rattle.hir_session_state.specs.SessionState.{SessionState, Resolution, workspace_of, beginning_of, block_kept, follows, kept_of, is_marked, finished_of, module_of, IsSound}
 use Rattle.hir_tables.specs.Tables.{KeepsTables}
 
--- the places of these crates, of which the first has this number
-abbrev pub places_from : ℕ → List CrateValue → List MapId
-places_from k [] = []
-places_from k (c ∷ more) = id_of k ∷ places_from (k + 1) more
+-- the place of the root of a crate
+abbrev pub root_place : ℕ → PlaceValue
+root_place k = record { krate = record { 0 = k }; elements = [] }
 
--- the places that are to be resolved, in order: the marked ones
-abbrev pub due : SessionState → List MapId
-due s = filter (is_marked s) (places_from 0 s.crates)
+-- nothing is kept of the crate of this number
+pub record IsDueCrate (s : SessionState) (k : ℕ) : Type 0 where
+  pub within : k < length s.crates
+  pub marked : is_marked s (id_of k) ≡ true
 
--- the place of the root of a map
-abbrev pub root_place : MapId → PlaceValue
-root_place id = record { krate = id.krate; elements = [] }
+-- nothing is kept of the block, which is set, and the place that holds it is there
+pub record IsDueBlock (s : SessionState) (place : BlockPlace) : Type 0 where
+  pub set : is_set s.sources.blocks place ≡ true
+  pub marked : block_kept s place ≡ None
+  pub holder : ModuleId
+  pub held : module_of s place.holder ≡ Some holder
 
--- those places as they are listed
-abbrev pub due_places : SessionState → List PlaceValue
-due_places s = map root_place (due s)
+-- the place is to be resolved next: a crate before others by its number, a block where no crate is due, before others by how many blocks are around it,
+-- and then by its place
+pub data IsNext (s : SessionState) (place : PlaceValue) : Type 0 where
+  crate : (k : ℕ) → IsDueCrate s k → ((j : ℕ) → j < k → ¬ IsDueCrate s j) → place ≡ root_place k → IsNext s place
+  block : (b : BlockPlace) → ((k : ℕ) → ¬ IsDueCrate s k) → IsDueBlock s b → ((c : BlockPlace) → IsDueBlock s c → IsTrue (is_le (block_cmp b c)))
+      → place ≡ place_of_block b → IsNext s place
 
 -- the tables grew, and nothing else changed
 pub record Grows (old new : SessionState) : Type 0 where
@@ -42,12 +55,23 @@ pub record Resolved (old : SessionState) (id : MapId) (r : Resolution) (new : Se
   pub here : kept_of new id ≡ Some r
   pub others : (j : MapId) → j ≢ id → kept_of new j ≡ kept_of old j
 
--- the run for the first place that is due goes on for too long
+-- these places were resolved in this order, each the next that was to be; then tables may have grown, and nothing else changed
+pub data AreResolved : SessionState → List PlaceValue → SessionState → Type 0 where
+  none : (old new : SessionState) → Grows old new → AreResolved old [] new
+  more : (old : SessionState) (place : PlaceValue) (id : MapId) (r : Resolution) (mid : SessionState) (places : List PlaceValue) (new : SessionState) → IsNext old place
+      → place_of_map mid.tables id ≡ Some place → Resolved old id r mid → AreResolved mid places new → AreResolved old (place ∷ places) new
+
+-- the run for a place goes on for too long, or no number is left for its block
+pub data IsStuckAt (s : SessionState) (place : PlaceValue) : Type 0 where
+  overlong : (id : MapId) (from : Beginning) → place_of_map s.tables id ≡ Some place → beginning_of s id ≡ Some from
+      → IsOverlong s.tables (workspace_of s) (finished_of s) from → IsStuckAt s place
+  numbered_out : (b : BlockPlace) → place ≡ place_of_block b → block_number s.tables b ≡ None → max_locations ≤ length s.tables.blocks → IsStuckAt s place
+
+-- so it is with the place that is to be resolved next
 pub record HasOverlongRun (s : SessionState) : Type 0 where
-  pub place : MapId
-  pub others : List MapId
-  pub first : due s ≡ place ∷ others
-  pub overlong : IsOverlong s.tables (workspace_of s) (finished_of s) (beginning_of s place)
+  pub place : PlaceValue
+  pub next : IsNext s place
+  pub stuck : IsStuckAt s place
 
 -- what stands behind a place: the place, what it depends on, and so on
 pub data IsBehind (s : SessionState) (id : MapId) : MapId → Type 0 where

@@ -6,31 +6,52 @@ use Rattle.hir_base.specs.declared.ids.MapId.{MapId}
 use Rattle.hir_base.specs.contracts.ids.MapIdOrd.TheImpl as map_order
 use Rattle.hir_scope.specs.declared.imports.ImportOrExternCrate.{ImportOrExternCrate}
 use Rattle.hir_def_map.specs.declared.world.finished.Finished.{Finished}
-use Rattle.hir_def_map.specs.WorldParts.{unheld}
 use Rattle.hir_def_map_rules.specs.References.{refers_to}
 use Rattle.hir_def_map.specs.Removal.{Depends}
 use Rattle.hir_def_map_rules.specs.State.{Local, Map}
-use Rattle.hir_def_map_rules.specs.Overlay.{Maps}
+use Rattle.hir_base.specs.declared.ids.ModuleId.{ModuleId}
+use Rattle.hir_def_map_rules.specs.Overlay.{Maps, Placed}
 use Rattle.hir_collector_rules.specs.Derivation.{CollectedValue}
 use Rattle.hir_collector_rules.specs.declared.source_database.Key.{Key}
 use Rattle.hir_session_state.specs.declared.kept.KeptResolution.{KeptResolution}
 use Rattle.hir_session_state.specs.declared.runs.KeptRun.{KeptRun}
 
+-- what is kept of a place that was resolved: what its run came to, and the modules that hold its block, the innermost first; none holds a crate
+pub record Resolution : Type 0 where
+  pub map : Map
+  pub local : Local
+  pub leftover : List ImportOrExternCrate
+  pub round_limit_met : Bool
+  pub asked : List Key
+  pub holders : List ModuleId
+
+-- what a run came to, beside these holders
+abbrev pub held : CollectedValue → List ModuleId → Resolution
+held c holders = record { map = c.map; local = c.local; leftover = c.leftover; round_limit_met = c.round_limit_met; asked = c.asked; holders = holders }
+
+-- what its run came to
+abbrev pub collected_of : Resolution → CollectedValue
+collected_of r = record { map = r.map; local = r.local; leftover = r.leftover; round_limit_met = r.round_limit_met; asked = r.asked }
+
 -- what is kept of each place that was resolved, by the id of its map
 abbrev pub Resolutions : Type 0
-Resolutions = List (MapId × CollectedValue)
+Resolutions = List (MapId × Resolution)
 
 -- what is kept of a place
-abbrev pub kept_in : Resolutions → MapId → Option CollectedValue
+abbrev pub kept_in : Resolutions → MapId → Option Resolution
 kept_in kept id = lookup (is_at (map_order.ghosts.cmp id)) kept
 
--- the finished maps of which they tell; nothing holds a crate's map
+-- a map that is kept, in its place
+abbrev pub placed_by : Resolution → Placed
+placed_by r = record { map = r.map; local = r.local; holders = r.holders }
+
+-- the finished maps of which they tell
 abbrev pub finished_by : Resolutions → Maps
-finished_by kept id = option_map (λ (r : CollectedValue). unheld r.map r.local) (kept_in kept id)
+finished_by kept id = option_map placed_by (kept_in kept id)
 
 -- ---- how some of them go; no public clause speaks of this
 
-abbrev pub names_of : Option CollectedValue → MapId → Bool
+abbrev pub names_of : Option Resolution → MapId → Bool
 names_of None id = false
 names_of (Some r) id = refers_to r.map r.local id
 
@@ -52,13 +73,14 @@ keys_of None = []
 keys_of (Some keys) = keys
 
 -- what is kept of a place that was resolved
-abbrev pub resolution_of : KeptResolution → CollectedValue
+abbrev pub resolution_of : KeptResolution → Resolution
 resolution_of found = record {
   map = found.map.now;
   local = found.local.now;
   leftover = found.leftover.now;
   round_limit_met = found.round_limit_met;
   asked = keys_of (option_map (λ a. a.now) found.asked);
+  holders = found.holders.now;
 }
 
 abbrev pub leftover_of : Option KeptRun → List ImportOrExternCrate
@@ -73,22 +95,25 @@ abbrev pub asked_of : Option KeptRun → List Key
 asked_of None = []
 asked_of (Some run) = run.asked
 
--- a map and what its paths may begin with, with what is kept of the run
-abbrev pub resolution_from : Option Map → Option Local → Option KeptRun → Option CollectedValue
-resolution_from None local run = None
-resolution_from (Some map) None run = None
-resolution_from (Some map) (Some local) run = Some (record { map = map; local = local; leftover = leftover_of run; round_limit_met = was_limited run; asked = asked_of run })
+-- a map in its place, with what is kept of the run
+abbrev pub resolution_from : Option Placed → Option KeptRun → Option Resolution
+resolution_from None run = None
+resolution_from (Some p) run =
+    Some (record { map = p.map; local = p.local; leftover = leftover_of run; round_limit_met = was_limited run; asked = asked_of run; holders = p.holders })
 
-abbrev pub resolution_at : Finished → Option KeptRun → CollectedValue
-resolution_at finished run = record { map = finished.map; local = finished.local; leftover = leftover_of run; round_limit_met = was_limited run; asked = asked_of run }
+abbrev pub resolution_at : Finished → Option KeptRun → Resolution
+resolution_at finished run = record {
+  map = finished.map;
+  local = finished.local;
+  leftover = leftover_of run;
+  round_limit_met = was_limited run;
+  asked = asked_of run;
+  holders = finished.holders.items;
+}
 
-abbrev pub entry_with : BTreeMap MapId KeptRun → (MapId × Finished) → MapId × CollectedValue
+abbrev pub entry_with : BTreeMap MapId KeptRun → (MapId × Finished) → MapId × Resolution
 entry_with runs entry = (entry.0, resolution_at entry.1 (get map_order.ghosts.cmp runs entry.0))
 
 -- those of which the maps stand in a world
 unfoldable pub resolutions_in : BTreeMap MapId Finished → BTreeMap MapId KeptRun → Resolutions
 resolutions_in maps runs = map (entry_with runs) maps.entries
-
--- nothing holds one of the maps
-pub record AreUnheld (maps : BTreeMap MapId Finished) : Type 0 where
-  pub each : (id : MapId) (finished : Finished) → get map_order.ghosts.cmp maps id ≡ Some finished → finished.holders.items ≡ []

@@ -1,5 +1,6 @@
 pub mod Crates
 pub mod Files
+pub mod Blocks
 pub mod Entries
 pub mod SourceTable
 pub mod SourceEdits
@@ -9,6 +10,7 @@ pub mod Inputs
 pub mod Askers
 pub mod Kept
 pub mod KeptCodes
+pub mod Standing
 pub mod SessionState
 pub mod SourceCodes
 pub mod TableCodes

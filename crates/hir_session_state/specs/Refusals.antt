@@ -1,9 +1,15 @@
 -- What are a session and an edit refused for?
-use Rattle.std.specs.Prelude.{◌≡◌, ℕ, ◌+◌, ◌^◌, Bool, ◌&&◌, not, nat_le, nat_lt, List, [], ◌∷◌, length, map, Option, Some, None, Result, Ok, Err, if◌then◌else◌}
+use Rattle.std.specs.Prelude.{◌≡◌, ℕ, ◌+◌, Bool, false, true, ◌&&◌, not, nat_le, nat_lt, List, [], ◌∷◌, length, map, Option, Some, None, Result, Ok, Err, if◌then◌else◌}
 use Rattle.std.specs.List.{list_all, list_any}
 use Rattle.hir_base.specs.declared.ids.Crate.{Crate}
+use Rattle.hir_base.specs.declared.locations.LocationsError.{LocationsError}
+use Rattle.hir_base.specs.declared.locations.LocationsError.TheVariants as number_error
+use Rattle.hir_base.specs.declared.limit.Limit.{Limit}
 use Rattle.hir_base.specs.declared.limit.Limit.TheVariants as limit
 use Rattle.hir_base.specs.declared.macro_kind.MacroText.{MacroText}
+use Rattle.hir_base.specs.declared.place.BlockPlace.{BlockPlace}
+use Rattle.hir_base.specs.declared.place.PlaceElement.{PlaceElement}
+use Rattle.hir_base.specs.declared.place.PlaceElement.TheVariants as element
 use Rattle.hir_tables.specs.SourcePlaces.{ExpansionValue}
 use Rattle.hir_item_tree.specs.Source.{SourceValue}
 use Rattle.hir_item_tree.specs.Check.{verdict_of_check}
@@ -14,7 +20,7 @@ use Rattle.hir_collector_rules.specs.declared.start.CollectError.{CollectError}
 use Rattle.hir_collector_rules.specs.declared.start.CollectError.TheVariants as collect_error
 use Rattle.hir_wire.specs.CommandValue.{CrateInputValue}
 use Rattle.hir_wire.specs.declared.command.Dependency.{Dependency}
-use Rattle.hir_wire.specs.Edits.{EditValue, set_file, remove_file, set_expansion, remove_expansion}
+use Rattle.hir_wire.specs.Edits.{EditValue, set_file, remove_file, set_block, remove_block, set_expansion, remove_expansion}
 use Rattle.hir_session_state.specs.declared.error.NewSessionError.{NewSessionError}
 use Rattle.hir_session_state.specs.declared.error.NewSessionError.TheVariants as new_error
 use Rattle.hir_session_state.specs.declared.error.EditError.{EditError}
@@ -29,6 +35,7 @@ use Rattle.hir_session_state.specs.declared.error.DiagnosticsError.{DiagnosticsE
 use Rattle.hir_session_state.specs.declared.error.DiagnosticsError.TheVariants as diagnostics_error
 use Rattle.hir_session_state.specs.SessionState.{max_crates}
 use Rattle.hir_session_state.specs.Nesting.{is_nested_too_deep}
+use Rattle.hir_session_state.specs.Blocks.{nesting_of, place_of_block}
 
 -- memory ran out
 abbrev pub IsNewMemory : NewSessionError → Type 0
@@ -55,6 +62,11 @@ abbrev pub refresh_error_of : CollectError → RefreshError
 refresh_error_of collect_error.TooMany = refresh_error.TooMany
 refresh_error_of collect_error.UnknownSource = refresh_error.Memory
 refresh_error_of collect_error.Memory = refresh_error.Memory
+
+-- and where a block gets no number
+abbrev pub refresh_error_of_number : LocationsError → RefreshError
+refresh_error_of_number number_error.TooMany = refresh_error.TooMany
+refresh_error_of_number number_error.Memory = refresh_error.Memory
 
 -- the crates that a list names as dependencies
 abbrev pub dependency_crates : List Dependency → List Crate
@@ -123,9 +135,63 @@ verdict_of_expansion count key source =
 abbrev pub verdict_of_removal : ℕ → ExpansionValue → Result (Unit {0}) EditError
 verdict_of_removal count key = if are_known count key then Ok tt else Err edit_error.UnknownCrate
 
+-- whether an id has an index above those that ids may have
+abbrev pub has_high_index : PlaceElement → Bool
+has_high_index (element.Module name) = false
+has_high_index (element.Block id) = nat_lt 2047 id.index
+
+-- whether a limit is told before that of indices
+abbrev pub is_before_index : Limit → Bool
+is_before_index limit.Line = true
+is_before_index limit.Name = true
+is_before_index limit.Path = true
+is_before_index limit.File = true
+is_before_index limit.Index = false
+is_before_index limit.Nodes = false
+is_before_index limit.Modules = false
+is_before_index limit.UseTree = false
+is_before_index limit.Cfg = false
+is_before_index limit.Blocks = false
+is_before_index limit.Crates = false
+
+-- whether a source is refused for a limit
+abbrev pub passes_limit : Result (Unit {0}) EditError → Bool
+passes_limit (Ok u) = false
+passes_limit (Err edit_error.UnknownCrate) = false
+passes_limit (Err (edit_error.TooLarge limit)) = true
+passes_limit (Err (edit_error.DuplicateId kind id)) = false
+passes_limit (Err edit_error.Memory) = false
+
+-- and for one that is told before that of indices
+abbrev pub passes_before_index : Result (Unit {0}) EditError → Bool
+passes_before_index (Ok u) = false
+passes_before_index (Err edit_error.UnknownCrate) = false
+passes_before_index (Err (edit_error.TooLarge limit)) = is_before_index limit
+passes_before_index (Err (edit_error.DuplicateId kind id)) = false
+passes_before_index (Err edit_error.Memory) = false
+
+-- the most blocks that are in one another
+abbrev pub max_blocks : ℕ
+max_blocks = 16
+
+-- what is said of a source, where the steps to its block are within the limits; of several limits the first is told
+abbrev pub verdict_with_steps : List PlaceElement → Result (Unit {0}) EditError → Result (Unit {0}) EditError
+verdict_with_steps steps verdict =
+    if passes_before_index verdict then verdict else
+    (if list_any has_high_index steps then Err (edit_error.TooLarge limit.Index) else
+    (if passes_limit verdict then verdict else
+    (if nat_lt max_blocks (nesting_of steps) then Err (edit_error.TooLarge limit.Blocks) else verdict)))
+
+-- what is said of a block of which this is said beside its place, where there are so many crates
+abbrev pub verdict_of_block : ℕ → BlockPlace → Result (Unit {0}) EditError → Result (Unit {0}) EditError
+verdict_of_block count place verdict =
+    if nat_lt place.holder.krate.0 count then verdict_with_steps (place_of_block place).elements verdict else Err edit_error.UnknownCrate
+
 -- that the edit of a session over so many crates is accepted, or the first thing for which it is refused
 abbrev pub verdict_of_apply : ℕ → EditValue → Result (Unit {0}) EditError
 verdict_of_apply count (set_file path source) = verdict_of_source source
 verdict_of_apply count (remove_file path) = Ok tt
+verdict_of_apply count (set_block place source) = verdict_of_block count place (verdict_of_source source)
+verdict_of_apply count (remove_block place) = verdict_of_block count place (Ok tt)
 verdict_of_apply count (set_expansion key entry) = verdict_of_expansion count key entry.source
 verdict_of_apply count (remove_expansion key) = verdict_of_removal count key

@@ -1,5 +1,5 @@
 -- What is handed in beside the crates?
-use Rattle.std.specs.Prelude.{ℕ, nat_eq, cond, List, Option, None, map}
+use Rattle.std.specs.Prelude.{ℕ, nat_eq, cond, List, Option, map}
 use Rattle.std.specs.Cmp.Lexicographic.{pointwise}
 use Rattle.hir_base.specs.CfgOptions.{is_set}
 use Rattle.hir_item_tree.specs.Attributes.{Attributes, no_attributes}
@@ -8,18 +8,20 @@ use Rattle.hir_item_tree.specs.SourceTree.{SourceTreeValue, source_tree_of}
 use Rattle.hir_tables.specs.SourcePlaces.{SourcePlaceValue, file, block, expansion}
 use Rattle.hir_collector_rules.specs.Workspace.{Workspace}
 use Rattle.hir_session_state.specs.Crates.{CrateValue, config_in, crate_in, options_in}
+use Rattle.hir_session_state.specs.Blocks.{Blocks, block_in, place_of_block}
 use Rattle.hir_session_state.specs.Files.{Files, file_at}
 use Rattle.hir_session_state.specs.Entries.{Entries, entry_at, look_of, source_of}
 
--- the files and the expansions that are there
+-- the files, the blocks and the expansions that are there
 pub record SourceTable : Type 0 where
   pub files : Files
+  pub blocks : Blocks
   pub entries : Entries
 
 -- the source that stands at a place, if one does
 abbrev pub source_at : SourceTable → SourcePlaceValue → Option SourceValue
 source_at t (file path) = file_at t.files path
-source_at t (block place) = None
+source_at t (block place) = block_in t.blocks (place_of_block place)
 source_at t (expansion key) = source_of (entry_at t.entries key)
 
 -- the attributes of a crate that stand in front of those at the top of a source: at its root file those that were handed in

@@ -13,6 +13,6 @@ coded_entry = hlevel (codes, coded_source)
 pub coded_entries : Coded Entries
 coded_entries = hlevel (codes, coded_source)
 
--- sources are stored as files and expansions
+-- sources are stored as files, blocks and expansions
 pub coded_table : Coded SourceTable
 coded_table = hlevel (codes, coded_source)

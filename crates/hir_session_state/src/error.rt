@@ -3,6 +3,7 @@
 use hir_base::ast_id::{AstKind, SyntaxId};
 use hir_base::ids::Crate;
 use hir_base::limit::Limit;
+use hir_base::locations::LocationsError;
 use hir_collector_rules::start::CollectError;
 use hir_item_tree::check::CheckError;
 use std::alloc::{AllocError, AllocFailed};
@@ -38,8 +39,8 @@ pub enum EditError {
 /// Why a refresh ended early.
 #[derive(Clone, Copy, Debug, PartialEq, Eq, Drop, Error)]
 pub enum RefreshError {
-    /// A run took more steps, or made more modules, than are counted, or no number was left for a file, an expansion or a
-    /// macro call.
+    /// A run took more steps, or made more modules, than are counted, or no number was left for a file, a block, an
+    /// expansion or a macro call.
     #[error("a run took more steps, or made more modules, than are counted")]
     TooMany,
     #[error("out of memory")]
@@ -52,7 +53,7 @@ pub enum QueryError {
     /// What is kept of the place may be out of date.
     #[error("what is kept of the place may be out of date")]
     StalePlace,
-    #[error("there is no such crate or module")]
+    #[error("there is no such crate, module or block")]
     UnknownPlace,
     #[error("out of memory")]
     Memory,
@@ -166,6 +167,20 @@ impl From<CollectError> for RefreshError {
             CollectError::TooMany => RefreshError::TooMany,
             // The maps beside a run were made over the session's own tables, so that no source is unknown.
             CollectError::UnknownSource | CollectError::Memory => RefreshError::Memory,
+        }
+    }
+}
+
+impl From<LocationsError> for RefreshError {
+    ghost use Rattle.std.specs.Prelude.{◌≡◌};
+    ghost use Rattle.hir_session_state.specs.Refusals.{refresh_error_of_number};
+
+    ghost from_gives = { λ error r. r ≡ refresh_error_of_number error };
+
+    fn from(error: LocationsError) -> RefreshError {
+        match error {
+            LocationsError::TooMany => RefreshError::TooMany,
+            LocationsError::Memory => RefreshError::Memory,
         }
     }
 }

@@ -1,28 +1,29 @@
 //! What is kept of the places that were resolved.
-ghost use Rattle.std.specs.Prelude.{◌≡◌, ◌≢◌, ◌⊎◌, true, false, is_some, cond, None, Some, Contains, IfOk, OnOk, OnErr, option_map};
-ghost use Rattle.std.specs.BTreeMap.{is_at, IsUnchanged};
+ghost use Rattle.std.specs.Prelude.{◌≡◌, ◌≢◌, true, None, Some, OnOk, OnErr, option_map};
+ghost use Rattle.std.specs.BTreeMap.{get, IsUnchanged};
 ghost use Rattle.hir_base.specs.declared.ids.MapId.{MapId};
 ghost use Rattle.hir_base.specs.contracts.ids.MapIdOrd.TheImpl as map_order;
 ghost use Rattle.hir_def_map.specs.Insertion.{may_join};
 ghost use Rattle.hir_def_map_rules.specs.References.{is_well_formed};
 ghost use Rattle.hir_def_map.specs.Removal.{Depends};
-ghost use Rattle.hir_def_map_rules.specs.Overlay.{with_map};
+ghost use Rattle.hir_def_map_rules.specs.Overlay.{holders_under, with_map};
 ghost use Rattle.hir_collector_rules.specs.Derivation.{collected_view};
-ghost use Rattle.hir_def_map.specs.World.{finished_in, local_in};
-ghost use Rattle.hir_session_state.specs.Kept.{finished_by, kept_in, names_in, leftover_of, was_limited, asked_of, keys_of, resolution_from, resolution_of, AreForgotten};
+ghost use Rattle.hir_def_map.specs.World.{finished_in, placed_of};
+ghost use Rattle.hir_session_state.specs.Kept.{finished_by, held, kept_in, names_in, leftover_of, was_limited, asked_of, keys_of, resolution_from, resolution_of, AreForgotten};
 
 use crate::runs::{KeptRun, Runs};
-use hir_base::ids::MapId;
+use hir_base::ids::{MapId, ModuleId};
 use hir_collector_rules::collected::{Asked, Collected};
 use hir_def_map::nameres::DefMap;
 use hir_def_map::nameres::local_def_map::LocalDefMap;
 use hir_def_map::world::World;
+use hir_def_map::world::finished::Finished;
 use hir_def_map::world::insert::InsertError;
 use hir_scope::imports::ImportOrExternCrate;
 use std::alloc::{AllocError, Global};
 use std::marker::Model;
 
-/// What is kept of a place, as `Collected` has it.
+/// What is kept of a place, as `Collected` has it, and the modules that hold it.
 #[derive(Clone, Copy)]
 pub struct KeptResolution<'a> {
     pub map: &'a DefMap,
@@ -30,6 +31,8 @@ pub struct KeptResolution<'a> {
     pub leftover: &'a [ImportOrExternCrate],
     pub round_limit_met: bool,
     pub asked: Option<&'a Asked>,
+    /// The module that holds the block, the one that holds that one's block, and so on; none holds a crate.
+    pub holders: &'a [ModuleId],
 }
 
 /// What is kept of each place that was resolved. Their maps stand in a world.
@@ -49,11 +52,9 @@ impl Model for Kept {
 
     ghost coded = { coded_kept };
 
-    ghost use Rattle.hir_session_state.specs.Kept.{resolutions_in, AreUnheld};
+    ghost use Rattle.hir_session_state.specs.Kept.{resolutions_in};
 
     ghost view = { λ k. resolutions_in k.world.maps k.runs.by_place };
-
-    ghost invariant = { λ k. AreUnheld k.world.maps };
 }
 
 fn leftover_in(run: Option<&KeptRun>) -> &[ImportOrExternCrate]
@@ -83,23 +84,29 @@ fn asked_in(run: Option<&KeptRun>) -> Option<&Asked>
     }
 }
 
+/// The map of an id in its place, where it is there.
+fn finished_at(world: &World, id: MapId) -> Option<&Finished>
+    ensures value { option_map (λ f. f.now) result ≡ get map_order.ghosts.cmp world.now.maps id }
+{
+    world.maps.get(&id)
+}
+
 /// The parts of a resolution, where its map is there.
 fn joined<'a>(
-    map: Option<&'a DefMap>,
-    local: Option<&'a LocalDefMap>,
+    finished: Option<&'a Finished>,
     run: Option<&'a KeptRun>,
 ) -> Option<KeptResolution<'a>>
-    ensures value { option_map resolution_of result ≡ resolution_from (option_map (λ m. m.now) map.entry)
-        (option_map (λ l. l.now) local.entry) (option_map (λ r. r.now) run.entry) }
+    ensures value { option_map resolution_of result
+        ≡ resolution_from (option_map placed_of (option_map (λ f. f.now) finished.entry)) (option_map (λ r. r.now) run.entry) }
 {
-    let map = map?;
-    let local = local?;
+    let finished = finished?;
     Some(KeptResolution {
-        map,
-        local,
+        map: &finished.map,
+        local: &finished.local,
         leftover: leftover_in(run),
         round_limit_met: was_limited_in(run),
         asked: asked_in(run),
+        holders: finished.holders.as_slice(),
     })
 }
 
@@ -107,8 +114,6 @@ fn joined<'a>(
 fn join(world: &mut World, map: DefMap, local: LocalDefMap) -> Result<(), AllocError>
     requires may { may_join (finished_in world.old.maps) map local ≡ true }
     ensures maps { OnOk result ((id : MapId) → finished_in world.new.maps id ≡ with_map (finished_in world.old.maps) map local id) }
-    ensures locals { OnOk result ((id : MapId) → local_in world.new.maps id
-        ≡ cond (is_at (map_order.ghosts.cmp map.id) id) (Some local) (local_in world.old.maps id)) }
     ensures err { OnErr result (IsUnchanged world.old.maps world.new.maps) }
 {
     match world.insert(map, local) {
@@ -143,15 +148,15 @@ impl Kept {
     pub fn get(&self, id: MapId) -> Option<KeptResolution<'_>>
         ensures value { option_map resolution_of result ≡ kept_in self.now id }
     {
-        joined(self.world.map(id), self.world.local(id), self.runs.get(id))
+        joined(finished_at(&self.world, id), self.runs.get(id))
     }
 
-    /// Keeps what was found of a place. Its map names only what is kept of others.
+    /// Keeps what was found of a place, and what holds it. Its map names only what is kept of others.
     pub fn keep(&mut self, found: Collected) -> Result<(), AllocError>
         requires free { kept_in self.old found.map.id ≡ None }
-        requires unheld { found.map.holder ≡ None }
         requires complete { is_well_formed (finished_by self.old) found.map found.local ≡ true }
-        ensures here { OnOk result (kept_in self.new found.map.id ≡ Some (collected_view found)) }
+        ensures here { OnOk result (kept_in self.new found.map.id
+            ≡ Some (held (collected_view found) (holders_under (finished_by self.old) found.map.id found.map.holder))) }
         ensures others { OnOk result ((id : MapId) → id ≢ found.map.id → kept_in self.new id ≡ kept_in self.old id) }
         ensures err { OnErr result (self.new ≡ self.old) }
     {

@@ -1,4 +1,4 @@
-//! Where a session stands: what was handed in, what is kept of each crate that was resolved, and who asked for each source.
+//! Where a session stands: what was handed in, what is kept of each crate and block that was resolved, and who asked for each source.
 #![tactic(auto)]
 
 pub mod askers;
@@ -9,3 +9,4 @@ pub mod known_crates;
 pub mod nesting;
 pub mod runs;
 pub mod source_number;
+pub mod steps;

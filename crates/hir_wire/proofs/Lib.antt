@@ -4,3 +4,4 @@ pub mod FieldLemmas
 pub mod PairLemmas
 pub mod NodeLemmas
 pub mod LineLemmas
+mod BlockLemmas

@@ -36,8 +36,8 @@ pub data CommandValue : Type 0 where
   edit : EditValue → CommandValue
   refresh : CommandValue
   resolve : PlaceValue → Path → Shadow → Option MacroStyle → CommandValue
-  status : PlaceValue → CommandValue
   dump : PlaceValue → CommandValue
+  status : PlaceValue → CommandValue
   -- of a crate
   diagnostics : Crate → CommandValue
   -- of a crate, and a file
@@ -49,7 +49,7 @@ command_view (command.Crates inputs) = crates (map crate_input_view inputs.items
 command_view (command.Edit e) = edit (edit_view e)
 command_view command.Refresh = refresh
 command_view (command.Resolve at path shadow sub) = resolve at path shadow sub
-command_view (command.Status at) = status at
 command_view (command.Dump at) = dump at
+command_view (command.Status at) = status at
 command_view (command.Diagnostics krate) = diagnostics krate
 command_view (command.Tree krate file) = tree krate file

@@ -16,10 +16,10 @@ use Rattle.hir_wire.specs.declared.read_error.ReadError.TheVariants.{Json, Comma
 use Rattle.hir_wire.specs.Attributes.{attributes_of}
 use Rattle.hir_wire.specs.CommandValue.{CommandValue, CrateInputValue, crates, diagnostics, dump, edit, refresh, resolve, status, tree}
 use Rattle.hir_wire.specs.Conditions.{option_of}
-use Rattle.hir_wire.specs.Edits.{set_file, remove_file, set_expansion, remove_expansion}
+use Rattle.hir_wire.specs.Edits.{set_file, remove_file, set_block, remove_block, set_expansion, remove_expansion}
 use Rattle.hir_wire.specs.Expansions.{entry_in, key_of}
 use Rattle.hir_wire.specs.Nodes.{source_of}
-use Rattle.hir_wire.specs.Paths.{name_of, path_of, file_of, bool_of, crate_of, place_of}
+use Rattle.hir_wire.specs.Paths.{name_of, path_of, file_of, bool_of, crate_of, place_of, block_place_of}
 use Rattle.hir_wire.specs.Reading.{Reading, made, paired, required, optional, word_as, list_of}
 
 -- the edition that a word stands for
@@ -80,18 +80,24 @@ verb_of_word word =
     if bytes_eq word (codes "crates") then Some verb.Crates else
     (if bytes_eq word (codes "set file") then Some verb.SetFile else
     (if bytes_eq word (codes "remove file") then Some verb.RemoveFile else
+    (if bytes_eq word (codes "set block") then Some verb.SetBlock else
+    (if bytes_eq word (codes "remove block") then Some verb.RemoveBlock else
     (if bytes_eq word (codes "set expansion") then Some verb.SetExpansion else
     (if bytes_eq word (codes "remove expansion") then Some verb.RemoveExpansion else
     (if bytes_eq word (codes "refresh") then Some verb.Refresh else
     (if bytes_eq word (codes "resolve") then Some verb.Resolve else
-    (if bytes_eq word (codes "status") then Some verb.Status else
     (if bytes_eq word (codes "dump") then Some verb.Dump else
+    (if bytes_eq word (codes "status") then Some verb.Status else
     (if bytes_eq word (codes "diagnostics") then Some verb.Diagnostics else
-    (if bytes_eq word (codes "tree") then Some verb.Tree else None))))))))))
+    (if bytes_eq word (codes "tree") then Some verb.Tree else None))))))))))))
 
 -- the file and the source of an edit
 unfoldable pub set_file_in : Members → Reading CommandValue
 set_file_in ms = made (λ p. edit (set_file p.0 p.1)) (paired (required file_of (codes "file") ms) (required source_of (codes "unit") ms))
+
+-- the block and the source of an edit
+unfoldable pub set_block_in : Members → Reading CommandValue
+set_block_in ms = made (λ p. edit (set_block p.0 p.1)) (paired (required block_place_of (codes "at") ms) (required source_of (codes "unit") ms))
 
 -- what an expansion depends on, and what it gives
 unfoldable pub set_expansion_in : Members → Reading CommandValue
@@ -113,12 +119,14 @@ abbrev pub fields_of : Verb → Members → Reading CommandValue
 fields_of verb.Crates ms = made crates (required (list_of crate_input_of) (codes "crates") ms)
 fields_of verb.SetFile ms = set_file_in ms
 fields_of verb.RemoveFile ms = made (λ file. edit (remove_file file)) (required file_of (codes "file") ms)
+fields_of verb.SetBlock ms = set_block_in ms
+fields_of verb.RemoveBlock ms = made (λ place. edit (remove_block place)) (required block_place_of (codes "at") ms)
 fields_of verb.SetExpansion ms = set_expansion_in ms
 fields_of verb.RemoveExpansion ms = made (λ key. edit (remove_expansion key)) (required key_of (codes "key") ms)
 fields_of verb.Refresh ms = Ok refresh
 fields_of verb.Resolve ms = resolve_in ms
-fields_of verb.Status ms = made status (required place_of (codes "at") ms)
 fields_of verb.Dump ms = made dump (required place_of (codes "at") ms)
+fields_of verb.Status ms = made status (required place_of (codes "at") ms)
 fields_of verb.Diagnostics ms = made diagnostics (required crate_of (codes "crate") ms)
 fields_of verb.Tree ms = tree_in ms
 

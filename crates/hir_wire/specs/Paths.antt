@@ -14,10 +14,11 @@ use Rattle.hir_base.specs.declared.mod_path.ParseError.{ParseError}
 use Rattle.hir_base.specs.declared.mod_path.ParseError.TheVariants as parse
 use Rattle.hir_base.specs.declared.name.NameError.{NameError}
 use Rattle.hir_base.specs.declared.name.NameError.TheVariants as naming
+use Rattle.hir_base.specs.declared.place.BlockPlace.{BlockPlace}
 use Rattle.hir_base.specs.declared.place.PlaceElement.{PlaceElement}
 use Rattle.hir_base.specs.declared.place.PlaceElement.TheVariants.{Module, Block}
 use Rattle.hir_wire.specs.declared.read_error.ReadError.TheVariants.{Command, TooLarge, Memory}
-use Rattle.hir_wire.specs.Reading.{Reading, made, paired, each_of, required, formed}
+use Rattle.hir_wire.specs.Reading.{Reading, made, paired, each_of, required, formed, if_there}
 
 -- what a text means, if the value is a text
 abbrev pub text_as : {A : Type 0} → (List ℕ → Reading A) → Option (List ℕ) → Reading A
@@ -127,3 +128,37 @@ place_of (number n) = Err Command
 place_of (string s) = Err Command
 place_of (array ds) = place_of_items ds
 place_of (object ms) = Err Command
+
+-- a value as the step to a block
+abbrev pub block_step_of : Data → Reading SyntaxId
+block_step_of null = Err Command
+block_step_of (boolean b) = Err Command
+block_step_of (number n) = Err Command
+block_step_of (string text) = Err Command
+block_step_of (array ds) = Err Command
+block_step_of (object ms) = required id_meant (codes "block") ms
+
+-- all items but the last
+abbrev pub items_before_last : Items → Items
+items_before_last no_items = no_items
+items_before_last (item d no_items) = no_items
+items_before_last (item d (item e ds)) = item d (items_before_last (item e ds))
+
+-- the last item
+abbrev pub last_item : Items → Option Data
+last_item no_items = None
+last_item (item d no_items) = Some d
+last_item (item d (item e ds)) = last_item (item e ds)
+
+-- the block of these items: the place that holds it, then the step to it
+unfoldable pub block_place_of_items : Items → Reading BlockPlace
+block_place_of_items ds = made (λ p. record { holder = p.0; id = p.1 }) (paired (place_of_items (items_before_last ds)) (if_there block_step_of (last_item ds)))
+
+-- a value as the place of a block
+abbrev pub block_place_of : Data → Reading BlockPlace
+block_place_of null = Err Command
+block_place_of (boolean b) = Err Command
+block_place_of (number n) = Err Command
+block_place_of (string s) = Err Command
+block_place_of (array ds) = block_place_of_items ds
+block_place_of (object ms) = Err Command

@@ -114,11 +114,11 @@ pub enum Command {
         shadow: Shadow,
         sub: Option<MacroStyle>,
     },
-    Status {
+    /// The names of each module of the map that holds a place.
+    Dump {
         at: Place,
     },
-    /// The scopes of the map in which a module lies.
-    Dump {
+    Status {
         at: Place,
     },
     /// What couldn't be resolved in a crate.

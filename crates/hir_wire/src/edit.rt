@@ -2,6 +2,7 @@
 
 use hir_base::file_path::FilePath;
 use hir_base::macro_kind::ExpansionKey;
+use hir_base::place::BlockPlace;
 use hir_base::text::Text;
 use hir_item_tree::source::Source;
 
@@ -24,6 +25,15 @@ pub enum Edit {
     /// Removes a file, if there is one.
     RemoveFile {
         file: FilePath,
+    },
+    /// Sets a block's source, in place of an earlier one.
+    SetBlock {
+        place: BlockPlace,
+        source: Source,
+    },
+    /// Removes a block, if there is one.
+    RemoveBlock {
+        place: BlockPlace,
     },
     /// Sets what the macro calls with this key expand to, in place of what was set earlier.
     SetExpansion {

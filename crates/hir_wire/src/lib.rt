@@ -18,7 +18,7 @@ pub use answer::{
 pub use command::{Command, CrateInput, Dependencies, Dependency, MacroStyle, Shadow};
 pub use diagnostic::{CalledItem, Diagnostic, DiagnosticKind, Diagnostics, Texts};
 pub use edit::{Edit, ExpansionEntry};
-pub use hir_base::place::{Place, PlaceElement};
+pub use hir_base::place::{BlockPlace, Place, PlaceElement};
 pub use read::line::read_command;
 pub use read_error::ReadError;
 pub use reply::{Places, Reply, Status};

@@ -3,6 +3,7 @@ use crate::answers::{answer_below, answer_in, places_with};
 use crate::diagnostics::{diagnostics_below, diagnostics_of};
 use crate::keys::{push_entry, push_key};
 use crate::parts::push_parts;
+use crate::places::{push_block, push_place};
 use hir_base::cfg_options::CfgOptions;
 use hir_base::edition::Edition::Edition2021;
 use hir_base::file_path::FilePath;
@@ -133,12 +134,19 @@ fn with_command(
 ) -> Result<(), AllocError> {
     match command {
         Command::Edit(Edit::SetFile { file, source }) => with_file(alloc, word, file, source, out),
+        Command::Edit(Edit::SetBlock { place, source }) => {
+            push_block(out, place)?;
+            out.push_str("\n")?;
+            read(alloc, source, out)
+        }
+        Command::Edit(Edit::RemoveBlock { place }) => push_block(out, place),
         Command::Edit(Edit::SetExpansion { key, entry }) => {
             push_key(out, key)?;
             push_entry(out, entry)?;
             read(alloc, &entry.source, out)
         }
         Command::Edit(Edit::RemoveExpansion { key }) => push_key(out, key),
+        Command::Dump { at } => push_place(out, at),
         Command::Status { at } if word == "list" => list(alloc, at, out),
         Command::Status { at } => name(alloc, at, out),
         _ => out.push_str("another command"),

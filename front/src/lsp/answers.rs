@@ -7,15 +7,16 @@ use std::sync::Arc;
 use anyhow::Result;
 use serde_json::{json, Value};
 
+use super::declaration::{declaration_at, documentation_of, Declaration};
 use super::message::INVALID_PARAMS;
-use super::site::{sites, symbol_kind, Site};
-use super::text::Text;
-use super::{key_of_uri, place_of, Failure, Server};
+use super::site::{sites, Site};
+use super::symbols::{symbols_of, Symbol};
+use super::{key_of_place, key_of_uri, place_of, Failure, Server};
 use crate::report::{place_at, Context, Meaning, Place};
-use crate::syntax::{plain, Item, ItemKind, Shape};
+use crate::syntax::plain;
 use crate::token::{on_a_thread, tokens_of, Position, Span};
 use crate::unit::{place_json, steps_of, Built, Detail, Node, Step};
-use crate::workspace::{Key, Workspace};
+use crate::workspace::{parse_text, path_of_key, Key, Workspace};
 
 /// What stands at a place.
 enum Found {
@@ -70,6 +71,14 @@ fn sources<'a>(space: &'a Workspace, krate: u32, key: &Key) -> Vec<Source<'a>> {
 /// Where the blocks of a file stand that the program has.
 fn spans_of_blocks(space: &Workspace, krate: u32, key: &str) -> Vec<Span> {
     space.blocks_of(krate, key).iter().map(|it| it.1.block.span).collect()
+}
+
+/// The file that has the items of a module.
+fn file_of(space: &Workspace, module: &str) -> Option<Key> {
+    (0..space.crates.all.len() as u32).find_map(|krate| {
+        let mut files = space.files(krate).iter();
+        files.find(|it| !it.1.is_empty() && space.module_text(krate, &it.1) == module).map(|it| it.0.clone())
+    })
 }
 
 /// The meanings that fit how a path is written.
@@ -192,11 +201,7 @@ impl<W: Write> Server<W> {
 
     /// The beginning of the file that has the items of a module.
     fn file_of(&mut self, module: &str) -> Option<Value> {
-        let space = self.space.as_ref()?;
-        let found = (0..space.crates.all.len() as u32).find_map(|krate| {
-            let mut files = space.files(krate).iter();
-            files.find(|it| !it.1.is_empty() && space.module_text(krate, &it.1) == module).map(|it| it.0.clone())
-        })?;
+        let found = file_of(self.space.as_ref()?, module)?;
         self.location(&place_at(&found, Span::default()))
     }
 
@@ -213,7 +218,11 @@ impl<W: Write> Server<W> {
             Found::Path(site) => (self.meanings(site, &scope)?, site.span),
         };
         if meanings.is_empty() {
-            return Ok(Ok(Value::Null));
+            // What no path names, as a method, is declared all the same.
+            let declared = matches!(found, Found::Node(..)).then(|| self.declared_at(&key, span.start)).flatten();
+            let range = self.range(&key, span);
+            let told = declared.map(|it| json!({"contents": {"kind": "markdown", "value": it.text()}, "range": range}));
+            return Ok(Ok(told.unwrap_or_default()));
         }
         let folder = self.space.as_ref().map(|it| it.crates.folder.clone()).unwrap_or_default();
         let folder = folder.canonicalize().unwrap_or(folder);
@@ -223,7 +232,7 @@ impl<W: Write> Server<W> {
             let below = path.strip_prefix(&folder).unwrap_or(&path);
             format!("`{}:{}:{}`", below.display(), it.line, it.column)
         };
-        let mut parts: Vec<(String, Vec<&str>)> = Vec::new();
+        let mut parts: Vec<(String, String, Vec<&str>)> = Vec::new();
         for it in &meanings {
             let mut part = format!("{} `{}`", it.what, it.path);
             let mut told = format!("\n\nvisible: {}", it.visibility);
@@ -232,14 +241,47 @@ impl<W: Write> Server<W> {
             }
             part.push_str(&told);
             match parts.iter_mut().find(|it| it.0 == part) {
-                Some(known) => known.1.push(it.namespace),
-                None => parts.push((part, vec![it.namespace])),
+                Some(known) => known.2.push(it.namespace),
+                None => parts.push((part, self.declared(it), vec![it.namespace])),
             }
         }
-        let told: Vec<String> =
-            parts.into_iter().map(|(part, names)| format!("{part}\n\nas: {}", names.join(", "))).collect();
+        let mut told = Vec::new();
+        for (at, (part, declared, names)) in parts.iter().enumerate() {
+            // What is a type and a value is declared once.
+            let is_last = parts.get(at + 1).map_or(true, |it| it.1 != *declared);
+            let declared = if is_last { declared } else { "" };
+            told.push(format!("{part}\n\nas: {}{declared}", names.join(", ")));
+        }
         let range = self.range(&key, span);
         Ok(Ok(json!({"contents": {"kind": "markdown", "value": told.join("\n\n---\n\n")}, "range": range})))
+    }
+
+    /// The head and the documentation of what a meaning names, behind an empty line.
+    fn declared(&mut self, meaning: &Meaning) -> String {
+        let key = meaning.place.as_ref().and_then(key_of_place);
+        let Some((place, key)) = meaning.place.as_ref().zip(key) else {
+            return String::new();
+        };
+        let found = self.declared_at(&key, Position { line: place.line, column: place.column });
+        let mut told = found.map_or(String::new(), |it| format!("\n\n{}", it.text()));
+        // That of a module may stand at the top of its file.
+        let file = match &*meaning.what {
+            "crate" => Some(key),
+            "module" => self.space.as_ref().and_then(|it| file_of(it, &meaning.path)),
+            _ => None,
+        };
+        let top = file.map(|it| documentation_of(self.unit_text(&it).as_str(), true));
+        if let Some(it) = top.filter(|it| !it.is_empty()) {
+            told.push_str(&format!("\n\n{it}"));
+        }
+        told
+    }
+
+    /// How the item is declared whose name begins at a position of a file.
+    fn declared_at(&mut self, key: &Key, at: Position) -> Option<Declaration> {
+        let text = self.unit_text(key);
+        let parsed = self.space.as_ref()?.parsed(key)?;
+        declaration_at(&parsed.unit.items, at, &text)
     }
 
     pub(super) fn references(&mut self, params: &Value) -> Result<Result<Value, Failure>> {
@@ -251,6 +293,8 @@ impl<W: Write> Server<W> {
             return Ok(Ok(Value::Null));
         };
         let targets: Vec<Value> = match &found {
+            // Where its type or its trait isn't known, nobody knows who names it.
+            Found::Node(node, _) if node.is_associated => Vec::new(),
             Found::Node(node, unit) => {
                 let Some(space) = self.space.as_ref() else {
                     return Ok(Ok(Value::Null));
@@ -393,10 +437,11 @@ impl<W: Write> Server<W> {
     pub(super) fn symbols(&mut self, params: &Value) -> Result<Value, Failure> {
         let key = asked_file(params)?;
         let text = self.unit_text(&key);
-        let Some(parsed) = self.space.as_ref().and_then(|it| it.parsed(&key)).cloned() else {
-            return Ok(json!([]));
-        };
-        let made = self.symbols_of(&parsed.unit.items, &key, &text);
+        let parsed = self.space.as_ref().and_then(|it| it.parsed(&key)).cloned();
+        // One that is no module of the package, or not yet.
+        let parsed = parsed.unwrap_or_else(|| parse_text(&path_of_key(&key), &key, text.as_str()).into());
+        let all = symbols_of(&parsed.unit.items, &text);
+        let made: Vec<Value> = all.iter().map(|it| self.symbol(it, &key)).collect();
         if self.has_nested_symbols {
             return Ok(made.into());
         }
@@ -406,45 +451,18 @@ impl<W: Write> Server<W> {
         Ok(flat.into())
     }
 
-    fn symbols_of(&mut self, items: &[Item], key: &Key, text: &Text) -> Vec<Value> {
-        let mut made = Vec::new();
-        for item in items {
-            let Some(kind) = symbol_kind(item) else {
-                continue;
-            };
-            let name = match &item.name {
-                Some(it) => it.text.to_string(),
-                None => head_of(item, text),
-            };
-            let children = match &item.kind {
-                ItemKind::Module(Some(items)) | ItemKind::ExternBlock(items) | ItemKind::Trait(items) => {
-                    self.symbols_of(items, key, text)
-                }
-                ItemKind::Impl { items, .. } => self.symbols_of(items, key, text),
-                ItemKind::Enum(variants) => {
-                    let mut all = Vec::new();
-                    for it in variants {
-                        let range = self.range(key, it.name.span);
-                        let detail = if it.shape == Shape::Unit { "" } else { ".." };
-                        all.push(json!({
-                            "name": &*it.name.text, "kind": 22, "detail": detail, "range": range,
-                            "selectionRange": range,
-                        }));
-                    }
-                    all
-                }
-                _ => Vec::new(),
-            };
-            let mut it = json!({
-                "name": name,
-                "kind": kind,
-                "range": self.range(key, item.span),
-                "selectionRange": self.range(key, item.name.as_ref().map_or(item.span, |it| it.span)),
-            });
-            if !children.is_empty() {
-                it["children"] = children.into();
-            }
-            made.push(it);
+    fn symbol(&mut self, symbol: &Symbol, key: &Key) -> Value {
+        let mut made = json!({
+            "name": symbol.name,
+            "kind": symbol.kind,
+            "range": self.range(key, symbol.span),
+            "selectionRange": self.range(key, symbol.name_span),
+        });
+        if !symbol.detail.is_empty() {
+            made["detail"] = symbol.detail.as_str().into();
+        }
+        if !symbol.children.is_empty() {
+            made["children"] = symbol.children.iter().map(|it| self.symbol(it, key)).collect();
         }
         made
     }
@@ -453,18 +471,6 @@ impl<W: Write> Server<W> {
 fn asked_file(params: &Value) -> Result<Key, Failure> {
     let uri = params["textDocument"]["uri"].as_str();
     uri.and_then(key_of_uri).ok_or_else(|| Failure(INVALID_PARAMS, "`textDocument` has the `uri` of a file".to_owned()))
-}
-
-/// What stands in an item before its braces.
-fn head_of(item: &Item, text: &Text) -> String {
-    let (start, end) = (text.offset_of(item.span.start), text.offset_of(item.span.end));
-    let whole = text.as_str().get(start..end).unwrap_or_default();
-    let head = whole.split(['{', ';']).next().unwrap_or_default();
-    let words: Vec<&str> = head.split_whitespace().collect();
-    if words.is_empty() {
-        return "_".to_owned();
-    }
-    words.join(" ")
 }
 
 fn flatten(symbols: &[Value], around: Option<&str>, uri: &str, made: &mut Vec<Value>) {

@@ -7,6 +7,8 @@ use serde_json::{json, Value};
 /// A message above this isn't read.
 const MOST_BYTES: usize = 256 << 20;
 
+// Why a request is refused, by the numbers of the protocols.
+
 pub const PARSE_ERROR: i64 = -32700;
 pub const INVALID_REQUEST: i64 = -32600;
 pub const METHOD_NOT_FOUND: i64 = -32601;
@@ -64,14 +66,17 @@ pub fn write(output: &mut impl Write, message: &Value) -> std::io::Result<()> {
     output.flush()
 }
 
+/// The result of a request.
 pub fn reply(id: &Value, result: Value) -> Value {
     json!({"jsonrpc": "2.0", "id": id, "result": result})
 }
 
+/// Why a request has no result.
 pub fn error(id: &Value, code: i64, message: &str) -> Value {
     json!({"jsonrpc": "2.0", "id": id, "error": {"code": code, "message": message}})
 }
 
+/// A message that asks for no reply.
 pub fn notification(method: &str, params: Value) -> Value {
     json!({"jsonrpc": "2.0", "method": method, "params": params})
 }

@@ -4,7 +4,7 @@
 use std::collections::HashSet;
 
 use crate::report::{is_body, path_before, Context};
-use crate::syntax::{angle, plain, Item, ItemKind};
+use crate::syntax::{angle, plain};
 use crate::token::{Delimiter, Kind, Position, Span, Token};
 use crate::unit::is_builtin;
 
@@ -215,8 +215,8 @@ impl<'a> Finder<'a, '_> {
                 }
                 bindings(list, *number, &mut locals);
             }
-            locals.is_in_body |= is_body(list, *number);
             is_known = self.blocks.contains(&list[*number].span);
+            locals.is_in_body |= is_known || is_body(list, *number) || is_value_in_type(list, *number);
         }
         locals
     }
@@ -244,6 +244,14 @@ fn start_of(list: &[Token], number: usize) -> usize {
     list[..number].iter().rposition(ends).map_or(0, |it| it + 1)
 }
 
+/// Whether the group there is the length of an array, an argument for a constant, or the value of a variant.
+fn is_value_in_type(list: &[Token], number: usize) -> bool {
+    let before = number.checked_sub(1).map(|it| &list[it]);
+    let begins_value = |it: &Token| it.is("<") || it.is(",") || it.is("=");
+    list[number].group(Delimiter::Brace).is_some() && before.is_some_and(begins_value)
+        || list[number].group(Delimiter::Bracket).is_some() && !before.is_some_and(|it| it.is("#") || it.is("!"))
+}
+
 /// Whether the token stands in a `use`.
 fn is_in_use(list: &[Token], number: usize) -> bool {
     let mut at = list[..number].iter().rposition(|it| it.is(";")).map_or(0, |it| it + 1);
@@ -266,9 +274,21 @@ fn is_declared(list: &[Token], number: usize) -> bool {
         "fn" | "struct" | "enum" | "trait" | "mod" | "type" | "union" | "macro" => true,
         "const" => !is(2, "*"),
         "mut" => !is(2, "*") && !is(2, "&") && !before(2).is_some_and(|it| matches!(it.kind, Kind::Lifetime(_))),
-        "static" | "let" | "ref" => true,
+        "static" | "ref" => true,
+        // What else a pattern begins with is a constant, or a struct or a variant with what is in it.
+        "let" => {
+            let is_at = list.get(number + 1).is_some_and(|it| it.is("@"));
+            let is_upper = list[number].word().is_some_and(|it| plain(it).starts_with(char::is_uppercase));
+            !is_in_path(list, number) && (is_at || !is_upper)
+        }
         _ => false,
     }
+}
+
+/// Whether a word of a pattern goes on as a path, a call of a macro, or as what has other patterns in it.
+fn is_in_path(list: &[Token], number: usize) -> bool {
+    let is_group = |it: &Token| matches!(it.kind, Kind::Group(Delimiter::Parenthesis | Delimiter::Brace, _));
+    list.get(number + 1).is_some_and(|it| it.is("::") || it.is("!") || is_group(it))
 }
 
 #[derive(Default)]
@@ -356,10 +376,8 @@ fn names_in_pattern(tokens: &[Token], names: &mut HashSet<String>) {
         };
         let next = tokens.get(at + 1);
         let is_path = at.checked_sub(1).is_some_and(|it| tokens[it].is("::"))
-            || next.is_some_and(|it| {
-                it.is("::") || it.is(":") || it.is("!") || it.group(Delimiter::Parenthesis).is_some()
-            })
-            || next.is_some_and(|it| it.group(Delimiter::Brace).is_some());
+            || next.is_some_and(|it| it.is(":"))
+            || is_in_path(tokens, at);
         let is_upper = plain(word).chars().next().is_some_and(char::is_uppercase);
         let is_bound = !is_upper || next.is_some_and(|it| it.is("@"));
         if !is_path && is_bound {
@@ -497,24 +515,10 @@ fn arm(list: &[Token], number: usize, names: &mut HashSet<String>) {
     }
 }
 
-/// What an item is, for a list of symbols: its name and the number that the protocol gives its kind.
-pub fn symbol_kind(item: &Item) -> Option<u32> {
-    Some(match &item.kind {
-        ItemKind::Module(_) | ItemKind::ExternBlock(_) => 2,
-        ItemKind::Struct { .. } | ItemKind::Union { .. } => 23,
-        ItemKind::Enum(_) => 10,
-        ItemKind::Trait(_) => 11,
-        ItemKind::Impl { .. } => 19,
-        ItemKind::Function | ItemKind::Macro(_) => 12,
-        ItemKind::Constant | ItemKind::Static => 14,
-        ItemKind::TypeAlias => 26,
-        ItemKind::Use(_) | ItemKind::ExternCrate { .. } | ItemKind::Call(_) => return None,
-    })
-}
-
 #[cfg(test)]
 mod tests {
     use super::*;
+    use crate::syntax::Item;
     use crate::token::{on_a_thread, tokens_of, Hash};
 
     /// Where the blocks of these items stand.
@@ -609,6 +613,14 @@ mod tests {
         );
         all("fn f() { let S { a } = s; T { a: «b», «c» } ; println!(\"{}\", «a»); a.«b».c(); }", &["b", "c", "-", "-"]);
         all("const C: u8 = { let x = 1; «x» + «y» }; static mut S: u8 = «C»;", &["-", "y", "C"]);
+        all(
+            "fn f() { let «a» = 1; let «S» { b } = c; if let «Some»(ref «d») = e {} let «m»::«T»(g) = h; let «n»!() = 1; }",
+            &["-", "S", "Some", "-", "m", "m::T", "n"],
+        );
+        all(
+            "fn f() { let «None» = a else {}; let «X» @ «Y» = b; let mut «c» = 1; let & «d» = e; }",
+            &["None", "-", "Y", "-", "-"],
+        );
     }
 
     #[test]
@@ -629,10 +641,23 @@ mod tests {
         let text = "fn f() { fn g() {} «g»(); use a::{b, c as d}; «b»::x; «d»::«y»; use h::*; «i»; crate::«j»; }";
         check(text, false, &["-", "-", "-", "-", "-", "crate::j"]);
         check(text, true, &["g", "b", "d", "d::y", "i", "crate::j"]);
-        // Local variables hide items all the same, and blocks in what a macro is called with aren't known.
+        // Local variables hide items all the same.
         check("fn f(x: u8) { struct S; let g = 1; «x»; «g»; «S»; { let S = 1; S; } }", true, &["-", "-", "S"]);
-        check("fn f() { m! { { struct S; «S»; } } { struct T; «T»; { «T» } } }", true, &["-", "T", "T"]);
+        check("fn f() { m! { { struct S; «S»; } } { struct T; «T»; { «T» } } }", true, &["S", "T", "T"]);
+        check("fn f() { m! { => { struct S; «S»; } } }", true, &["-"]);
         check("fn f<T>() { struct S; «T»; «S»; fn g<S>() { «S» } }", true, &["-", "S", "-"]);
+    }
+
+    #[test]
+    fn values_in_types() {
+        let text = "struct S { a: [u8; { struct T; let n = 1; «T»; «n»; m::«N» }], b: «T» }";
+        check(text, false, &["-", "-", "m::N", "T"]);
+        check(text, true, &["T", "-", "m::N", "T"]);
+        all(
+            "enum E { A = { let n = 1; «n» + «m» } } type T = P<{ let n = 1; «n» }, { let m = 1; «m» + «n» }>;",
+            &["-", "m", "-", "-", "n"],
+        );
+        all("use {«a», {«b»}}; #[m(«c»)] struct S([u8; «N»]); m![«d», { «e» }];", &["a", "b", "-", "N", "d", "e"]);
     }
 
     #[test]

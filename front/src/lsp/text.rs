@@ -19,6 +19,7 @@ pub struct Text {
 const MARK: &str = "\u{feff}";
 
 impl Text {
+    /// A text, of which lines are found.
     pub fn new(text: String) -> Text {
         let mut made = Text { text, lines: Vec::new(), token_lines: Vec::new() };
         made.find_lines();
@@ -40,6 +41,7 @@ impl Text {
         }
     }
 
+    /// The text itself.
     pub fn as_str(&self) -> &str {
         &self.text
     }
@@ -107,12 +109,23 @@ impl Text {
         start + skipped + behind
     }
 
+    /// What stands in a span.
+    pub fn written(&self, span: Span) -> &str {
+        self.text.get(self.offset_of(span.start)..self.offset_of(span.end)).unwrap_or_default()
+    }
+
+    /// The line in which a position is, up to there.
+    pub fn line_before(&self, at: Position) -> &str {
+        self.written(Span { start: Position { column: 1, ..at }, end: at })
+    }
+
     /// A range for the editor.
     pub fn range(&self, span: Span) -> Value {
         let (start, end) = (self.offset_of(span.start), self.offset_of(span.end));
         self.range_of(start..end.max(start))
     }
 
+    /// A range of offsets for the editor.
     pub fn range_of(&self, range: Range<usize>) -> Value {
         let ((line, character), (end_line, end)) = (self.place(range.start), self.place(range.end));
         json!({"start": {"line": line, "character": character}, "end": {"line": end_line, "character": end}})
@@ -187,6 +200,16 @@ mod tests {
         assert_eq!(text.offset(1, 4), 15);
         assert_eq!(text.offset(7, 0), text.as_str().len());
         assert_eq!(text.position(9), Position { line: 1, column: 6 });
+    }
+
+    #[test]
+    fn what_stands_in_spans() {
+        let text = Text::new("\u{feff}ab\n é🦀 c\r\n".to_owned());
+        let at = |line, column| Position { line, column };
+        assert_eq!(text.written(Span { start: at(2, 2), end: at(2, 4) }), "é🦀");
+        assert_eq!(text.written(Span { start: at(1, 2), end: at(2, 3) }), "b\n é");
+        assert_eq!(text.written(Span { start: at(2, 4), end: at(2, 2) }), "");
+        assert_eq!([at(1, 3), at(2, 1), at(2, 99)].map(|it| text.line_before(it)), ["ab", "", " é🦀 c"]);
     }
 
     #[test]

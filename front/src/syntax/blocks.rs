@@ -1,12 +1,13 @@
-//! The blocks of bodies that have items of their own.
+//! The blocks that have items of their own: in bodies, values, types and what macros are called with.
 
 use std::borrow::Cow;
 use std::sync::Arc;
 
 use super::{is_qualifier, Call, Cursor, Item, ItemKind, Unit, Visibility, Where};
+use crate::macros::reads_as_rust;
 use crate::token::{opened, Delimiter, Hash, Kind, Span, Token};
 
-/// A block with items of its own, in the body of a function or in the value of a constant or a static.
+/// A block with items of its own.
 #[derive(Clone, Debug)]
 pub struct Block {
     /// Its items, and the macro calls that stand as statements, in their order.
@@ -17,11 +18,55 @@ pub struct Block {
     pub span: Span,
 }
 
+/// The outermost blocks with items in an item of these tokens, but for those of the items in it.
+pub(super) fn blocks_of(kind: &ItemKind, tokens: &[Token]) -> Vec<Arc<Block>> {
+    let (head, braced) = match tokens {
+        [head @ .., Token { kind: Kind::Group(Delimiter::Brace, inner), .. }] => (head, &inner[..]),
+        _ => (tokens, &[][..]),
+    };
+    match kind {
+        ItemKind::Function | ItemKind::Constant | ItemKind::Static | ItemKind::TypeAlias => blocks_in(tokens),
+        ItemKind::Struct { .. } | ItemKind::Union { .. } | ItemKind::Enum(_) => {
+            let mut made = blocks_in(head);
+            blocks_in_fields(braced, &mut made);
+            made
+        }
+        ItemKind::Trait(_) | ItemKind::Impl { .. } => blocks_in(head),
+        ItemKind::Call(call) => blocks_in_call(&call.input),
+        ItemKind::Use(_)
+        | ItemKind::ExternCrate { .. }
+        | ItemKind::ExternBlock(_)
+        | ItemKind::Module(_)
+        | ItemKind::Macro(_) => Vec::new(),
+    }
+}
+
 /// The outermost blocks with items among these tokens.
-pub(super) fn blocks_in(tokens: &[Token]) -> Vec<Arc<Block>> {
+fn blocks_in(tokens: &[Token]) -> Vec<Arc<Block>> {
     let mut made = Vec::new();
     (0..tokens.len()).for_each(|at| block_at(tokens, at, &mut made));
     made
+}
+
+/// Adds those in fields or variants, the fields of variants among these.
+fn blocks_in_fields(tokens: &[Token], made: &mut Vec<Arc<Block>>) {
+    for (at, token) in tokens.iter().enumerate() {
+        match token.group(Delimiter::Brace) {
+            Some(fields) if at > 0 && tokens[at - 1].word().is_some() => blocks_in_fields(fields, made),
+            _ => block_at(tokens, at, made),
+        }
+    }
+}
+
+/// Those in what a macro is called with, where that reads as statements, or as expressions between commas. What it
+/// becomes isn't known, but such a block mostly stays where it is.
+fn blocks_in_call(input: &[Token]) -> Vec<Arc<Block>> {
+    let made = block(input, Span::default()).outermost();
+    if made.is_empty() || reads_as_rust(input) {
+        made
+    } else {
+        Vec::new()
+    }
 }
 
 /// The items among these statements, for what a macro call that is a statement expands to.
@@ -31,8 +76,7 @@ pub fn statements_of(tokens: &[Token], around: Hash) -> Unit {
     Unit { attributes: Vec::new(), items }
 }
 
-/// Adds the block that a token is, or the outermost ones in it. What a macro is called with is passed over: what it
-/// becomes isn't known.
+/// Adds the block that a token is, or the outermost ones in it.
 fn block_at(tokens: &[Token], at: usize, made: &mut Vec<Arc<Block>>) {
     let Kind::Group(delimiter, inner) = &tokens[at].kind else {
         return;
@@ -40,7 +84,13 @@ fn block_at(tokens: &[Token], at: usize, made: &mut Vec<Arc<Block>>) {
     let before = |by: usize| at.checked_sub(by).map(|it| &tokens[it]);
     let is_bang = |by: usize| before(by).is_some_and(|it| it.is("!"));
     let is_name = |by: usize| before(by).and_then(Token::word).is_some_and(|it| !is_of_expression(it));
-    if (is_bang(1) && is_name(2)) || (is_bang(2) && is_name(1) && is_name(3)) {
+    if is_bang(1) && is_name(2) {
+        made.extend(blocks_in_call(inner));
+        return;
+    }
+    let is_definition = is_bang(2) && is_name(1) && is_name(3);
+    let is_attribute = before(1).is_some_and(|it| it.is("#")) || is_bang(1) && before(2).is_some_and(|it| it.is("#"));
+    if is_definition || is_attribute {
         return;
     }
     if *delimiter != Delimiter::Brace {
@@ -50,7 +100,7 @@ fn block_at(tokens: &[Token], at: usize, made: &mut Vec<Arc<Block>>) {
     let block = block(inner, tokens[at].span);
     match block.items.iter().any(|it| !matches!(it.kind, ItemKind::Call(_))) {
         true => made.push(Arc::new(block)),
-        false => made.extend(block.blocks),
+        false => made.extend(block.outermost()),
     }
 }
 
@@ -80,6 +130,24 @@ fn block(tokens: &[Token], span: Span) -> Block {
         cursor.at += 1;
     }
     made
+}
+
+impl Block {
+    /// The outermost blocks in it, where it is none itself. Those of a module among its items are left out, since they
+    /// stand in another place.
+    fn outermost(self) -> Vec<Arc<Block>> {
+        let mut made = self.blocks;
+        for item in self.items {
+            made.extend(item.blocks);
+            if let ItemKind::Trait(inner) | ItemKind::Impl { items: inner, .. } | ItemKind::ExternBlock(inner) =
+                item.kind
+            {
+                made.extend(inner.into_iter().flat_map(|it| it.blocks));
+            }
+        }
+        made.sort_by_key(|it| it.span.start);
+        made
+    }
 }
 
 impl Cursor<'_> {
@@ -138,16 +206,17 @@ impl Cursor<'_> {
             Delimiter::Brace => !self.peek().is_some_and(goes_on),
             _ => self.takes(";"),
         };
-        let call = Call { path, input: input.clone(), identity: Hash::default(), is_statement: true };
         is_whole.then(|| Item {
             attributes: Vec::new(),
             visibility: Visibility::default(),
             name: None,
-            kind: ItemKind::Call(Arc::new(call)),
+            kind: ItemKind::Call(Arc::new(Call::new(path, input, true))),
             input: None,
             text: Hash::default(),
+            start: start.start,
             span: Span { start: start.start, end: span.end },
-            blocks: Vec::new(),
+            head: Span { start: start.start, end: span.end },
+            blocks: blocks_in_call(input),
         })
     }
 }
@@ -172,9 +241,10 @@ mod tests {
             _ => item.name_text().to_owned(),
         };
         let inner = match &item.kind {
-            ItemKind::Module(Some(it)) | ItemKind::Trait(it) | ItemKind::Impl { items: it, .. } => {
-                format!("({})", shown(it))
-            }
+            ItemKind::Module(Some(it))
+            | ItemKind::Trait(it)
+            | ItemKind::Impl { items: it, .. }
+            | ItemKind::ExternBlock(it) => format!("({})", shown(it)),
             _ => String::new(),
         };
         let blocks: String = item.blocks.iter().map(|it| shown_block(it)).collect();
@@ -204,7 +274,7 @@ mod tests {
         );
         check("mod m { fn f() { trait T {} } }", "m(f{T()})");
         check("async fn f() { #![allow(x)] #[cfg(y)] pub(crate) struct S; unsafe impl T for S {} }", "f{S impl()}");
-        check("fn f() { extern \"C\" { fn g(); } extern crate a; macro_rules! m { () => {} } }", "f{extern a m}");
+        check("fn f() { extern \"C\" { fn g(); } extern crate a; macro_rules! m { () => {} } }", "f{extern(g) a m}");
         check("fn f() { unsafe extern \"C\" fn g() {} const fn h() {} static mut X: u8 = 1; }", "f{g h X}");
         check(
             "fn f() { union U { a: u8 } impl U { fn g() {} } unsafe trait T {} async fn h() {} }",
@@ -229,9 +299,53 @@ mod tests {
         check("fn f() { unsafe { g() } async { h() }; async move {}; const { 1 }; static || {}; }", "f");
         check("fn f() { let union = 1; union + 1; union.x; auto = 2; let g: fn(u8) = h; }", "f");
         check("fn f() { x as *const u8; &raw const y; *const_it; const || 1; }", "f");
-        check("fn f() { println!(\"{}\", { use a::b; c }); m! { struct S; } g!{}.h(); }", "f");
+        check("fn f() { m! { struct S; } g!{}.h(); m!({ b }) }", "f");
+        check("#[m({ struct A; })] fn f() { #[m({ struct A; })] g(); #![m({ struct B; })] h() }", "f");
+        check("struct S { struct_: u8, pub fn_: u8 } enum E { A { pub union: u8 }, B = { 1 } }", "S E");
         check("fn f() { let macro_rules = 1; macro_rules!(x); crate::a(); type_of(); }", "f");
         check("fn f() { struct; fn }", "f");
+    }
+
+    #[test]
+    fn types_and_values_with_items() {
+        check("struct S { pub a: [u8; { struct A; 1 }], b: P<{ use m::N; N }> }", "S{A}{use}");
+        check("struct U([u8; { const C: usize = 1; C }]); struct P<const N: usize = { struct A; 1 }>;", "U{C} P{A}");
+        check("union U { a: [u8; { fn g() {} 1 }] } type T = [u8; { struct A; 1 }];", "U{g} T{A}");
+        check(
+            "enum E { A = { struct S; 1 }, B { x: [u8; { use m::N; N }] }, C([u8; { fn g() {} 1 }]) }",
+            "E{S}{use}{g}",
+        );
+        check("trait T where [u8; { struct A; 1 }]: Sized { type X; fn f() { struct B; } }", "T(X f{B}){A}");
+        check(
+            "impl P<{ struct A; 1 }> for [u8; { struct B; 1 }] { type X = [u8; { struct C; 1 }]; }",
+            "impl(X{C}){A}{B}",
+        );
+        check(
+            "extern \"C\" { fn g(x: &[u8; { struct A; 1 }]); static Y: [u8; { use m::N; N }]; }",
+            "extern(g{A} Y{use})",
+        );
+        check("fn f(x: [u8; { struct A; 1 }]) -> P<{ struct B; 1 }> { struct C; }", "f{A}{B}{C}");
+        check("fn f() { struct S { a: [u8; { struct A; 1 }] } let x: [u8; { struct B; 1 }]; }", "f{S{A}; {B}}");
+    }
+
+    #[test]
+    fn what_macros_are_called_with() {
+        check("fn f() { println!(\"{}\", { use a::b; b }); }", "f{use}");
+        check("fn f() { vec![{ const N: u8 = 1; N }; 2]; m!({ struct S; }, x = |y| { fn g() {} },) }", "f{N}{S}{g}");
+        check("fn f() { assert!(matches!(x, y if { fn g() {} g(y) })); matches!(x, y if z) }", "f");
+        check("fn f() { n!(m!({ use a::b; b })); a::m! { let x = { struct S; 1 }; x } }", "f{use}{S}");
+        check("fn f() { struct S; m!({ struct T; }); }", "f{S m!{T}}");
+        check("fn f() { m!({ struct A; }); { struct B; } n!({ struct C; }) }", "f{A}{B}{C}");
+        // The items themselves are where the macro puts them.
+        check("fn f() { m! { struct S; fn g() { use a::b; } impl S { fn h() { struct T; } } } }", "f{use}{T}");
+        check("thread_local! { static X: u8 = { use a::b; b }; }", "thread_local!{use}");
+        check("m! { fn f() { struct S; } mod n { fn g() { struct T; } } }", "m!{S}");
+        // What isn't Rust.
+        check("cfg_if! { if #[cfg(unix)] { use a::b; } else { use a::c; } }", "cfg_if!");
+        check(
+            "fn f() { m!(x => { use a::b; }); m!(static ref X: u8 = { use a::b; b };); m! d { { use a::b; } } }",
+            "f",
+        );
     }
 
     #[test]

@@ -40,7 +40,7 @@ pub struct BuiltBlock {
     pub block: Arc<Block>,
     /// From the module whose items the file has.
     pub steps: Vec<Step>,
-    /// The names that lead there: of modules, and of the items in whose bodies it stands.
+    /// The names that lead there: of modules, and of the items in which it stands.
     pub names: Vec<String>,
     pub built: Arc<Built>,
     /// The macro calls among its statements, which may expand to more items once they are known.
@@ -89,29 +89,37 @@ struct Lowering<'a> {
 impl Lowering<'_> {
     fn items(&mut self, items: &[Item], around: Hash) {
         for item in items.iter().filter(|it| is_enabled(&it.attributes, self.options)) {
-            match &item.kind {
-                ItemKind::Module(Some(inner)) => {
-                    self.steps.push(Step::Module(item.name_text().to_owned()));
-                    self.names.push(item.name_text().to_owned());
-                    self.items(inner, Hash::default());
-                    self.names.pop();
-                    self.steps.pop();
-                }
-                ItemKind::Trait(inner) => {
-                    self.names.push(item.name_text().to_owned());
-                    self.items(inner, around.with("Trait").with(item.name_text()));
-                    self.names.pop();
-                }
-                ItemKind::Impl { items: inner, .. } => {
-                    self.items(inner, around.with("Impl").with(&item.text.text()));
-                }
-                _ if !item.blocks.is_empty() => {
+            let inner = match &item.kind {
+                ItemKind::Module(Some(inner))
+                | ItemKind::Trait(inner)
+                | ItemKind::Impl { items: inner, .. }
+                | ItemKind::ExternBlock(inner) => &inner[..],
+                _ => &[],
+            };
+            if item.blocks.is_empty() && inner.is_empty() {
+                continue;
+            }
+            let (known_by, name) = match &item.kind {
+                ItemKind::Trait(_) => (around.with("Trait").with(item.name_text()), Some(item.name_text())),
+                ItemKind::Impl { .. } => (around.with("Impl").with(&item.text.text()), None),
+                ItemKind::ExternBlock(_) => (around, None),
+                ItemKind::Call(call) => (around.with("MacroCall").with(&call.path.text), None),
+                _ => {
                     let name = item.name.as_ref().map_or("_", |it| &it.text);
-                    self.names.push(name.to_owned());
-                    self.blocks(&item.blocks, around.with(name));
-                    self.names.pop();
+                    (around.with(name), Some(name))
                 }
-                _ => {}
+            };
+            self.names.extend(name.map(str::to_owned));
+            self.blocks(&item.blocks, known_by);
+            if let ItemKind::Module(_) = item.kind {
+                self.steps.push(Step::Module(item.name_text().to_owned()));
+                self.items(inner, Hash::default());
+                self.steps.pop();
+            } else {
+                self.items(inner, known_by);
+            }
+            if name.is_some() {
+                self.names.pop();
             }
         }
     }
@@ -194,6 +202,7 @@ mod tests {
     fn shown(items: &[Item]) -> String {
         let all = items.iter().map(|it| match &it.kind {
             ItemKind::Use(tree) => format!("use {}", use_text(tree)),
+            ItemKind::Call(call) => format!("{}!", call.path.text),
             _ => it.name_text().to_owned(),
         });
         all.collect::<Vec<_>>().join(" ")
@@ -238,6 +247,12 @@ mod tests {
         check("#[cfg(windows)] fn f() { struct A; } #[cfg(unix)] fn f() { struct B; }", &["f 1: B"]);
         check("#![cfg(windows)] fn f() { struct A; }", &[]);
         check("const _: () = { struct A; }; const _: () = { struct A; };", &["_ 1: A", "_ 1: A"]);
+        check("struct S { a: [u8; { struct A; 1 }] } enum E { V = { struct B; 1 } }", &["S 1: A", "E 1: B"]);
+        check("trait T<const N: u8 = { struct A; 1 }> { type X = [u8; { struct B; 1 }]; }", &["T 1: A", "T::X 1: B"]);
+        check("mod m { impl P<{ struct A; 1 }> { fn f() { struct B; } } }", &["m 1: A", "m::f 1: B"]);
+        check("extern \"C\" { fn f(x: &[u8; { struct A; 1 }]); }", &["f 1: A"]);
+        check("m! { fn f() { struct A; } } fn g() { struct B; m!({ struct C; }); }", &[" 1: A", "g 1: B m!", "g 2: C"]);
+        check("#[cfg(windows)] struct S([u8; { struct A; 1 }]); #[cfg(windows)] m!({ struct B; });", &[]);
     }
 
     #[test]
@@ -298,22 +313,24 @@ mod tests {
     fn ids_stay() {
         let before = built(
             "fn f() { struct A; { struct B; } } impl X { fn f() { struct C; } } mod m { fn f() { struct D; } } \
-             fn g() { { struct E; } { struct F; } }",
+             fn g() { { struct E; } { struct F; } } struct S([u8; { struct G; 1 }]); m!({ struct H; });",
         );
         for after in [
             // What is written elsewhere, before and behind, with and without items.
             "fn z() { struct Z; } fn f() { struct A; { struct B; } } impl X { fn z() { use z::z; } fn f() { struct C; } } \
-             mod m { struct Z; fn f() { struct D; } } fn g() { { struct E; } { struct F; } } fn y() { struct Y; }",
+             mod m { struct Z; fn f() { struct D; } } fn g() { { struct E; } { struct F; } } fn y() { struct Y; } \
+             struct Z([u8; { struct Z; 1 }]); struct S([u8; { struct G; 1 }]); z!({ struct Z; }); m!({ struct H; });",
             // In the blocks themselves.
             "fn f(x: u8) { let y = x; struct A; use z::z; { y; struct B; fn z() { struct Z; } } } \
              impl X { #[inline] pub fn f() { struct Z; struct C; } } \
-             mod m { fn f() { 1; struct D; { struct Z; } } } fn g() { { struct E; } { struct Z; struct F; } }",
+             mod m { fn f() { 1; struct D; { struct Z; } } } fn g() { { struct E; } { struct Z; struct F; } } \
+             struct S(u8, [u8; { struct Z; struct G; 2 }]); m!(x, { struct Z; struct H; });",
             // In another order.
-            "fn g() { { struct E; } { struct F; } } mod m { fn f() { struct D; } } impl X { fn f() { struct C; } } \
+            "m!({ struct H; }); struct S([u8; { struct G; 1 }]); fn g() { { struct E; } { struct F; } } mod m { fn f() { struct D; } } impl X { fn f() { struct C; } } \
              fn f() { { struct B; } struct A; }",
         ] {
             let after = built(after);
-            for name in ["A", "B", "C", "D", "E", "F"] {
+            for name in ["A", "B", "C", "D", "E", "F", "G", "H"] {
                 assert_eq!(place_of(&before, name), place_of(&after, name), "{name}");
             }
         }

@@ -102,7 +102,7 @@ local ran, problem = pcall(function()
   say("hover, references, symbols")
   vim.cmd("buffer " .. report)
   put_cursor(15, "Price")
-  say("  " .. ask("textDocument/hover").contents.value:gsub("\n\n", "; "))
+  say("  " .. ask("textDocument/hover").contents.value:gsub("\n\n", "; "):gsub("\n", " "))
   say("  references:", count(ask("textDocument/references", { context = { includeDeclaration = true } })))
   say("  symbols:", count(ask("textDocument/documentSymbol")))
 

@@ -1,5 +1,5 @@
 //! Macro calls, derives and attributes: what each expands to, and rounds in which they are tried.
-ghost use Rattle.std.specs.Prelude.{◌≡◌, ◌<◌, ℕ, cond, true, false, [], IfOk, None, OnOk, Some, length, option_map, slice_get, unwrap_or};
+ghost use Rattle.std.specs.Prelude.{◌≡◌, ◌<◌, ◌≤◌, ℕ, cond, true, false, [], IfOk, None, OnOk, Some, length, option_map, slice_get, unwrap_or};
 ghost use Rattle.hir_item_tree.specs.SyntaxIds.{node_id};
 ghost use Rattle.hir_tables.specs.SourcePlaces.{expansion_value};
 ghost use Rattle.hir_tables.specs.Tables.{KeepsTables};
@@ -13,14 +13,15 @@ ghost use Rattle.hir_worklist.specs.Queue.{count_of};
 ghost use Rattle.hir_call_queue.specs.Changes.{ChangedValue, joined, nothing};
 ghost use Rattle.hir_call_queue.specs.Waking.{GoesOn, IsWoken, is_apart, worklist_of};
 ghost use Rattle.hir_collector_rules.specs.CallMoves.{ComesToRest, IsReady, NoneWaitsBefore, SeesCall, TriesCall, TriesCalls};
-ghost use Rattle.hir_def_collector.specs.Turns.{IsDueOf, TakesTurn};
+ghost use Rattle.hir_def_collector.specs.Turns.{CountsOn, IsDueOf, TakesTurn};
 ghost use Rattle.hir_collector_rules.specs.Calls.{AreCallsPlaced, Expanding, IsMeantCall, LeadsNowhere, call_site, called_text, error_of, expansion_of_call, text_readings, waiting_item};
 ghost use Rattle.hir_collector_rules.specs.declared.macro_directive.WaitingItem.{WaitingItem};
-ghost use Rattle.hir_collector_rules.specs.Derivation.{IsNumberedOut, IsSpent};
+ghost use Rattle.hir_collector_rules.specs.Derivation.{IsSpent};
 ghost use Rattle.hir_collector_rules.specs.ItemIds.{module_id};
 ghost use Rattle.hir_collector_rules.specs.declared.macro_directive.MacroDirective.{MacroDirective};
 ghost use Rattle.hir_collector_rules.specs.Keys.{Environment, IsMeant, input_at, macro_key, macro_tree, source_in, text_at, text_of};
 ghost use Rattle.hir_collector_rules.specs.Moves.{Makes, OnceGrown};
+ghost use Rattle.hir_collector_rules.specs.NumberedOut.{LacksExpansion};
 ghost use Rattle.hir_collector_rules.specs.State.{Run, at_rest, core_in, import_state};
 ghost use Rattle.hir_collector_rules.specs.Steps.{CallsMacro, IsDue, Steps, failing, keys_read, with_keys};
 ghost use Rattle.hir_collector_rules.specs.Workspace.{entry_look};
@@ -256,7 +257,7 @@ fn look_at_call<D: SourceDatabase>(
     ensures ok { IfOk result (λ e. (x : Expanding) × SeesCall locations.new (D.workspace db.old) (part_of world.entry) call.now makro (core_in run.old) (core_in run.new) x e.source.value
         × (e.id ≡ x.id) × (e.error ≡ error_of x.there)) }
     ensures noted { OnOk result (IsNoted run.old run.new) }
-    ensures many { result ≡ Err CollectError.TooMany → IsNumberedOut locations.new }
+    ensures many { result ≡ Err CollectError.TooMany → OnceGrown locations.new (D.workspace db.old) (λ env. LacksExpansion env (part_of world.entry) (core_in run.old).map call.now makro) }
 {
     if !is_meant(locations, makro) {
         return Err(CollectError::UnknownSource);
@@ -608,7 +609,7 @@ fn settle(
     ensures ok { IfOk result (λ r. (env : Environment) → Steps env (part_of world.entry) (at_rest (core_in run)) (at_rest (core_in r.0))) }
     ensures rests { IfOk result (λ r. IsAtRest (part_of world.entry) (import_state (at_rest (core_in r.0)))) }
     ensures settled { IfOk result (λ r. (core_in r.0).settled ≡ length (core_in r.0).calls) }
-    ensures counts { IfOk result (λ r. ((core_in run).count < (core_in r.0).count) × ((core_in run).count < STEP_LIMIT)) }
+    ensures counts { IfOk result (λ r. (core_in run).count ≤ (core_in r.0).count) }
     ensures noted { IfOk result (λ r. NotesSlots run r.0) }
     ensures queue { IfOk result (λ r. are_apart r.1 ≡ apart) }
     // nothing has changed since, and it doesn't matter what is noted
@@ -682,7 +683,7 @@ fn take_turn<D: SourceDatabase>(
     ensures between { OnOk result (IsBetweenPasses queue.new) }
     ensures imports { IfOk result (λ r. are_apart r.1 ≡ apart) }
     ensures behind { IfOk result (λ r. IsBehind (part_of world.entry) r.1 (joined grown.new r.0.changed) r.0) }
-    ensures counts { IfOk result (λ r. ((core_in run).count < (core_in r.0).count) × ((core_in run).count < STEP_LIMIT)) }
+    ensures counts { IfOk result (λ r. CountsOn (core_in run) (core_in r.0) r.2) }
     ensures turned { IfOk result (λ r. OnceGrown locations.new (D.workspace db.old) (λ env. TakesTurn env (part_of world.entry) (core_in run) (core_in r.0) first r.2)) }
     ensures many { result ≡ Err CollectError.TooMany → OnceGrown locations.new (D.workspace db.old) (λ env. IsSpent env (part_of world.entry) (at_rest (core_in run))) }
 {
@@ -736,6 +737,8 @@ pub fn resolve_rounds<D: SourceDatabase>(
         )?;
         run = next;
         imports = rested;
+        let is_counted = run.count() <= STEP_LIMIT;
+        prove!(is_counted);
         match turn {
             Turn::Round => rounds += 1,
             Turn::GaveUp(behind) => first = behind,

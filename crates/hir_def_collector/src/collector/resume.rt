@@ -113,6 +113,7 @@ fn give_up_at<D: SourceDatabase>(
     ensures same { D.workspace db.new ≡ D.workspace db.old }
     ensures placed { AreCallsPlaced locations.old → AreCallsPlaced locations.new }
     ensures ok { OnOk result (OnceGrown locations.new (D.workspace db.old) (λ env. Steps env (part_of world.entry) (at_rest (core_in run.old)) (at_rest (core_in run.new)))) }
+    ensures counts { OnOk result ((core_in run.old).count < (core_in run.new).count) }
     ensures before { OnOk result (NoneWaitsBefore (core_in run.new) (i + 1)) }
     ensures noted { OnOk result (IsNotedBeside (part_of world.entry) run.old run.new) }
     ensures many { result ≡ Err CollectError.TooMany → OnceGrown locations.new (D.workspace db.old) (λ env. IsSpent env (part_of world.entry) (at_rest (core_in run.old))) }

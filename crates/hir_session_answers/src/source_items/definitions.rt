@@ -1,8 +1,9 @@
 //! What types, values and macros stand for.
 ghost use Rattle.std.specs.Prelude.{◌≡◌, IfOk, option_map};
+ghost use Rattle.hir_tables.specs.Tables.{block_at};
 ghost use Rattle.hir_def_map.specs.DefMaps.{maps_of};
 ghost use Rattle.hir_def_map_rules.specs.Overlay.{module_in};
-ghost use Rattle.hir_session_answers.specs.SourceItems.{item_of, crate_of, module_by, module_definition, adt_definition, macro_definition, definition_of};
+ghost use Rattle.hir_session_answers.specs.SourceItems.{block_definition, item_of, crate_of, module_by, module_definition, adt_definition, macro_definition, definition_of};
 
 use super::item_at;
 use hir_base::ast_id::{AstKind, BlockId, HirFileId, SyntaxId};
@@ -10,6 +11,7 @@ use hir_base::ids::{AdtId, Crate, ItemContainerId, ModuleDefId, ModuleId};
 use hir_base::macro_kind::MacroId;
 use hir_def_map::def_maps::DefMaps;
 use hir_def_map::nameres::origin::ModuleOrigin;
+use hir_session_sources::blocks::root_of_block;
 use hir_tables::Tables;
 use hir_wire::answer::{Definition, SourceKind};
 use std::alloc::{AllocError, Global};
@@ -26,7 +28,25 @@ fn crate_at(container: ItemContainerId) -> Crate
     }
 }
 
-/// The crate's root, or the module's node; a block is none.
+/// The root of a block that has a number.
+fn block_with(
+    alloc: Global,
+    tables: &Tables,
+    krate: Crate,
+    id: BlockId,
+) -> Result<Option<Definition>, AllocError>
+    ensures value { IfOk result (λ o. o ≡ option_map (block_definition krate) (block_at tables.now id)) }
+{
+    match tables.block(id) {
+        Some(block) => {
+            let place = root_of_block(alloc, block)?;
+            Ok(Some(Definition::BlockRoot { krate, place }))
+        }
+        None => Ok(None),
+    }
+}
+
+/// The crate's root, the module's node, or the block.
 fn module_with(
     alloc: Global,
     tables: &Tables,
@@ -57,7 +77,7 @@ fn module_with(
                 node.id,
             )
         }
-        ModuleOrigin::BlockExpr { .. } => Ok(None),
+        ModuleOrigin::BlockExpr { id, .. } => block_with(alloc, tables, krate, id),
     }
 }
 

@@ -1,11 +1,12 @@
 //! What holds syntax, through the calls whose expansions lead to it.
 ghost use Rattle.std.specs.Prelude.{◌≡◌, IfOk, option_map};
 ghost use Rattle.hir_def_map_rules.specs.Diagnostics.{call_node};
-ghost use Rattle.hir_session_answers.specs.SourceCalls.{call_kind, most_calls, path_of, source_call, source_of};
+ghost use Rattle.hir_session_state.specs.Standing.{most_calls};
+ghost use Rattle.hir_session_answers.specs.SourceCalls.{and_calls, call_kind, root_in, rooted, source_call, source_of};
 
 use hir_base::ast_id::{AstId, BlockId, HirFileId};
-use hir_base::file_path::FilePath;
 use hir_base::macro_kind::MacroCallKind;
+use hir_session_sources::blocks::root_of_block;
 use hir_tables::Tables;
 use hir_wire::answer::{ItemSource, SourceCall, SourceCallKind, SourceCalls, SourceRoot};
 use std::alloc::{AllocError, Global};
@@ -25,7 +26,7 @@ pub fn how(call: MacroCallKind) -> SourceCallKind
 }
 
 /// The called or decorated node.
-fn node_at(call: MacroCallKind) -> AstId
+pub fn node_of(call: MacroCallKind) -> AstId
     ensures value { result ≡ call_node call }
 {
     match call {
@@ -39,7 +40,7 @@ fn node_at(call: MacroCallKind) -> AstId
 fn call_at(call: MacroCallKind) -> SourceCall
     ensures value { result ≡ source_call call }
 {
-    let node = node_at(call);
+    let node = node_of(call);
     SourceCall {
         node: node.kind,
         id: node.id,
@@ -48,7 +49,7 @@ fn call_at(call: MacroCallKind) -> SourceCall
 }
 
 /// How many calls can stand in one another.
-fn most_calls_in(file: HirFileId) -> u64
+pub fn most_calls_in(file: HirFileId) -> u64
     ensures value { result ≡ most_calls file }
 {
     match file {
@@ -57,17 +58,54 @@ fn most_calls_in(file: HirFileId) -> u64
     }
 }
 
-/// The path of what holds syntax, where that is a file of the tables.
-fn path_of_file(tables: &Tables, file: HirFileId) -> Option<&FilePath>
-    ensures value { option_map (λ p. p.now) result ≡ path_of tables.now file }
+/// What holds syntax outside of all calls: a file or a block of the tables.
+fn root_at(
+    alloc: Global,
+    tables: &Tables,
+    file: HirFileId,
+    block: Option<BlockId>,
+) -> Result<Option<SourceRoot>, AllocError>
+    ensures value { IfOk result (λ root. root ≡ root_in tables.now file block) }
 {
-    match file {
-        HirFileId::File(file) => tables.file(file.file_id),
-        HirFileId::Macro(_) => None,
+    if let Some(block) = block {
+        return match tables.block(block) {
+            Some(place) => Ok(Some(SourceRoot::Block(root_of_block(alloc, place)?))),
+            None => Ok(None),
+        };
+    }
+    let HirFileId::File(file) = file else {
+        return Ok(None);
+    };
+    match tables.file(file.file_id) {
+        Some(path) => Ok(Some(SourceRoot::File(path.clone()?))),
+        None => Ok(None),
     }
 }
 
-/// What holds syntax, where it is a file of the tables, or is expanded in one through calls.
+/// What stands in the expansions of these calls, the innermost first, the outermost of which is written here.
+fn source_from(
+    alloc: Global,
+    tables: &Tables,
+    file: HirFileId,
+    block: Option<BlockId>,
+    calls: Vec<SourceCall>,
+) -> Result<Option<ItemSource>, AllocError>
+    ensures value { IfOk result (λ o. o ≡ option_map (and_calls calls.items) (rooted (root_in tables.now file block))) }
+{
+    let mut calls = calls;
+    match root_at(alloc, tables, file, block)? {
+        Some(root) => {
+            calls.reverse();
+            Ok(Some(ItemSource {
+                root,
+                calls: SourceCalls::new(calls),
+            }))
+        }
+        None => Ok(None),
+    }
+}
+
+/// What holds syntax, where it is a file or a block of the tables, or is expanded in one through calls.
 pub fn source_at(
     alloc: Global,
     tables: &Tables,
@@ -81,27 +119,20 @@ pub fn source_at(
     let mut within = block;
     let mut left = most_calls_in(file);
     'calls: while let HirFileId::Macro(call) = at {
-        if within.is_some() || left == 0 {
+        if within.is_some() {
+            return source_from(alloc, tables, at, within, calls);
+        }
+        if left == 0 {
             return Ok(None);
         }
         let Some(call) = tables.call(call) else {
             return Ok(None);
         };
         calls.push(call_at(call.kind))?;
-        let node = node_at(call.kind);
+        let node = node_of(call.kind);
         at = node.file_id;
         within = node.block;
         left -= 1;
     }
-    if within.is_some() {
-        return Ok(None);
-    }
-    calls.reverse();
-    match path_of_file(tables, at) {
-        Some(path) => Ok(Some(ItemSource {
-            root: SourceRoot::File(path.clone()?),
-            calls: SourceCalls::new(calls),
-        })),
-        None => Ok(None),
-    }
+    source_from(alloc, tables, at, within, calls)
 }

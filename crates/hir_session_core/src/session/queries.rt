@@ -1,9 +1,10 @@
 //! What a session is asked.
 ghost use Rattle.std.specs.Prelude.{◌≡◌, ◌⊎◌, IfOk, IfErr, Ok, Err, option_map, string_bytes};
+ghost use Rattle.std.specs.Option.{option_and_then};
 ghost use Rattle.hir_base.specs.Refusal.{Gives};
 ghost use Rattle.hir_item_tree.specs.Source.{source_view};
 ghost use Rattle.hir_session_state.specs.Files.{file_at};
-ghost use Rattle.hir_session_state.specs.SessionState.{kept_of};
+ghost use Rattle.hir_session_state.specs.SessionState.{kept_of, module_of, standing_of};
 ghost use Rattle.hir_session_answers.specs.Diagnostics.{diagnostics_of};
 ghost use Rattle.hir_session_answers.specs.DiagnosticsStand.{DiagnosticsStand};
 ghost use Rattle.hir_session_state.specs.Refusals.{IsDiagnosticsMemory, IsQueryMemory, IsTreeTextMemory};
@@ -11,6 +12,7 @@ ghost use Rattle.hir_session_answers.specs.Status.{status_of};
 ghost use Rattle.hir_wire.specs.declared.reply.Status.TheVariants as status;
 ghost use Rattle.hir_session_state.specs.Crates.{id_of};
 ghost use Rattle.hir_session_answers.specs.Answers.{answer_kept, answer_of};
+ghost use Rattle.hir_session_answers.specs.Walking.{standing_value};
 ghost use Rattle.hir_session_answers.specs.AnswersStand.{AnswersStand};
 ghost use Rattle.hir_session_answers.specs.Dumps.{dump_at, dump_kept};
 ghost use Rattle.hir_session_answers.specs.TreeText.{tree_text_of};
@@ -24,8 +26,9 @@ use hir_def_map::def_maps::DefMaps;
 use hir_def_map::nameres::DefMap;
 use hir_def_map::world::part::WorldPart;
 use hir_item_tree::source::Source;
-use hir_session_answers::answers::{answer_at, module_below_root};
+use hir_session_answers::answers::answer_at;
 use hir_session_answers::diagnostics::diagnostics_at;
+use hir_session_answers::standing::{PlaceStanding, standing_at};
 use hir_session_sources::crate_info::CrateInfo;
 use hir_session_sources::files::Files;
 use hir_session_state::error::{DiagnosticsError, QueryError, TreeTextError};
@@ -37,12 +40,45 @@ use hir_wire::reply::Status;
 use std::alloc::Global;
 
 impl Session {
+    /// The map that is kept of a place.
+    fn map_kept(&self, id: MapId) -> Option<&DefMap>
+        ensures value { option_map (λ m. m.now) result ≡ option_map (λ r. r.map) (kept_of self.now id) }
+    {
+        match self.kept.get(id) {
+            Some(found) => Some(found.map),
+            None => None,
+        }
+    }
+
     /// The map of a crate, unless the crate is stale or unknown.
     pub fn def_map(&self, krate: Crate) -> Option<&DefMap>
         ensures value { option_map (λ m. m.now) result ≡ option_map (λ r. r.map) (kept_of self.now (id_of krate.0)) }
     {
-        match self.kept.get(MapId::of_crate(krate)) {
-            Some(found) => Some(found.map),
+        self.map_kept(MapId::of_crate(krate))
+    }
+
+    /// Where the steps of a place lead, in what is kept.
+    pub(super) fn standing(&self, place: &Place) -> PlaceStanding
+        ensures value { standing_value result ≡ standing_of self.now place.now }
+    {
+        let blocks = self.inputs.sources().blocks();
+        standing_at(
+            &self.kept,
+            &self.tables,
+            blocks,
+            place.krate(),
+            place.elements(),
+        )
+    }
+
+    /// The map in which the module lies that a place names, of a block's place that of the block; None where the place is stale
+    /// or unknown.
+    pub fn block_map(&self, place: &Place) -> Option<&DefMap>
+        ensures value { option_map (λ m. m.now) result
+            ≡ option_map (λ r. r.map) (option_and_then (λ m. kept_of self.now m.map) (module_of self.now place.now)) }
+    {
+        match self.standing(place).module() {
+            Some(at) => self.map_kept(at.map),
             None => None,
         }
     }
@@ -58,17 +94,10 @@ impl Session {
     pub fn status(&self, place: &Place) -> Status
         ensures value { result ≡ status_of self.now place.now }
     {
-        let krate = place.krate();
-        if krate.0 as usize >= self.inputs.crates().len() {
+        if place.krate().0 as usize >= self.inputs.crates().len() {
             return Status::Unknown;
         }
-        let Some(found) = self.kept.get(MapId::of_crate(krate)) else {
-            return Status::Stale;
-        };
-        match module_below_root(found.map, place.elements()) {
-            Some(_) => Status::Current,
-            None => Status::Unknown,
-        }
+        self.standing(place).status()
     }
 
     /// The crates in the order of their numbers.
@@ -97,17 +126,16 @@ impl Session {
         ensures answer { Gives IsQueryMemory result (answer_kept self.now place.now path.now shadow style) }
         ensures stands { status.Current ≡ status_of self.now place.now → IfOk result (λ answer. AnswersStand self.now place.now path.now shadow style answer) }
     {
-        let krate = place.krate();
-        let Some(found) = self.kept.get(MapId::of_crate(krate)) else {
+        let Some(at) = self.standing(place).module() else {
             return Err(QueryError::UnknownPlace);
         };
-        let Some(transitive) = self.inputs.crates().transitive_dependencies(krate) else {
+        let Some(found) = self.kept.get(at.map) else {
             return Err(QueryError::UnknownPlace);
         };
-        let Some(at) = module_below_root(found.map, place.elements()) else {
+        let Some(transitive) = self.inputs.crates().transitive_dependencies(at.map.krate) else {
             return Err(QueryError::UnknownPlace);
         };
-        let read = WorldPart::among(self.kept.world(), transitive, &[]);
+        let read = WorldPart::among(self.kept.world(), transitive, found.holders);
         let maps = DefMaps::new(read, found.map);
         let answer = answer_at(
             alloc,
@@ -146,16 +174,14 @@ impl Session {
         ensures text { IfOk result (λ text. dump_kept self.now place.now ≡ Ok (string_bytes text)) }
         ensures refused { IfErr result (λ e. IsQueryMemory e ⊎ (dump_kept self.now place.now ≡ Err e)) }
     {
-        let Some(found) = self.kept.get(MapId::of_crate(place.krate())) else {
+        let Some(at) = self.standing(place).module() else {
             return Err(QueryError::UnknownPlace);
         };
-        match module_below_root(found.map, place.elements()) {
-            Some(_) => {
-                let text = found.map.dump(alloc, self.kept.world())?;
-                Ok(text)
-            }
-            None => Err(QueryError::UnknownPlace),
-        }
+        let Some(found) = self.kept.get(at.map) else {
+            return Err(QueryError::UnknownPlace);
+        };
+        let text = found.map.dump(alloc, self.kept.world())?;
+        Ok(text)
     }
 
     /// The modules of the whole map in which a place lies as text, each with its path and its scope.
@@ -200,7 +226,7 @@ impl Session {
         let Some(found) = self.kept.get(MapId::of_crate(krate)) else {
             return Err(DiagnosticsError::StalePlace);
         };
-        let read = WorldPart::among(self.kept.world(), transitive, &[]);
+        let read = WorldPart::among(self.kept.world(), transitive, found.holders);
         let maps = DefMaps::new(read, found.map);
         let told = diagnostics_at(
             alloc,

@@ -3,7 +3,7 @@ ghost use Rattle.std.specs.Prelude.{◌≡◌, ◌≢◌, MatchResult, codes};
 ghost use Rattle.serde_json.specs.View.{view, members_view};
 ghost use Rattle.hir_wire.specs.CommandValue.{command_view};
 ghost use Rattle.hir_wire.specs.Reading.{Reads, required, word_as};
-ghost use Rattle.hir_wire.specs.Commands.{verb_of_word, set_file_in, set_expansion_in, resolve_in, tree_in, fields_of, command_with, command_of, data_of, reading_of};
+ghost use Rattle.hir_wire.specs.Commands.{verb_of_word, set_file_in, set_expansion_in, set_block_in, resolve_in, tree_in, fields_of, command_with, command_of, data_of, reading_of};
 
 use crate::command::{Command, MacroStyle, Shadow};
 use crate::edit::Edit;
@@ -21,12 +21,14 @@ pub enum Verb {
     Crates,
     SetFile,
     RemoveFile,
+    SetBlock,
+    RemoveBlock,
     SetExpansion,
     RemoveExpansion,
     Refresh,
     Resolve,
-    Status,
     Dump,
+    Status,
     Diagnostics,
     Tree,
 }
@@ -41,12 +43,14 @@ impl Word for Verb {
             "crates" => Some(Verb::Crates),
             "set file" => Some(Verb::SetFile),
             "remove file" => Some(Verb::RemoveFile),
+            "set block" => Some(Verb::SetBlock),
+            "remove block" => Some(Verb::RemoveBlock),
             "set expansion" => Some(Verb::SetExpansion),
             "remove expansion" => Some(Verb::RemoveExpansion),
             "refresh" => Some(Verb::Refresh),
             "resolve" => Some(Verb::Resolve),
-            "status" => Some(Verb::Status),
             "dump" => Some(Verb::Dump),
+            "status" => Some(Verb::Status),
             "diagnostics" => Some(Verb::Diagnostics),
             "tree" => Some(Verb::Tree),
             _ => None,
@@ -101,6 +105,29 @@ fn read_remove_file(alloc: Global, members: &Map<String, Value>) -> Result<Comma
 {
     match required(alloc, members, "file") {
         Ok(file) => Ok(Command::Edit(Edit::RemoveFile { file })),
+        Err(error) => Err(error),
+    }
+}
+
+#[tactic(auto, unfolding(crate::specs::Commands::set_block_in))]
+fn read_set_block(alloc: Global, members: &Map<String, Value>) -> Result<Command, ReadError>
+    ensures value { Reads command_view (set_block_in (members_view members.now.entries)) result }
+{
+    match both(
+        required(alloc, members, "at"),
+        required(alloc, members, "unit"),
+    ) {
+        Ok((place, source)) => Ok(Command::Edit(Edit::SetBlock { place, source })),
+        Err(error) => Err(error),
+    }
+}
+
+fn read_remove_block(alloc: Global, members: &Map<String, Value>) -> Result<Command, ReadError>
+    ensures value { Reads command_view
+        (fields_of Verb.RemoveBlock (members_view members.now.entries)) result }
+{
+    match required(alloc, members, "at") {
+        Ok(place) => Ok(Command::Edit(Edit::RemoveBlock { place })),
         Err(error) => Err(error),
     }
 }
@@ -160,22 +187,22 @@ fn read_begin(alloc: Global, members: &Map<String, Value>) -> Result<Command, Re
     }
 }
 
-fn read_status(alloc: Global, members: &Map<String, Value>) -> Result<Command, ReadError>
-    ensures value { Reads command_view
-        (fields_of Verb.Status (members_view members.now.entries)) result }
-{
-    match required(alloc, members, "at") {
-        Ok(at) => Ok(Command::Status { at }),
-        Err(error) => Err(error),
-    }
-}
-
 fn read_dump(alloc: Global, members: &Map<String, Value>) -> Result<Command, ReadError>
     ensures value { Reads command_view
         (fields_of Verb.Dump (members_view members.now.entries)) result }
 {
     match required(alloc, members, "at") {
         Ok(at) => Ok(Command::Dump { at }),
+        Err(error) => Err(error),
+    }
+}
+
+fn read_status(alloc: Global, members: &Map<String, Value>) -> Result<Command, ReadError>
+    ensures value { Reads command_view
+        (fields_of Verb.Status (members_view members.now.entries)) result }
+{
+    match required(alloc, members, "at") {
+        Ok(at) => Ok(Command::Status { at }),
         Err(error) => Err(error),
     }
 }
@@ -215,12 +242,14 @@ fn read_verb_fields(
         Verb::Crates => read_begin(alloc, members),
         Verb::SetFile => read_set_file(alloc, members),
         Verb::RemoveFile => read_remove_file(alloc, members),
+        Verb::SetBlock => read_set_block(alloc, members),
+        Verb::RemoveBlock => read_remove_block(alloc, members),
         Verb::SetExpansion => read_set_expansion(alloc, members),
         Verb::RemoveExpansion => read_remove_expansion(alloc, members),
         Verb::Refresh => Ok(Command::Refresh),
         Verb::Resolve => read_resolve(alloc, members),
-        Verb::Status => read_status(alloc, members),
         Verb::Dump => read_dump(alloc, members),
+        Verb::Status => read_status(alloc, members),
         Verb::Diagnostics => read_diagnostics(alloc, members),
         Verb::Tree => read_tree(alloc, members),
     }

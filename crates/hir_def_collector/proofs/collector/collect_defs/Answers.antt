@@ -1,5 +1,5 @@
 -- The walk's steps lead on to where imports and calls rest.
-use Rattle.std.proofs.Common.{rules, ◌≡◌, ◌∙◌, false, [], List, None, Some, option_map, refl, ap, sym, subst}
+use Rattle.std.proofs.Common.{rules, ◌≡◌, ◌∙◌, false, List, None, Some, option_map, refl, ap, sym, subst}
 use Rattle.std.specs.Prelude.{IsSome}
 use Rattle.hir_base.specs.declared.ids.Crate.{Crate}
 use Rattle.hir_base.specs.declared.ids.MapId.{MapId}
@@ -7,13 +7,15 @@ use Rattle.hir_tables.specs.SourcePlaces.{source_value}
 use Rattle.hir_tables.specs.Tables.{source_of}
 use Rattle.hir_tables.proofs.Growth.{KeepsTables-trans}
 use Rattle.hir_def_map.specs.WorldParts.{among, part_of}
-use Rattle.hir_def_map_rules.specs.References.{crate_map}
+use Rattle.hir_def_map_rules.specs.Overlay.{map_in}
+use Rattle.hir_def_map_rules.specs.declared.block_info.BlockInfo.{BlockInfo}
 use Rattle.hir_def_map.specs.World.{finished_in}
 use Rattle.hir_collector_rules.specs.CallMoves.{ComesToRest}
 use Rattle.hir_collector_rules.specs.Derivation.{IsSpent, collected_view}
 use Rattle.hir_collector_rules.specs.Keys.{environment}
+use Rattle.hir_collector_rules.specs.ModuleFiles.{file_of_tree, is_file_meant}
 use Rattle.hir_collector_rules.specs.Moves.{OnceGrown}
-use Rattle.hir_collector_rules.specs.Start.{began, beginning, id_of, krate_of}
+use Rattle.hir_collector_rules.specs.Start.{began, beginning, block_of, holders_by, id_of, krate_of}
 use Rattle.hir_collector_rules.specs.State.{at_rest, core_in}
 use Rattle.hir_collector_rules.specs.Steps.{Steps, none}
 use Rattle.hir_collector_rules.specs.Workspace.{Workspace, transitive_dependencies_in}
@@ -22,7 +24,7 @@ use Rattle.hir_collector_rules.proofs.Changes.{id-Steps}
 use Rattle.hir_collector_rules.proofs.Derived.{begun, depends_on, ends_from}
 use Rattle.hir_collector_rules.proofs.Moves.{spent_after}
 use Rattle.hir_collector_rules.proofs.Numbers.{tables_stay}
-use Rattle.hir_def_collector.proofs.Resolved.{apart, apart_for, no_map}
+use Rattle.hir_def_collector.proofs.Resolved.{apart, both_none, meant_by, no_map, not_lacking}
 use Rattle.hir_def_collector.proofs.collector.collect_defs.Goals as goal
 
 pub returns-in_err-run-clause-many : goal.returns-in_err-run-clause-many
@@ -33,9 +35,11 @@ returns-in_err-run-clause-many g c = λ h.
     let from = beginning c.args.start c.args.tree (option_map (λ l. l.now) c.args._local) in
     let depends : c.in_ok-transitive.transitive.value ≡ transitive_dependencies_in w (krate_of c.args.start) =
     c.in_ok-transitive.ensures.value ∙ depends_on w c.krate.result _ c.transitive_dependencies.ensures.value ∙ ap (transitive_dependencies_in w) c.krate.ensures.value in
-    let reads : part_of c.among-part.result ≡ among c.in_ok-transitive.transitive.value [] all =
-    c.among-part.ensures.value ∙ ap (λ (crates : List Crate). among crates [] all) c.deref.ensures in
-    begun tables w all from (part_of c.among-part.result) c.in_ok-transitive.transitive.value reads depends
+    let holders = c.as_slice-holders.result.now in
+    let reads : part_of c.among-part.result ≡ among c.in_ok-transitive.transitive.value holders all =
+    c.among-part.ensures.value ∙ ap (λ (crates : List Crate). among crates holders all) c.deref.ensures in
+    let held : holders ≡ holders_by all c.args.start = c.as_slice-holders.ensures.value ∙ c.in_ok-held_by.ensures.value in
+    begun tables w all from (part_of c.among-part.result) c.in_ok-transitive.transitive.value holders reads depends held
     (λ maps s. IsSpent (environment tables w) maps s) (c.in_err-run.ensures.many (search rules))
 
 -- ---- no number leads to the tree: nothing is written in it
@@ -48,12 +52,14 @@ returns-then-is_unknown-clause-ends g c = λ v finished agrees.
     let from = beginning c.args.start c.args.tree (option_map (λ l. l.now) c.args._local) in
     let depends : c.in_ok-transitive.transitive.value ≡ transitive_dependencies_in w (krate_of c.args.start) =
     c.in_ok-transitive.ensures.value ∙ depends_on w c.krate.result _ c.transitive_dependencies.ensures.value ∙ ap (transitive_dependencies_in w) c.krate.ensures.value in
-    let reads : part_of c.among-part.result ≡ among c.in_ok-transitive.transitive.value [] all =
-    c.among-part.ensures.value ∙ ap (λ (crates : List Crate). among crates [] all) c.deref.ensures in
+    let holders = c.as_slice-holders.result.now in
+    let reads : part_of c.among-part.result ≡ among c.in_ok-transitive.transitive.value holders all =
+    c.among-part.ensures.value ∙ ap (λ (crates : List Crate). among crates holders all) c.deref.ensures in
+    let held : holders ≡ holders_by all c.args.start = c.as_slice-holders.ensures.value ∙ c.in_ok-held_by.ensures.value in
     let gone : source_of c.args.locations.now c.args.tree ≡ None =
     none_there source_value c.source_of.result (source_of c.args.locations.now c.args.tree) c.is_none-is_unknown.result c.source_of.ensures.value c.is_none-is_unknown.ensures c.if-is_unknown.true in
     let run = core_in c.in_ok-run.run' in
-    ends_from tables w all from (part_of c.among-part.result) c.in_ok-transitive.transitive.value reads depends run run false (collected_view c.in_ok-finish.field-0)
+    ends_from tables w all from (part_of c.among-part.result) c.in_ok-transitive.transitive.value holders reads depends held run run false (collected_view c.in_ok-finish.field-0)
     c.in_ok-run.ensures.ok none (c.in_ok-run.ensures.idle gone (environment tables w)) c.in_ok-finish.ensures.value v finished agrees
 
 -- ---- rounds follow the walk
@@ -63,13 +69,26 @@ pub resolve_rounds-requires-clause-apart : goal.resolve_rounds-requires-clause-a
 resolve_rounds-requires-clause-apart g c = λ yes local.
     let all = finished_in c.args.world.now.maps in
     let run = core_in c.in_ok-run.run' in
-    let reads : part_of c.among-part.result ≡ among c.in_ok-transitive.transitive.value [] all =
-    c.among-part.ensures.value ∙ ap (λ (crates : List Crate). among crates [] all) c.deref.ensures in
+    let holders = c.as_slice-holders.result.now in
+    let reads : part_of c.among-part.result ≡ among c.in_ok-transitive.transitive.value holders all =
+    c.among-part.ensures.value ∙ ap (λ (crates : List Crate). among crates holders all) c.deref.ensures in
     let own : run.map.id ≡ id_of c.args.start = id-Steps c.in_ok-run.ensures.ok in
-    let asked : c.of_crate.result ≡ id_of c.args.start = c.of_crate.ensures.value ∙ ap crate_map c.krate-2.ensures.value in
-    let absent : all c.of_crate.result ≡ None = no_map (all c.of_crate.result) (none_there _ c.map.result _ c.is_none-apart.result c.map.ensures.value c.is_none-apart.ensures yes) in
-    apart c.args.world.now.maps c.in_ok-transitive.transitive.value (part_of c.among-part.result) run.map.id local c.args.world.now.checked reads
-    (ap all (own ∙ sym asked) ∙ absent) (ap (λ (id : MapId). id.block) own)
+    let none = both_none (block_of c.args.start) (map_in all (id_of c.args.start)) (sym c.is_apart.ensures.value ∙ yes) in
+    apart c.args.world.now.maps c.in_ok-transitive.transitive.value holders (part_of c.among-part.result) run.map.id local c.args.world.now.checked reads
+    (ap all own ∙ no_map (all (id_of c.args.start)) none.1) (ap (λ (id : MapId). id.block) own ∙ ap (option_map (λ (b : BlockInfo). b.block)) none.0)
+
+pub returns-then-lacks_its_file-clause-kept : goal.returns-then-lacks_its_file-clause-kept
+returns-then-lacks_its_file-clause-kept g c = tables_stay c.args.locations.now
+
+-- the file in which a block is written has a number
+pub begin-requires : goal.begin-requires
+begin-requires g c = record {
+  file = λ there.
+      let tables = c.args.locations.now in
+      let file = file_of_tree c.args.tree in
+      meant_by tables file
+      (not_lacking (source_of tables c.args.tree) (is_file_meant tables file) (sym c.lacks_its_file.ensures.value ∙ c.if-lacks_its_file.false) there);
+}
 
 pub returns-in_err-run-2-clause-kept : goal.returns-in_err-run-2-clause-kept
 returns-in_err-run-2-clause-kept g c =
@@ -85,13 +104,15 @@ returns-in_err-run-2-clause-many g c = λ h.
     let run = core_in c.in_ok-run.run' in
     let depends : c.in_ok-transitive.transitive.value ≡ transitive_dependencies_in w (krate_of c.args.start) =
     c.in_ok-transitive.ensures.value ∙ depends_on w c.krate.result _ c.transitive_dependencies.ensures.value ∙ ap (transitive_dependencies_in w) c.krate.ensures.value in
-    let reads : part ≡ among c.in_ok-transitive.transitive.value [] all =
-    c.among-part.ensures.value ∙ ap (λ (crates : List Crate). among crates [] all) c.deref.ensures in
+    let holders = c.as_slice-holders.result.now in
+    let reads : part ≡ among c.in_ok-transitive.transitive.value holders all =
+    c.among-part.ensures.value ∙ ap (λ (crates : List Crate). among crates holders all) c.deref.ensures in
+    let held : holders ≡ holders_by all c.args.start = c.as_slice-holders.ensures.value ∙ c.in_ok-held_by.ensures.value in
     let there : IsSome (source_of c.args.locations.now c.args.tree) =
     some_there source_value c.source_of.result (source_of c.args.locations.now c.args.tree) c.is_none-is_unknown.result c.source_of.ensures.value c.is_none-is_unknown.ensures c.if-is_unknown.false in
     let far : OnceGrown later w (λ env. IsSpent env part (at_rest run)) =
     subst (λ (v : Workspace). OnceGrown later v (λ env. IsSpent env part (at_rest run))) c.in_ok-run.ensures.same (c.in_err-run-2.ensures.many (search rules)) in
-    begun later w all from part c.in_ok-transitive.transitive.value reads depends
+    begun later w all from part c.in_ok-transitive.transitive.value holders reads depends held
     (λ maps s. IsSpent (environment later w) maps s)
     (spent_after (c.in_ok-run.ensures.grown there later c.in_err-run-2.ensures.kept) (far later (tables_stay later)))
 
@@ -114,8 +135,10 @@ returns-clause-ends g c = λ v finished agrees.
     let last = core_in c.in_ok-run-2.run' in
     let depends : c.in_ok-transitive.transitive.value ≡ transitive_dependencies_in w (krate_of c.args.start) =
     c.in_ok-transitive.ensures.value ∙ depends_on w c.krate.result _ c.transitive_dependencies.ensures.value ∙ ap (transitive_dependencies_in w) c.krate.ensures.value in
-    let reads : part ≡ among c.in_ok-transitive.transitive.value [] all =
-    c.among-part.ensures.value ∙ ap (λ (crates : List Crate). among crates [] all) c.deref.ensures in
+    let holders = c.as_slice-holders.result.now in
+    let reads : part ≡ among c.in_ok-transitive.transitive.value holders all =
+    c.among-part.ensures.value ∙ ap (λ (crates : List Crate). among crates holders all) c.deref.ensures in
+    let held : holders ≡ holders_by all c.args.start = c.as_slice-holders.ensures.value ∙ c.in_ok-held_by.ensures.value in
     let there : IsSome (source_of c.args.locations.now c.args.tree) =
     some_there source_value c.source_of.result (source_of c.args.locations.now c.args.tree) c.is_none-is_unknown.result c.source_of.ensures.value c.is_none-is_unknown.ensures c.if-is_unknown.false in
     let same = c.in_ok-run.ensures.same in
@@ -123,5 +146,5 @@ returns-clause-ends g c = λ v finished agrees.
     subst (λ (v : Workspace). OnceGrown later v (λ env. Steps env part (at_rest run) (at_rest last))) same c.in_ok-run-2.ensures.ok in
     let comes : OnceGrown later w (λ env. ComesToRest env part run last c.in_ok-run-2.round_limit_met) =
     subst (λ (v : Workspace). OnceGrown later v (λ env. ComesToRest env part run last c.in_ok-run-2.round_limit_met)) same c.in_ok-run-2.ensures.rests in
-    ends_from later w all from part c.in_ok-transitive.transitive.value reads depends run last c.in_ok-run-2.round_limit_met (collected_view c.in_ok-finish-2.field-0)
+    ends_from later w all from part c.in_ok-transitive.transitive.value holders reads depends held run last c.in_ok-run-2.round_limit_met (collected_view c.in_ok-finish-2.field-0)
     (c.in_ok-run.ensures.grown there later c.in_ok-run-2.ensures.kept) (after later (tables_stay later)) (comes later (tables_stay later)) c.in_ok-finish-2.ensures.value v finished agrees

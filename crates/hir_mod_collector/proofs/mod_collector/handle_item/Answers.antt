@@ -42,3 +42,6 @@ returns-in_ok-visit_leaf-in_default g c = record {
   within = tt;
   many = λ h. absurd (let no : ⊥ = cc in no);
 }
+
+pub returns-in-Outline-clause-ok : goal.returns-in-Outline-clause-ok
+returns-in-Outline-clause-ok g c = rw (c.in-Mod.is, c.in-Outline.is) c.visit_outline.ensures.ok

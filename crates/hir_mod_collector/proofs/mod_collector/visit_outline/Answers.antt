@@ -20,7 +20,18 @@ use Rattle.hir_collector_rules.specs.State.{core_in}
 
 pub returns-in_err-found-clause-many : goal.returns-in_err-found-clause-many
 returns-in_err-found-clause-many g c = λ h.
-    numbers_far c.find_file.new.locations (g.D.SourceDatabase.workspace c.args.db.now) (part_of c.args.world) (core_in c.args.run.now) _ (c.in_err-found.ensures.many (search rules))
+    let tables = c.find_file.new.locations in
+    let w = g.D.SourceDatabase.workspace c.args.db.now in
+    let candidates = c.as_slice-2.result.now in
+    let declaring : Option (List ℕ) = option_map (λ p. p.now) c.as_ref.result in
+    let tried : candidates ≡ candidates_of c.args.site.now.dir c.args.name.now (path_of (head_of c.args.head)) =
+    c.as_slice-2.ensures.value ∙ c.in_ok-candidates.ensures.value
+    ∙ ap (λ (p : Option (List ℕ)). candidates_of c.args.site.now.dir c.args.name.now p) (c.path_attr-path.ensures.value ∙ ap (λ (attrs : List Attr). path_attribute (map numbered attrs)) c.as_slice.ensures.value) in
+    let written : (grown : TablesValue) → KeepsTables tables grown → IsNumberOf grown c.args.site.now.file declaring =
+    λ grown k. subst (λ (o : Option (List ℕ)). IsNumberOf grown c.args.site.now.file o) (sym c.as_ref.ensures.value)
+    (c.in_ok-declaring.ensures.value grown (KeepsTables-trans c.args.locations.now tables grown c.in_err-found.ensures.kept k)) in
+    let out = c.in_err-found.ensures.many (search rules) in
+    numbers_far tables w (part_of c.args.world) c.args.site.now (head_of c.args.head) c.args.name.now declaring candidates (core_in c.args.run.now) (core_in c.find_file.new.run) tried written c.requires.enabled out.0 out.1 out.2
 
 pub returns-in_default-clause-ok : goal.returns-in_default-clause-ok
 returns-in_default-clause-ok g c = λ grown kept items.

@@ -1,13 +1,13 @@
-use Rattle.std.proofs.Common.{◌≡◌, ◌∙◌, ◌-◌, true, false, List, Option, None, length, take, drop, sym, subst}
+use Rattle.std.proofs.Common.{rules, ◌≡◌, ◌∙◌, ◌-◌, true, false, List, Option, None, length, take, drop, sym, subst}
 use Rattle.std.specs.Prelude.{option_map}
 use Rattle.std.specs.Option.{option_map_or}
 use Rattle.hir_mod_dir.specs.declared.candidate.Candidate.{Candidate}
 use Rattle.hir_tables.proofs.Growth.{KeepsTables-trans}
 use Rattle.hir_collector_rules.specs.Workspace.{Workspace}
-use Rattle.hir_collector_rules.specs.ModuleFiles.{LookedAt, ModuleFile, taken_by}
+use Rattle.hir_collector_rules.specs.ModuleFiles.{IsTriedFile, LookedAt, ModuleFile, taken_by}
 use Rattle.hir_collector_rules.specs.Moves.{Finds}
 use Rattle.hir_mod_collector.specs.Walking.{found_view, looked_view}
-use Rattle.hir_mod_collector.proofs.Finding.{finds_here, finds_later, finds_none, looked_there, none_left, one_first}
+use Rattle.hir_mod_collector.proofs.Finding.{finds_here, finds_later, finds_none, looked_there, none_left, one_first, tried_first, tried_later}
 use Rattle.hir_collector_state.proofs.Noted.{noted_follow, noted_itself}
 use Rattle.hir_mod_collector.proofs.mod_resolution.+find_file.Goals as goal
 use Rattle.hir_collector_rules.specs.State.{core_in}
@@ -60,3 +60,35 @@ returns-in_default-clause-noted g t c = noted_itself c.args.run.now
 
 pub returns-clause-noted : goal.returns-clause-noted
 returns-clause-noted g t c = noted_follow c.in_ok-file.ensures.noted c.in_ok-later.ensures.noted
+
+pub returns-in_err-file-clause-many : goal.returns-in_err-file-clause-many
+returns-in_err-file-clause-many g t c = λ h.
+    let w = g.D.SourceDatabase.workspace c.args.db.now in
+    let krate = (core_in c.args.run.now).map.id.krate in
+    let declaring = option_map (λ p. p.now) c.args.declaring in
+    let cs = c.args.candidates.now in
+    let out = c.in_err-file.ensures.many (search rules) in (
+      out.0,
+      subst (λ (xs : List Candidate). IsTriedFile w krate declaring xs out.0) (sym (one_first cs c.candidate-item.result _ c.in-len1-up.len_at_least c.candidate-item.is))
+          (tried_first w krate declaring c.candidate-item.result (take (length cs - 1) (drop 1 cs)) out.0 out.1),
+      out.2,
+    )
+
+pub returns-in_err-later-clause-many : goal.returns-in_err-later-clause-many
+returns-in_err-later-clause-many g t c = λ h.
+    let w = g.D.SourceDatabase.workspace c.args.db.now in
+    let old = core_in c.args.run.now in
+    let mid = core_in c.look_at.new.run in
+    let declaring = option_map (λ p. p.now) c.args.declaring in
+    let cs = c.args.candidates.now in
+    let rest = take (length cs - 1) (drop 1 cs) in
+    let gone : option_map_or (λ (f : LookedAt). f.there.present) (option_map looked_view c.in_ok-file.file) false ≡ false =
+    looked_there c.in_ok-file.file ∙ sym c.is_there.ensures.value ∙ c.if-is_there.false in
+    let out = c.in_err-later.ensures.many (search rules) in
+    let tried : IsTriedFile w mid.map.id.krate declaring rest out.0 =
+    subst (λ (v : Workspace). IsTriedFile v mid.map.id.krate declaring rest out.0) c.in_ok-file.ensures.same out.1 in (
+      out.0,
+      subst (λ (xs : List Candidate). IsTriedFile w old.map.id.krate declaring xs out.0) (sym (one_first cs c.candidate-item.result _ c.in-len1-up.len_at_least c.candidate-item.is))
+          (tried_later c.look_at.new.locations w declaring c.candidate-item.result rest old mid (option_map looked_view c.in_ok-file.file) out.0 c.in_ok-file.ensures.ok gone tried),
+      out.2,
+    )

@@ -10,6 +10,6 @@ use Rattle.hir_collector_state.proofs.def_collector.DefCollector.rest.Goals as g
 pub returns-clause-noted : goal.returns-clause-noted
 returns-clause-noted c =
     let before : Run = the_view c.self.inside in
-    let after : Run = record before { settled = c.len-self-inside.result } in
+    let after : Run = record before { settled = c.len-there.result } in
     subst (λ (r : Run). OnOk c.tick.result (IsNoted r c.tick.new.self)) c.self.view_is
     (on_ok_weaker c.tick.result (noted_follow (noted_same before after refl refl refl (refl, refl, refl))) c.tick.ensures.noted)

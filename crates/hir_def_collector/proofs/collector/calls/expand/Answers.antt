@@ -21,7 +21,8 @@ look_at_call-requires g c = record { meant = c.requires.ready.meant c.args.i c.a
 
 pub returns-in_err-id-clause-many : goal.returns-in_err-id-clause-many
 returns-in_err-id-clause-many g c = λ h.
-    spent_by_numbers c.look_at_call.new.locations (g.D.SourceDatabase.workspace c.args.db.now) (part_of c.args.world) _ (c.in_err-id.ensures.many (search rules))
+    spent_by_numbers c.look_at_call.new.locations (g.D.SourceDatabase.workspace c.args.db.now) (part_of c.args.world) (core_in c.args.run.now) c.args.i c.args.call.now c.args.makro c.requires.called
+    c.requires.shallow (c.in_err-id.ensures.many (search rules))
 
 pub returns-in_err-tick-clause-many : goal.returns-in_err-tick-clause-many
 returns-in_err-tick-clause-many g c = λ h.

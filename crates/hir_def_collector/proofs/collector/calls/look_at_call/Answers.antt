@@ -4,26 +4,29 @@ use Rattle.hir_base.specs.declared.ast_id.AstId.{AstId}
 use Rattle.hir_base.specs.declared.ids.MapId.{MapId}
 use Rattle.hir_base.specs.declared.macro_kind.CallStyle.{CallStyle}
 use Rattle.hir_base.specs.declared.macro_kind.MacroCallKind.{MacroCallKind}
-use Rattle.hir_tables.specs.Interning.{Interns}
-use Rattle.hir_tables.specs.SourcePlaces.{expansion_value}
+use Rattle.hir_tables.specs.Interning.{Interns, IsFull}
+use Rattle.hir_tables.specs.SourcePlaces.{ExpansionValue, expansion_value}
 use Rattle.hir_tables.specs.Tables.{TablesValue}
 use Rattle.hir_tables.proofs.Growth.{KeepsTables-trans}
 use Rattle.hir_def_map_rules.specs.State.{Map}
 use Rattle.hir_def_map.specs.WorldParts.{part_of}
 use Rattle.hir_collector_rules.specs.declared.source_database.Key.TheVariants as keys
-use Rattle.hir_collector_rules.specs.Calls.{AreCallsPlaced, Expanding, call_key, call_style, expansion_of_call}
-use Rattle.hir_collector_rules.specs.Keys.{input_at, source_in}
+use Rattle.hir_collector_rules.specs.Calls.{AreCallsPlaced, Expanding, call_key, call_loc, call_style, expansion_of_call}
+use Rattle.hir_collector_rules.specs.Keys.{environment, input_at, source_in}
+use Rattle.hir_collector_rules.specs.Moves.{OnceGrown}
+use Rattle.hir_collector_rules.specs.NumberedOut.{LacksExpansion, expansion_by}
 use Rattle.hir_collector_rules.specs.State.{Core, core_in, with_asked}
 use Rattle.hir_collector_rules.specs.Workspace.{Workspace, entry_look, seen_of}
 use Rattle.hir_mod_collector.proofs.CallPlaces.{placed_grown}
-use Rattle.hir_def_collector.proofs.Looking.{asked_all, placed_call, sees_call}
+use Rattle.hir_collector_rules.proofs.Numbers.{refused_full, tables_stay}
+use Rattle.hir_def_collector.proofs.Looking.{asked_all, key_of_call, lacks_expansion, lacks_its_call, placed_call, sees_call}
 use Rattle.hir_collector_state.proofs.Noted.{noted_follow}
 use Rattle.hir_def_collector.proofs.collector.calls.look_at_call.Goals as goal
 
 pub returns-in_err-id-clause-placed : goal.returns-in_err-id-clause-placed
 returns-in_err-id-clause-placed g c =
     subst (λ (t : TablesValue). AreCallsPlaced c.args.locations.now → AreCallsPlaced t) (sym c.in_err-id.ensures.err)
-    (placed_grown c.args.locations.now c.intern_entry.new.self c.intern_entry.ensures.kept (ap (λ (t : TablesValue). t.calls) c.intern_entry.ensures.others) (ap (λ (t : TablesValue). t.blocks) c.intern_entry.ensures.others))
+    (placed_grown c.args.locations.now c.intern_entry.new.self c.intern_entry.ensures.kept (ap (λ (t : TablesValue). t.calls) c.intern_entry.ensures.others))
 
 pub returns-in_err-source-clause-kept : goal.returns-in_err-source-clause-kept
 returns-in_err-source-clause-kept g c =
@@ -117,3 +120,51 @@ returns-clause-ok g c =
 
 pub returns-clause-noted : goal.returns-clause-noted
 returns-clause-noted g c = noted_follow c.in_ok-ask_text.ensures.noted (noted_follow c.in_ok-ask.ensures.noted (noted_follow c.in_ok-ask-2.ensures.noted c.in_ok-ask-3.ensures.noted))
+
+-- ---- the expansion, or the call, can't get a number
+
+pub returns-in_err-entry-clause-many : goal.returns-in_err-entry-clause-many
+returns-in_err-entry-clause-many g c = λ h.
+    let tables = c.args.locations.now in
+    let w = g.D.SourceDatabase.workspace c.args.db.now in
+    let part = part_of c.args.world in
+    let map = (core_in c.args.run.now).map in
+    let call = c.args.call.now in
+    let makro = c.args.makro in
+    let kept = tables_stay tables in
+    let of_macro = c.is_meant.ensures.meant c.if-not-is_meant.false in
+    let own : c.id.result ≡ map.id = c.id.ensures.value ∙ ap (λ (m : Map). m.id) c.map.ensures.value in
+    let after_text = c.in_ok-text.ensures.same in
+    let key : ExpansionValue = expansion_value c.in_ok-key.key in
+    let is : key ≡ expansion_by (environment tables w) part map call makro =
+    key_of_call tables tables w part map call makro kept c.requires.meant of_macro c.id.result.krate c.call_style.result c.in_ok-text.text c.in_ok-input.input key c.in_ok-key.ensures.value
+    (ap (λ (i : MapId). i.krate) own) c.call_style.ensures.value c.in_ok-text.ensures.value
+    (c.in_ok-input.ensures.value ∙ ap (λ (v : Workspace). input_at tables v c.id.result.krate call.ast_id) after_text ∙ ap (λ (i : MapId). input_at tables w i.krate call.ast_id) own) in
+    let full : IsFull tables.entries key = c.intern_entry.ensures.too_many.0 (refused_full _ _ _ c.in_err-entry.was c.from_residual-in_err-entry.ensures.1 h) in
+    subst (λ (t : TablesValue). OnceGrown t w (λ env. LacksExpansion env part map call makro)) (sym c.in_err-entry.ensures.err)
+    (lacks_expansion tables tables w part map call makro kept c.requires.meant of_macro key is full)
+
+pub returns-in_err-id-clause-many : goal.returns-in_err-id-clause-many
+returns-in_err-id-clause-many g c = λ h.
+    let tables = c.args.locations.now in
+    let w = g.D.SourceDatabase.workspace c.args.db.now in
+    let part = part_of c.args.world in
+    let map = (core_in c.args.run.now).map in
+    let call = c.args.call.now in
+    let makro = c.args.makro in
+    let kept = tables_stay tables in
+    let of_macro = c.is_meant.ensures.meant c.if-not-is_meant.false in
+    let own : c.id.result ≡ map.id = c.id.ensures.value ∙ ap (λ (m : Map). m.id) c.map.ensures.value in
+    let after_text = c.in_ok-text.ensures.same in
+    let key : ExpansionValue = expansion_value c.in_ok-key.key in
+    let is : key ≡ expansion_by (environment tables w) part map call makro =
+    key_of_call tables tables w part map call makro kept c.requires.meant of_macro c.id.result.krate c.call_style.result c.in_ok-text.text c.in_ok-input.input key c.in_ok-key.ensures.value
+    (ap (λ (i : MapId). i.krate) own) c.call_style.ensures.value c.in_ok-text.ensures.value
+    (c.in_ok-input.ensures.value ∙ ap (λ (v : Workspace). input_at tables v c.id.result.krate call.ast_id) after_text ∙ ap (λ (i : MapId). input_at tables w i.krate call.ast_id) own) in
+    let middle = c.intern_entry.new.self in
+    let entry = c.in_ok-entry.entry in
+    let full : IsFull middle.calls (call_loc call entry) =
+    subst (λ (k : MacroCallKind). IsFull middle.calls (record { kind = k; entry = entry })) c.call_kind.ensures.value
+    (c.intern_call.ensures.too_many.0 (refused_full _ _ _ c.in_err-id.was c.from_residual-in_err-id.ensures.1 h)) in
+    subst (λ (t : TablesValue). OnceGrown t w (λ env. LacksExpansion env part map call makro)) (sym c.in_err-id.ensures.err)
+    (lacks_its_call tables middle w part map call makro c.intern_entry.ensures.kept c.requires.meant of_macro key entry is c.in_ok-entry.ensures.found full)

@@ -9,8 +9,9 @@ use Rattle.hir_import_resolution.specs.Inner.State.{IsApart}
 use Rattle.hir_import_resolution.specs.Rounds.{is_lasting}
 use Rattle.hir_call_queue.specs.Changes.{joined}
 use Rattle.hir_def_collector.specs.declared.collector.calls.Turn.{Turn}
+use Rattle.hir_def_collector.specs.declared.collector.calls.Turn.TheVariants.{GaveUp, Round}
 use Rattle.hir_collector_rules.specs.CallMoves.{ComesToRest, EndsInRound, NoneWaitsBefore, cut_off, rested}
-use Rattle.hir_def_collector.specs.Turns.{TakesTurn}
+use Rattle.hir_def_collector.specs.Turns.{CountsOn, TakesTurn}
 use Rattle.hir_collector_rules.specs.Derivation.{IsSpent}
 use Rattle.hir_collector_rules.specs.Keys.{Environment, environment}
 use Rattle.hir_collector_rules.specs.Moves.{OnceGrown}
@@ -126,12 +127,16 @@ rounds-preserved g c =
       first = turned later (tables_stay later);
     }
 
--- the measure: steps are counted in each turn, and there were fewer than may be
+-- the measure: steps are counted in each turn that isn't the last, and no more than may be
 pub rounds-smaller : goal.rounds-smaller
-rounds-smaller g c = omega (arith, c.in_ok-next.ensures.counts.0, c.in_ok-next.ensures.counts.1)
+rounds-smaller g c =
+    let on : CountsOn (core_in c.rounds.run) (core_in c.in_ok-next.next) (GaveUp c.in-GaveUp.behind) = subst (CountsOn (core_in c.rounds.run) (core_in c.in_ok-next.next)) c.in-GaveUp.is c.in_ok-next.ensures.counts in
+    omega (arith, on, c.count-is_counted.ensures.value, c.count-is_counted.ensures.small)
 
 pub rounds-smaller-in-Round : goal.rounds-smaller-in-Round
-rounds-smaller-in-Round g c = omega (arith, c.in_ok-next.ensures.counts.0, c.in_ok-next.ensures.counts.1)
+rounds-smaller-in-Round g c =
+    let on : CountsOn (core_in c.rounds.run) (core_in c.in_ok-next.next) Round = subst (CountsOn (core_in c.rounds.run) (core_in c.in_ok-next.next)) c.in-Round.is c.in_ok-next.ensures.counts in
+    omega (arith, on, c.count-is_counted.ensures.value, c.count-is_counted.ensures.small)
 
 -- ---- nothing leads anywhere
 

@@ -5,7 +5,7 @@ use Rattle.hir_import_resolution.specs.Rest.{IsAtRest}
 use Rattle.hir_collector_rules.specs.declared.start.TheConstants.{STEP_LIMIT}
 use Rattle.hir_collector_rules.specs.State.{Core, at_rest, core_in, import_state}
 use Rattle.hir_collector_rules.proofs.Changes.{count-Steps}
-use Rattle.hir_collector_items.proofs.CallSteps.{rest_counted, rested, rested_past}
+use Rattle.hir_collector_items.proofs.CallSteps.{count_rested, rest_rested, rested, rested_past, settled_rested}
 use Rattle.hir_collector_rules.proofs.Moves.{Steps-append, spent_after}
 use Rattle.hir_collector_state.proofs.Noted.{slots_follow}
 use Rattle.hir_def_collector.proofs.Resuming.{behind_settled}
@@ -18,24 +18,20 @@ returns-clause-ok c = λ env.
     (rested env (part_of c.args.world) (core_in c.in_ok-run.run') (core_in c.rest.new.self) c.in_ok-run.ensures.rests c.in_ok-rest.ensures.ok)
 
 pub returns-clause-rests : goal.returns-clause-rests
-returns-clause-rests c =
-    subst (λ (n : Core). IsAtRest (part_of c.args.world) (import_state (at_rest n))) (sym c.in_ok-rest.ensures.ok)
-    (rest_counted (part_of c.args.world) (core_in c.in_ok-run.run') c.in_ok-run.ensures.rests)
+returns-clause-rests c = rest_rested (part_of c.args.world) (core_in c.in_ok-run.run') (core_in c.rest.new.self) c.in_ok-rest.ensures.ok c.in_ok-run.ensures.rests
 
 pub returns-in_err-rest-clause-many : goal.returns-in_err-rest-clause-many
 returns-in_err-rest-clause-many c = λ h env.
     spent_after (c.in_ok-run.ensures.ok env) (rested_past env (part_of c.args.world) (core_in c.in_ok-run.run') c.in_ok-run.ensures.rests (c.in_err-rest.ensures.many (search rules)))
 
 pub returns-clause-settled : goal.returns-clause-settled
-returns-clause-settled c = ap (λ (n : Core). n.settled) c.in_ok-rest.ensures.ok ∙ sym (ap (λ (n : Core). length n.calls) c.in_ok-rest.ensures.ok)
+returns-clause-settled c = settled_rested (core_in c.in_ok-run.run') (core_in c.rest.new.self) c.in_ok-rest.ensures.ok
 
--- steps are counted, and there were fewer than may be
 pub returns-clause-counts : goal.returns-clause-counts
 returns-clause-counts c =
     let before : (core_in c.args.run).count ≤ (core_in c.in_ok-run.run').count = count-Steps (c.in_ok-run.ensures.ok nowhere) in
-    let one : (core_in c.rest.new.self).count ≡ (core_in c.in_ok-run.run').count + 1 = ap (λ (n : Core). n.count) c.in_ok-rest.ensures.ok in
-    let below : (core_in c.in_ok-run.run').count < STEP_LIMIT = c.in_ok-rest.ensures.below in
-    (omega (arith, before, one), omega (arith, before, below))
+    let on : (core_in c.in_ok-run.run').count ≤ (core_in c.rest.new.self).count = count_rested (core_in c.in_ok-run.run') (core_in c.rest.new.self) c.in_ok-rest.ensures.ok in
+    omega (arith, before, on)
 
 pub returns-clause-noted : goal.returns-clause-noted
 returns-clause-noted c = slots_follow c.in_ok-run.ensures.noted c.in_ok-rest.ensures.noted.slots

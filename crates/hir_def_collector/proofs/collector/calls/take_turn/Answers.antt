@@ -1,6 +1,6 @@
 -- One turn: imports rest, what is queued is tried, and where nothing was handled the first attribute that waits is given up.
 use Rattle.std.proofs.lemmas.Result.{err_from_is_err_and}
-use Rattle.std.proofs.Common.{Err, ◌≡◌, ◌∙◌, None, ap, false, length, subst, sym, true, arith}
+use Rattle.std.proofs.Common.{Err, ◌≡◌, ◌∙◌, ◌<◌, None, Some, ap, false, length, subst, sym, true, arith}
 use Rattle.hir_base.specs.declared.ids.MapId.{MapId}
 use Rattle.hir_tables.proofs.Growth.{KeepsTables-trans}
 use Rattle.hir_def_map.specs.WorldParts.{part_of}
@@ -16,11 +16,11 @@ use Rattle.hir_collector_rules.specs.State.{Core, at_rest, core_in, import_state
 use Rattle.hir_collector_rules.specs.Steps.{Steps}
 use Rattle.hir_collector_rules.specs.Waiting.{IsBehind}
 use Rattle.hir_collector_rules.specs.Workspace.{Workspace}
-use Rattle.hir_collector_rules.proofs.Changes.{count-Steps, id-Steps}
+use Rattle.hir_collector_rules.proofs.Changes.{count-Steps, counts_on, id-Steps}
 use Rattle.hir_def_collector.proofs.GivingUp.{none_waits_later}
 use Rattle.hir_collector_rules.proofs.Moves.{Steps-append, spent_after}
 use Rattle.hir_collector_rules.proofs.Numbers.{tables_stay}
-use Rattle.hir_def_collector.proofs.Queued.{none_handled, of_round, rests_idle, settles_requeued}
+use Rattle.hir_def_collector.proofs.Queued.{none_handled, of_round, rests_idle, rises_on, settles_requeued}
 use Rattle.hir_def_collector.proofs.Ready.{ready_after, ready_grown}
 use Rattle.hir_def_collector.proofs.Resuming.{behind_later, behind_tried, one_error, resumable_behind}
 use Rattle.hir_def_collector.proofs.Waiting.{keeps_waiting, stale_later, stale_now}
@@ -101,12 +101,17 @@ returns-then-branch-clause-behind g c =
     behind_tried part c.in_ok-run.imports c.clear.new.self c.try_calls.new.grown (core_in c.in_ok-run.run') c.requeue.new.run c.try_calls.new.run c.requeue.ensures.same
     (c.in_ok-run.ensures.behind (ready_after (c.in_ok-run.ensures.ok here) c.requires.ready).paired) c.in_ok-try_calls.ensures.gathered
 
+-- what was handled doesn't wait any more, so steps were taken
 pub returns-then-branch-clause-counts : goal.returns-then-branch-clause-counts
 returns-then-branch-clause-counts g c =
     let later = c.try_calls.new.locations in
-    let same = ap (λ (core : Core). core.count) c.requeue.ensures.same in
-    let more = count-Steps (c.in_ok-try_calls.ensures.ok later (tables_stay later)) in
-    (omega (arith, c.in_ok-run.ensures.counts.0, same, more), c.in_ok-run.ensures.counts.1)
+    let env = environment later (g.D.SourceDatabase.workspace c.args.db.now) in
+    let settled = core_in c.requeue.new.run in
+    let new = core_in c.try_calls.new.run in
+    let same : settled.count ≡ (core_in c.in_ok-run.run').count = ap (λ (core : Core). core.count) c.requeue.ensures.same in
+    let round = of_round env (part_of c.args.world) (core_in c.args.run) settled new c.in_ok-try_calls.field-0 c.if-branch.true (c.in_ok-try_calls.ensures.tried later (tables_stay later)) in
+    let on : settled.count < new.count = counts_on (c.in_ok-try_calls.ensures.ok later (tables_stay later)) (rises_on (at_rest settled) (at_rest new) round.rises) in
+    omega (arith, c.in_ok-run.ensures.counts, same, on)
 
 pub returns-then-branch-clause-turned : goal.returns-then-branch-clause-turned
 returns-then-branch-clause-turned g c = λ grown k.
@@ -214,11 +219,10 @@ returns-in-Some-clause-behind g c =
 pub returns-in-Some-clause-counts : goal.returns-in-Some-clause-counts
 returns-in-Some-clause-counts g c =
     let middle = c.try_calls.new.locations in
-    let later = c.give_up.new.locations in
     let same = ap (λ (core : Core). core.count) c.requeue.ensures.same in
     let more = count-Steps (c.in_ok-try_calls.ensures.ok middle (tables_stay middle)) in
-    let again = count-Steps (c.in_ok-given.ensures.ok later (tables_stay later)) in
-    (omega (arith, c.in_ok-run.ensures.counts.0, same, more, again), c.in_ok-run.ensures.counts.1)
+    let given : IsGivenUp (core_in c.try_calls.new.run) (core_in c.give_up.new.run) (Some c.in-Some.next) = subst (IsGivenUp (core_in c.try_calls.new.run) (core_in c.give_up.new.run)) c.in-Some.is c.in_ok-given.ensures.given in
+    omega (arith, c.in_ok-run.ensures.counts, same, more, given.0)
 
 pub returns-in-None-clause-kept : goal.returns-in-None-clause-kept
 returns-in-None-clause-kept g c = KeepsTables-trans c.args.locations.now c.try_calls.new.locations c.give_up.new.locations c.in_ok-try_calls.ensures.kept c.in_ok-given.ensures.kept
@@ -255,16 +259,12 @@ returns-in-None-clause-behind g c =
     (c.in_ok-run.ensures.behind (ready_after (c.in_ok-run.ensures.ok here) c.requires.ready).paired) c.in_ok-try_calls.ensures.gathered)
 
 pub returns-in-None-clause-counts : goal.returns-in-None-clause-counts
-returns-in-None-clause-counts g c =
-    let middle = c.try_calls.new.locations in
-    let later = c.give_up.new.locations in
-    let same = ap (λ (core : Core). core.count) c.requeue.ensures.same in
-    let more = count-Steps (c.in_ok-try_calls.ensures.ok middle (tables_stay middle)) in
-    let again = count-Steps (c.in_ok-given.ensures.ok later (tables_stay later)) in
-    (omega (arith, c.in_ok-run.ensures.counts.0, same, more, again), c.in_ok-run.ensures.counts.1)
+returns-in-None-clause-counts g c = tt
 
 pub returns-in-Some-clause-turned : goal.returns-in-Some-clause-turned
-returns-in-Some-clause-turned g c = λ grown k. subst (IsGivenUp (core_in c.try_calls.new.run) (core_in c.give_up.new.run)) c.in-Some.is c.in_ok-given.ensures.given
+returns-in-Some-clause-turned g c = λ grown k.
+    let given : IsGivenUp (core_in c.try_calls.new.run) (core_in c.give_up.new.run) (Some c.in-Some.next) = subst (IsGivenUp (core_in c.try_calls.new.run) (core_in c.give_up.new.run)) c.in-Some.is c.in_ok-given.ensures.given in
+    given.1
 
 pub returns-in-None-clause-turned : goal.returns-in-None-clause-turned
 returns-in-None-clause-turned g c = λ grown k.

@@ -50,3 +50,7 @@ give_up_at-requires-clause-of g c = sym c.in-Some-waiting_item.ensures.value
 -- there are no more places than have numbers
 pub overflow_add-result : goal.overflow_add-result
 overflow_add-result g c = omega (arith, c.in-Some.ensures.below)
+
+-- that took a step
+pub returns-clause-given : goal.returns-clause-given
+returns-clause-given g c = (c.in_ok-give_up_at.ensures.counts, c.in_ok-give_up_at.ensures.before)

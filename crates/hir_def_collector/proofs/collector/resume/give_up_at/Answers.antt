@@ -1,5 +1,6 @@
 -- An attribute is given up in one step, and then its item is handled behind it.
-use Rattle.std.proofs.Common.{rules, ◌≡◌, ◌∙◌, ◌<◌, ◌≤◌, ◌++◌, [], Some, ap, length, refl, subst, sym}
+use Rattle.std.proofs.Common.{rules, arith, ◌≡◌, ◌∙◌, ◌+◌, ◌<◌, ◌≤◌, ◌++◌, [], Some, ap, length, refl, subst, sym}
+use Rattle.hir_collector_rules.proofs.Changes.{count-Steps}
 use Rattle.hir_item_tree.specs.KeptForest.{all_items}
 use Rattle.hir_item_tree.specs.SourceTree.{SourceTreeValue}
 use Rattle.hir_def_map_rules.specs.Macros.{with_diagnostic}
@@ -109,3 +110,12 @@ returns-clause-before g c =
 
 pub returns-clause-noted : goal.returns-clause-noted
 returns-clause-noted g c = beside_follow (noted_beside (noted_follow c.end_call.ensures.noted (noted_follow c.in_ok-tell.ensures.noted c.in_ok-tick.ensures.noted))) c.in_ok-walk_item.ensures.noted
+
+-- a step was taken
+pub returns-clause-counts : goal.returns-clause-counts
+returns-clause-counts g c =
+    let tables = c.walk_item.new.locations in
+    let told : (core_in c.tell.new.self).count ≡ (core_in c.args.run.now).count = ap (λ (x : Core). x.count) c.in_ok-tell.ensures.ok ∙ ap (λ (x : Core). x.count) c.end_call.ensures.value in
+    let one : (core_in c.tick.new.self).count ≡ (core_in c.tell.new.self).count + 1 = ap (λ (x : Core). x.count) c.in_ok-tick.ensures.ok in
+    let more = count-Steps ((c.in_ok-walk_item.ensures.ok tables (tables_stay tables)).steps []) in
+    omega (arith, told, one, more)

@@ -1,6 +1,5 @@
 use Rattle.std.proofs.Common.{◌≡◌, option_map}
-use Rattle.hir_session_answers.specs.SourceCalls.{source_of, source_within}
-use Rattle.hir_session_answers.proofs.CallLemmas.{and_calls}
+use Rattle.hir_session_answers.specs.SourceCalls.{and_calls, source_of, source_within}
 use Rattle.hir_session_answers.proofs.source_items.source_calls.source_at.Given as goal
 
 -- what holds the syntax is what holds the outermost call so far, and those calls

@@ -1,56 +1,45 @@
--- The resolution is what the run gave over the present files, and all that the crate depends on comes before it.
-use Rattle.std.proofs.Common.{ℕ, ◌<◌, true, false, length, List, subst, ◌≡◌, ◌∙◌, ap, sym, refl}
-use Rattle.hir_collector_rules.specs.Derivation.{collected_view}
-use Rattle.hir_session_state.specs.Crates.{id_of}
-use Rattle.hir_session_state.specs.Kept.{Resolutions}
-use Rattle.hir_session_state.specs.SessionState.{SessionState, IsResolutionOf, IsSound}
-use Rattle.hir_session_state.specs.Due.{Grows}
+-- All that the crate depends on comes before it.
+use Rattle.std.proofs.Common.{◌≡◌, ◌∙◌, sym, subst, refl, true, length, List, ◌<◌}
 use Rattle.hir_base.specs.declared.ids.MapId.{MapId}
-use Rattle.hir_session_state.specs.Askers.{is_asker}
-use Rattle.hir_session_state.proofs.Asking.{noted_kept, noted_more}
-use Rattle.hir_session_state.proofs.Resolving.{may_join}
-use Rattle.hir_session_core.proofs.Sound.{free_grown, resolved_grown, resolved_of}
+use Rattle.hir_collector_rules.specs.Derivation.{collected_view}
+use Rattle.hir_session_state.specs.Crates.{CrateValue, id_of}
+use Rattle.hir_session_state.specs.Due.{Resolved}
+use Rattle.hir_session_state.specs.SessionState.{IsPlace, IsResolutionOf, is_marked}
+use Rattle.hir_session_state.specs.SessionState.IsPlace.{of_crate}
+use Rattle.hir_session_core.specs.Progress.{held_in, AreFollowedCurrent}
+use Rattle.hir_session_core.proofs.Due.{passed_on}
+use Rattle.hir_session_core.proofs.Growth.{grown_mark, resolved_later}
+use Rattle.hir_session_core.proofs.Sound.{followed_crates}
 use Rattle.hir_session_core.proofs.session.Session.resolve_at.Goals as goal
 
-pub keep-requires-clause-free : goal.keep-requires-clause-free
-keep-requires-clause-free c =
-    let back = sym c.self.view_is in
-    let grown = subst (λ (s : SessionState). Grows c.args.self.now s) back c.in_ok-found.ensures.grown in
-    let found = subst (λ (s : SessionState). IsResolutionOf s (id_of c.args.k) (collected_view c.in_ok-found.found)) back c.in_ok-found.ensures.found in
-    free_grown c.args.self.now _ c.args.k _ grown found c.requires.first c.requires.marked
+pub keep_found-requires-clause-place : goal.keep_found-requires-clause-place
+keep_found-requires-clause-place c = subst (λ (x : MapId). IsPlace c.found_at.new.self x) (sym c.of_crate.ensures.value)
+    (of_crate refl (subst (λ (cs : List CrateValue). c.args.k < length cs) (sym c.in_ok-found.ensures.grown.crates) c.requires.within))
 
-pub keep-requires-clause-complete : goal.keep-requires-clause-complete
-keep-requires-clause-complete c =
-    may_join _ (id_of c.args.k) _ (subst (λ (s : SessionState). IsResolutionOf s (id_of c.args.k) (collected_view c.in_ok-found.found)) (sym c.self.view_is) c.in_ok-found.ensures.found)
+pub keep_found-requires-clause-marked : goal.keep_found-requires-clause-marked
+keep_found-requires-clause-marked c = subst (λ (x : MapId). is_marked c.found_at.new.self x ≡ true) (sym c.of_crate.ensures.value)
+    (grown_mark _ _ c.in_ok-found.ensures.grown (id_of c.args.k) ∙ c.requires.marked)
 
--- what the run asked for was noted before
-pub invariant_of-self : goal.invariant_of-self
-invariant_of-self c = (c.self.invariant.0, noted_more _ _ _ c.self.invariant.1 _ c.note.ensures.stay)
+pub keep_found-requires-clause-found : goal.keep_found-requires-clause-found
+keep_found-requires-clause-found c =
+    subst (λ (x : MapId). IsResolutionOf c.found_at.new.self x (held_in c.found_at.new.self (collected_view c.in_ok-found.found))) (sym c.of_crate.ensures.value) c.in_ok-found.ensures.found
 
-pub invariant_of-self-in_err-keep : goal.invariant_of-self-in_err-keep
-invariant_of-self-in_err-keep c = rw c.in_err-keep.ensures.err (c.self.invariant.0, noted_more _ _ _ c.self.invariant.1 _ c.note.ensures.stay)
-
-pub invariant_of-self-2 : goal.invariant_of-self-2
-invariant_of-self-2 c =
-    let back = sym c.self.view_is in
-    let grown = subst (λ (s : SessionState). Grows c.args.self.now s) back c.in_ok-found.ensures.grown in
-    let found = subst (λ (s : SessionState). IsResolutionOf s (id_of c.args.k) (collected_view c.in_ok-found.found)) back c.in_ok-found.ensures.found in (
-      resolved_grown c.args.self.now _ c.args.k _ grown found c.requires.first c.requires.marked c.keep.new.self c.requires.within c.in_ok-keep.ensures.here c.in_ok-keep.ensures.others,
-      noted_kept _ _ _ (noted_more _ _ _ c.self.invariant.1 _ c.note.ensures.stay) c.keep.new.self c.in_ok-found.found.map.id (collected_view c.in_ok-found.found)
-          c.in_ok-keep.ensures.here c.in_ok-keep.ensures.others
-          (λ key number among asks. subst (λ (id : MapId). is_asker c.note.new.self number id ≡ true) (c.of_crate.ensures.value ∙ sym found.own) (c.in_ok-note.ensures.all key number among asks)),
-    )
+pub keep_found-requires-clause-behind : goal.keep_found-requires-clause-behind
+keep_found-requires-clause-behind c =
+    subst (λ (x : MapId). AreFollowedCurrent c.found_at.new.self x c.in_ok-found.found.map.holder) (sym c.of_crate.ensures.value)
+    (followed_crates c.found_at.new.self c.in_ok-found.ensures.grown.sound c.args.k (λ j low. grown_mark _ _ c.in_ok-found.ensures.grown (id_of j) ∙ c.requires.first j low)
+    c.in_ok-found.found.map.holder)
 
 pub returns-clause-ok : goal.returns-clause-ok
 returns-clause-ok c =
-    let back = sym c.self.view_is in
-    let grown = subst (λ (s : SessionState). Grows c.args.self.now s) back c.in_ok-found.ensures.grown in
-    let found = subst (λ (s : SessionState). IsResolutionOf s (id_of c.args.k) (collected_view c.in_ok-found.found)) back c.in_ok-found.ensures.found in
-    (collected_view c.in_ok-found.found, resolved_of c.args.self.now _ c.keep.new.self (id_of c.args.k) _ grown found.own c.in_ok-keep.ensures.here c.in_ok-keep.ensures.others)
+    let found = held_in c.found_at.new.self (collected_view c.in_ok-found.found) in (
+      found,
+      subst (λ (x : MapId). Resolved c.args.self.now x found c.keep_found.new.self) c.of_crate.ensures.value
+          (resolved_later c.args.self.now c.found_at.new.self c.keep_found.new.self c.of_crate.result found c.in_ok-found.ensures.grown c.in_ok-keep_found.ensures.ok),
+    )
 
 pub returns-clause-sound : goal.returns-clause-sound
-returns-clause-sound c =
-    let back = sym c.self.view_is in
-    let grown = subst (λ (s : SessionState). Grows c.args.self.now s) back c.in_ok-found.ensures.grown in
-    let found = subst (λ (s : SessionState). IsResolutionOf s (id_of c.args.k) (collected_view c.in_ok-found.found)) back c.in_ok-found.ensures.found in
-    resolved_grown c.args.self.now _ c.args.k _ grown found c.requires.first c.requires.marked c.keep.new.self c.requires.within c.in_ok-keep.ensures.here c.in_ok-keep.ensures.others
+returns-clause-sound c = c.keep_found.ensures.sound
+
+pub returns-in_err-found-clause-many : goal.returns-in_err-found-clause-many
+returns-in_err-found-clause-many c = λ many. c.found_at.ensures.many (passed_on _ _ _ _ c.in_err-found.was c.from_residual.ensures.1 many)

@@ -1,6 +1,6 @@
 -- What is kept of the other sources stays; of this one nothing is.
 use Rattle.std.proofs.Common.{ap, sym, Some}
-use Rattle.hir_tables.specs.SourcePlaces.{expansion_value}
+use Rattle.hir_tables.specs.SourcePlaces.{expansion, expansion_value}
 use Rattle.hir_wire.specs.Edits.{entry_view}
 use Rattle.hir_session_state.specs.SourceEdits.{of_expansion}
 use Rattle.hir_session_state.specs.SourceTable.{workspace_in}
@@ -15,4 +15,4 @@ invariant_of-self c =
     (dropped_current c.self.inside.crates c.self.inside.sources (of_expansion (expansion_value c.args.key) (Some (entry_view c.args.entry))) c.self.inside.trees c.remove.new.self c.self.invariant
     c.remove.ensures.gone c.remove.ensures.others))
     (λ same. current_over _ _ c.remove.new.self (ap (workspace_in c.self.inside.crates) (sym same))
-    (dropped_same _ (expansion_value c.args.key) c.self.inside.trees c.remove.new.self c.self.invariant c.remove.ensures.gone c.remove.ensures.others))
+    (dropped_same _ (expansion (expansion_value c.args.key)) c.self.inside.trees c.remove.new.self c.self.invariant c.remove.ensures.gone c.remove.ensures.others))

@@ -14,7 +14,7 @@ invariant_of-self-2 c =
     let place : SourcePlaceValue = source_value c.args.place in
     let right : c.in_ok-clone-2.field-0.value ≡ w.tree c.args.krate place =
     c.in_ok-clone-2.ensures.cases ∙ c.in_ok-tree.ensures.value
-    ∙ ap (λ (o : Option SourceValue). tree_under c.args.self.now.crates.now c.args.krate.0 place o) c.get-2.ensures.value in
+    ∙ ap (λ (o : Option SourceValue). tree_under c.args.self.now.crates.now c.args.krate.0 place o) c.in_ok-source.ensures.value in
     record {
       current = on_either c.set.result c.set.ensures.ok c.set.ensures.err
           (λ becomes. set_current w c.args.self.now.trees c.set.new.self place c.args.krate c.in_ok-clone-2.field-0.value right c.args.self.now.current becomes)

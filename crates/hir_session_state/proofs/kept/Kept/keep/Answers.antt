@@ -1,13 +1,14 @@
 -- What was found is complete and names only what is kept, so it joins the maps, and stands where nothing was kept.
-use Rattle.std.proofs.Common.{◌≡◌, ◌≢◌, ◌∙◌, ap, sym, subst, Bool, Some, None, true, false}
-use Rattle.std.specs.BTreeMap.{get, is_at}
+use Rattle.std.proofs.Common.{◌≡◌, ◌∙◌, ap, subst, Some, false}
+use Rattle.std.specs.BTreeMap.{is_at}
 use Rattle.hir_base.specs.declared.ids.MapId.{MapId}
 use Rattle.hir_base.specs.contracts.ids.MapIdOrd.TheImpl as map_order
-use Rattle.hir_def_map.specs.World.{finished_in}
+use Rattle.hir_def_map_rules.specs.Overlay.{Maps, holders_under}
 use Rattle.hir_scope.proofs.Rewrites.{on_err}
 use Rattle.hir_session_state.specs.declared.runs.KeptRun.{KeptRun}
-use Rattle.hir_session_state.specs.Kept.{Resolutions, kept_in}
-use Rattle.hir_session_state.proofs.KeptLemmas.{Runs, absent, kept_else, kept_here, may_join_there, run_aside, run_in, same_held, same_resolutions, same_runs, still_unheld}
+use Rattle.hir_session_state.specs.Kept.{Resolutions, finished_by, held, kept_in}
+use Rattle.hir_collector_rules.specs.Derivation.{collected_view}
+use Rattle.hir_session_state.proofs.KeptLemmas.{Runs, absent, kept_else, kept_here, may_join_there, run_aside, run_in, same_resolutions, same_runs, told}
 use Rattle.hir_session_state.proofs.kept.Kept.keep.Goals as goal
 
 -- the run stands under the id of the map, and each other where it stood
@@ -26,12 +27,9 @@ returns-in_err-put-clause-err c =
 
 pub join-requires : goal.join-requires
 join-requires c = record {
-  may = may_join_there c.self.inside.world.maps c.self.inside.runs.by_place c.self.invariant c.args.self.now c.self.view_is c.args.found.map c.args.found.local
+  may = may_join_there c.self.inside.world.maps c.self.inside.runs.by_place c.args.self.now c.self.view_is c.args.found.map c.args.found.local
       c.requires.free c.requires.complete;
 }
-
-pub invariant_of-self-in_err-join : goal.invariant_of-self-in_err-join
-invariant_of-self-in_err-join c = same_held c.self.inside.world.maps c.join.new.world.maps c.in_err-join.ensures.err c.self.invariant
 
 pub returns-in_err-join-clause-err : goal.returns-in_err-join-clause-err
 returns-in_err-join-clause-err c =
@@ -39,35 +37,27 @@ returns-in_err-join-clause-err c =
     (same_resolutions c.self.inside.world.maps c.join.new.world.maps c.put.new.self.by_place c.in_err-join.ensures.err
     ∙ run_aside c.self.inside.world.maps c.self.inside.runs.by_place c.put.new.self.by_place c.args.found.map.id
     (others c.self.inside.runs.by_place c.put.new.self.by_place c.id-id.result c.args.found.map.id c.id-id.ensures.value c.in_ok-put.ensures.others)
-    (absent c.self.inside.world.maps c.self.inside.runs.by_place c.self.invariant c.args.self.now c.self.view_is c.args.found.map.id c.requires.free)
+    (absent c.self.inside.world.maps c.self.inside.runs.by_place c.args.self.now c.self.view_is c.args.found.map.id c.requires.free)
     ∙ c.self.view_is)
-
-pub invariant_of-self-2 : goal.invariant_of-self-2
-invariant_of-self-2 c =
-    still_unheld c.self.inside.world.maps c.join.new.world.maps c.self.inside.runs.by_place c.put.new.self.by_place c.args.found.map c.args.found.local
-    (record { leftover = c.args.found.leftover; round_limit_met = c.args.found.round_limit_met; asked = c.args.found.asked })
-    c.in_ok-join.ensures.maps c.in_ok-join.ensures.locals
-    (here c.put.new.self.by_place _ c.id-id.result c.args.found.map.id c.id-id.ensures.value c.in_ok-put.ensures.here)
-    (others c.self.inside.runs.by_place c.put.new.self.by_place c.id-id.result c.args.found.map.id c.id-id.ensures.value c.in_ok-put.ensures.others)
-    (absent c.self.inside.world.maps c.self.inside.runs.by_place c.self.invariant c.args.self.now c.self.view_is c.args.found.map.id c.requires.free)
-    c.requires.unheld c.self.invariant
 
 pub returns-clause-here : goal.returns-clause-here
 returns-clause-here c =
     kept_here c.self.inside.world.maps c.join.new.world.maps c.self.inside.runs.by_place c.put.new.self.by_place c.args.found.map c.args.found.local
     (record { leftover = c.args.found.leftover; round_limit_met = c.args.found.round_limit_met; asked = c.args.found.asked })
-    c.in_ok-join.ensures.maps c.in_ok-join.ensures.locals
+    c.in_ok-join.ensures.maps
     (here c.put.new.self.by_place _ c.id-id.result c.args.found.map.id c.id-id.ensures.value c.in_ok-put.ensures.here)
     (others c.self.inside.runs.by_place c.put.new.self.by_place c.id-id.result c.args.found.map.id c.id-id.ensures.value c.in_ok-put.ensures.others)
-    (absent c.self.inside.world.maps c.self.inside.runs.by_place c.self.invariant c.args.self.now c.self.view_is c.args.found.map.id c.requires.free)
+    (absent c.self.inside.world.maps c.self.inside.runs.by_place c.args.self.now c.self.view_is c.args.found.map.id c.requires.free)
+    ∙ ap (λ (finished : Maps). Some (held (collected_view c.args.found) (holders_under finished c.args.found.map.id c.args.found.map.holder)))
+    (told c.self.inside.world.maps c.self.inside.runs.by_place ∙ ap finished_by c.self.view_is)
 
 pub returns-clause-others : goal.returns-clause-others
 returns-clause-others c id ne =
     kept_else c.self.inside.world.maps c.join.new.world.maps c.self.inside.runs.by_place c.put.new.self.by_place c.args.found.map c.args.found.local
     (record { leftover = c.args.found.leftover; round_limit_met = c.args.found.round_limit_met; asked = c.args.found.asked })
-    c.in_ok-join.ensures.maps c.in_ok-join.ensures.locals
+    c.in_ok-join.ensures.maps
     (here c.put.new.self.by_place _ c.id-id.result c.args.found.map.id c.id-id.ensures.value c.in_ok-put.ensures.here)
     (others c.self.inside.runs.by_place c.put.new.self.by_place c.id-id.result c.args.found.map.id c.id-id.ensures.value c.in_ok-put.ensures.others)
-    (absent c.self.inside.world.maps c.self.inside.runs.by_place c.self.invariant c.args.self.now c.self.view_is c.args.found.map.id c.requires.free)
+    (absent c.self.inside.world.maps c.self.inside.runs.by_place c.args.self.now c.self.view_is c.args.found.map.id c.requires.free)
     id ne
     ∙ ap (λ (kept : Resolutions). kept_in kept id) c.self.view_is

@@ -1,9 +1,6 @@
 -- Where no map is, nothing is kept.
-use Rattle.hir_session_state.proofs.KeptLemmas.{none_held, none_kept}
+use Rattle.hir_session_state.proofs.KeptLemmas.{none_kept}
 use Rattle.hir_session_state.proofs.kept.Kept.new.Goals as goal
-
-pub invariant_of-result : goal.invariant_of-result
-invariant_of-result c = none_held c.new.result.maps c.new.ensures.value
 
 pub returns : goal.returns
 returns c = record { none = none_kept c.new.result.maps c.new-2.result.by_place c.new.ensures.value }

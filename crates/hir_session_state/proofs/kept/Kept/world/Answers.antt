@@ -5,4 +5,4 @@ use Rattle.hir_session_state.proofs.KeptLemmas.{told}
 use Rattle.hir_session_state.proofs.kept.Kept.world.Goals as goal
 
 pub returns : goal.returns
-returns c = record { value = told c.self.inside.world.maps c.self.inside.runs.by_place c.self.invariant ∙ ap finished_by c.self.view_is }
+returns c = record { value = told c.self.inside.world.maps c.self.inside.runs.by_place ∙ ap finished_by c.self.view_is }

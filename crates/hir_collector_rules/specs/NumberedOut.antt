@@ -1,0 +1,65 @@
+-- Of what does the next step of a run speak that has no number, where none is left?
+use Rattle.std.specs.Prelude.{◌≡◌, ◌<◌, ℕ, List, Option, Some, slice_get}
+use Rattle.hir_base.specs.Locations.{max_locations}
+use Rattle.hir_base.specs.declared.ast_id.EntryId.{EntryId}
+use Rattle.hir_base.specs.declared.macro_kind.MacroId.{MacroId}
+use Rattle.hir_item_tree.specs.KeptForest.{Head, leaf, outline_module}
+use Rattle.hir_mod_dir.specs.ModuleFiles.{candidates_of}
+use Rattle.hir_tables.specs.SourcePlaces.{ExpansionValue}
+use Rattle.hir_tables.specs.Tables.{TablesValue, entry_at}
+use Rattle.hir_def_map_rules.specs.Overlay.{Maps}
+use Rattle.hir_def_map_rules.specs.State.{Map}
+use Rattle.hir_collector_rules.specs.declared.macro_directive.MacroDirective.{MacroDirective}
+use Rattle.hir_collector_rules.specs.declared.site.Site.{Site}
+use Rattle.hir_collector_rules.specs.Keys.{Environment, IsMeant, input_at, text_at}
+use Rattle.hir_collector_rules.specs.State.{State, Task}
+use Rattle.hir_collector_rules.specs.Calls.{call_loc, call_style, called_text, expansion_of_call}
+use Rattle.hir_collector_rules.specs.ModuleFiles.{IsNumberOf, IsTriedFile}
+use Rattle.hir_collector_rules.specs.Steps.{CallsMacro, IsNext, path_of, visit}
+
+-- each number means something else
+abbrev pub IsNumberedOut : {V : Type 0} → List V → V → Type 0
+IsNumberedOut {V} values value = (number : ℕ) → number < max_locations → (other : V) × (slice_get values number ≡ Some other) × ¬ (other ≡ value)
+
+-- the next item is a `mod` item, and this is the file of one of its candidates
+pub record LacksFile (env : Environment) (s : State) : Type 0 where
+  pub site : Site
+  pub head : Head
+  pub name : List ℕ
+  pub rest : List Task
+  pub here : IsNext s (visit site (leaf head (outline_module name))) rest
+  -- the file in which the item, or the outermost call around it, is written
+  pub declaring : Option (List ℕ)
+  pub written : IsNumberOf env.tables site.file declaring
+  pub path : List ℕ
+  pub tried : IsTriedFile env.workspace s.core.map.id.krate declaring (candidates_of site.dir name (path_of head)) path
+  pub out : IsNumberedOut env.tables.files path
+
+-- what the expansion of a call depends on that reaches the macro
+abbrev pub expansion_by : Environment → Maps → Map → MacroDirective → MacroId → ExpansionValue
+expansion_by env finished m d makro =
+    expansion_of_call m.id.krate (call_style d) makro (called_text finished m makro (text_at env.tables env.workspace makro))
+    (input_at env.tables env.workspace m.id.krate d.ast_id)
+
+-- the expansion has no number; or it has one, and the call has none
+pub data IsCallNumberedOut (tables : TablesValue) (d : MacroDirective) (key : ExpansionValue) : Type 0 where
+  expansion_out : IsNumberedOut tables.entries key → IsCallNumberedOut tables d key
+  call_out : (entry : EntryId) → entry_at tables entry ≡ Some key → IsNumberedOut tables.calls (call_loc d entry) → IsCallNumberedOut tables d key
+
+pub record LacksExpansion (env : Environment) (finished : Maps) (m : Map) (d : MacroDirective) (makro : MacroId) : Type 0 where
+  -- the source that writes the macro has a number
+  pub meant : IsMeant env.tables makro
+  pub out : IsCallNumberedOut env.tables d (expansion_by env finished m d makro)
+
+-- a call, a path of a derive or an attribute reaches a macro that has an expansion, and isn't too deep
+pub record LacksCall (env : Environment) (finished : Maps) (s : State) : Type 0 where
+  pub place : ℕ
+  pub call : MacroDirective
+  pub makro : MacroId
+  pub called : CallsMacro finished s place call makro
+  pub shallow : call.site.level < s.core.map.crate_data.recursion_limit
+  pub expansion : LacksExpansion env finished s.core.map call makro
+
+pub data LacksNumber (env : Environment) (finished : Maps) (s : State) : Type 0 where
+  lacks_file : LacksFile env s → LacksNumber env finished s
+  lacks_call : LacksCall env finished s → LacksNumber env finished s

@@ -1,0 +1,134 @@
+//! Edits of blocks.
+ghost use Rattle.std.specs.Prelude.{◌≡◌, ◌⊎◌, None, Some, OnOk, OnErr, IfErr, Ok, Err, length, nat_lt};
+ghost use Rattle.hir_base.specs.Refusal.{Gives};
+ghost use Rattle.hir_item_tree.specs.Source.{source_view};
+ghost use Rattle.hir_session_state.specs.Blocks.{place_of_block};
+ghost use Rattle.hir_session_state.specs.Changes.{Becomes};
+ghost use Rattle.hir_session_state.specs.Refusals.{verdict_of_block, verdict_of_source, verdict_with_steps, IsEditMemory};
+ghost use Rattle.hir_session_state.specs.SourceEdits.{edited, of_block};
+ghost use Rattle.hir_session_core.specs.BlockVerdicts.{told_with_steps};
+
+use super::{Session, check_source};
+use hir_base::place::BlockPlace;
+use hir_item_tree::source::Source;
+use hir_session_invalidation::invalidate::{Invalidation, invalidated};
+use hir_session_sources::source_edit::SourceEdit;
+use hir_session_state::error::EditError;
+use hir_session_state::steps::check_with_steps;
+use std::alloc::{AllocError, Global};
+
+/// What is told where this came of the check of a source, with the steps to its block.
+fn told_with_steps(block: &BlockPlace, verdict: Result<(), EditError>) -> Result<(), EditError>
+    ensures value { result ≡ told_with_steps (place_of_block block.now).elements verdict }
+{
+    match verdict {
+        Err(EditError::Memory) => verdict,
+        Err(EditError::UnknownCrate | EditError::TooLarge(_) | EditError::DuplicateId { .. })
+        | Ok(()) => check_with_steps(block, verdict),
+    }
+}
+
+/// Whether a source has each id once, and is within the limits with the steps to its block.
+fn check_block(alloc: Global, block: &BlockPlace, source: &Source) -> Result<(), EditError>
+    ensures accepted { OnOk result (verdict_with_steps (place_of_block block.now).elements (verdict_of_source (source_view source.now)) ≡ Ok tt) }
+    ensures refused { IfErr result (λ e. IsEditMemory e
+        ⊎ (verdict_with_steps (place_of_block block.now).elements (verdict_of_source (source_view source.now)) ≡ Err e)) }
+{
+    let verdict = check_source(alloc, source);
+    told_with_steps(block, verdict)
+}
+
+impl Session {
+    /// Whether there is the crate of a block.
+    fn has_crate_of(&self, block: &BlockPlace) -> bool
+        ensures value { result ≡ nat_lt block.now.holder.krate.0 (length self.now.crates) }
+    {
+        (block.holder.krate().0 as usize) < self.inputs.crates().len()
+    }
+
+    /// Sets a checked block, and drops what is kept of what that touches.
+    fn keep_block(
+        &mut self,
+        alloc: Global,
+        block: BlockPlace,
+        source: Source,
+    ) -> Result<(), AllocError>
+        ensures ok { OnOk result (Becomes self.old (edited self.old.sources (of_block block (Some (source_view source)))) self.new) }
+        ensures err { OnErr result (self.new ≡ self.old) }
+    {
+        let edit = SourceEdit::Block {
+            place: &block,
+            new: Some(&source),
+        };
+        let Invalidation { hits, trees: _ } = invalidated(
+            alloc,
+            &self.inputs,
+            &self.tables,
+            &self.kept,
+            &self.askers,
+            edit,
+        )?;
+        self.inputs.set_block(block, source)?;
+        self.kept.forget(&hits);
+        Ok(())
+    }
+
+    /// Drops a block, and what is kept of what that touches.
+    fn drop_block(&mut self, alloc: Global, block: &BlockPlace) -> Result<(), AllocError>
+        ensures ok { OnOk result (Becomes self.old (edited self.old.sources (of_block block.now None)) self.new) }
+        ensures err { OnErr result (self.new ≡ self.old) }
+    {
+        let edit = SourceEdit::Block {
+            place: block,
+            new: None,
+        };
+        let Invalidation { hits, trees: _ } = invalidated(
+            alloc,
+            &self.inputs,
+            &self.tables,
+            &self.kept,
+            &self.askers,
+            edit,
+        )?;
+        self.inputs.remove_block(block)?;
+        self.kept.forget(&hits);
+        Ok(())
+    }
+
+    /// Sets a block, as the edit of that name does, whether or not what holds it is there. A refused source is dropped.
+    pub fn set_block(
+        &mut self,
+        alloc: Global,
+        block: BlockPlace,
+        source: Source,
+    ) -> Result<(), EditError>
+        ensures answer { Gives IsEditMemory result (verdict_of_block (length self.old.crates) block (verdict_of_source (source_view source))) }
+        ensures ok { OnOk result (Becomes self.old (edited self.old.sources (of_block block (Some (source_view source)))) self.new) }
+        ensures err { OnErr result (self.new ≡ self.old) }
+    {
+        if !self.has_crate_of(&block) {
+            return Err(EditError::UnknownCrate);
+        }
+        check_block(alloc, &block, &source)?;
+        self.keep_block(alloc, block, source)?;
+        Ok(())
+    }
+
+    /// Removes a block, as the edit of that name does.
+    pub(super) fn remove_block(
+        &mut self,
+        alloc: Global,
+        block: &BlockPlace,
+    ) -> Result<(), EditError>
+        ensures answer { Gives IsEditMemory result (verdict_of_block (length self.old.crates) block.now (Ok tt)) }
+        ensures ok { OnOk result (Becomes self.old (edited self.old.sources (of_block block.now None)) self.new) }
+        ensures err { OnErr result (self.new ≡ self.old) }
+    {
+        if !self.has_crate_of(block) {
+            return Err(EditError::UnknownCrate);
+        }
+        check_with_steps(block, Ok(()))?;
+        self.drop_block(alloc, block)?;
+        Ok(())
+    }
+}
