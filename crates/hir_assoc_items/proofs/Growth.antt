@@ -1,0 +1,60 @@
+-- What is there stays as tables grow.
+use Rattle.std.proofs.Common.{◌≡◌, ◌∙◌, ℕ, List, Option, Some, None, refl, ap, is_some}
+use Rattle.std.specs.Prelude.{IsSome}
+use Rattle.hir_base.specs.declared.ast_id.AstId.{AstId}
+use Rattle.hir_base.specs.declared.ids.Crate.{Crate}
+use Rattle.hir_base.specs.declared.macro_kind.MacroId.{MacroId}
+use Rattle.hir_base.specs.declared.macro_kind.MacroId.TheVariants as macros
+use Rattle.hir_base.specs.declared.macro_kind.CallStyle.TheVariants as styles
+use Rattle.hir_item_tree.specs.declared.tree_id.TreeId.{TreeId}
+use Rattle.hir_item_tree.specs.declared.tree_id.TreeKey.{TreeKey}
+use Rattle.hir_tables.specs.SourcePlaces.{SourcePlaceValue}
+use Rattle.hir_tables.specs.Tables.{KeepsTables, TablesValue, source_of}
+use Rattle.hir_tables.proofs.Growth.{source_of-kept}
+use Rattle.hir_def_map_rules.specs.Overlay.{Maps, no_maps}
+use Rattle.hir_collector_rules.specs.declared.source_database.Key.TheVariants as keys
+use Rattle.hir_collector_rules.specs.Calls.{expansion_of_call}
+use Rattle.hir_collector_rules.specs.Keys.{IsMeant, environment, input_at, node_tree, of_input, of_text, source_in, source_under, text_at}
+use Rattle.hir_collector_rules.specs.Workspace.{Workspace}
+use Rattle.hir_collector_rules.proofs.Meaning.{looks_stand}
+use Rattle.hir_assoc_items.specs.AssocItems.{ContainerValue, crate_of, expansion_by, macro_text}
+
+kept_value : {A : Type 0} (o p : Option A) → IsSome o → ((a : A) → o ≡ Some a → p ≡ Some a) → p ≡ o
+kept_value None p there stays = absurd (let no : ⊥ = cc in no)
+kept_value (Some a) p there stays = stays a refl
+
+module _ (tables grown : TablesValue) (kept : KeepsTables tables grown) where
+  pub source_stays : (id : TreeId) → IsSome (source_of tables id) → source_of grown id ≡ source_of tables id
+  source_stays id there = kept_value (source_of tables id) (source_of grown id) there (λ place e. source_of-kept tables grown id place kept e)
+
+  -- a source that has a number has it still
+  pub there_still : (id : TreeId) → IsSome (source_of tables id) → IsSome (source_of grown id)
+  there_still id there = ap (λ (o : Option SourcePlaceValue). is_some o) (source_stays id there) ∙ there
+
+  pub source_in_stays : (w : Workspace) (key : TreeKey) → IsSome (source_of tables key.id) → source_in grown w key ≡ source_in tables w key
+  source_in_stays w key there = ap (λ (o : Option SourcePlaceValue). source_under w key.krate o) (source_stays key.id there)
+
+  text_stays : (w : Workspace) (maps : Maps) (makro : MacroId) → IsMeant tables makro → macro_text (environment grown w) maps makro ≡ macro_text (environment tables w) maps makro
+  text_stays w maps (macros.Macro2Id id) there =
+      let seen : of_text (text_at grown w (macros.Macro2Id id)) ≡ of_text (text_at tables w (macros.Macro2Id id)) = looks_stand tables grown w no_maps (keys.Text (macros.Macro2Id id)) kept there in
+      let same : text_at grown w (macros.Macro2Id id) ≡ text_at tables w (macros.Macro2Id id) = cc in
+      same
+  text_stays w maps (macros.MacroRulesId id) there =
+      let seen : of_text (text_at grown w (macros.MacroRulesId id)) ≡ of_text (text_at tables w (macros.MacroRulesId id)) =
+      looks_stand tables grown w no_maps (keys.Text (macros.MacroRulesId id)) kept there in
+      let same : text_at grown w (macros.MacroRulesId id) ≡ text_at tables w (macros.MacroRulesId id) = cc in
+      same
+  text_stays w maps (macros.ProcMacroId id) there = refl
+
+  input_stays : (w : Workspace) (krate : Crate) (node : AstId) → IsSome (source_of tables (node_tree node)) → input_at grown w krate node ≡ input_at tables w krate node
+  input_stays w krate node there =
+      let seen : of_input (input_at grown w krate node) ≡ of_input (input_at tables w krate node) = looks_stand tables grown w no_maps (keys.Input krate node) kept there in
+      let same : input_at grown w krate node ≡ input_at tables w krate node = cc in
+      same
+
+  -- what the expansion of a call depends on
+  pub expansion_stays : (w : Workspace) (c : ContainerValue) (node : AstId) (makro : MacroId) → IsSome (source_of tables (node_tree node)) → IsMeant tables makro
+      → expansion_by (environment grown w) c node makro ≡ expansion_by (environment tables w) c node makro
+  expansion_stays w c node makro there of_macro =
+      ap (λ (t : Option (List ℕ)). expansion_of_call (crate_of c) styles.Bang makro t (input_at grown w (crate_of c) node)) (text_stays w c.maps makro of_macro)
+      ∙ ap (λ (i : Option (List ℕ)). expansion_of_call (crate_of c) styles.Bang makro (macro_text (environment tables w) c.maps makro) i) (input_stays w (crate_of c) node there)

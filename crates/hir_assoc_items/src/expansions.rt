@@ -1,0 +1,166 @@
+//! What a call expands to that reaches a macro.
+ghost use Rattle.std.specs.Prelude.{◌≡◌, [], IfOk, IsSome, unwrap_or};
+ghost use Rattle.hir_tables.specs.SourcePlaces.{expansion_value};
+ghost use Rattle.hir_tables.specs.Tables.{KeepsTables, source_of};
+ghost use Rattle.hir_def_map.specs.DefMaps.{maps_of};
+ghost use Rattle.hir_collector_rules.specs.Calls.{AreCallsPlaced, call_tree, error_of, expansion_of_call};
+ghost use Rattle.hir_collector_rules.specs.Keys.{IsMeant, environment, node_tree};
+ghost use Rattle.hir_collector_rules.specs.Workspace.{entry_look};
+ghost use Rattle.hir_assoc_items.specs.AssocItems.{HasNoNumber, exported_name, macro_text};
+ghost use Rattle.hir_assoc_items.specs.Steps.{SeesCall, container_view};
+
+use crate::container::Container;
+use crate::error::AssocItemsError;
+use crate::sources::{input_at, is_meant, source_at, text_at};
+use hir_base::ast_id::{AstId, HirFileId, MacroCallId};
+use hir_base::ids::{Crate, HasModule};
+use hir_base::macro_kind::{
+    CallStyle, ExpansionKey, MacroCallKind, MacroCallLoc, MacroId, MacroText,
+};
+use hir_base::text::Text;
+use hir_collector_rules::source_database::{ExpansionLook, SourceDatabase};
+use hir_def_map::def_maps::DefMaps;
+use hir_item_tree::source_tree::SourceTree;
+use hir_item_tree::tree_id::{TreeId, TreeKey};
+use hir_tables::Tables;
+use std::alloc::{AllocError, Global};
+use std::rc::Rc;
+
+/// A text, or an empty one.
+fn or_empty(alloc: Global, text: Option<Text>) -> Result<Text, AllocError>
+    ensures value { IfOk result (λ t. t ≡ unwrap_or text []) }
+{
+    match text {
+        Some(text) => Ok(text),
+        None => Text::from_str(alloc, ""),
+    }
+}
+
+/// The key of a call's expansion.
+pub fn expansion_key(
+    alloc: Global,
+    caller: Crate,
+    style: CallStyle,
+    makro: MacroId,
+    text: Option<Text>,
+    input: Option<Text>,
+) -> Result<ExpansionKey, AllocError>
+    ensures value { IfOk result (λ key. expansion_value key ≡ expansion_of_call caller style makro text input) }
+{
+    Ok(ExpansionKey {
+        caller,
+        called: MacroText {
+            krate: makro.module().map.krate,
+            text: or_empty(alloc, text)?,
+        },
+        call: style,
+        input: or_empty(alloc, input)?,
+        reached: Vec::new(alloc),
+    })
+}
+
+/// The error that a call is told with: that of its expansion, or that there is none.
+pub fn error_of(alloc: Global, look: ExpansionLook<'_>) -> Result<Option<Text>, AllocError>
+    ensures value { IfOk result (λ error. error ≡ error_of (entry_look look.entry)) }
+{
+    if !look.present {
+        return Ok(Some(Text::from_str(alloc, "absent")?));
+    }
+    match look.error {
+        Some(error) => Ok(Some(error.clone()?)),
+        None => Ok(None),
+    }
+}
+
+/// The tree of what a call expands to.
+pub fn call_tree(id: MacroCallId) -> TreeId
+    ensures value { result ≡ call_tree id }
+{
+    TreeId {
+        file: HirFileId::Macro(id),
+        block: None,
+    }
+}
+
+/// The name under which a procedural macro is exported.
+fn exported_name(
+    alloc: Global,
+    maps: DefMaps<'_>,
+    makro: MacroId,
+) -> Result<Option<Text>, AllocError>
+    ensures value { IfOk result (λ name. name ≡ exported_name (maps_of maps.entry) makro) }
+{
+    let Some(map) = maps.map(makro.module().map) else {
+        return Ok(None);
+    };
+    match map.macro_data(makro) {
+        Some(what) => Ok(Some(Text::from_str(alloc, what.name.as_str())?)),
+        None => Ok(None),
+    }
+}
+
+/// The text of a macro, of a procedural one the name under which it is exported.
+fn macro_text<D: SourceDatabase>(
+    alloc: Global,
+    db: &mut D,
+    maps: DefMaps<'_>,
+    locations: &Tables,
+    makro: MacroId,
+) -> Result<Option<Text>, AllocError>
+    ensures value { IfOk result (λ text. text ≡ macro_text (environment locations.now (D.workspace db.old)) (maps_of maps.entry) makro) }
+    ensures same { D.workspace db.new ≡ D.workspace db.old }
+{
+    match makro {
+        MacroId::Macro2Id(_) | MacroId::MacroRulesId(_) => text_at(alloc, db, locations, makro),
+        MacroId::ProcMacroId(_) => exported_name(alloc, maps, makro),
+    }
+}
+
+/// What a call expands to.
+#[derive(Drop)]
+pub struct Expansion {
+    pub id: MacroCallId,
+    /// Why it didn't expand, or not well.
+    pub error: Option<Text>,
+    pub source: Rc<SourceTree>,
+}
+
+/// What a call expands to that is written at a node and reaches a macro. The call gets a number, and so does what it
+/// depends on.
+pub fn look_at_call<D: SourceDatabase>(
+    alloc: Global,
+    db: &mut D,
+    container: &Container<'_>,
+    locations: &mut Tables,
+    node: AstId,
+    makro: MacroId,
+) -> Result<Expansion, AssocItemsError>
+    requires meant { IsSome (source_of locations.old (node_tree node)) }
+    ensures kept { KeepsTables locations.old locations.new }
+    ensures others { locations.new ≡ record locations.old { entries = locations.new.entries; calls = locations.new.calls } }
+    ensures placed { AreCallsPlaced locations.old → AreCallsPlaced locations.new }
+    ensures same { D.workspace db.new ≡ D.workspace db.old }
+    ensures sees { IfOk result (λ e. SeesCall locations.new (D.workspace db.old) (container_view container.now) node makro e.id e.error e.source.value) }
+    ensures many { result ≡ Err AssocItemsError.TooMany → HasNoNumber (environment locations.new (D.workspace db.old)) (container_view container.now) node makro }
+    ensures unknown { result ≡ Err AssocItemsError.UnknownSource → ¬ IsMeant locations.new makro }
+{
+    if !is_meant(locations, makro) {
+        return Err(AssocItemsError::UnknownSource);
+    }
+    let krate = container.krate();
+    let text = macro_text(alloc, db, container.maps, locations, makro)?;
+    let input = input_at(alloc, db, locations, krate, node)?;
+    let key = expansion_key(alloc, krate, CallStyle::Bang, makro, text, input)?;
+    let error = error_of(alloc, db.expansion(&key))?;
+    let entry = locations.intern_entry(key)?;
+    let id = locations.intern_call(MacroCallLoc {
+        kind: MacroCallKind::FnLike { ast: node },
+        entry,
+    })?;
+    let tree = TreeKey {
+        krate,
+        id: call_tree(id),
+    };
+    let source = source_at(alloc, db, locations, tree)?;
+    Ok(Expansion { id, error, source })
+}

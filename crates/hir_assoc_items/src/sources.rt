@@ -1,0 +1,146 @@
+//! What sources have at the nodes of macros and calls, by the numbers of trees.
+ghost use Rattle.std.specs.Prelude.{◌≡◌, ◌↔◌, IfOk, IsTrue, option_map};
+ghost use Rattle.hir_item_tree.specs.SyntaxIds.{node_id};
+ghost use Rattle.hir_collector_rules.specs.Keys.{IsMeant, absent_source, input_at, macro_key, macro_tree, node_tree, source_in, text_at, text_of};
+
+use hir_base::ast_id::{AstId, AstKind};
+use hir_base::cfg_options::CfgOptions;
+use hir_base::ids::Crate;
+use hir_base::macro_kind::{MacroId, MacroLoc};
+use hir_base::text::Text;
+use hir_collector_rules::source_database::SourceDatabase;
+use hir_item_tree::check::NodeId;
+use hir_item_tree::source_tree::SourceTree;
+use hir_item_tree::tree_id::{TreeId, TreeKey};
+use hir_tables::Tables;
+use std::alloc::{AllocError, Global};
+use std::rc::Rc;
+
+/// What a source has under a crate; where its number means nothing, it is absent.
+pub fn source_at<D: SourceDatabase>(
+    alloc: Global,
+    db: &mut D,
+    locations: &Tables,
+    key: TreeKey,
+) -> Result<Rc<SourceTree>, AllocError>
+    ensures value { IfOk result (λ source. source.value ≡ source_in locations.now (D.workspace db.old) key) }
+    ensures same { D.workspace db.new ≡ D.workspace db.old }
+{
+    match locations.source_of(key.id) {
+        Some(source) => db.tree(alloc, key.krate, source),
+        None => absent_source(alloc),
+    }
+}
+
+/// What a source has that is absent.
+fn absent_source(alloc: Global) -> Result<Rc<SourceTree>, AllocError>
+    ensures value { IfOk result (λ source. source.value ≡ absent_source) }
+{
+    let front = Vec::new(alloc);
+    let options = CfgOptions::new(alloc);
+    let source = SourceTree::new(alloc, None, &front, &options)?;
+    Ok(Rc::new(alloc, source)?)
+}
+
+/// The same text, if there is one.
+fn copied(alloc: Global, text: Option<&str>) -> Result<Option<Text>, AllocError>
+    ensures value { IfOk result (λ copy. copy ≡ option_map (λ t. t.now) text.entry) }
+{
+    match text {
+        Some(text) => Ok(Some(Text::from_str(alloc, text)?)),
+        None => Ok(None),
+    }
+}
+
+/// Whether the source that writes a macro has a number; a procedural macro is in no source.
+pub fn is_meant(locations: &Tables, makro: MacroId) -> bool
+    ensures meant { IsTrue result ↔ IsMeant locations.now makro }
+{
+    match makro {
+        MacroId::Macro2Id(id) => locations.source_of(tree_of(id.loc)).is_some(),
+        MacroId::MacroRulesId(id) => locations.source_of(tree_of(id.loc)).is_some(),
+        MacroId::ProcMacroId(_) => true,
+    }
+}
+
+/// The tree that writes a macro.
+fn tree_of(loc: MacroLoc) -> TreeId
+    ensures value { result ≡ macro_tree loc }
+{
+    TreeId {
+        file: loc.file_id,
+        block: loc.block,
+    }
+}
+
+/// The text of the macro that a node defines.
+fn text_in<D: SourceDatabase>(
+    alloc: Global,
+    db: &mut D,
+    locations: &Tables,
+    loc: MacroLoc,
+    kind: AstKind,
+) -> Result<Option<Text>, AllocError>
+    ensures value { IfOk result (λ text. text
+        ≡ text_of (source_in locations.now (D.workspace db.old) (macro_key loc)) (node_id kind loc.id)) }
+    ensures same { D.workspace db.new ≡ D.workspace db.old }
+{
+    let key = TreeKey {
+        krate: loc.container.map.krate,
+        id: tree_of(loc),
+    };
+    let source = source_at(alloc, db, locations, key)?;
+    copied(alloc, source.text(NodeId { kind, id: loc.id }))
+}
+
+/// The text of a macro, where a source writes it.
+pub fn text_at<D: SourceDatabase>(
+    alloc: Global,
+    db: &mut D,
+    locations: &Tables,
+    makro: MacroId,
+) -> Result<Option<Text>, AllocError>
+    ensures value { IfOk result (λ text. text ≡ text_at locations.now (D.workspace db.old) makro) }
+    ensures same { D.workspace db.new ≡ D.workspace db.old }
+{
+    match makro {
+        MacroId::Macro2Id(id) => text_in(alloc, db, locations, id.loc, AstKind::MacroDef),
+        MacroId::MacroRulesId(id) => text_in(alloc, db, locations, id.loc, AstKind::MacroRules),
+        MacroId::ProcMacroId(_) => Ok(None),
+    }
+}
+
+/// The tree that keeps a node.
+pub fn node_tree(ast: AstId) -> TreeId
+    ensures value { result ≡ node_tree ast }
+{
+    TreeId {
+        file: ast.file_id,
+        block: ast.block,
+    }
+}
+
+/// The input of a call, where it isn't empty.
+pub fn input_at<D: SourceDatabase>(
+    alloc: Global,
+    db: &mut D,
+    locations: &Tables,
+    krate: Crate,
+    ast: AstId,
+) -> Result<Option<Text>, AllocError>
+    ensures value { IfOk result (λ input. input ≡ input_at locations.now (D.workspace db.old) krate ast) }
+    ensures same { D.workspace db.new ≡ D.workspace db.old }
+{
+    let key = TreeKey {
+        krate,
+        id: node_tree(ast),
+    };
+    let source = source_at(alloc, db, locations, key)?;
+    copied(
+        alloc,
+        source.input(NodeId {
+            kind: ast.kind,
+            id: ast.id,
+        }),
+    )
+}
