@@ -12,9 +12,9 @@ use std::time::Instant;
 use anyhow::{bail, Context as _, Result};
 use cargo_nogsimat::package::{Crates, Wanted};
 use cargo_nogsimat::program;
-use cargo_nogsimat::report::path_at;
+use cargo_nogsimat::question::{Context, Question};
+use cargo_nogsimat::site::path_at;
 use cargo_nogsimat::token::Position;
-use cargo_nogsimat::unit::{place_json, quoted};
 use cargo_nogsimat::workspace::{key_of, Workspace};
 use clap::Parser;
 use serde_json::Value;
@@ -202,6 +202,14 @@ fn ask_rustc(cli: &Cli, target: &Path) -> Result<(String, HashMap<String, Vec<St
     Ok((tree, options, start.elapsed().as_secs_f64()))
 }
 
+/// The path that begins at a position of a text, where it stands on one line and without arguments.
+fn written_at(text: &str, at: Position) -> Option<String> {
+    let line = text.lines().nth(at.line as usize - 1)?;
+    let is_of_path = |it: &char| it.is_alphanumeric() || *it == '_' || *it == ':';
+    let path: String = line.chars().skip(at.column as usize - 1).take_while(is_of_path).collect();
+    Some(path.trim_end_matches(':').to_owned())
+}
+
 /// The namespaces in which a definition of this kind is.
 fn namespaces(kind: &str, is_import: bool) -> &'static [&'static str] {
     match kind {
@@ -238,15 +246,15 @@ fn main() -> Result<ExitCode> {
     let number = crates.all.iter().position(|it| it.is_asked && !it.title.contains(' ')).context("it has a library")?;
     let number = number as u32;
     let name = crates.all[number as usize].name.clone();
-    let edition = crates.all[number as usize].edition.clone();
     let mut space = Workspace::open(crates, &program::find(cli.program.as_deref())?, None, |_, _, _| {})?;
     let seconds = start.elapsed().as_secs_f64();
     let report = space.report()?;
     let nodes: usize =
         space.files(number).iter().filter_map(|(key, _)| space.built(key)).map(|it| it.nodes.len()).sum();
 
-    let mut asks = Vec::new();
+    let mut questions = Vec::new();
     let mut asked = Vec::new();
+    let mut texts: HashMap<PathBuf, String> = HashMap::new();
     let mut left_out: BTreeMap<&str, usize> = BTreeMap::new();
     for it in resolved {
         let mut names = it.names.clone();
@@ -273,28 +281,27 @@ fn main() -> Result<ExitCode> {
             wanted = wanted.rsplit_once("::").map_or(String::new(), |it| it.0.to_owned());
         }
         let names: Vec<String> = names.into_iter().map(|it| it.trim_start_matches("r#").to_owned()).collect();
-        let mut path = match &*names[0] {
+        let path = match &*names[0] {
             "{{root}}" => format!("::{}", names[1..].join("::")),
             _ => names.join("::"),
         };
-        let is_plain = !matches!(names[0].as_str(), "crate" | "self" | "super" | "{{root}}");
-        if it.is_import && edition == "2015" && is_plain {
-            path = format!("::{path}");
-        }
         if path.contains('$') || path.contains('{') {
             continue;
         }
-        let shadow = if it.is_import { ",\"shadow\":\"module\"" } else { "" };
-        asks.push(format!(
-            "{{\"do\":\"resolve\",\"at\":{},\"path\":{}{shadow}}}",
-            place_json(number, &space.place_of(number, &key, it.at)),
-            quoted(&path)
-        ));
+        let text =
+            texts.entry(it.file.clone()).or_insert_with(|| std::fs::read_to_string(&it.file).unwrap_or_default());
+        questions.push(Question {
+            krate: number,
+            place: space.place_of(number, &key, it.at),
+            whole: written_at(text, it.at).filter(|it| it.starts_with(&path)).unwrap_or(path.clone()),
+            path: path.clone(),
+            context: if it.is_import { Context::Import } else { Context::Plain },
+        });
         asked.push((it, key, wanted, is_associated, path));
     }
     let mut replies = Vec::new();
-    for part in asks.chunks(1000) {
-        replies.extend(space.ask_all(part)?);
+    for part in questions.chunks(1000) {
+        replies.extend(space.ask_paths(part)?);
     }
     let mut agree = 0;
     let mut differ: BTreeMap<String, Vec<String>> = BTreeMap::new();
@@ -322,9 +329,9 @@ fn main() -> Result<ExitCode> {
         }
         let text = std::fs::read_to_string(&it.file).unwrap_or_default();
         let items = &space.parsed(key).context("its files are read")?.unit.items;
-        let around = space.block_at(number, key, it.at).map(|it| it.1.block.span.start);
-        let block = path_at(&text, items, it.at).and_then(|it| it.0.block);
-        let in_block = block.is_some() && block != around;
+        let block = path_at(&text, items, it.at, &|it| space.expansion_of(number, it)).and_then(|it| it.0.block);
+        let known = space.blocks_of(number, key);
+        let in_block = block.is_some_and(|block| known.iter().all(|it| it.1.block.span.start != block));
         let cause = match (in_block, found.is_empty()) {
             (true, _) => "in a body that has items of its own",
             (false, true) => "nothing found",

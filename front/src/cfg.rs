@@ -22,7 +22,9 @@ pub enum Condition {
 /// The options that are set.
 #[derive(Clone, Default, Debug)]
 pub struct Options {
+    /// Names that are set, as `unix`.
     pub flags: HashSet<String>,
+    /// Names with a value, as `feature = "std"`.
     pub values: HashSet<(String, String)>,
 }
 

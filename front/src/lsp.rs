@@ -1,33 +1,35 @@
 //! A language server over the package of the folder that an editor opens.
 //!
 //! Edits go to the resolver's program as they are typed; a text that doesn't parse leaves the items of its file as they
-//! were. [`text`] counts as editors do, [`message`] frames messages, [`site`] finds paths in texts.
+//! were. [`text`] counts as editors do, [`message`] frames messages.
 
 mod answers;
 mod declaration;
+mod edits;
 pub mod message;
-pub mod site;
+mod opening;
 pub mod symbols;
 pub mod text;
+mod uri;
 
 use std::collections::{BTreeMap, HashMap, HashSet, VecDeque};
 use std::io::{BufReader, Read, Write};
 use std::panic::{catch_unwind, AssertUnwindSafe};
-use std::path::{Path, PathBuf};
+use std::path::PathBuf;
 use std::sync::mpsc::{channel, Receiver, Sender};
 use std::sync::Arc;
 use std::time::{Duration, Instant};
 
-use anyhow::{anyhow, Context as _, Result};
+use anyhow::{Context as _, Result};
 use serde_json::{json, Value};
 
-use crate::package::{Crates, Wanted};
-use crate::program;
-use crate::report::{Diagnostic, Place};
+use crate::package::Wanted;
+use crate::report::Place;
 use crate::token::{Position, Span, SyntaxError};
-use crate::workspace::{key_of, parse_text, path_of_key, Key, Workspace};
+use crate::workspace::{key_of, path_of_key, Key, Workspace};
 use message::{error, notification, reply};
 use text::Text;
+use uri::{key_of_path, key_of_uri, path_of_uri, uri_of_path};
 
 /// What the server is started with.
 #[derive(Clone, Debug, Default)]
@@ -428,117 +430,6 @@ impl<W: Write> Server<W> {
         }
     }
 
-    /// The folder of the package: that of the editor, or the nearest above it with a `Cargo.toml`.
-    fn package(&self) -> Option<PathBuf> {
-        let found = self.folder.as_ref()?.1.ancestors().find(|it| it.join("Cargo.toml").is_file());
-        found.map(Path::to_owned)
-    }
-
-    /// Takes the package of a file, where the editor's folder has none.
-    fn open_beside(&mut self, uri: &str) -> Result<()> {
-        let file = path_of_uri(uri).and_then(|it| it.canonicalize().ok());
-        let found = file.as_ref().and_then(|it| it.ancestors().skip(1).find(|it| it.join("Cargo.toml").is_file()));
-        let Some(found) = found.map(Path::to_owned) else {
-            return Ok(());
-        };
-        self.folder = Some((found.clone(), found));
-        self.open()
-    }
-
-    /// Reads the package, with the texts of the editor in place of those of its files.
-    fn open(&mut self) -> Result<()> {
-        self.space = None;
-        self.texts.clear();
-        self.errors.clear();
-        self.needs_report = true;
-        let given = self.settings.wanted.path.as_path();
-        let path = if given == Path::new(".") { self.package() } else { Some(given.to_owned()) };
-        let Some(path) = path else {
-            return Ok(());
-        };
-        let start = Instant::now();
-        self.openings += 1;
-        let number = self.openings;
-        let (send, settings) = (self.send.clone(), self.settings.clone());
-        std::thread::spawn(move || {
-            let told = send.clone();
-            let progress = move |what: &str, done: usize, of: usize| {
-                let _ = told.send(Event::Progress(number, progress_text(what, done, of)));
-            };
-            let work = || -> Result<Opened> {
-                let program = program::find(settings.program.as_deref())?;
-                let crates = Crates::read(&Wanted { path, ..settings.wanted.clone() })?;
-                let space = Workspace::open(crates, &program, settings.expansions.as_deref(), progress)?;
-                Ok((program, space))
-            };
-            let opened = catch_unwind(AssertUnwindSafe(work));
-            let opened =
-                opened.unwrap_or_else(|_| Err(anyhow!("something went wrong (see the server's standard error)")));
-            let _ = send.send(Event::Opened(number, Box::new(opened)));
-        });
-        match self.wait_for(number)? {
-            Ok((program, space)) => {
-                let counts = space.counts();
-                let text = format!(
-                    "Nogsimat: {} crates, {} files, {} nodes read in {} ms; {}",
-                    counts.crates,
-                    counts.files,
-                    counts.nodes,
-                    start.elapsed().as_millis(),
-                    space.crates.std
-                );
-                (self.program, self.space) = (program, Some(space));
-                for it in self.documents.values_mut() {
-                    (it.is_dirty, it.good) = (true, None);
-                }
-                self.log(INFO, &text)
-            }
-            Err(error) => self.show(ERROR, &format!("Nogsimat: {error:#}. A save tries again")),
-        }
-    }
-
-    /// Waits until the package is opened, and shows the editor how that goes. Messages that come meanwhile are kept;
-    /// cancelled requests are answered at once.
-    fn wait_for(&mut self, number: u32) -> Result<Result<Opened>> {
-        let token = format!("nogsimat/open/{number}");
-        let mut is_shown = false;
-        if self.shows_progress {
-            self.send(&json!({
-                "jsonrpc": "2.0", "id": token, "method": "window/workDoneProgress/create", "params": {"token": token},
-            }))?;
-        }
-        loop {
-            match self.events.recv().context("the server holds a sender itself")? {
-                Event::Read(message::Read::Message(it)) if it["method"].is_null() && it["id"] == token => {
-                    // Where the editor refuses, nothing may be shown by this token.
-                    is_shown = self.shows_progress && it.get("result").is_some();
-                    if is_shown {
-                        let value = json!({"kind": "begin", "title": "Nogsimat", "message": "reading the package"});
-                        self.progress(&token, value)?;
-                    }
-                }
-                Event::Read(it) => {
-                    self.queue.push_back(it);
-                    self.cancel()?;
-                }
-                Event::Progress(of, text) if is_shown && of == number => {
-                    self.progress(&token, json!({"kind": "report", "message": text}))?;
-                }
-                Event::Opened(of, it) if of == number => {
-                    if is_shown {
-                        self.progress(&token, json!({"kind": "end"}))?;
-                    }
-                    return Ok(*it);
-                }
-                Event::Progress(..) | Event::Opened(..) => {}
-            }
-        }
-    }
-
-    fn progress(&mut self, token: &str, value: Value) -> Result<()> {
-        self.send(&notification("$/progress", json!({"token": token, "value": value})))
-    }
-
     /// Does the work with the session. Where the program died it is started again with the present files, and the work
     /// is done again.
     fn with_space<T>(&mut self, work: impl Fn(&mut Workspace) -> Result<T>) -> Result<Option<T>> {
@@ -584,188 +475,6 @@ impl<W: Write> Server<W> {
         }
     }
 
-    /// Whether the file has the items of a module.
-    fn is_module(&self, key: &Key) -> bool {
-        self.space.as_ref().is_some_and(|it| !it.crates_of(key).is_empty())
-    }
-
-    /// Reads a file that isn't open in the editor.
-    fn read_file(&mut self, key: &Key) -> Result<()> {
-        match std::fs::read_to_string(path_of_key(key)) {
-            Ok(text) if self.is_module(key) => {
-                let text = Arc::new(Text::new(text));
-                if self.read_text(key, &text)? {
-                    self.texts.insert(key.clone(), text);
-                }
-                Ok(())
-            }
-            // Not there any more, no UTF-8, new, or included by another.
-            _ => self.update_file(key),
-        }
-    }
-
-    /// Has a file read as it is on the disk.
-    fn update_file(&mut self, key: &Key) -> Result<()> {
-        self.texts.remove(key);
-        self.needs_report |= self.errors.remove(key).is_some() || self.touched.contains(key);
-        let path = path_of_key(key);
-        let resolved = self.with_space(|it| it.update(std::slice::from_ref(&path)))?;
-        self.needs_report |= resolved.is_some_and(|it| !it.is_empty());
-        Ok(())
-    }
-
-    /// Hands a text in. Answers whether the items of the file are those of this text.
-    fn read_text(&mut self, key: &Key, text: &Text) -> Result<bool> {
-        if self.space.is_none() {
-            return Ok(true);
-        }
-        let parsed = parse_text(&path_of_key(key), key, text.as_str());
-        let space = self.space.as_ref();
-        let before = space.and_then(|it| it.built(key)).cloned();
-        let has_items = before.is_some() && space.and_then(|it| it.parsed(key)).is_some_and(|it| it.error.is_none());
-        if let (Some(error), true) = (&parsed.error, has_items) {
-            self.errors.insert(key.clone(), error.clone());
-            self.needs_report = true;
-            return Ok(false);
-        }
-        self.needs_report |= self.errors.remove(key).is_some() || self.touched.contains(key);
-        let parsed = std::cell::RefCell::new(Some(parsed));
-        let resolved = self.with_space(|it| {
-            let parsed = parsed.borrow_mut().take();
-            // After a new start the text is in it already.
-            parsed.map_or(Ok(Vec::new()), |parsed| it.update_parsed(key.clone(), parsed))
-        })?;
-        let after = self.space.as_ref().and_then(|it| it.built(key));
-        let is_same = match (&before, after) {
-            (Some(before), Some(after)) => before.json == after.json,
-            (before, after) => before.is_none() && after.is_none(),
-        };
-        self.needs_report |= !is_same || resolved.is_some_and(|it| !it.is_empty());
-        Ok(true)
-    }
-
-    /// Hands in what was typed, and publishes what that changes.
-    fn flush(&mut self) -> Result<()> {
-        let mut due: Vec<Key> = self.documents.iter().filter(|it| it.1.is_dirty).map(|it| it.0.clone()).collect();
-        due.sort();
-        for key in due {
-            let Some(document) = self.documents.get_mut(&key) else {
-                continue;
-            };
-            document.is_dirty = false;
-            let text = document.text.clone();
-            let is_read = self.read_text(&key, &text)?;
-            if let (true, Some(document)) = (is_read, self.documents.get_mut(&key)) {
-                document.good = Some(text);
-            }
-        }
-        if !std::mem::take(&mut self.needs_report) || self.phase != Phase::Serving {
-            return Ok(());
-        }
-        let report = self.with_space(|it| it.report())?;
-        // A new start of the program asks for a report, which this one is.
-        self.needs_report = false;
-        self.publish(report.map(|it| it.diagnostics).unwrap_or_default())
-    }
-
-    fn publish(&mut self, diagnostics: Vec<Diagnostic>) -> Result<()> {
-        let mut now: BTreeMap<Key, Vec<Value>> = BTreeMap::new();
-        self.touched.clear();
-        for it in diagnostics {
-            let Some(key) = key_of_place(&it.place) else {
-                continue;
-            };
-            let mut related = Vec::new();
-            for (text, place) in &it.related {
-                if let Some(location) = self.location(place) {
-                    self.touched.extend(key_of_place(place));
-                    related.push(json!({"location": location, "message": text}));
-                }
-            }
-            let mut text = it.message.clone();
-            for part in std::iter::once(&it.label).chain(&it.notes).filter(|it| !it.is_empty()) {
-                text.push('\n');
-                text.push_str(part);
-            }
-            let mut made = json!({
-                "range": self.range(&key, span_of(&it.place)),
-                "severity": ERROR,
-                "source": "nogsimat",
-                "message": text,
-            });
-            if let Some(code) = it.code {
-                made["code"] = code.into();
-            }
-            if !related.is_empty() {
-                made["relatedInformation"] = related.into();
-            }
-            let list = now.entry(key).or_default();
-            if !list.contains(&made) {
-                list.push(made);
-            }
-        }
-        for (key, error) in self.errors.clone() {
-            let is_used = self.space.as_ref().is_some_and(|it| !it.crates_of(&key).is_empty());
-            if !is_used {
-                continue;
-            }
-            // The place is one of the text as it is now.
-            let range = match self.documents.get(&key) {
-                Some(it) => it.text.range(error.at),
-                None => Text::new(std::fs::read_to_string(path_of_key(&key)).unwrap_or_default()).range(error.at),
-            };
-            now.entry(key).or_default().push(json!({
-                "range": range,
-                "severity": ERROR,
-                "source": "nogsimat",
-                "message": format!("{}\nuntil it is mended the file counts as it was before", error.message),
-            }));
-        }
-        self.touched.extend(now.keys().cloned());
-        let mut keys: Vec<Key> = self.published.keys().chain(now.keys()).cloned().collect();
-        keys.sort();
-        keys.dedup();
-        for key in keys {
-            let uri = self.uri(&key);
-            let list = now.remove(&key).unwrap_or_default();
-            let (old_uri, old) = self.published.remove(&key).unwrap_or_else(|| (uri.clone(), Vec::new()));
-            if old_uri != uri {
-                self.send_list(&old_uri, &[])?;
-            }
-            if old_uri != uri || old != list {
-                self.send_list(&uri, &list)?;
-            }
-            if !list.is_empty() {
-                self.published.insert(key, (uri, list));
-            }
-        }
-        Ok(())
-    }
-
-    fn send_list(&mut self, uri: &str, list: &[Value]) -> Result<()> {
-        let params = json!({"uri": uri, "diagnostics": list});
-        self.send(&notification("textDocument/publishDiagnostics", params))
-    }
-
-    /// Whether what was published of a file went out under another name than the editor has for it now.
-    fn is_renamed(&self, key: &Key) -> bool {
-        self.published.get(key).is_some_and(|it| it.0 != self.uri(key))
-    }
-
-    /// The text from which the items of a file were read, as far as it is known.
-    fn unit_text(&mut self, key: &Key) -> Arc<Text> {
-        if let Some(it) = self.documents.get(key) {
-            return it.good.as_ref().unwrap_or(&it.text).clone();
-        }
-        if let Some(it) = self.texts.get(key) {
-            return it.clone();
-        }
-        let read = std::fs::read(path_of_key(key)).unwrap_or_default();
-        let text = Arc::new(Text::new(String::from_utf8_lossy(&read).into_owned()));
-        self.texts.insert(key.clone(), text.clone());
-        text
-    }
-
     /// A range of a file as it is now.
     fn range(&mut self, key: &Key, span: Span) -> Value {
         let text = self.unit_text(key);
@@ -800,15 +509,6 @@ impl<W: Write> Server<W> {
     }
 }
 
-/// What goes on while a package is opened, in words.
-fn progress_text(what: &str, done: usize, of: usize) -> String {
-    match what {
-        "reading" => format!("reading, {done} files"),
-        "resolving" => format!("resolving, round {done}"),
-        _ => format!("{what} {done} of {of}"),
-    }
-}
-
 fn span_of(place: &Place) -> Span {
     Span {
         start: Position { line: place.line, column: place.column },
@@ -824,68 +524,4 @@ fn key_of_place(place: &Place) -> Option<Key> {
 fn place_of(it: &Value) -> Option<(u32, u32)> {
     let number = |name: &str| Some(it[name].as_u64()?.min(u64::from(u32::MAX)) as u32);
     Some((number("line")?, number("character")?))
-}
-
-/// The key of a file that may not be there yet.
-fn key_of_path(path: &Path) -> Option<Key> {
-    let whole = path.canonicalize().ok();
-    let beside = || Some(path.parent()?.canonicalize().ok()?.join(path.file_name()?));
-    key_of(&whole.or_else(beside).unwrap_or_else(|| path.to_owned())).ok().filter(|it| !it.is_empty())
-}
-
-fn key_of_uri(uri: &str) -> Option<Key> {
-    key_of_path(&path_of_uri(uri)?)
-}
-
-/// The path that a URI of a file names.
-fn path_of_uri(uri: &str) -> Option<PathBuf> {
-    let rest = uri.strip_prefix("file://")?;
-    let rest = &rest[rest.find('/')?..];
-    let mut bytes = Vec::with_capacity(rest.len());
-    let mut left = rest.as_bytes();
-    while let [first, more @ ..] = left {
-        let hex = |it: u8| (it as char).to_digit(16);
-        left = match (first, more) {
-            (b'%', [high, low, behind @ ..]) => match (hex(*high), hex(*low)) {
-                (Some(high), Some(low)) => {
-                    bytes.push((high * 16 + low) as u8);
-                    behind
-                }
-                _ => return None,
-            },
-            (it, _) => {
-                bytes.push(*it);
-                more
-            }
-        };
-    }
-    Some(PathBuf::from(String::from_utf8(bytes).ok()?))
-}
-
-fn uri_of_path(path: &Path) -> String {
-    let mut uri = "file://".to_owned();
-    for byte in path.to_string_lossy().bytes() {
-        match byte {
-            b'a'..=b'z' | b'A'..=b'Z' | b'0'..=b'9' | b'/' | b'-' | b'.' | b'_' | b'~' => uri.push(byte as char),
-            _ => uri.push_str(&format!("%{byte:02X}")),
-        }
-    }
-    uri
-}
-
-#[cfg(test)]
-mod tests {
-    use super::*;
-
-    #[test]
-    fn paths_as_uris() {
-        for path in ["/a/b.rs", "/a b/ü/🦀%.rs", "/c++/#x?.rs"] {
-            assert_eq!(path_of_uri(&uri_of_path(Path::new(path))).as_deref(), Some(Path::new(path)));
-        }
-        assert_eq!(uri_of_path(Path::new("/a b")), "file:///a%20b");
-        assert_eq!(path_of_uri("file://localhost/a%2fb").as_deref(), Some(Path::new("/a/b")));
-        for bad in ["http://x/y", "file://", "file:///%zz", "file:///%ff", ""] {
-            assert_eq!(path_of_uri(bad), None);
-        }
-    }
 }

@@ -7,7 +7,8 @@ use std::time::{Duration, Instant};
 use anyhow::{bail, Context as _, Result};
 use cargo_nogsimat::package::{Crates, Wanted};
 use cargo_nogsimat::program::{self, VARIABLE};
-use cargo_nogsimat::report::{Answer, Context, Diagnostic, Report, Texts};
+use cargo_nogsimat::question::{Context, Question};
+use cargo_nogsimat::report::{Answer, Diagnostic, Report, Texts};
 use cargo_nogsimat::token::Position;
 use cargo_nogsimat::unit::Step;
 use cargo_nogsimat::workspace::Workspace;
@@ -315,7 +316,9 @@ fn resolve(path: &str, at: &str, options: &Options) -> Result<ExitCode> {
     };
     let module: Vec<Step> = names.map(Step::Module).collect();
     let context = if path.ends_with('!') { Context::Call } else { Context::Plain };
-    say(&space.answer(krate as u32, &module, path.trim_end_matches('!'), context)?, options.json)
+    let path = path.trim_end_matches('!').to_owned();
+    let question = Question { krate: krate as u32, place: module, whole: path.clone(), path, context };
+    say(&space.answer(question)?, options.json)
 }
 
 fn watch(path: &Path, options: &Options) -> Result<ExitCode> {

@@ -16,10 +16,15 @@ pub struct Wanted {
     pub path: PathBuf,
     /// Names of packages in place of those at the path.
     pub packages: Vec<String>,
+    /// As Cargo has `--features`.
     pub features: Vec<String>,
+    /// As Cargo has `--all-features`.
     pub all_features: bool,
+    /// As Cargo has `--no-default-features`.
     pub no_default_features: bool,
+    /// With `cfg(test)`, tests, examples and what these depend on.
     pub test: bool,
+    /// Whether Cargo may fetch.
     pub online: bool,
     /// Without the standard library's sources: the stub stands for it.
     pub no_std: bool,
@@ -38,11 +43,15 @@ pub struct Krate {
     pub name: String,
     /// As Cargo names the package, with the target where that isn't its library.
     pub title: String,
+    /// As `2021`.
     pub edition: String,
+    /// The file of its root module.
     pub root: PathBuf,
+    /// The conditions that hold in it.
     pub options: Options,
     /// The number, the name, and whether paths may begin with it.
     pub dependencies: Vec<(u32, String, bool)>,
+    /// Whether it exports procedural macros.
     pub is_proc_macro: bool,
     /// Whether its diagnostics are told.
     pub is_asked: bool,
@@ -55,6 +64,7 @@ pub struct Krate {
 /// The crates of a session, each behind those that it depends on.
 #[derive(Clone, Debug, Default)]
 pub struct Crates {
+    /// By their numbers.
     pub all: Vec<Krate>,
     /// How many of them are the standard library's, which come first.
     pub of_std: usize,

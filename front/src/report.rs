@@ -1,39 +1,48 @@
 //! Diagnostics and answers at places in files.
 
-use std::collections::{BTreeMap, HashMap, HashSet};
-use std::path::Path;
-use std::sync::Arc;
+mod answers;
+mod imports;
 
-use anyhow::{bail, Result};
+use std::collections::HashMap;
+use std::path::Path;
+
+use anyhow::Result;
 use serde::Serialize;
 use serde_json::Value;
 
-use crate::lsp::site::is_local;
-use crate::syntax::{plain, Item, ItemKind, UseTree};
-use crate::token::{on_a_thread, tokens_of, Delimiter, Kind, Position, Span, Token};
-use crate::unit::{place_json, quoted, steps_of, Detail, Step};
-use crate::workspace::{key_of, path_of_key, Leads, Located, NotRun, PastItem, Workspace};
+use crate::question::names_of;
+use crate::token::Span;
+use crate::unit::{place_json, quoted, steps_of};
+use crate::workspace::{path_of_key, Located, NotRun, Workspace};
+pub use answers::{Answer, Meaning};
+use imports::{prefixes, Bound};
 
 /// A place in a file.
 #[derive(Clone, PartialEq, Eq, PartialOrd, Ord, Hash, Debug, Serialize)]
 pub struct Place {
     /// Below the current folder if it lies there, else absolute.
     pub file: String,
+    /// From 1.
     pub line: u32,
+    /// From 1, in characters.
     pub column: u32,
+    /// The line of its last character.
     pub end_line: u32,
+    /// The column behind that.
     pub end_column: u32,
 }
 
 /// Something that isn't resolved, or couldn't be read.
 #[derive(Clone, PartialEq, Eq, PartialOrd, Ord, Hash, Debug, Serialize)]
 pub struct Diagnostic {
+    /// What the carets stand below.
     pub place: Place,
     /// As the program names it, or `syntax`, `refused` or `endless macro`.
     pub kind: String,
     /// The number that rustc gives such an error.
     #[serde(skip_serializing_if = "Option::is_none")]
     pub code: Option<&'static str>,
+    /// What stands behind `error`.
     pub message: String,
     /// What stands beside the caret.
     pub label: String,
@@ -50,12 +59,14 @@ pub struct Diagnostic {
 /// What isn't resolved in the crates that are asked for.
 #[derive(Debug, Default)]
 pub struct Report {
+    /// By file and line.
     pub diagnostics: Vec<Diagnostic>,
     /// How many imports and calls weren't judged, since they go into a crate for which a stub stands, or into a file that
     /// couldn't be read.
     pub unjudged: usize,
     /// Files of other crates, and expansions, that couldn't be read.
     pub elsewhere: Vec<String>,
+    /// The procedural macros that are used, and how often.
     pub not_run: NotRun,
 }
 
@@ -65,11 +76,6 @@ impl Report {
         self.diagnostics.iter().any(|it| ["syntax", "refused", "endless macro"].contains(&&*it.kind))
     }
 }
-
-const BUILTIN_TYPES: [&str; 17] = [
-    "bool", "char", "f32", "f64", "i128", "i16", "i32", "i64", "i8", "isize", "str", "u128", "u16", "u32", "u64", "u8",
-    "usize",
-];
 
 /// A path as messages show it: below the current folder, or absolute.
 pub fn shown(path: &Path) -> String {
@@ -93,24 +99,6 @@ pub fn place_at(key: &str, span: Span) -> Place {
 pub fn question(krate: u32, module: &[String], path: &str) -> String {
     format!("{{\"do\":\"resolve\",\"at\":{},\"path\":{}}}", place_json(krate, &steps_of(module)), quoted(path))
 }
-
-/// An import that isn't resolved, while it is looked into.
-struct Import {
-    krate: u32,
-    located: Located,
-    path: String,
-    binds: Option<Arc<str>>,
-    span: Span,
-    /// How many of its names are reached, and what the last of these is.
-    reached: usize,
-    last: Value,
-}
-
-/// Names in modules; `*` stands for any name.
-type Bound = HashSet<(u32, Vec<String>, String)>;
-
-/// A crate's number, and the names from its root.
-type Module = (u32, Vec<String>);
 
 impl Workspace {
     /// What isn't resolved, in the order of files and lines.
@@ -216,272 +204,6 @@ impl Workspace {
         }
     }
 
-    /// Adds the modules into which a glob brings names of a crate for which a stub stands, or of a module that was added,
-    /// each with the name `*`.
-    fn follow_globs(&mut self, crates: &[u32], bound: &mut Bound) -> Result<()> {
-        self.find_globs(crates)?;
-        let mut to: Vec<(Module, Module)> = Vec::new();
-        for krate in crates.iter().copied() {
-            for (at, leads) in self.globs.get(&krate).map_or(&[][..], |it| &it.1) {
-                match leads {
-                    Leads::Stub => drop(bound.insert((krate, at.clone(), "*".to_owned()))),
-                    Leads::Module(number, module) => to.push(((*number, module.clone()), (krate, at.clone()))),
-                }
-            }
-        }
-        let mut before = usize::MAX;
-        while bound.len() != before {
-            before = bound.len();
-            for ((from_krate, from), (krate, at)) in &to {
-                if bound.contains(&(*from_krate, from.clone(), "*".to_owned())) {
-                    bound.insert((*krate, at.clone(), "*".to_owned()));
-                }
-            }
-        }
-        Ok(())
-    }
-
-    /// Asks where the globs lead of those of the crates that were resolved again.
-    fn find_globs(&mut self, crates: &[u32]) -> Result<()> {
-        let is_due = |it: &u32| self.globs.get(it).map(|it| it.0) != Some(self.times_resolved(*it));
-        let due: Vec<u32> = crates.iter().copied().filter(is_due).collect();
-        let mut globs = Vec::new();
-        for krate in due.iter().copied() {
-            let is_old = self.crates.all[krate as usize].edition == "2015";
-            for (key, module) in self.files(krate) {
-                for node in self.built(key).map_or(&[][..], |it| &it.nodes) {
-                    let Detail::Use(leaves) = &node.detail else {
-                        continue;
-                    };
-                    for leaf in leaves.iter().filter(|it| it.binds.as_deref() == Some("*")) {
-                        let mut at = module.clone();
-                        at.extend(node.modules.iter().map(|it| it.to_string()));
-                        let path = prefixes(&leaf.path, is_old).pop().unwrap_or_default();
-                        globs.push((krate, at, path));
-                    }
-                }
-            }
-        }
-        let asks: Vec<String> = globs.iter().map(|(krate, at, path)| question(*krate, at, path)).collect();
-        let replies = self.ask_all(&asks)?;
-        for krate in due {
-            self.globs.insert(krate, (self.times_resolved(krate), Vec::new()));
-        }
-        for ((krate, at, _), reply) in globs.into_iter().zip(replies) {
-            let found = &reply["ok"]["types"]["def"];
-            let leads = match self.module_of_definition(found) {
-                _ if self.is_of_stub(found) => Leads::Stub,
-                Some((number, module)) => Leads::Module(number, module),
-                None => continue,
-            };
-            if let Some(it) = self.globs.get_mut(&krate) {
-                it.1.push((at, leads));
-            }
-        }
-        Ok(())
-    }
-
-    /// Tells the imports that name what an enum or another item doesn't hold, as a variant that isn't there. The program
-    /// takes them as the item itself, so each path is asked that a type may stand in.
-    fn imports_past_items(&mut self, krate: u32, report: &mut Report) -> Result<()> {
-        let times = self.times_resolved(krate);
-        if self.past_items.get(&krate).map(|it| it.0) != Some(times) {
-            let types = self.types_in_imports(krate);
-            let is_old = self.crates.all[krate as usize].edition == "2015";
-            let mut asks = Vec::new();
-            let mut leaves_of = Vec::new();
-            for (key, module) in self.files(krate) {
-                for node in self.built(key).map_or(&[][..], |it| &it.nodes) {
-                    let Detail::Use(leaves) = &node.detail else {
-                        continue;
-                    };
-                    for (at, leaf) in leaves.iter().enumerate() {
-                        let Some((holder, _)) = leaf.path.rsplit_once("::").filter(|it| it.1 != "*") else {
-                            continue;
-                        };
-                        if !holder.split("::").any(|it| types.contains(it)) {
-                            continue;
-                        }
-                        let mut place = module.clone();
-                        place.extend(node.modules.iter().map(|it| it.to_string()));
-                        let before = if is_old && prefixes(&leaf.path, true)[0].starts_with("::") { "::" } else { "" };
-                        let path = format!("{before}{}", leaf.path.trim_start_matches(before));
-                        asks.push(question(krate, &place, &path));
-                        leaves_of.push(PastItem { file: key.clone(), node: node.id, leaf: at });
-                    }
-                }
-            }
-            let replies = self.ask_all(&asks)?;
-            let found = leaves_of.into_iter().zip(replies).filter(|it| !it.1["ok"]["stop"].is_null());
-            let found = found.map(|it| it.0).collect();
-            self.past_items.insert(krate, (times, found));
-        }
-        for PastItem { file: key, node, leaf: at } in &self.past_items[&krate].1 {
-            let Some(node) = self.built(key).and_then(|it| it.find("Use", *node)) else {
-                continue;
-            };
-            if let Detail::Use(leaves) = &node.detail {
-                let leaf = &leaves[*at];
-                let (holder, name) = leaf.path.rsplit_once("::").unwrap_or(("", &leaf.path));
-                report.diagnostics.push(Diagnostic {
-                    place: place_at(key, leaf.span),
-                    kind: "unresolved import".to_owned(),
-                    code: Some("E0432"),
-                    message: format!("unresolved import `{}`", leaf.path),
-                    label: format!("no `{name}` in `{holder}`"),
-                    krate: self.crates.all[krate as usize].title.clone(),
-                    notes: Vec::new(),
-                    related: Vec::new(),
-                });
-            }
-        }
-        Ok(())
-    }
-
-    /// The names within paths of a crate's imports that a type may have.
-    fn types_in_imports(&self, krate: u32) -> HashSet<String> {
-        let mut within: HashSet<&str> = HashSet::new();
-        for node in self.files(krate).iter().filter_map(|it| self.built(&it.0)).flat_map(|it| &it.nodes) {
-            if let Detail::Use(leaves) = &node.detail {
-                let holders = leaves.iter().filter_map(|it| it.path.rsplit_once("::"));
-                within.extend(holders.flat_map(|it| it.0.split("::")));
-            }
-        }
-        let builtin = BUILTIN_TYPES.iter().copied().filter(|it| within.contains(it));
-        let declared = self.type_names().map(|it| &**it).filter(|it| within.contains(it));
-        builtin.chain(declared).map(str::to_owned).collect()
-    }
-
-    fn import(&self, krate: u32, it: &Value) -> Option<Import> {
-        let located = self.locate(krate, &it["item"])?;
-        let Detail::Use(leaves) = &located.node.detail else {
-            return None;
-        };
-        let leaf = leaves.get(it["place"].as_u64()? as usize)?.clone();
-        let span = if located.is_expanded { located.span } else { leaf.span };
-        Some(Import { krate, located, path: leaf.path, binds: leaf.binds, span, reached: 0, last: Value::Null })
-    }
-
-    /// Finds how far the paths of the imports go. Those of a crate are asked once after each time that it was resolved,
-    /// name by name, and none behind a crate for which a stub stands.
-    fn follow(&mut self, imports: &mut [Import]) -> Result<()> {
-        let mut of_crates: BTreeMap<u32, Vec<&mut Import>> = BTreeMap::new();
-        for it in imports {
-            of_crates.entry(it.krate).or_default().push(it);
-        }
-        let mut due = Vec::new();
-        for (krate, imports) in &mut of_crates {
-            let times = self.times_resolved(*krate);
-            let known = self.reached.get(krate).filter(|it| it.0 == times && it.1.len() == imports.len());
-            if let Some((_, known)) = known {
-                for (import, (reached, last)) in imports.iter_mut().zip(known) {
-                    (import.reached, import.last) = (*reached, last.clone());
-                }
-                continue;
-            }
-            let is_old = self.crates.all[*krate as usize].edition == "2015";
-            due.extend(imports.iter_mut().map(|it| (prefixes(&it.path, is_old), &mut **it)));
-        }
-        for count in 0.. {
-            due.retain(|(prefixes, it)| it.reached == count && prefixes.len() > count && !self.is_of_stub(&it.last));
-            if due.is_empty() {
-                break;
-            }
-            let mut places: HashMap<String, usize> = HashMap::new();
-            let mut asks = Vec::new();
-            let mut whose = Vec::new();
-            for (prefixes, it) in &due {
-                let ask = question(it.krate, &it.located.module, &prefixes[count]);
-                whose.push(*places.entry(ask).or_insert_with_key(|ask| {
-                    asks.push(ask.clone());
-                    asks.len() - 1
-                }));
-            }
-            let replies = self.ask_all(&asks)?;
-            for ((_, import), at) in due.iter_mut().zip(whose) {
-                let found = &replies[at]["ok"]["types"]["def"];
-                if !found.is_null() && replies[at]["ok"]["stop"].is_null() {
-                    (import.reached, import.last) = (count + 1, found.clone());
-                }
-            }
-        }
-        for (krate, imports) in of_crates {
-            let reached = imports.into_iter().map(|it| (it.reached, it.last.clone())).collect();
-            self.reached.insert(krate, (self.times_resolved(krate), reached));
-        }
-        Ok(())
-    }
-
-    /// Whether a definition is one of a crate for which a stub stands.
-    fn is_of_stub(&self, definition: &Value) -> bool {
-        let krate = definition["crate"].as_u64().and_then(|it| self.crates.all.get(it as usize));
-        krate.is_some_and(|it| it.is_stub)
-    }
-
-    fn is_unjudged(&self, it: &Import, bound: &Bound) -> bool {
-        self.is_of_stub(&it.last) || self.follows_from(it, bound)
-    }
-
-    /// Whether the name that isn't reached is one of these.
-    fn follows_from(&self, it: &Import, bound: &Bound) -> bool {
-        let names = names_of(&it.path);
-        let Some(name) = names.get(it.reached) else {
-            return false;
-        };
-        let (krate, module) = match it.reached {
-            0 => (it.krate, it.located.module.clone()),
-            _ => match self.module_of_definition(&it.last) {
-                Some(it) => it,
-                None => return false,
-            },
-        };
-        let own = it.binds.as_deref() == Some(&**name) && krate == it.krate && module == it.located.module;
-        let mut key = (krate, module, name.clone());
-        let found = !own && bound.contains(&key);
-        key.2 = "*".to_owned();
-        found || bound.contains(&key)
-    }
-
-    /// The module that a definition is.
-    pub fn module_of_definition(&self, definition: &Value) -> Option<(u32, Vec<String>)> {
-        let krate = definition["crate"].as_u64()? as u32;
-        if definition["kind"] == "CrateRoot" {
-            return Some((krate, Vec::new()));
-        }
-        if definition["kind"] == "BlockExpr" {
-            return self.block_names(&definition["in"][0].to_string());
-        }
-        let located = self.locate(krate, definition)?;
-        let mut module = located.module;
-        module.push(located.node.name.to_string());
-        Some((krate, module))
-    }
-
-    fn import_diagnostic(&self, it: &Import) -> Diagnostic {
-        let names = names_of(&it.path);
-        let missing = names.get(it.reached).cloned().unwrap_or_default();
-        let before = names[..it.reached.min(names.len())].join("::");
-        let label = match (it.reached, &*missing) {
-            (0, _) => format!("no crate, module or item `{missing}` is in scope here"),
-            (_, "*") => format!("`{before}` is neither a module nor an enum"),
-            _ if it.reached + 1 == names.len() => format!("no `{missing}` in `{before}`"),
-            _ => format!("could not find `{missing}` in `{before}`"),
-        };
-        let (what, path, place) = self.described(&it.last);
-        let related = place.filter(|_| it.reached > 0).map(|it| (format!("{what} `{path}`"), it));
-        let related = related.into_iter().collect();
-        Diagnostic {
-            place: place_at(&it.located.file, it.span),
-            kind: "unresolved import".to_owned(),
-            code: Some("E0432"),
-            message: format!("unresolved import `{}`", it.path),
-            label,
-            krate: self.crates.all[it.krate as usize].title.clone(),
-            notes: expanded_note(&it.located),
-            related,
-        }
-    }
-
     fn call_diagnostic(&mut self, krate: u32, it: &Value, bound: &Bound, report: &mut Report) -> Result<()> {
         let Some(located) = self.locate(krate, &it["call"]) else {
             return Ok(());
@@ -512,7 +234,8 @@ impl Workspace {
             let all = crate::unit::numbered(&item.attributes, &self.crates.all[krate as usize].options);
             if let Some((_, attribute)) = all.iter().find(|it| u64::from(it.0) == number) {
                 span = attribute.path.span;
-                let derived = crate::unit::paths_of(attribute).unwrap_or_default();
+                let mut derived = crate::unit::paths_of(attribute).unwrap_or_default();
+                derived.retain(|it| !self.left_out(krate, &located.file).hold(&it.text));
                 let derived = it["call"]["derive"].as_u64().and_then(|it| derived.get(it as usize).cloned());
                 span = derived.map_or(span, |it| it.span);
             }
@@ -637,24 +360,6 @@ fn expanded_note(located: &Located) -> Vec<String> {
     }
 }
 
-/// The names of a path, with what it begins with.
-fn names_of(path: &str) -> Vec<String> {
-    let mut names: Vec<String> = path.split("::").map(str::to_owned).collect();
-    if names.first().is_some_and(|it| it.is_empty()) && names.len() > 1 {
-        names.remove(0);
-    }
-    names
-}
-
-/// The path up to each of its names but the last. Of an import in the edition 2015 it counts from the crate's root.
-fn prefixes(path: &str, is_old: bool) -> Vec<String> {
-    let names = names_of(path);
-    let is_plain = !matches!(names[0].as_str(), "crate" | "self" | "super") && !names[0].starts_with('$');
-    let before = if path.starts_with("::") || (is_old && is_plain) { "::" } else { "" };
-    let count = if names.len() > 1 { names.len() - 1 } else { 1 };
-    (1..=count).map(|it| format!("{before}{}", names[..it].join("::"))).collect()
-}
-
 impl Diagnostic {
     /// As rustc prints errors. `lines` are those of the file.
     pub fn text(&self, lines: &[&str], colored: bool) -> String {
@@ -705,502 +410,4 @@ impl Texts {
     }
 }
 
-/// How the path at a place is looked up.
-#[derive(Clone, Copy, PartialEq, Eq, Debug)]
-pub enum Context {
-    Plain,
-    /// Called with `!`.
-    Call,
-    /// An attribute or a derive.
-    Attribute,
-    Import,
-}
-
-/// A path that stands at a place.
-#[derive(Clone, Debug)]
-pub struct FoundPath {
-    pub path: String,
-    pub context: Context,
-    /// Where the innermost block begins that has items of its own, if one stands around it.
-    pub block: Option<Position>,
-}
-
-/// What a path names in one namespace.
-#[derive(Clone, Debug, Serialize)]
-pub struct Meaning {
-    pub namespace: &'static str,
-    /// As `struct`, `function`, `builtin type`.
-    pub what: String,
-    /// As `crate::a::B` or `serde::Serialize`.
-    pub path: String,
-    #[serde(skip_serializing_if = "Option::is_none")]
-    pub place: Option<Place>,
-    /// The import, glob or `extern crate` that brought it.
-    #[serde(skip_serializing_if = "Option::is_none")]
-    pub brought_by: Option<(String, Place)>,
-    pub visibility: String,
-}
-
-/// What a path names, in each namespace.
-#[derive(Clone, Debug, Serialize)]
-pub struct Answer {
-    pub path: String,
-    /// The module in which the path was looked up.
-    pub module: String,
-    pub meanings: Vec<Meaning>,
-    /// The first name that wasn't resolved, where the path goes on past what holds no names.
-    #[serde(skip_serializing_if = "Option::is_none")]
-    pub stopped_at: Option<String>,
-    #[serde(skip_serializing_if = "Vec::is_empty")]
-    pub notes: Vec<String>,
-}
-
-fn contains(span: Span, at: Position) -> bool {
-    span.start <= at && at <= span.end
-}
-
-/// A list of tokens, and which of them the place is in.
-type Level<'a> = (&'a [Token], usize);
-
-/// The lists of tokens around a word, the outermost first.
-fn lists_at(tokens: &[Token], at: Position, context: Context) -> Option<(Vec<Level<'_>>, Context)> {
-    for (number, it) in tokens.iter().enumerate().filter(|it| contains(it.1.span, at)) {
-        match &it.kind {
-            Kind::Ident(_) => return Some((vec![(tokens, number)], context)),
-            Kind::Group(delimiter, inner) => {
-                let before = |by: usize| number.checked_sub(by).map(|it| &tokens[it]);
-                let is_attribute = *delimiter == Delimiter::Bracket
-                    && (before(1).is_some_and(|it| it.is("#"))
-                        || before(1).is_some_and(|it| it.is("!")) && before(2).is_some_and(|it| it.is("#")));
-                let is_derive = context == Context::Attribute && before(1).is_some_and(|it| it.is_word("derive"));
-                let inside = if is_attribute || is_derive { Context::Attribute } else { Context::Plain };
-                if let Some(mut found) = lists_at(inner, at, inside) {
-                    found.0.insert(0, (tokens, number));
-                    return Some(found);
-                }
-            }
-            _ => {}
-        }
-    }
-    None
-}
-
-/// Whether the group there is the body of a function, or the value of a constant.
-pub(crate) fn is_body(list: &[Token], number: usize) -> bool {
-    if list[number].group(Delimiter::Brace).is_none() {
-        return false;
-    }
-    let goes_on = |it: &&Token| !it.is(";") && it.group(Delimiter::Brace).is_none();
-    let mut before = list[..number].iter().rev().take_while(goes_on).filter_map(Token::word);
-    before.any(|it| matches!(it, "fn" | "const" | "static"))
-}
-
-/// Where the `<` is that the `>` at `end` closes.
-fn opening(tokens: &[Token], end: usize) -> Option<usize> {
-    let mut depth = 0;
-    for at in (0..=end).rev() {
-        depth -= crate::syntax::angle(&tokens[at]);
-        if depth <= 0 {
-            return (depth == 0).then_some(at);
-        }
-    }
-    None
-}
-
-/// The path that ends with the word at `at`.
-pub(crate) fn path_before(tokens: &[Token], at: usize) -> Option<String> {
-    let mut names = vec![plain(tokens[at].word()?).to_owned()];
-    let mut left = at;
-    while left > 0 && tokens[left - 1].is("::") {
-        left -= 1;
-        let mut before = left.checked_sub(1);
-        if before.is_some_and(|it| crate::syntax::angle(&tokens[it]) < 0) {
-            let open = opening(tokens, before?)?;
-            before = open
-                .checked_sub(1)
-                .filter(|it| tokens[*it].is("::"))
-                .map_or(open.checked_sub(1), |it| it.checked_sub(1));
-            if !before.is_some_and(|it| tokens[it].word().is_some()) {
-                return None;
-            }
-        }
-        match before.and_then(|it| tokens[it].word()) {
-            Some(word)
-                if !matches!(
-                    word,
-                    "return"
-                        | "in"
-                        | "as"
-                        | "use"
-                        | "pub"
-                        | "mut"
-                        | "dyn"
-                        | "impl"
-                        | "for"
-                        | "where"
-                        | "else"
-                        | "match"
-                        | "if"
-                        | "let"
-                        | "ref"
-                        | "move"
-                ) =>
-            {
-                names.insert(0, plain(word).to_owned());
-                left = before?;
-            }
-            _ => {
-                names.insert(0, String::new());
-                break;
-            }
-        }
-    }
-    Some(names.join("::"))
-}
-
-/// Whether a statement of a block is an item, or a macro call that holds one.
-fn has_items(list: &[Token]) -> bool {
-    const WORDS: [&str; 12] =
-        ["use", "fn", "struct", "enum", "mod", "static", "trait", "impl", "type", "const", "extern", "macro_rules"];
-    list.iter().enumerate().any(|(at, it)| {
-        let is_first = at == 0
-            || list[at - 1].is(";")
-            || matches!(list[at - 1].kind, Kind::Group(Delimiter::Brace | Delimiter::Bracket, _));
-        let holds = match (list.get(at + 1), list.get(at + 2).map(|it| &it.kind)) {
-            (Some(bang), Some(Kind::Group(Delimiter::Brace, inner))) if bang.is("!") => {
-                inner.iter().filter_map(|it| it.group(Delimiter::Brace)).any(|it| has_items(it))
-            }
-            _ => false,
-        };
-        is_first && it.word().is_some_and(|it| WORDS.contains(&it) || holds)
-    })
-}
-
-/// The prefix of the lists around a place in a `use` tree.
-fn prefix_at(tree: &UseTree, at: Position) -> Option<String> {
-    let UseTree::List { path, trees, span } = tree else {
-        return None;
-    };
-    let own = path.as_ref().map_or(String::new(), |it| it.text.clone());
-    if !contains(*span, at) || path.as_ref().is_some_and(|it| contains(it.span, at)) {
-        return None;
-    }
-    let inner = trees.iter().find_map(|it| prefix_at(it, at));
-    Some(match inner {
-        Some(it) if own.is_empty() => it,
-        Some(it) => format!("{own}::{it}"),
-        None => own,
-    })
-}
-
-/// The names of the inline modules around a place, and the item that it is in.
-pub(crate) fn around<'a>(items: &'a [Item], at: Position, modules: &mut Vec<String>) -> Option<&'a Item> {
-    let item = items.iter().find(|it| contains(it.span, at))?;
-    match &item.kind {
-        ItemKind::Module(Some(inner)) if item.name.as_ref().is_some_and(|it| !contains(it.span, at)) => {
-            modules.push(item.name_text().to_owned());
-            around(inner, at, modules)
-        }
-        ItemKind::Call(call) => {
-            modules_in(&call.input, at, modules);
-            Some(item)
-        }
-        _ => Some(item),
-    }
-}
-
-/// The modules around a place in what a macro is called with.
-fn modules_in(tokens: &[Token], at: Position, modules: &mut Vec<String>) {
-    for (number, it) in tokens.iter().enumerate().filter(|it| contains(it.1.span, at)) {
-        if let Kind::Group(delimiter, inner) = &it.kind {
-            if let ([.., word, name], Delimiter::Brace) = (&tokens[..number], delimiter) {
-                if let (true, Some(name)) = (word.is_word("mod"), name.word()) {
-                    modules.push(plain(name).to_owned());
-                }
-            }
-            return modules_in(inner, at, modules);
-        }
-    }
-}
-
-/// The names of the inline modules around a place.
-pub fn modules_at(items: &[Item], at: Position) -> Vec<String> {
-    let mut modules = Vec::new();
-    around(items, at, &mut modules);
-    modules
-}
-
-/// The path at a place of a text, and the inline modules around it.
-pub fn path_at(text: &str, items: &[Item], at: Position) -> Option<(FoundPath, Vec<String>)> {
-    let mut modules = Vec::new();
-    let item = around(items, at, &mut modules);
-    let found = on_a_thread(|| {
-        let tokens = tokens_of(text).ok()?;
-        let (lists, context) = lists_at(&tokens, at, Context::Plain)?;
-        let (list, number) = *lists.last()?;
-        let mut path = path_before(list, number)?;
-        let is_call = list.get(number + 1).is_some_and(|it| it.is("!"))
-            && matches!(list.get(number + 2), Some(Token { kind: Kind::Group(..), .. }));
-        let mut context = if is_call { Context::Call } else { context };
-        if let Some(ItemKind::Use(tree)) = item.map(|it| &it.kind) {
-            context = Context::Import;
-            if let Some(prefix) = prefix_at(tree, at) {
-                path = match &*path {
-                    "self" => prefix,
-                    _ if prefix.is_empty() => path,
-                    _ => format!("{}::{path}", if prefix == "::" { "" } else { &prefix }),
-                };
-            }
-        }
-        let body = lists.iter().position(|(list, number)| is_body(list, *number));
-        let innermost = body.and_then(|it| (it + 1..lists.len()).rev().find(|it| has_items(lists[*it].0)));
-        let block = innermost.map(|it| lists[it - 1].0[lists[it - 1].1].span.start);
-        Some(FoundPath { path, context, block })
-    })?;
-    Some((found, modules))
-}
-
-impl Workspace {
-    /// What the path at a place of a file names.
-    pub fn answer_at(&mut self, file: &Path, at: Position) -> Result<Answer> {
-        let path = file.canonicalize().unwrap_or_else(|_| file.to_owned());
-        let key = key_of(&path)?;
-        let Some(krate) = self.crates_of(&key).first().copied() else {
-            bail!("{} is no file of these crates", file.display());
-        };
-        let text = std::fs::read_to_string(&path)?;
-        let (mut place, items) = self.place_and_items(krate, &key, at);
-        let Some((found, inner)) = path_at(&text, items, at) else {
-            bail!("no path stands at {}:{}:{}", file.display(), at.line, at.column);
-        };
-        let around = self.block_at(krate, &key, at).map(|it| it.1.block.span.start);
-        let blocks: Vec<Span> = self.blocks_of(krate, &key).iter().map(|it| it.1.block.span).collect();
-        place.extend(steps_of(&inner));
-        let is_local = on_a_thread(|| tokens_of(&text).is_ok_and(|it| is_local(&it, &blocks, at)));
-        if is_local {
-            let note = "a local name (a variable, a parameter, `Self` or an item of the body), a field or a method: \
-                        these aren't looked up";
-            let module = self.place_text(krate, &place);
-            let notes = vec![note.to_owned()];
-            return Ok(Answer { path: found.path, module, meanings: Vec::new(), stopped_at: None, notes });
-        }
-        let mut answer = self.answer(krate, &place, &found.path, found.context)?;
-        if found.block.is_some() && found.block != around {
-            answer.notes.push("the body around it has items of its own, which aren't looked at".to_owned());
-        }
-        Ok(answer)
-    }
-
-    /// The module of a file or the block in it that stands around a position, and its items.
-    fn place_and_items(&self, krate: u32, key: &str, at: Position) -> (Vec<Step>, &[Item]) {
-        match self.block_at(krate, key, at) {
-            Some((place, it)) => (place, &it.block.items),
-            None => {
-                let items = self.parsed(key).map_or(&[][..], |it| &it.unit.items);
-                (self.module_of(krate, key).map_or(Vec::new(), steps_of), items)
-            }
-        }
-    }
-
-    /// The place in which a path is looked up that stands at a position of a file.
-    pub fn place_of(&self, krate: u32, key: &str, at: Position) -> Vec<Step> {
-        let (mut place, items) = self.place_and_items(krate, key, at);
-        place.extend(steps_of(&modules_at(items, at)));
-        place
-    }
-
-    /// The command that asks what a path names as it stands in a context.
-    pub fn question_in(&self, krate: u32, place: &[Step], path: &str, context: Context) -> String {
-        let is_old = self.crates.all[krate as usize].edition == "2015" && context == Context::Import;
-        let asked = match is_old {
-            true => {
-                let names = names_of(path);
-                let is_plain = !matches!(names[0].as_str(), "crate" | "self" | "super") && !path.starts_with("::");
-                format!("{}{path}", if is_plain { "::" } else { "" })
-            }
-            false => path.to_owned(),
-        };
-        let more = match context {
-            Context::Call => ",\"shadow\":\"module\",\"sub\":\"bang\"",
-            Context::Attribute => ",\"shadow\":\"module\",\"sub\":\"attr\"",
-            Context::Import => ",\"shadow\":\"module\"",
-            Context::Plain => "",
-        };
-        let place = place_json(krate, place);
-        format!("{{\"do\":\"resolve\",\"at\":{place},\"path\":{}{more}}}", quoted(&asked))
-    }
-
-    /// Asks what a path names at a place of a crate.
-    pub fn answer(&mut self, krate: u32, place: &[Step], path: &str, context: Context) -> Result<Answer> {
-        let reply = self.ask(self.question_in(krate, place, path, context))?;
-        match reply["error"].as_str() {
-            None => {}
-            Some("unknown place") => bail!(
-                "there is no module {}; where a condition leaves it out, --test, --features or --cfg may set that",
-                self.place_text(krate, place)
-            ),
-            Some("command") => bail!("`{path}` is no path"),
-            Some(it) => bail!("the program can't answer: {it}"),
-        }
-        let reply = &reply["ok"];
-        let mut meanings = Vec::new();
-        let namespaces: &[(&str, &str)] = match context {
-            Context::Call | Context::Attribute => &[("macros", "macro")],
-            _ => &[("types", "type"), ("values", "value"), ("macros", "macro")],
-        };
-        for (field, namespace) in namespaces {
-            if let Some(it) = reply.get(*field).filter(|it| !it.is_null()) {
-                meanings.push(self.meaning(namespace, it));
-            }
-        }
-        let stop = reply["stop"].as_u64().map(|it| it as usize);
-        let names: Vec<String> =
-            names_of(path).into_iter().filter(|it| !matches!(it.as_str(), "crate" | "self" | "super")).collect();
-        let stopped_at = stop.and_then(|it| names.get(it).cloned());
-        Ok(Answer {
-            path: path.to_owned(),
-            module: self.place_text(krate, place),
-            meanings,
-            stopped_at,
-            notes: Vec::new(),
-        })
-    }
-
-    /// A place in words; a block is named by the items in whose bodies it stands.
-    pub fn place_text(&self, krate: u32, place: &[Step]) -> String {
-        let block = place.iter().rposition(|it| matches!(it, Step::Block(_)));
-        let before = block.and_then(|it| self.block_names(&place_json(krate, &place[..=it])));
-        let mut names = before.map_or(Vec::new(), |it| it.1);
-        for it in &place[block.map_or(0, |it| it + 1)..] {
-            if let Step::Module(it) = it {
-                names.push(it.clone());
-            }
-        }
-        self.module_text(krate, &names)
-    }
-
-    /// A module in words, as `name_of_a_crate::a`.
-    pub fn module_text(&self, krate: u32, module: &[String]) -> String {
-        let mut names = vec![self.crates.all[krate as usize].name.clone()];
-        names.extend(module.iter().cloned());
-        names.join("::")
-    }
-
-    fn meaning(&self, namespace: &'static str, it: &Value) -> Meaning {
-        let definition = &it["def"];
-        let (what, path, place) = self.described(definition);
-        let brought_by = it.get("import").filter(|it| !it.is_null()).and_then(|it| self.brought(it));
-        let visibility = match &it["vis"] {
-            Value::String(it) => it.clone(),
-            it => match (it["crate"].as_u64(), self.module_of_definition(&it["module"])) {
-                (Some(krate), _) => format!("in the crate {}", self.crates.all[krate as usize].name),
-                (None, Some((krate, module))) => format!("in {}", self.module_text(krate, &module)),
-                _ => "private".to_owned(),
-            },
-        };
-        Meaning { namespace, what, path, place, brought_by, visibility }
-    }
-
-    /// The kind, the path and the place of a definition.
-    pub fn described(&self, definition: &Value) -> (String, String, Option<Place>) {
-        if let Some(it) = definition["builtin"].as_str() {
-            return ("builtin type".to_owned(), it.to_owned(), None);
-        }
-        let krate = definition["crate"].as_u64().unwrap_or_default() as u32;
-        if definition["kind"] == "CrateRoot" {
-            let it = &self.crates.all[krate as usize];
-            let place = key_of(&it.root).ok().map(|it| place_at(&it, Span::default()));
-            return ("crate".to_owned(), it.name.clone(), place);
-        }
-        let kind = definition["kind"].as_str().unwrap_or_default();
-        if let ("BlockExpr", Some((krate, names))) = (kind, self.module_of_definition(definition)) {
-            return ("block".to_owned(), self.module_text(krate, &names), None);
-        }
-        let mut node = definition.clone();
-        if kind == "ProcMacro" {
-            node["kind"] = "Fn".into();
-        }
-        let what = match kind {
-            "Fn" => "function",
-            "Const" => "constant",
-            "TypeAlias" => "type alias",
-            "MacroRules" | "MacroDef" => "macro",
-            "ProcMacro" => "procedural macro",
-            "Variant" => "variant",
-            it => return self.described_node(krate, &node, it.to_lowercase()),
-        };
-        self.described_node(krate, &node, what.to_owned())
-    }
-
-    fn described_node(&self, krate: u32, node: &Value, what: String) -> (String, String, Option<Place>) {
-        let Some(located) = self.locate(krate, node) else {
-            return (what, format!("{}::?", self.crates.all[krate as usize].name), None);
-        };
-        // A `macro_rules` stands in no module.
-        let mut names = if located.node.kind == "MacroRules" { Vec::new() } else { located.module.clone() };
-        names.extend(located.enum_name.iter().map(|it| it.to_string()));
-        names.push(match (&located.node.detail, node["kind"].as_str()) {
-            (Detail::Derive(it), _) => it.clone(),
-            _ => located.node.name.to_string(),
-        });
-        (what, self.module_text(krate, &names), Some(place_at(&located.file, located.span)))
-    }
-
-    fn brought(&self, import: &Value) -> Option<(String, Place)> {
-        let source = &import["in"][0];
-        let krate = match source.as_str() {
-            Some(key) => self.crates_of(key).first().copied()?,
-            None => source[0].as_u64()? as u32,
-        };
-        let what = import["kind"].as_str()?;
-        let mut node = import.clone();
-        node["kind"] = (if what == "extern crate" { "ExternCrate" } else { "Use" }).into();
-        let located = self.locate(krate, &node)?;
-        let leaf = match &located.node.detail {
-            Detail::Use(leaves) => import["place"].as_u64().and_then(|it| leaves.get(it as usize)),
-            _ => None,
-        };
-        let span = leaf.filter(|_| !located.is_expanded).map_or(located.span, |it| it.span);
-        Some((what.to_owned(), place_at(&located.file, span)))
-    }
-}
-
-impl Answer {
-    /// As `where` and `resolve` print it.
-    pub fn text(&self) -> String {
-        let mut text = format!("`{}` in {}\n", self.path, self.module);
-        let mut before: Option<String> = None;
-        for it in &self.meanings {
-            let mut lines = String::new();
-            let place = it
-                .place
-                .as_ref()
-                .map_or(String::new(), |it| format!("\n      at {}:{}:{}", it.file, it.line, it.column));
-            lines.push_str(&format!("{} {}{place}\n", it.what, it.path));
-            if let Some((what, place)) = &it.brought_by {
-                let article = if what.starts_with(['a', 'e', 'i']) { "an" } else { "a" };
-                lines.push_str(&format!(
-                    "      brought by {article} {what} at {}:{}:{}\n",
-                    place.file, place.line, place.column
-                ));
-            }
-            lines.push_str(&format!("      visible: {}\n", it.visibility));
-            let as_before = before.as_ref() == Some(&lines);
-            match as_before {
-                true => text.push_str(&format!("  as a {} the same\n", it.namespace)),
-                false => text.push_str(&format!("  as a {}: {lines}", it.namespace)),
-            }
-            before = Some(lines);
-        }
-        if self.meanings.is_empty() {
-            text.push_str("  names no item, module or macro\n");
-        }
-        if let Some(it) = &self.stopped_at {
-            text.push_str(&format!("  the path goes on with `{it}`, which isn't looked up\n"));
-        }
-        for it in &self.notes {
-            text.push_str(&format!("  note: {it}\n"));
-        }
-        text
-    }
-}
+impl Workspace {}

@@ -19,6 +19,28 @@ pub struct Span {
     pub end: Position,
 }
 
+/// The lines of what a macro's text brings are counted from here, see [`Span::of_macro`].
+const OF_MACRO: u32 = 1 << 31;
+
+impl Span {
+    /// Whether the position is in it, or right behind it.
+    pub fn contains(self, at: Position) -> bool {
+        self.start <= at && at <= self.end && !self.is_of_macro()
+    }
+
+    /// Of what a macro's text brings into an expansion: that stands where the macro is written, which may be another
+    /// file, so no position is in it.
+    pub fn of_macro(self) -> Span {
+        let far = |it: Position| Position { line: it.line | OF_MACRO, ..it };
+        Span { start: far(self.start), end: far(self.end) }
+    }
+
+    /// Whether a macro's text brings some of what is there.
+    pub fn is_of_macro(self) -> bool {
+        (self.start.line | self.end.line) >= OF_MACRO
+    }
+}
+
 /// What a group stands in.
 #[derive(Clone, Copy, PartialEq, Eq, Hash, Debug)]
 pub enum Delimiter {
@@ -284,6 +306,50 @@ pub fn opened(tokens: &[Token]) -> Vec<Token> {
     }
     let mut made = Vec::with_capacity(tokens.len());
     open_into(tokens, &mut made);
+    made
+}
+
+/// The tokens as what a macro's text brings, see [`Span::of_macro`].
+pub fn of_macro(tokens: &[Token]) -> Tokens {
+    let made = tokens.iter().map(|it| {
+        let kind = match &it.kind {
+            Kind::Group(delimiter, inner) => Kind::Group(*delimiter, of_macro(inner)),
+            kind => kind.clone(),
+        };
+        Token { kind, span: it.span.of_macro() }
+    });
+    made.collect()
+}
+
+/// Where that stands among the tokens of an expansion which its call was given, piece by piece. Nothing where all of
+/// the tokens are one piece, as those of a file are.
+pub fn pieces_given(tokens: &[Token]) -> Vec<Span> {
+    fn add(tokens: &[Token], made: &mut Vec<Span>, goes_on: &mut bool, is_whole: &mut bool) {
+        for it in tokens {
+            let is_of_macro = it.span.is_of_macro();
+            match &it.kind {
+                Kind::Group(Delimiter::None, inner) => add(inner, made, goes_on, is_whole),
+                Kind::Group(_, inner) if is_of_macro => {
+                    (*goes_on, *is_whole) = (false, false);
+                    add(inner, made, goes_on, is_whole);
+                    *goes_on = false;
+                }
+                _ if is_of_macro => (*goes_on, *is_whole) = (false, false),
+                _ => {
+                    match made.last_mut().filter(|last| *goes_on && last.end <= it.span.start) {
+                        Some(last) => last.end = it.span.end,
+                        None => made.push(it.span),
+                    }
+                    *goes_on = true;
+                }
+            }
+        }
+    }
+    let (mut made, mut goes_on, mut is_whole) = (Vec::new(), false, true);
+    add(tokens, &mut made, &mut goes_on, &mut is_whole);
+    if is_whole && made.len() < 2 {
+        made.clear();
+    }
     made
 }
 

@@ -1,19 +1,21 @@
 //! From items to the unit that the program takes, with the ids of its nodes and where each of them stands.
 
+mod attributes;
 mod blocks;
+mod derives;
 
 use std::collections::HashMap;
 use std::fmt::Write as _;
 use std::sync::Arc;
 
-use crate::cfg::{string_of, Condition, Options};
-use crate::syntax::{
-    attribute_in, comma_separated, path_of, plain, Attribute, Call, Field, Item, ItemKind, MacroDefinition, Shape,
-    Unit, UseTree, Visibility,
-};
-use crate::token::{opened, text_of, Delimiter, Hash, Kind, Span, Token};
+use crate::cfg::Options;
+use crate::syntax::{plain, Attribute, Call, Field, Item, ItemKind, MacroDefinition, Shape, Unit, UseTree, Visibility};
+use crate::token::{opened, Delimiter, Hash, Kind, Span, Token};
+use attributes::{builtin_name, expander_of, is_kept, names_json, write_attributes};
 
-pub use blocks::{build_blocks, place_json, steps_of, BuiltBlock, Step};
+pub use attributes::{is_builtin, is_enabled, may_be_macro, numbered, paths_of, text_attribute};
+pub use blocks::{build_blocks, place_json, steps_of, BuiltBlock, Known, Step};
+pub use derives::{Derives, Given, NAMES as DERIVES};
 
 /// A hash and an index, see [`build`].
 pub type Id = (u16, u16);
@@ -23,6 +25,7 @@ pub type Id = (u16, u16);
 pub struct Leaf {
     /// With the prefixes around it.
     pub path: String,
+    /// Where its path stands, or the list.
     pub span: Span,
     /// What it binds: a name, `*`, or nothing where it is a list or `_`.
     pub binds: Option<Arc<str>>,
@@ -45,14 +48,19 @@ pub enum Detail {
 /// What is known of a node.
 #[derive(Clone, Debug)]
 pub struct Node {
+    /// As the program names it.
     pub kind: &'static str,
+    /// Among the nodes of its kind in the unit.
     pub id: Id,
+    /// Empty where it has none.
     pub name: Arc<str>,
     /// The names of the inline modules around it in its unit.
     pub modules: Arc<[Arc<str>]>,
     /// Where its name stands, or its path; the call's place where a call was replaced by what it expands to.
     pub span: Span,
+    /// From its first word to its last.
     pub whole: Span,
+    /// What it has besides by its kind.
     pub detail: Detail,
     /// The item, where its attributes may be macros.
     pub item: Option<Arc<Item>>,
@@ -67,6 +75,7 @@ pub struct Node {
 pub struct Built {
     /// The unit in JSON.
     pub json: String,
+    /// In the order in which they are written.
     pub nodes: Vec<Node>,
     by_id: HashMap<(&'static str, Id), usize>,
 }
@@ -111,379 +120,9 @@ const KINDS: [&str; 17] = [
     "MacroDef",
 ];
 
-/// The attributes that the compiler has by itself, stable or not, and that nothing is looked up for. Handed in are
-/// those of them alone that change what names mean.
-const BUILTIN: [&str; 119] = [
-    "allow",
-    "allow_internal_unsafe",
-    "allow_internal_unstable",
-    "arm",
-    "automatically_derived",
-    "bench",
-    "cfi_encoding",
-    "cmse_nonsecure_entry",
-    "cold",
-    "collapse_debuginfo",
-    "compiler_builtins",
-    "const_continue",
-    "const_eval_limit",
-    "const_trait",
-    "coroutine",
-    "coverage",
-    "crate_name",
-    "crate_type",
-    "custom_mir",
-    "custom_test_frameworks",
-    "debugger_visualizer",
-    "default_lib_allocator",
-    "deny",
-    "deprecated",
-    "deprecated_safe",
-    "derive",
-    "do_not_recommend",
-    "doc",
-    "doc_masked",
-    "expect",
-    "export_name",
-    "feature",
-    "ffi_const",
-    "ffi_pure",
-    "forbid",
-    "fundamental",
-    "global_allocator",
-    "ignore",
-    "inline",
-    "instruction_set",
-    "lang",
-    "link",
-    "link_args",
-    "link_name",
-    "link_ordinal",
-    "link_section",
-    "linkage",
-    "loop_match",
-    "macro_escape",
-    "macro_export",
-    "macro_use",
-    "main",
-    "marker",
-    "may_dangle",
-    "move_size_limit",
-    "must_not_suspend",
-    "must_use",
-    "naked",
-    "needs_allocator",
-    "needs_panic_runtime",
-    "negative_bounds",
-    "no_builtins",
-    "no_core",
-    "no_coverage",
-    "no_debug",
-    "no_implicit_prelude",
-    "no_init",
-    "no_link",
-    "no_main",
-    "no_mangle",
-    "no_sanitize",
-    "no_start",
-    "no_std",
-    "non_exhaustive",
-    "non_lifetime_binders",
-    "omit_gdb_pretty_printer_section",
-    "optimize",
-    "panic_handler",
-    "panic_runtime",
-    "panic_unwind",
-    "patchable_function_entry",
-    "path",
-    "pattern_complexity",
-    "plugin",
-    "plugin_registrar",
-    "pointee",
-    "prelude_import",
-    "proc_macro",
-    "proc_macro_attribute",
-    "proc_macro_derive",
-    "profiler_runtime",
-    "recursion_limit",
-    "reexport_test_harness_main",
-    "register_attr",
-    "register_tool",
-    "repr",
-    "sanitize",
-    "should_panic",
-    "splat",
-    "stable",
-    "start",
-    "static_nobundle",
-    "target_feature",
-    "test",
-    "test_runner",
-    "thread_local",
-    "track_caller",
-    "type_const",
-    "type_length_limit",
-    "unsafe_destructor_blind_to_params",
-    "unsafe_no_drop_flag",
-    "unstable",
-    "unstable_feature_bound",
-    "unwind",
-    "used",
-    "warn",
-    "windows_subsystem",
-    "cfg",
-    "cfg_attr",
-];
-
-const TOOLS: [&str; 5] = ["clippy", "rustfmt", "diagnostic", "miri", "rust_analyzer"];
-
-/// The builtin attributes that are handed in.
-const KEPT: [&str; 14] = [
-    "cfg",
-    "cfg_attr",
-    "derive",
-    "macro_export",
-    "macro_use",
-    "no_core",
-    "no_implicit_prelude",
-    "no_std",
-    "path",
-    "proc_macro",
-    "proc_macro_attribute",
-    "proc_macro_derive",
-    "recursion_limit",
-    "register_tool",
-];
-
-/// Whether nothing is looked up for an attribute of this path.
-pub fn is_builtin(path: &str) -> bool {
-    match path.split_once("::") {
-        None => path.starts_with("rustc_") || BUILTIN.contains(&path),
-        Some((tool, _)) => TOOLS.contains(&tool),
-    }
-}
-
-fn is_kept(attribute: &Attribute) -> bool {
-    let path = &*attribute.path.text;
-    !is_builtin(path) || KEPT.contains(&path)
-}
-
-/// The condition and the attributes of a `cfg_attr`.
-fn conditional(attribute: &Attribute) -> Option<(Condition, Vec<Attribute>)> {
-    let [Token { kind: Kind::Group(Delimiter::Parenthesis, inner), .. }] = &attribute.input[..] else {
-        return None;
-    };
-    let inner = opened(inner);
-    let mut parts = comma_separated(&inner).into_iter();
-    let condition = parts.next().map_or(Condition::Invalid, Condition::read);
-    Some((condition, parts.filter_map(|it| attribute_in(it, attribute.span)).collect()))
-}
-
-/// The condition of a `cfg`.
-fn condition(attribute: &Attribute) -> Condition {
-    match &attribute.input[..] {
-        [Token { kind: Kind::Group(Delimiter::Parenthesis, inner), .. }] => Condition::read(inner),
-        _ => Condition::Invalid,
-    }
-}
-
-/// Whether an attribute may be a macro, or is `derive`, or is one of these under a condition.
-pub fn may_be_macro(attribute: &Attribute) -> bool {
-    match &*attribute.path.text {
-        "derive" => true,
-        "cfg_attr" => conditional(attribute).is_some_and(|it| it.1.iter().any(may_be_macro)),
-        path => !is_builtin(path),
-    }
-}
-
-/// Whether what has these attributes is there under the options.
-pub fn is_enabled(attributes: &[Attribute], options: &Options) -> bool {
-    attributes.iter().all(|it| match &*it.path.text {
-        "cfg" => condition(it).holds(options),
-        "cfg_attr" => match conditional(it) {
-            Some((condition, inner)) => !condition.holds(options) || is_enabled(&inner, options),
-            None => true,
-        },
-        _ => true,
-    })
-}
-
-/// The attributes under the options, with what `cfg_attr` adds, each with its number among those that are handed in.
-pub fn numbered(attributes: &[Attribute], options: &Options) -> Vec<(u32, Attribute)> {
-    fn number(attributes: &[Attribute], options: Option<&Options>, next: &mut u32, made: &mut Vec<(u32, Attribute)>) {
-        for it in attributes.iter().filter(|it| is_kept(it)) {
-            let own = *next;
-            if it.path.text == "cfg_attr" {
-                let Some((condition, inner)) = conditional(it).filter(|it| it.1.iter().any(is_kept)) else {
-                    continue;
-                };
-                *next += 1;
-                let options = options.filter(|it| condition.holds(it));
-                number(&inner, options, next, made);
-                continue;
-            }
-            *next += 1;
-            if options.is_some() {
-                made.push((own, it.clone()));
-            }
-        }
-    }
-    let (mut next, mut made) = (0, Vec::new());
-    number(attributes, Some(options), &mut next, &mut made);
-    made
-}
-
-/// The text of the attribute `name = "text"`, if it is there.
-pub fn text_attribute(attributes: &[Attribute], name: &str, options: &Options) -> Option<String> {
-    let all = numbered(attributes, options);
-    let found = all.iter().find(|(_, it)| it.path.text == name)?;
-    match &found.1.input[..] {
-        [equals, Token { kind: Kind::Literal(it), .. }] if equals.is("=") => string_of(it),
-        _ => None,
-    }
-}
-
-/// The paths of an attribute `path(a, b::c)`.
-pub fn paths_of(attribute: &Attribute) -> Option<Vec<crate::syntax::Path>> {
-    match &attribute.input[..] {
-        [Token { kind: Kind::Group(Delimiter::Parenthesis, inner), .. }] => {
-            comma_separated(&opened(inner)).into_iter().map(path_of).collect()
-        }
-        _ => None,
-    }
-}
-
-/// What the program is told of an attribute, if it is told.
-fn write_attribute(attribute: &Attribute, json: &mut String) -> bool {
-    if !is_kept(attribute) {
-        return false;
-    }
-    let path = &*attribute.path.text;
-    let from = json.len();
-    let _ = write!(json, "{{\"path\":{}", quoted(path));
-    match path {
-        "cfg" => {
-            let _ = write!(json, ",\"cfg\":{}", condition(attribute).json());
-        }
-        "cfg_attr" => {
-            let Some((condition, inner)) = conditional(attribute).filter(|it| it.1.iter().any(is_kept)) else {
-                json.truncate(from);
-                return false;
-            };
-            let _ = write!(json, ",\"cfg\":{},\"attrs\":", condition.json());
-            write_attributes(&inner, json);
-        }
-        "proc_macro_derive" => {
-            if let [Token { kind: Kind::Group(Delimiter::Parenthesis, inner), .. }] = &attribute.input[..] {
-                let parts = opened(inner);
-                let parts = comma_separated(&parts);
-                if let Some(name) = parts.first().and_then(|it| it.first()).and_then(Token::word) {
-                    let helpers = parts.get(1).map_or(Vec::new(), |it| names_in_group(it));
-                    let _ = write!(json, ",\"derive\":{},\"helpers\":{}", quoted(plain(name)), names_json(&helpers));
-                }
-            }
-        }
-        _ => match &attribute.input[..] {
-            [] => {}
-            [equals, Token { kind: Kind::Literal(it), .. }] if equals.is("=") => match string_of(it) {
-                Some(it) => {
-                    let _ = write!(json, ",\"literal\":{}", quoted(&it));
-                }
-                None => {
-                    let _ = write!(json, ",\"tokens\":{}", quoted(it));
-                }
-            },
-            input => match paths_of(attribute) {
-                Some(paths) => {
-                    json.push_str(",\"paths\":[");
-                    for (at, it) in paths.iter().enumerate() {
-                        json.push_str(if at == 0 { "" } else { "," });
-                        json.push_str(&quoted(&it.text));
-                    }
-                    json.push(']');
-                }
-                None => {
-                    let _ = write!(json, ",\"tokens\":{}", quoted(&text_of(input)));
-                }
-            },
-        },
-    }
-    json.push('}');
-    true
-}
-
-/// The names in `attributes(a, b)`.
-fn names_in_group(tokens: &[Token]) -> Vec<String> {
-    match tokens {
-        [word, Token { kind: Kind::Group(Delimiter::Parenthesis, inner), .. }] if word.is_word("attributes") => {
-            inner.iter().filter_map(|it| it.word().map(|it| plain(it).to_owned())).collect()
-        }
-        _ => Vec::new(),
-    }
-}
-
-fn names_json(names: &[String]) -> String {
-    serde_json::to_string(names).expect("texts have a JSON form")
-}
-
 /// A text as JSON.
 pub fn quoted(text: &str) -> String {
     serde_json::to_string(text).expect("a text has a JSON form")
-}
-
-fn write_attributes(attributes: &[Attribute], json: &mut String) {
-    json.push('[');
-    for it in attributes {
-        let from = json.len();
-        if !json.ends_with('[') {
-            json.push(',');
-        }
-        if !write_attribute(it, json) {
-            json.truncate(from);
-        }
-    }
-    json.push(']');
-}
-
-/// The kind of a builtin macro by the name that `rustc_builtin_macro` gives it, or its own.
-fn expander_of(name: &str) -> &'static str {
-    match name {
-        "Clone"
-        | "Copy"
-        | "Debug"
-        | "Default"
-        | "Eq"
-        | "Hash"
-        | "Ord"
-        | "PartialEq"
-        | "PartialOrd"
-        | "RustcDecodable"
-        | "RustcEncodable"
-        | "ConstParamTy"
-        | "UnsizedConstParamTy"
-        | "CoercePointee"
-        | "SmartPointer"
-        | "From"
-        | "ConstParamTy_" => "builtin_derive",
-        "alloc_error_handler"
-        | "bench"
-        | "cfg_accessible"
-        | "cfg_eval"
-        | "derive"
-        | "derive_const"
-        | "global_allocator"
-        | "test"
-        | "test_case"
-        | "define_opaque"
-        | "autodiff"
-        | "autodiff_forward"
-        | "autodiff_reverse"
-        | "contracts_ensures"
-        | "contracts_requires"
-        | "unsafe_eii"
-        | "eii" => "builtin_attr",
-        _ => "builtin",
-    }
 }
 
 /// What stands for a call in place of the call itself.
@@ -494,8 +133,11 @@ struct Builder<'a> {
     seen: HashMap<(&'static str, u16), u32>,
     options: &'a Options,
     replaced: Replaced<'a>,
+    left_out: Derives,
     /// The call in whose place the items stand.
     place: Option<Span>,
+    /// The call whose expansion they are of. What a macro's text brings is said to stand there.
+    call: Option<Span>,
     modules: Vec<Arc<str>>,
     around: Hash,
     is_associated: bool,
@@ -503,18 +145,30 @@ struct Builder<'a> {
 
 /// The unit of a file or of an expansion. Calls for which `replaced` has items are those items.
 pub fn build(unit: &Unit, options: &Options, replaced: Replaced) -> Built {
+    build_at(unit, options, replaced, Derives::default(), None)
+}
+
+/// The same without these derives.
+pub fn build_without(unit: &Unit, options: &Options, replaced: Replaced, left_out: Derives) -> Built {
+    build_at(unit, options, replaced, left_out, None)
+}
+
+/// The same for what the call at `call` expands to.
+fn build_at(unit: &Unit, options: &Options, replaced: Replaced, left_out: Derives, call: Option<Span>) -> Built {
     let mut builder = Builder {
         made: Built::default(),
         seen: HashMap::new(),
         options,
         replaced,
+        left_out,
         place: None,
+        call,
         modules: Vec::new(),
         around: Hash::default(),
         is_associated: false,
     };
     builder.made.json.push_str("{\"attrs\":");
-    write_attributes(&unit.attributes, &mut builder.made.json);
+    write_attributes(&unit.attributes, left_out, &mut builder.made.json);
     builder.made.json.push_str(",\"nodes\":");
     builder.list(&unit.items);
     builder.made.json.push('}');
@@ -554,7 +208,7 @@ impl Builder<'_> {
                 if let Some(unit) = (self.replaced)(call) {
                     if is_enabled(&item.attributes, self.options) {
                         let (place, around) = (self.place, self.around);
-                        self.place = place.or(Some(call.path.span));
+                        self.place = Some(self.place_of(call.path.span));
                         self.around = around.with("call").with(&known_call(call));
                         self.nodes(&unit.items);
                         (self.place, self.around) = (place, around);
@@ -590,12 +244,11 @@ impl Builder<'_> {
             ItemKind::Macro(_) => ("MacroDef", name.into()),
         };
         let id = self.id(kind, &known_by);
-        let span = match (&item.name, &item.kind, self.place) {
-            (_, _, Some(it)) => it,
-            (Some(it), _, None) => it.span,
-            (None, ItemKind::Call(call), None) => call.path.span,
-            (None, _, None) => item.span,
-        };
+        let span = self.place_of(match (&item.name, &item.kind) {
+            (Some(it), _) => it.span,
+            (None, ItemKind::Call(call)) => call.path.span,
+            (None, _) => item.span,
+        });
         if !self.made.json.ends_with('[') {
             self.made.json.push(',');
         }
@@ -606,9 +259,14 @@ impl Builder<'_> {
             let _ = write!(self.made.json, ",\"name\":{}", quoted(name));
         }
         self.visibility(&item.visibility, ",\"vis\":");
-        if item.attributes.iter().any(is_kept) {
+        let is_looked_up = item.attributes.iter().any(|it| derives::is_looked_up(it, self.left_out));
+        // Elsewhere `derive` is an error.
+        let may_derive = matches!(item.kind, ItemKind::Struct { .. } | ItemKind::Enum(_) | ItemKind::Union { .. });
+        let is_told = |it: &&Attribute| is_kept(it) && (is_looked_up || !may_derive || it.path.text != "derive");
+        let mut told = item.attributes.iter().filter(is_told).peekable();
+        if told.peek().is_some() {
             self.made.json.push_str(",\"attrs\":");
-            write_attributes(&item.attributes, &mut self.made.json);
+            write_attributes(told, self.left_out, &mut self.made.json);
         }
         let at = self.made.nodes.len();
         let detail = self.detail(item);
@@ -619,7 +277,7 @@ impl Builder<'_> {
             name: name.into(),
             modules: modules.clone(),
             span,
-            whole: self.place.unwrap_or(item.span),
+            whole: self.place_of(item.span),
             detail,
             item: item.input.map(|_| Arc::new(item.clone())),
             of: None,
@@ -630,7 +288,7 @@ impl Builder<'_> {
                 let input = call.input_hash.text();
                 let _ = write!(self.made.json, ",\"path\":{},\"input\":\"{input}\"", quoted(&call.path.text));
             }
-            (_, Some(input)) => {
+            (_, Some(input)) if is_looked_up => {
                 let _ = write!(self.made.json, ",\"input\":\"{}\"", input.text());
             }
             _ => {}
@@ -642,11 +300,17 @@ impl Builder<'_> {
         self.made.json.push('}');
     }
 
+    /// Where something of a span is said to stand.
+    fn place_of(&self, span: Span) -> Span {
+        let call = self.call.filter(|_| span.is_of_macro());
+        self.place.or(call).unwrap_or(span)
+    }
+
     fn detail(&self, item: &Item) -> Detail {
         match &item.kind {
             ItemKind::Use(tree) => {
                 let mut leaves = Vec::new();
-                leaves_of(tree, "", self.place, &mut leaves);
+                leaves_of(tree, "", &|it| self.place_of(it), &mut leaves);
                 Detail::Use(leaves)
             }
             ItemKind::Call(call) => Detail::Call(call.clone()),
@@ -704,7 +368,7 @@ impl Builder<'_> {
                     );
                     if it.attributes.iter().any(is_kept) {
                         self.made.json.push_str(",\"attrs\":");
-                        write_attributes(&it.attributes, &mut self.made.json);
+                        write_attributes(&it.attributes, self.left_out, &mut self.made.json);
                     }
                     self.made.json.push('}');
                     self.made.by_id.insert(("Variant", id), self.made.nodes.len());
@@ -713,8 +377,8 @@ impl Builder<'_> {
                         id,
                         name: it.name.text.clone(),
                         modules: modules.clone(),
-                        span: self.place.unwrap_or(it.name.span),
-                        whole: self.place.unwrap_or(it.name.span),
+                        span: self.place_of(it.name.span),
+                        whole: self.place_of(it.name.span),
                         detail: Detail::None,
                         item: None,
                         of: Some(at),
@@ -821,20 +485,6 @@ fn shape_text(shape: Shape) -> &'static str {
     }
 }
 
-/// The name and the helpers of a macro that the compiler has by itself.
-fn builtin_name(item: &Item) -> Option<(String, Vec<String>)> {
-    let attribute = item.attributes.iter().find(|it| it.path.text == "rustc_builtin_macro")?;
-    let mut found = (item.name_text().to_owned(), Vec::new());
-    if let [Token { kind: Kind::Group(Delimiter::Parenthesis, inner), .. }] = &attribute.input[..] {
-        let parts = comma_separated(inner);
-        if let Some(name) = parts.first().and_then(|it| it.first()).and_then(Token::word) {
-            found.0 = plain(name).to_owned();
-        }
-        found.1 = parts.get(1).map_or(Vec::new(), |it| names_in_group(it));
-    }
-    Some(found)
-}
-
 fn joined(prefix: &str, path: &str) -> String {
     match (prefix, path) {
         ("", it) | (it, "") => it.to_owned(),
@@ -844,10 +494,10 @@ fn joined(prefix: &str, path: &str) -> String {
     }
 }
 
-fn leaves_of(tree: &UseTree, prefix: &str, place: Option<Span>, made: &mut Vec<Leaf>) {
+fn leaves_of(tree: &UseTree, prefix: &str, place_of: &dyn Fn(Span) -> Span, made: &mut Vec<Leaf>) {
     match tree {
         UseTree::Single { path, alias } => {
-            let span = place.unwrap_or(path.span);
+            let span = place_of(path.span);
             let path = joined(prefix, &path.text);
             let binds = match alias {
                 Some(it) => Some(it.text.clone()).filter(|it| **it != *"_"),
@@ -857,13 +507,13 @@ fn leaves_of(tree: &UseTree, prefix: &str, place: Option<Span>, made: &mut Vec<L
         }
         UseTree::Glob { path, span } => {
             let path = joined(prefix, path.as_ref().map_or("", |it| &it.text));
-            made.push(Leaf { path: joined(&path, "*"), span: place.unwrap_or(*span), binds: Some("*".into()) });
+            made.push(Leaf { path: joined(&path, "*"), span: place_of(*span), binds: Some("*".into()) });
         }
         UseTree::List { path, trees, span } => {
             let path = joined(prefix, path.as_ref().map_or("", |it| &it.text));
-            made.push(Leaf { path: path.clone(), span: place.unwrap_or(*span), binds: None });
+            made.push(Leaf { path: path.clone(), span: place_of(*span), binds: None });
             for it in trees {
-                leaves_of(it, &path, place, made);
+                leaves_of(it, &path, place_of, made);
             }
         }
     }

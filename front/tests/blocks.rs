@@ -231,13 +231,66 @@ same! { fn g() { struct Deep; } }
     assert_eq!(name_at(&space, 3, 56), (1, "one::S".to_owned()));
     assert_eq!(name_at(&space, 4, 43), (1, "one::E".to_owned()));
     assert_eq!(name_at(&space, 5, 33), (1, "one::f".to_owned()));
-    assert_eq!(name_at(&space, 6, 26), (1, "one".to_owned()));
+    assert_eq!(name_at(&space, 6, 26), (1, "one::g".to_owned()));
     assert_eq!(name_at(&space, 5, 4), (0, "one".to_owned()));
     space.update_text(&package.file(), &text.replace("Inner", "Other").replace("= 1;", "= 2;")).unwrap();
     assert_eq!(package.told(), ["Other"]);
     // What isn't Rust may become anything.
     space.update_text(&package.file(), &text.replace("same!({", "same!(=> {")).unwrap();
-    assert_eq!(package.told(), ["removed"]);
+    assert_eq!(package.told(), ["", "Inner"]);
+}
+
+/// Of what calls expand to, the blocks in which something stands that the call was given.
+#[test]
+fn blocks_of_expansions() {
+    let text = "\
+macro_rules! feature { (#![$m:meta] $($i:item)*) => { $(#[cfg(not($m))] $i)* } }
+macro_rules! within { ($n:ident, $v:expr) => { pub mod $n { fn f() { use x::Own; struct Text; { $v } } } } }
+macro_rules! own { () => { fn own() { struct NotAsked; } } }
+macro_rules! around { ($($all:tt)*) => { feature! { #![none] $($all)* } } }
+macro_rules! each { ($e:expr) => { { use y::Each; $e } } }
+feature! { #![none] mod m { fn g() { struct Inner; Inner; } } }
+within!(deep, { struct Given; Given });
+own!();
+around! { fn h() { struct Around; Around; } }
+fn i() { struct Local; each!(Local); }
+include!(\"other\");
+";
+    let package = Package::new(text);
+    std::fs::write(package.root.join("src/other"), "fn j() { struct Elsewhere; }").unwrap();
+    let mut space = package.open();
+    let wanted = ["", "Around", "Given", "Inner", "Local", "Use", "Use Text"];
+    assert_eq!(package.told(), wanted);
+    let (krate, key) = (number_of(&space), key_of(&package.file()).unwrap());
+    let told = |space: &Workspace, text: &str, word: &str| {
+        let before = &text[..text.rfind(word).unwrap()];
+        let line = before.matches('\n').count() as u32 + 1;
+        let column = before.rsplit('\n').next().unwrap().len() as u32 + 1;
+        let place = space.place_of(krate, &key, Position { line, column });
+        (space.place_text(krate, &place), place.len())
+    };
+    let all = |space: &Workspace, text: &str| {
+        let words = ["Inner", "Given", "Around", "Local)", "NotAsked", "deep"];
+        words.map(|it| told(space, text, it))
+    };
+    let named = |name: &str, depth: usize| (format!("one{name}"), depth);
+    let places =
+        [named("::m::g", 2), named("::deep::f", 3), named("::h", 1), named("::i", 2), named("", 0), named("", 0)];
+    assert_eq!(all(&space, text), places);
+    // The same tokens at other places.
+    let moved = format!("\n\n{}", text.replace("; Given", ";\n  Given").replace("each!(", "each!(  "));
+    space.update_text(&package.file(), &moved).unwrap();
+    assert_eq!(package.told(), [] as [&str; 0]);
+    assert_eq!(all(&space, &moved), places);
+    // Other rules, and a call that they don't take: then the blocks count that it is given.
+    space.update_text(&package.file(), &text.replace("struct Text;", "struct Changed;")).unwrap();
+    assert_eq!(package.told(), ["Use Changed"]);
+    space.update_text(&package.file(), &text.replace("$v:expr", "$v:ident")).unwrap();
+    assert_eq!(package.told(), ["Given", "removed", "removed"]);
+    space.update_text(&package.file(), &text.replace("macro_rules! within", "macro_rules! without")).unwrap();
+    assert_eq!(package.told(), [] as [&str; 0]);
+    space.update_text(&package.file(), text).unwrap();
+    assert_eq!(package.told(), ["Given", "Use Text", "removed"]);
 }
 
 /// A macro that a path reaches is asked for where a call of a block isn't in textual scope.
@@ -393,7 +446,7 @@ impl Dice {
 /// What a session hands in is the same after edits as what one does that begins with the edited text.
 #[test]
 fn random_edits_beside_a_fresh_session() {
-    const LINES: [&str; 18] = [
+    const LINES: [&str; 24] = [
         "fn f() { struct S#; }",
         "fn f#() { use a::b#; { fn h() { enum E { A# } } } { const C: u8 = #; } }",
         "macro_rules! mm { ($n:ident) => { struct $n; let x = 1; use a::x#; } }",
@@ -412,6 +465,12 @@ fn random_edits_beside_a_fresh_session() {
         "enum K { A = { use a::b#; # }, B([u8; { { fn h() {} } 1 }]) }",
         "fn f() { m!({ struct I#; mm!(I); 1 }); { m!(#, { use a::b#; 1 }) } m!(=> { struct J; }) }",
         "m! { fn k() { struct H#; } } extern { static X: [u8; { const H: u8 = #; 1 }]; }",
+        "macro_rules! given { ($($t:tt)*) => { mod given# { fn t() { use a::b; { $($t)* } } fn u() { mm!(U); } } } }",
+        "macro_rules! given { ($($t:tt)*) => { $($t)* fn twice#() { enum T {} $($t)* } } }",
+        "given! { struct G#; }",
+        "mod n { given! { use a::b; fn o() { given! { struct O#; } mm!(O); } } }",
+        "fn f() { given!(struct V#); given! { x; { struct W#; } } }",
+        "given!(=> #);",
     ];
     let package = Package::new("");
     let mut space = package.open();
@@ -448,10 +507,17 @@ fn random_edits_beside_a_fresh_session() {
         let (made, wanted) = (set(&space, &package.root), set(&fresh, &other.root));
         assert_eq!(made, wanted, "after edit {number}:\n{text}");
         most = most.max(wanted.len());
-        // Each block is found where it stands.
+        // Each block is found where it stands, and after edits at the same places as afresh.
         let (krate, key) = (number_of(&fresh), key_of(&other.file()).unwrap());
-        for (place, it) in fresh.blocks_of(krate, &key) {
-            assert_eq!(fresh.block_at(krate, &key, it.block.span.start).unwrap().0, place, "{text}");
+        let places = |space: &Workspace, key: &str| -> Vec<String> {
+            let all = space.blocks_of(krate, key);
+            all.iter().map(|it| format!("{:?} {:?} {:?}", it.0, it.1.block.span, it.1.block.given)).collect()
+        };
+        assert_eq!(places(&space, &key_of(&package.file()).unwrap()), places(&fresh, &key), "{text}");
+        for (_, it) in fresh.blocks_of(krate, &key) {
+            let at = it.block.given.first().unwrap_or(&it.block.span).start;
+            let found = fresh.block_at(krate, &key, at).unwrap().1;
+            assert!(found.block.contains(at) && found.steps.len() >= it.steps.len(), "{text}");
         }
     }
     assert!(most > 12, "{most} units at most");

@@ -5,7 +5,7 @@ use std::sync::Arc;
 
 use cargo_nogsimat::cfg::Options;
 use cargo_nogsimat::macros::Rules;
-use cargo_nogsimat::report::path_at;
+use cargo_nogsimat::site::path_at;
 use cargo_nogsimat::syntax::{unit_of, ItemKind};
 use cargo_nogsimat::token::{Hash, Position};
 use cargo_nogsimat::unit::build;
@@ -58,7 +58,7 @@ fn damaged_files_are_read_or_refused() {
         assert!(unit["nodes"].is_array());
         for _ in 0..5 {
             let line = 1 + dice.below(text.lines().count()) as u32;
-            path_at(&text, &parsed.unit.items, Position { line, column: 1 + dice.below(80) as u32 });
+            path_at(&text, &parsed.unit.items, Position { line, column: 1 + dice.below(80) as u32 }, &|_| None);
         }
     }
     assert!((50..300).contains(&read), "{read} files are read");

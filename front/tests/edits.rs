@@ -4,7 +4,7 @@ use std::path::{Path, PathBuf};
 
 use cargo_nogsimat::package::{Crates, Wanted};
 use cargo_nogsimat::program;
-use cargo_nogsimat::report::Context;
+use cargo_nogsimat::question::{Context, Question};
 use cargo_nogsimat::unit::steps_of;
 use cargo_nogsimat::workspace::Workspace;
 use tempfile::TempDir;
@@ -23,7 +23,8 @@ fn told(space: &mut Workspace) -> Vec<String> {
         [("", "A"), ("", "B"), ("m", "S"), ("m", "made"), ("m", "super::a::T"), ("a", "T"), ("a", "crate::m::C")]
     {
         let module: Vec<String> = module.split("::").filter(|it| !it.is_empty()).map(str::to_owned).collect();
-        all.push(match space.answer(krate, &steps_of(&module), path, Context::Plain) {
+        let (place, path, context) = (steps_of(&module), path.to_owned(), Context::Plain);
+        all.push(match space.answer(Question { krate, place, whole: path.clone(), path, context }) {
             Ok(it) => it.text(),
             Err(it) => it.to_string(),
         });

@@ -6,7 +6,7 @@ use std::sync::Arc;
 use cargo_nogsimat::cfg::Options;
 use cargo_nogsimat::syntax::Item;
 use cargo_nogsimat::token::{Position, Span};
-use cargo_nogsimat::unit::{build, build_blocks, place_json, Built, BuiltBlock};
+use cargo_nogsimat::unit::{build, build_blocks, place_json, Built, BuiltBlock, Known};
 use cargo_nogsimat::workspace::parse_text;
 
 fn built(text: &str) -> (Vec<Item>, Built, Vec<BuiltBlock>) {
@@ -15,7 +15,11 @@ fn built(text: &str) -> (Vec<Item>, Built, Vec<BuiltBlock>) {
     assert!(parsed.error.is_none(), "{:?}", parsed.error);
     let options = Options::default();
     let built = build(&parsed.unit, &options, &|_| None);
-    (parsed.unit.items.clone(), built, build_blocks(&parsed.unit, &options, &|_| None))
+    (
+        parsed.unit.items.clone(),
+        built,
+        build_blocks(&parsed.unit, &options, Known { replaced: &|_| None, expanded: &|_| None }),
+    )
 }
 
 /// The kinds and ids of the nodes outside of a part of the text.

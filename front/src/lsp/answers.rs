@@ -9,10 +9,12 @@ use serde_json::{json, Value};
 
 use super::declaration::{declaration_at, documentation_of, Declaration};
 use super::message::INVALID_PARAMS;
-use super::site::{sites, Site};
 use super::symbols::{symbols_of, Symbol};
-use super::{key_of_place, key_of_uri, place_of, Failure, Server};
-use crate::report::{place_at, Context, Meaning, Place};
+use super::uri::key_of_uri;
+use super::{key_of_place, place_of, Failure, Server};
+use crate::question::{Context, Question};
+use crate::report::{place_at, Meaning, Place};
+use crate::site::{sites, Site};
 use crate::syntax::plain;
 use crate::token::{on_a_thread, tokens_of, Position, Span};
 use crate::unit::{place_json, steps_of, Built, Detail, Node, Step};
@@ -81,6 +83,10 @@ fn file_of(space: &Workspace, module: &str) -> Option<Key> {
     })
 }
 
+fn asked_for(site: &Site, krate: u32, place: Vec<Step>) -> Question {
+    Question { krate, place, path: site.path.clone(), whole: site.whole.clone(), context: site.context }
+}
+
 /// The meanings that fit how a path is written.
 fn fitting(site: &Site, meanings: Vec<Meaning>) -> Vec<Meaning> {
     let is_type = |it: &Meaning| it.namespace == "type";
@@ -146,7 +152,7 @@ impl<W: Write> Server<W> {
 
     /// What the path of a site names.
     fn meanings(&mut self, site: &Site, scope: &Scope) -> Result<Vec<Meaning>> {
-        let answer = self.with_space(|it| it.answer(scope.krate, &scope.place, &site.path, site.context))?;
+        let answer = self.with_space(|it| it.answer(asked_for(site, scope.krate, scope.place.clone())))?;
         Ok(match answer {
             Some(it) if it.stopped_at.is_none() => fitting(site, it.meanings),
             _ => Vec::new(),
@@ -163,7 +169,9 @@ impl<W: Write> Server<W> {
         }
         let place = place_at(key, node.span);
         let context = if node.kind == "MacroRules" { Context::Call } else { Context::Import };
-        let answer = self.with_space(|it| it.answer(scope.krate, &scope.place, &path, context))?;
+        let (krate, at) = (scope.krate, scope.place.clone());
+        let question = Question { krate, place: at, whole: path.clone(), path, context };
+        let answer = self.with_space(|it| it.answer(question.clone()))?;
         let is_own = |it: &Meaning| it.place.as_ref() == Some(&place) && it.brought_by.is_none();
         Ok(answer.map_or(Vec::new(), |it| it.meanings.into_iter().filter(is_own).collect()))
     }
@@ -315,9 +323,9 @@ impl<W: Write> Server<W> {
                 all
             }
             Found::Path(site) => {
-                let ask =
-                    |it: &mut Workspace| it.ask(it.question_in(scope.krate, &scope.place, &site.path, site.context));
-                let reply = self.with_space(ask)?.unwrap_or_default();
+                let question = asked_for(site, scope.krate, scope.place.clone());
+                let replies = self.with_space(|it| it.ask_paths(std::slice::from_ref(&question)))?;
+                let reply = replies.and_then(|mut it| it.pop()).unwrap_or_default();
                 let known = ["types", "values", "macros"].map(|it| reply["ok"][it]["def"].clone());
                 let mut all: Vec<Value> = known.into_iter().filter(|it| !it.is_null()).collect();
                 all.retain(|it| names_one(site, &reply, std::slice::from_ref(it)));
@@ -382,12 +390,12 @@ impl<W: Write> Server<W> {
                 let blocks = spans_of_blocks(space, krate, key);
                 for site in sites_of(text.as_str(), &blocks, |word, _| names.contains(word)) {
                     let place = space.place_of(krate, key, site.span.start);
-                    questions.push(space.question_in(krate, &place, &site.path, site.context));
+                    questions.push(asked_for(&site, krate, place));
                     whose.push((key.clone(), site));
                 }
             }
         }
-        let replies = self.with_space(|it| it.ask_all(&questions))?.unwrap_or_default();
+        let replies = self.with_space(|it| it.ask_paths(&questions))?.unwrap_or_default();
         for ((key, site), reply) in whose.into_iter().zip(replies) {
             if names_one(&site, &reply, targets) {
                 made.insert((key, site.span.start, site.span.end));

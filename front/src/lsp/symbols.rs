@@ -7,6 +7,7 @@ use crate::token::{Position, Span};
 /// An item, a variant or a field.
 #[derive(Debug)]
 pub struct Symbol {
+    /// As it is shown.
     pub name: String,
     /// What it is beside its name: a signature, a type.
     pub detail: String,
@@ -14,7 +15,9 @@ pub struct Symbol {
     pub kind: u32,
     /// With its attributes and documentation.
     pub span: Span,
+    /// Where its name stands, or what it begins with.
     pub name_span: Span,
+    /// What is declared in it.
     pub children: Vec<Symbol>,
 }
 

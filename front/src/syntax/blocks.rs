@@ -3,9 +3,10 @@
 use std::borrow::Cow;
 use std::sync::Arc;
 
-use super::{is_qualifier, Call, Cursor, Item, ItemKind, Unit, Visibility, Where};
+use super::items::is_qualifier;
+use super::{Call, Cursor, Item, ItemKind, Unit, Visibility, Where};
 use crate::macros::reads_as_rust;
-use crate::token::{opened, Delimiter, Hash, Kind, Span, Token};
+use crate::token::{opened, pieces_given, Delimiter, Hash, Kind, Position, Span, Token};
 
 /// A block with items of its own.
 #[derive(Clone, Debug)]
@@ -14,8 +15,12 @@ pub struct Block {
     pub items: Vec<Item>,
     /// The blocks with items in its expressions. Those of its items' bodies are with the items.
     pub blocks: Vec<Arc<Block>>,
+    /// How many items come before it of the block that it is in.
+    pub before: usize,
     /// With its braces.
     pub span: Span,
+    /// In an expansion, what of it the call was given, where that isn't all of it in one piece.
+    pub given: Vec<Span>,
 }
 
 /// The outermost blocks with items in an item of these tokens, but for those of the items in it.
@@ -61,19 +66,22 @@ fn blocks_in_fields(tokens: &[Token], made: &mut Vec<Arc<Block>>) {
 /// Those in what a macro is called with, where that reads as statements, or as expressions between commas. What it
 /// becomes isn't known, but such a block mostly stays where it is.
 fn blocks_in_call(input: &[Token]) -> Vec<Arc<Block>> {
-    let made = block(input, Span::default()).outermost();
-    if made.is_empty() || reads_as_rust(input) {
-        made
-    } else {
-        Vec::new()
-    }
+    blocks_if_rust(input).unwrap_or_default()
 }
 
-/// The items among these statements, for what a macro call that is a statement expands to.
+/// The same, or none where there are some and it isn't Rust.
+fn blocks_if_rust(input: &[Token]) -> Option<Vec<Arc<Block>>> {
+    let made = block(input, Span::default()).outermost();
+    (made.is_empty() || reads_as_rust(input)).then_some(made)
+}
+
+/// The items and the blocks among these statements, for what a macro call that is a statement expands to.
 pub fn statements_of(tokens: &[Token], around: Hash) -> Unit {
-    let mut items = block(tokens, Span::default()).items;
-    super::identify(&mut items, around, &mut std::collections::HashMap::new());
-    Unit { attributes: Vec::new(), items }
+    let Block { mut items, mut blocks, .. } = block(tokens, Span::default());
+    let mut seen = std::collections::HashMap::new();
+    super::identify(&mut items, around, &mut seen);
+    super::identify_in(&mut blocks, around, &mut seen);
+    Unit { attributes: Vec::new(), items, blocks }
 }
 
 /// Adds the block that a token is, or the outermost ones in it.
@@ -98,8 +106,15 @@ fn block_at(tokens: &[Token], at: usize, made: &mut Vec<Arc<Block>>) {
         return;
     }
     let block = block(inner, tokens[at].span);
-    match block.items.iter().any(|it| !matches!(it.kind, ItemKind::Call(_))) {
-        true => made.push(Arc::new(block)),
+    let holds_items = |it: &Item| match &it.kind {
+        ItemKind::Call(it) => it.may_give_back_items,
+        _ => true,
+    };
+    match block.items.iter().any(holds_items) {
+        true => {
+            let given = if block.span.is_of_macro() { pieces_given(inner) } else { Vec::new() };
+            made.push(Arc::new(Block { given, ..block }));
+        }
         false => made.extend(block.outermost()),
     }
 }
@@ -114,7 +129,7 @@ fn block(tokens: &[Token], span: Span) -> Block {
     let has_fragments = tokens.iter().any(|it| it.group(Delimiter::None).is_some());
     let tokens = if has_fragments { Cow::Owned(opened(tokens)) } else { Cow::Borrowed(tokens) };
     let mut cursor = Cursor::new(&tokens, span);
-    let mut made = Block { items: Vec::new(), blocks: Vec::new(), span };
+    let mut made = Block { items: Vec::new(), blocks: Vec::new(), before: 0, span, given: Vec::new() };
     cursor.attributes(true);
     let mut is_first = true;
     while !cursor.is_at_end() {
@@ -124,7 +139,11 @@ fn block(tokens: &[Token], span: Span) -> Block {
                 continue;
             }
         }
+        let known = made.blocks.len();
         block_at(&tokens, cursor.at, &mut made.blocks);
+        for it in &mut made.blocks[known..] {
+            Arc::make_mut(it).before = made.items.len();
+        }
         let token = &tokens[cursor.at];
         is_first = token.is(";") || token.group(Delimiter::Brace).is_some();
         cursor.at += 1;
@@ -133,11 +152,25 @@ fn block(tokens: &[Token], span: Span) -> Block {
 }
 
 impl Block {
+    /// Whether a position of the file is in it; in an expansion, whether the call was given there what became of it.
+    pub fn contains(&self, at: Position) -> bool {
+        self.span.contains(at) || self.given.iter().any(|it| it.contains(at))
+    }
+
+    /// Whether a position may be in it: it stands in a file, or its call was given some of it.
+    pub fn is_given(&self) -> bool {
+        !self.span.is_of_macro() || !self.given.is_empty()
+    }
+
     /// The outermost blocks in it, where it is none itself. Those of a module among its items are left out, since they
     /// stand in another place.
     fn outermost(self) -> Vec<Arc<Block>> {
-        let mut made = self.blocks;
-        for item in self.items {
+        let mut made = Vec::new();
+        let mut blocks = self.blocks.into_iter().peekable();
+        for (number, item) in self.items.into_iter().enumerate() {
+            while let Some(it) = blocks.next_if(|it| it.before <= number) {
+                made.push(it);
+            }
             made.extend(item.blocks);
             if let ItemKind::Trait(inner) | ItemKind::Impl { items: inner, .. } | ItemKind::ExternBlock(inner) =
                 item.kind
@@ -145,7 +178,7 @@ impl Block {
                 made.extend(inner.into_iter().flat_map(|it| it.blocks));
             }
         }
-        made.sort_by_key(|it| it.span.start);
+        made.extend(blocks);
         made
     }
 }
@@ -195,6 +228,7 @@ impl Cursor<'_> {
 
     /// A macro call that is a statement: in braces, or with a semicolon.
     fn statement_call(&mut self) -> Option<Item> {
+        let from = self.at;
         let start = self.peek().filter(|it| !it.word().is_some_and(is_of_expression))?.span;
         let path = self.path()?;
         let Some(Token { kind: Kind::Group(delimiter, input), span }) = self.ahead(1).filter(|_| self.sees("!")) else {
@@ -206,17 +240,24 @@ impl Cursor<'_> {
             Delimiter::Brace => !self.peek().is_some_and(goes_on),
             _ => self.takes(";"),
         };
-        is_whole.then(|| Item {
+        if !is_whole {
+            return None;
+        }
+        let mut call = Call::new(path, input, true);
+        let blocks = blocks_if_rust(input);
+        call.may_give_back_items = blocks.is_none();
+        Some(Item {
             attributes: Vec::new(),
             visibility: Visibility::default(),
             name: None,
-            kind: ItemKind::Call(Arc::new(Call::new(path, input, true))),
+            kind: ItemKind::Call(Arc::new(call)),
             input: None,
             text: Hash::default(),
             start: start.start,
             span: Span { start: start.start, end: span.end },
             head: Span { start: start.start, end: span.end },
-            blocks: blocks_in_call(input),
+            given: pieces_given(&self.tokens[from..self.at]),
+            blocks: blocks.unwrap_or_default(),
         })
     }
 }
@@ -344,7 +385,7 @@ mod tests {
         check("cfg_if! { if #[cfg(unix)] { use a::b; } else { use a::c; } }", "cfg_if!");
         check(
             "fn f() { m!(x => { use a::b; }); m!(static ref X: u8 = { use a::b; b };); m! d { { use a::b; } } }",
-            "f",
+            "f{m! m!}",
         );
     }
 
@@ -353,6 +394,7 @@ mod tests {
         check("fn f() { struct S; m!(S); n![]; o! {} a::p! { x } }", "f{S m! n! o! a::p!}");
         check("fn f() { struct S; let x = m!(S); n!(); o!() }", "f{S n!}");
         check("fn f() { struct S; m! {}.x; n! {} + 1; o! {} }", "f{S o!}");
+        check("fn f() { { cfg_if! { if #[cfg(x)] { use a::b; } } m! { c } } n!(d); }", "f{cfg_if! m!}");
         check("fn f() { macro_rules! d { () => {} } d!{} { d!(); use a::b; } }", "f{d d!; {d! use}}");
     }
 }

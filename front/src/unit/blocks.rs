@@ -4,10 +4,10 @@ use std::collections::HashMap;
 use std::fmt::Write as _;
 use std::sync::Arc;
 
-use super::{build, is_builtin, is_enabled, numbered, quoted, Built, Id, Replaced};
+use super::{build_at, is_builtin, is_enabled, numbered, quoted, Built, Derives, Id, Replaced};
 use crate::cfg::Options;
 use crate::syntax::{Block, Call, Item, ItemKind, Unit};
-use crate::token::Hash;
+use crate::token::{Hash, Span};
 
 /// A step of a place: to a module in a module or a block, or to a block that these hold.
 #[derive(Clone, PartialEq, Eq, Hash, Debug)]
@@ -37,11 +37,13 @@ pub fn place_json(krate: u32, steps: &[Step]) -> String {
 /// A block as it is handed in.
 #[derive(Debug)]
 pub struct BuiltBlock {
+    /// What was read.
     pub block: Arc<Block>,
     /// From the module whose items the file has.
     pub steps: Vec<Step>,
     /// The names that lead there: of modules, and of the items in which it stands.
     pub names: Vec<String>,
+    /// Its unit.
     pub built: Arc<Built>,
     /// The macro calls among its statements, which may expand to more items once they are known.
     calls: Vec<Hash>,
@@ -54,15 +56,26 @@ impl BuiltBlock {
     }
 }
 
+/// What is known of calls.
+#[derive(Clone, Copy)]
+pub struct Known<'a> {
+    /// What stands in place of calls in blocks.
+    pub replaced: Replaced<'a>,
+    /// What rules expand a call to, where that is known: blocks are those of it, else those that the call is given.
+    pub expanded: Replaced<'a>,
+}
+
 /// Blocks in more blocks than this aren't handed in, as the program's limit is.
 const MOST_NESTED: usize = 16;
 
-/// The blocks of a file, the outer ones before those in them. Attributes that may be macros are left out, so that
-/// items stay as they are; a macro call is what `replaced` has for it, else nothing.
-pub fn build_blocks(unit: &Unit, options: &Options, replaced: Replaced) -> Vec<BuiltBlock> {
+/// The blocks of a file and of what its calls expand to, the outer ones before those in them. Of an expansion those
+/// in which something stands that its call was given. Attributes that may be macros are left out, so that items stay as
+/// they are; a macro call among the statements is what `replaced` has for it, else nothing.
+pub fn build_blocks(unit: &Unit, options: &Options, known: Known) -> Vec<BuiltBlock> {
     let mut lowering = Lowering {
         options,
-        replaced,
+        known,
+        call: None,
         made: Vec::new(),
         steps: Vec::new(),
         names: Vec::new(),
@@ -77,7 +90,9 @@ pub fn build_blocks(unit: &Unit, options: &Options, replaced: Replaced) -> Vec<B
 
 struct Lowering<'a> {
     options: &'a Options,
-    replaced: Replaced<'a>,
+    known: Known<'a>,
+    /// The call in the file whose expansion is gone through.
+    call: Option<Span>,
     made: Vec<BuiltBlock>,
     steps: Vec<Step>,
     names: Vec<String>,
@@ -96,6 +111,10 @@ impl Lowering<'_> {
                 | ItemKind::ExternBlock(inner) => &inner[..],
                 _ => &[],
             };
+            if let ItemKind::Call(call) = &item.kind {
+                self.call(call, &item.blocks, around.with("MacroCall").with(&call.path.text));
+                continue;
+            }
             if item.blocks.is_empty() && inner.is_empty() {
                 continue;
             }
@@ -103,7 +122,6 @@ impl Lowering<'_> {
                 ItemKind::Trait(_) => (around.with("Trait").with(item.name_text()), Some(item.name_text())),
                 ItemKind::Impl { .. } => (around.with("Impl").with(&item.text.text()), None),
                 ItemKind::ExternBlock(_) => (around, None),
-                ItemKind::Call(call) => (around.with("MacroCall").with(&call.path.text), None),
                 _ => {
                     let name = item.name.as_ref().map_or("_", |it| &it.text);
                     (around.with(name), Some(name))
@@ -124,23 +142,35 @@ impl Lowering<'_> {
         }
     }
 
+    /// Those of what a call expands to, or those that it is given.
+    fn call(&mut self, call: &Call, given: &[Arc<Block>], around: Hash) {
+        let Some(unit) = (self.known.expanded)(call) else {
+            return self.blocks(given, around);
+        };
+        let before = self.call;
+        self.call = before.or(Some(call.path.span));
+        self.items(&unit.items, around);
+        self.blocks(&unit.blocks, around);
+        self.call = before;
+    }
+
     fn blocks(&mut self, blocks: &[Arc<Block>], around: Hash) {
         if self.depth == MOST_NESTED {
             return;
         }
-        for block in blocks {
+        for block in blocks.iter().filter(|it| it.is_given()) {
             let id = self.id(around.with("block"));
             self.steps.push(Step::Block(id));
             self.depth += 1;
             let items = bare(&block.items, self.options);
             let mut calls = Vec::new();
             calls_of(&items, &mut calls);
-            let unit = Unit { attributes: Vec::new(), items };
+            let unit = Unit { items, ..Unit::default() };
             let replaced = |call: &Call| {
-                let items = (self.replaced)(call).map_or(Vec::new(), |it| bare(&it.items, self.options));
-                Some(Arc::new(Unit { attributes: Vec::new(), items }))
+                let items = (self.known.replaced)(call).map_or(Vec::new(), |it| bare(&it.items, self.options));
+                Some(Arc::new(Unit { items, ..Unit::default() }))
             };
-            let built = Arc::new(build(&unit, self.options, &replaced));
+            let built = Arc::new(build_at(&unit, self.options, &replaced, Derives::default(), self.call));
             let (steps, names) = (self.steps.clone(), self.names.clone());
             self.made.push(BuiltBlock { block: block.clone(), steps, names, built, calls });
             self.items(&block.items, Hash::default());
@@ -215,7 +245,7 @@ mod tests {
     fn built(text: &str) -> Vec<BuiltBlock> {
         let mut options = Options::default();
         options.set("unix");
-        build_blocks(&read(text), &options, &|_| None)
+        build_blocks(&read(text), &options, Known { replaced: &|_| None, expanded: &|_| None })
     }
 
     /// Each block by the names that lead to it, how many blocks it is in, and its items.
@@ -292,7 +322,8 @@ mod tests {
         let unit = read("fn f() { use a::b; m!(S); n!(); mod i { m!(T); } }");
         let items = read("#[x] struct S; k!{}");
         let replaced = |call: &Call| (call.path.text == "m").then(|| Arc::new(items.clone()));
-        let made = build_blocks(&unit, &Options::default(), &replaced);
+        let known = Known { replaced: &replaced, expanded: &|_| None };
+        let made = build_blocks(&unit, &Options::default(), known);
         let json: serde_json::Value = serde_json::from_str(&made[0].built.json).unwrap();
         let nodes = json["nodes"].as_array().unwrap();
         let kinds: Vec<&str> = nodes.iter().map(|it| it["kind"].as_str().unwrap()).collect();

@@ -1,0 +1,293 @@
+//! Imports that aren't resolved: how far they are reached, and what can't be judged for what isn't read.
+
+use std::collections::{BTreeMap, HashMap, HashSet};
+use std::sync::Arc;
+
+use anyhow::Result;
+use serde_json::Value;
+
+use super::{expanded_note, place_at, question, Diagnostic, Report};
+use crate::question::{names_of, BUILTIN_TYPES};
+use crate::token::Span;
+use crate::unit::Detail;
+use crate::workspace::{Leads, Located, PastItem, Workspace};
+
+/// An import that isn't resolved, while it is looked into.
+pub(super) struct Import {
+    pub krate: u32,
+    pub located: Located,
+    pub path: String,
+    pub binds: Option<Arc<str>>,
+    span: Span,
+    /// How many of its names are reached, and what the last of these is.
+    reached: usize,
+    last: Value,
+}
+
+/// Names in modules; `*` stands for any name.
+pub(super) type Bound = HashSet<(u32, Vec<String>, String)>;
+
+/// A crate's number, and the names from its root.
+pub(super) type Module = (u32, Vec<String>);
+
+/// The path up to each of its names but the last. Of an import in the edition 2015 it counts from the crate's root.
+pub(super) fn prefixes(path: &str, is_old: bool) -> Vec<String> {
+    let names = names_of(path);
+    let is_plain = !matches!(names[0].as_str(), "crate" | "self" | "super") && !names[0].starts_with('$');
+    let before = if path.starts_with("::") || (is_old && is_plain) { "::" } else { "" };
+    let count = if names.len() > 1 { names.len() - 1 } else { 1 };
+    (1..=count).map(|it| format!("{before}{}", names[..it].join("::"))).collect()
+}
+
+impl Workspace {
+    /// Adds the modules into which a glob brings names of a crate for which a stub stands, or of a module that was added,
+    /// each with the name `*`.
+    pub(super) fn follow_globs(&mut self, crates: &[u32], bound: &mut Bound) -> Result<()> {
+        self.find_globs(crates)?;
+        let mut to: Vec<(Module, Module)> = Vec::new();
+        for krate in crates.iter().copied() {
+            for (at, leads) in self.globs.get(&krate).map_or(&[][..], |it| &it.1) {
+                match leads {
+                    Leads::Stub => drop(bound.insert((krate, at.clone(), "*".to_owned()))),
+                    Leads::Module(number, module) => to.push(((*number, module.clone()), (krate, at.clone()))),
+                }
+            }
+        }
+        let mut before = usize::MAX;
+        while bound.len() != before {
+            before = bound.len();
+            for ((from_krate, from), (krate, at)) in &to {
+                if bound.contains(&(*from_krate, from.clone(), "*".to_owned())) {
+                    bound.insert((*krate, at.clone(), "*".to_owned()));
+                }
+            }
+        }
+        Ok(())
+    }
+
+    /// Asks where the globs lead of those of the crates that were resolved again.
+    pub(super) fn find_globs(&mut self, crates: &[u32]) -> Result<()> {
+        let is_due = |it: &u32| self.globs.get(it).map(|it| it.0) != Some(self.times_resolved(*it));
+        let due: Vec<u32> = crates.iter().copied().filter(is_due).collect();
+        let mut globs = Vec::new();
+        for krate in due.iter().copied() {
+            let is_old = self.crates.all[krate as usize].edition == "2015";
+            for (key, module) in self.files(krate) {
+                for node in self.built(key).map_or(&[][..], |it| &it.nodes) {
+                    let Detail::Use(leaves) = &node.detail else {
+                        continue;
+                    };
+                    for leaf in leaves.iter().filter(|it| it.binds.as_deref() == Some("*")) {
+                        let mut at = module.clone();
+                        at.extend(node.modules.iter().map(|it| it.to_string()));
+                        let path = prefixes(&leaf.path, is_old).pop().unwrap_or_default();
+                        globs.push((krate, at, path));
+                    }
+                }
+            }
+        }
+        let asks: Vec<String> = globs.iter().map(|(krate, at, path)| question(*krate, at, path)).collect();
+        let replies = self.ask_all(&asks)?;
+        for krate in due {
+            self.globs.insert(krate, (self.times_resolved(krate), Vec::new()));
+        }
+        for ((krate, at, _), reply) in globs.into_iter().zip(replies) {
+            let found = &reply["ok"]["types"]["def"];
+            let leads = match self.module_of_definition(found) {
+                _ if self.is_of_stub(found) => Leads::Stub,
+                Some((number, module)) => Leads::Module(number, module),
+                None => continue,
+            };
+            if let Some(it) = self.globs.get_mut(&krate) {
+                it.1.push((at, leads));
+            }
+        }
+        Ok(())
+    }
+
+    /// Tells the imports that name what an enum or another item doesn't hold, as a variant that isn't there. The program
+    /// takes them as the item itself, so each path is asked that a type may stand in.
+    pub(super) fn imports_past_items(&mut self, krate: u32, report: &mut Report) -> Result<()> {
+        let times = self.times_resolved(krate);
+        if self.past_items.get(&krate).map(|it| it.0) != Some(times) {
+            let types = self.types_in_imports(krate);
+            let is_old = self.crates.all[krate as usize].edition == "2015";
+            let mut asks = Vec::new();
+            let mut leaves_of = Vec::new();
+            for (key, module) in self.files(krate) {
+                for node in self.built(key).map_or(&[][..], |it| &it.nodes) {
+                    let Detail::Use(leaves) = &node.detail else {
+                        continue;
+                    };
+                    for (at, leaf) in leaves.iter().enumerate() {
+                        let Some((holder, _)) = leaf.path.rsplit_once("::").filter(|it| it.1 != "*") else {
+                            continue;
+                        };
+                        if !holder.split("::").any(|it| types.contains(it)) {
+                            continue;
+                        }
+                        let mut place = module.clone();
+                        place.extend(node.modules.iter().map(|it| it.to_string()));
+                        let before = if is_old && prefixes(&leaf.path, true)[0].starts_with("::") { "::" } else { "" };
+                        let path = format!("{before}{}", leaf.path.trim_start_matches(before));
+                        asks.push(question(krate, &place, &path));
+                        leaves_of.push(PastItem { file: key.clone(), node: node.id, leaf: at });
+                    }
+                }
+            }
+            let replies = self.ask_all(&asks)?;
+            let found = leaves_of.into_iter().zip(replies).filter(|it| !it.1["ok"]["stop"].is_null());
+            let found = found.map(|it| it.0).collect();
+            self.past_items.insert(krate, (times, found));
+        }
+        for PastItem { file: key, node, leaf: at } in &self.past_items[&krate].1 {
+            let Some(node) = self.built(key).and_then(|it| it.find("Use", *node)) else {
+                continue;
+            };
+            if let Detail::Use(leaves) = &node.detail {
+                let leaf = &leaves[*at];
+                let (holder, name) = leaf.path.rsplit_once("::").unwrap_or(("", &leaf.path));
+                report.diagnostics.push(Diagnostic {
+                    place: place_at(key, leaf.span),
+                    kind: "unresolved import".to_owned(),
+                    code: Some("E0432"),
+                    message: format!("unresolved import `{}`", leaf.path),
+                    label: format!("no `{name}` in `{holder}`"),
+                    krate: self.crates.all[krate as usize].title.clone(),
+                    notes: Vec::new(),
+                    related: Vec::new(),
+                });
+            }
+        }
+        Ok(())
+    }
+
+    /// The names within paths of a crate's imports that a type may have.
+    pub(super) fn types_in_imports(&self, krate: u32) -> HashSet<String> {
+        let mut within: HashSet<&str> = HashSet::new();
+        for node in self.files(krate).iter().filter_map(|it| self.built(&it.0)).flat_map(|it| &it.nodes) {
+            if let Detail::Use(leaves) = &node.detail {
+                let holders = leaves.iter().filter_map(|it| it.path.rsplit_once("::"));
+                within.extend(holders.flat_map(|it| it.0.split("::")));
+            }
+        }
+        let builtin = BUILTIN_TYPES.iter().copied().filter(|it| within.contains(it));
+        let declared = self.type_names().map(|it| &**it).filter(|it| within.contains(it));
+        builtin.chain(declared).map(str::to_owned).collect()
+    }
+
+    pub(super) fn import(&self, krate: u32, it: &Value) -> Option<Import> {
+        let located = self.locate(krate, &it["item"])?;
+        let Detail::Use(leaves) = &located.node.detail else {
+            return None;
+        };
+        let leaf = leaves.get(it["place"].as_u64()? as usize)?.clone();
+        let span = if located.is_expanded { located.span } else { leaf.span };
+        Some(Import { krate, located, path: leaf.path, binds: leaf.binds, span, reached: 0, last: Value::Null })
+    }
+
+    /// Finds how far the paths of the imports go. Those of a crate are asked once after each time that it was resolved,
+    /// name by name, and none behind a crate for which a stub stands.
+    pub(super) fn follow(&mut self, imports: &mut [Import]) -> Result<()> {
+        let mut of_crates: BTreeMap<u32, Vec<&mut Import>> = BTreeMap::new();
+        for it in imports {
+            of_crates.entry(it.krate).or_default().push(it);
+        }
+        let mut due = Vec::new();
+        for (krate, imports) in &mut of_crates {
+            let times = self.times_resolved(*krate);
+            let known = self.reached.get(krate).filter(|it| it.0 == times && it.1.len() == imports.len());
+            if let Some((_, known)) = known {
+                for (import, (reached, last)) in imports.iter_mut().zip(known) {
+                    (import.reached, import.last) = (*reached, last.clone());
+                }
+                continue;
+            }
+            let is_old = self.crates.all[*krate as usize].edition == "2015";
+            due.extend(imports.iter_mut().map(|it| (prefixes(&it.path, is_old), &mut **it)));
+        }
+        for count in 0.. {
+            due.retain(|(prefixes, it)| it.reached == count && prefixes.len() > count && !self.is_of_stub(&it.last));
+            if due.is_empty() {
+                break;
+            }
+            let mut places: HashMap<String, usize> = HashMap::new();
+            let mut asks = Vec::new();
+            let mut whose = Vec::new();
+            for (prefixes, it) in &due {
+                let ask = question(it.krate, &it.located.module, &prefixes[count]);
+                whose.push(*places.entry(ask).or_insert_with_key(|ask| {
+                    asks.push(ask.clone());
+                    asks.len() - 1
+                }));
+            }
+            let replies = self.ask_all(&asks)?;
+            for ((_, import), at) in due.iter_mut().zip(whose) {
+                let found = &replies[at]["ok"]["types"]["def"];
+                if !found.is_null() && replies[at]["ok"]["stop"].is_null() {
+                    (import.reached, import.last) = (count + 1, found.clone());
+                }
+            }
+        }
+        for (krate, imports) in of_crates {
+            let reached = imports.into_iter().map(|it| (it.reached, it.last.clone())).collect();
+            self.reached.insert(krate, (self.times_resolved(krate), reached));
+        }
+        Ok(())
+    }
+
+    /// Whether a definition is one of a crate for which a stub stands.
+    pub(super) fn is_of_stub(&self, definition: &Value) -> bool {
+        let krate = definition["crate"].as_u64().and_then(|it| self.crates.all.get(it as usize));
+        krate.is_some_and(|it| it.is_stub)
+    }
+
+    pub(super) fn is_unjudged(&self, it: &Import, bound: &Bound) -> bool {
+        self.is_of_stub(&it.last) || self.follows_from(it, bound)
+    }
+
+    /// Whether the name that isn't reached is one of these.
+    pub(super) fn follows_from(&self, it: &Import, bound: &Bound) -> bool {
+        let names = names_of(&it.path);
+        let Some(name) = names.get(it.reached) else {
+            return false;
+        };
+        let (krate, module) = match it.reached {
+            0 => (it.krate, it.located.module.clone()),
+            _ => match self.module_of_definition(&it.last) {
+                Some(it) => it,
+                None => return false,
+            },
+        };
+        let own = it.binds.as_deref() == Some(&**name) && krate == it.krate && module == it.located.module;
+        let mut key = (krate, module, name.clone());
+        let found = !own && bound.contains(&key);
+        key.2 = "*".to_owned();
+        found || bound.contains(&key)
+    }
+
+    pub(super) fn import_diagnostic(&self, it: &Import) -> Diagnostic {
+        let names = names_of(&it.path);
+        let missing = names.get(it.reached).cloned().unwrap_or_default();
+        let before = names[..it.reached.min(names.len())].join("::");
+        let label = match (it.reached, &*missing) {
+            (0, _) => format!("no crate, module or item `{missing}` is in scope here"),
+            (_, "*") => format!("`{before}` is neither a module nor an enum"),
+            _ if it.reached + 1 == names.len() => format!("no `{missing}` in `{before}`"),
+            _ => format!("could not find `{missing}` in `{before}`"),
+        };
+        let (what, path, place) = self.described(&it.last);
+        let related = place.filter(|_| it.reached > 0).map(|it| (format!("{what} `{path}`"), it));
+        let related = related.into_iter().collect();
+        Diagnostic {
+            place: place_at(&it.located.file, it.span),
+            kind: "unresolved import".to_owned(),
+            code: Some("E0432"),
+            message: format!("unresolved import `{}`", it.path),
+            label,
+            krate: self.crates.all[it.krate as usize].title.clone(),
+            notes: expanded_note(&it.located),
+            related,
+        }
+    }
+}

@@ -1,0 +1,259 @@
+//! What the program is handed: crates, files and blocks, where they are others than it has.
+
+use std::collections::{BTreeMap, HashMap, HashSet};
+use std::sync::Arc;
+
+use anyhow::{bail, Result};
+use serde_json::{json, Value};
+
+use super::expanded::Expanded;
+use super::files::{key_of, on_threads};
+use super::left_out::left_out_of;
+use super::{Key, Sent, SentBlock, Workspace};
+use crate::cfg::Options;
+use crate::program::MOST_BYTES;
+use crate::syntax::{Block, Call, Item, ItemKind, Unit};
+use crate::token::Hash;
+use crate::unit::{build_blocks, build_without, place_json, quoted, steps_of, Built, BuiltBlock, Derives, Known, Step};
+
+/// What a file is to the program, and the blocks in it where the program takes them.
+pub(super) fn built_of(
+    unit: &Unit,
+    options: &Options,
+    left_out: Derives,
+    replaced: &HashMap<Hash, Arc<Unit>>,
+    expanded: Expanded,
+    takes_blocks: bool,
+) -> (Built, Vec<BuiltBlock>) {
+    let replaced = |call: &Call| replaced.get(&call.identity).cloned();
+    let known = Known { replaced: &replaced, expanded: &|call| expanded.with_blocks(call) };
+    let blocks = if takes_blocks { build_blocks(unit, options, known) } else { Vec::new() };
+    (build_without(unit, options, &replaced, left_out), blocks)
+}
+
+pub(super) fn set_file(key: &str, unit: &str) -> String {
+    format!("{{\"do\":\"set file\",\"file\":{},\"unit\":{unit}}}", quoted(key))
+}
+
+pub(super) const SET_BLOCK: &str = "{\"do\":\"set block\",\"at\":";
+
+pub(super) fn set_block(place: &str, unit: &str) -> String {
+    format!("{SET_BLOCK}{place},\"unit\":{unit}}}")
+}
+
+/// The file that a command sets, from behind `"file":`.
+pub(super) fn key_at_front(text: &str) -> Option<Key> {
+    let mut read = serde_json::Deserializer::from_str(text).into_iter::<String>();
+    read.next()?.ok().map(Into::into)
+}
+
+/// What stands in place of calls among these items and in what they expand to.
+pub(super) fn replaced_in(items: &[Item], replaced: &HashMap<Hash, Arc<Unit>>, made: &mut Vec<Arc<Unit>>) {
+    if replaced.is_empty() {
+        return;
+    }
+    pub(super) fn in_blocks(blocks: &[Arc<Block>], replaced: &HashMap<Hash, Arc<Unit>>, made: &mut Vec<Arc<Unit>>) {
+        for it in blocks {
+            replaced_in(&it.items, replaced, made);
+            in_blocks(&it.blocks, replaced, made);
+        }
+    }
+    for item in items {
+        in_blocks(&item.blocks, replaced, made);
+        match &item.kind {
+            ItemKind::Call(call) => {
+                if let Some(unit) = replaced.get(&call.identity) {
+                    made.push(unit.clone());
+                    replaced_in(&unit.items, replaced, made);
+                }
+            }
+            ItemKind::Module(Some(items)) | ItemKind::ExternBlock(items) => replaced_in(items, replaced, made),
+            ItemKind::Trait(items) | ItemKind::Impl { items, .. } => {
+                items.iter().for_each(|it| in_blocks(&it.blocks, replaced, made));
+            }
+            _ => {}
+        }
+    }
+}
+
+impl Workspace {
+    pub(super) fn hand_in_crates(&mut self) -> Result<()> {
+        let mut all = Vec::new();
+        for it in &self.crates.all {
+            let dependencies: Vec<Value> = it
+                .dependencies
+                .iter()
+                .map(|(number, name, in_paths)| json!({"crate": number, "name": name, "prelude": in_paths}))
+                .collect();
+            all.push(json!({
+                "edition": it.edition,
+                "root": &*key_of(&it.root)?,
+                "cfg": it.options.json(),
+                "deps": dependencies,
+                "proc_macro": it.is_proc_macro,
+            }));
+        }
+        let line = json!({"do": "crates", "crates": all}).to_string();
+        self.crates_line = line.clone();
+        let reply = self.program.ask(line)?;
+        if let Some(it) = reply.get("error") {
+            bail!("the program refuses the crates: {it}");
+        }
+        // Of a crate that isn't there, so that nothing is set. Without blocks the command isn't known.
+        let place = place_json(self.crates.all.len() as u32, &[Step::Block((0, 0))]);
+        let reply = self.program.ask(set_block(&place, "{}"))?;
+        self.takes_blocks = reply["error"] != "command";
+        Ok(())
+    }
+
+    /// Adds the commands for the files whose unit is another than the one that was handed in.
+    pub(super) fn build_files(&mut self, lines: &mut Vec<String>) -> Result<()> {
+        let mut work: Vec<(Key, u32, Vec<Arc<Unit>>)> = Vec::new();
+        let none = Vec::new();
+        let mut seen = HashSet::new();
+        let same =
+            |a: &[Arc<Unit>], b: &[Arc<Unit>]| a.len() == b.len() && a.iter().zip(b).all(|(a, b)| Arc::ptr_eq(a, b));
+        for (number, state) in self.states.iter().enumerate() {
+            for (key, _) in &state.files {
+                if seen.insert(key.clone()) {
+                    let parsed = &self.parsed[key];
+                    let mut replaced = Vec::new();
+                    replaced_in(&parsed.unit.items, &self.replaced, &mut replaced);
+                    let with_blocks = state.expansions_with_blocks.get(key).unwrap_or(&none);
+                    let is_same = self.sent.get(key).is_some_and(|it| {
+                        Arc::ptr_eq(&it.unit, &parsed.unit)
+                            && it.left_out == left_out_of(key, &self.states)
+                            && same(&it.replaced, &replaced)
+                            && same(&it.with_blocks, with_blocks)
+                    });
+                    if !is_same {
+                        work.push((key.clone(), number as u32, replaced));
+                    }
+                }
+            }
+        }
+        let (all, parsed, replaced, takes_blocks) = (&self.crates.all, &self.parsed, &self.replaced, self.takes_blocks);
+        let (states, cache, moved) = (&self.states, &self.cache, &self.moved);
+        let made = on_threads(&work, |(key, krate, _)| {
+            let (parsed, krate) = (&parsed[key], *krate);
+            let expanded = Expanded { krate, state: &states[krate as usize], cache, moved };
+            let (options, left_out) = (&all[krate as usize].options, left_out_of(key, states));
+            let (mut built, blocks) = built_of(&parsed.unit, options, left_out, replaced, expanded, takes_blocks);
+            if parsed.error.is_some() {
+                built.json = "\"broken\"".to_owned();
+            }
+            (Arc::new(built), blocks)
+        });
+        for ((key, krate, replaced), (built, blocks)) in work.into_iter().zip(made) {
+            let unit = self.parsed[&key].unit.clone();
+            let with_blocks = self.states[krate as usize].expansions_with_blocks.get(&key).cloned().unwrap_or_default();
+            let left_out = left_out_of(&key, &self.states);
+            let sent = Sent { unit, replaced, with_blocks, left_out, built: built.clone(), blocks };
+            let before = self.sent.insert(key.clone(), sent);
+            if before.is_some_and(|it| it.built.json == built.json) {
+                continue;
+            }
+            lines.push(set_file(&key, &built.json));
+        }
+        Ok(())
+    }
+
+    /// Adds the commands for the blocks that are others than those that were handed in.
+    pub(super) fn set_blocks(&mut self, lines: &mut Vec<String>) {
+        if !self.takes_blocks {
+            return;
+        }
+        let mut now: BTreeMap<String, SentBlock> = BTreeMap::new();
+        for (krate, state) in self.states.iter().enumerate() {
+            let krate = krate as u32;
+            for (file, module) in &state.files {
+                let module = steps_of(module);
+                for (number, block) in self.sent.get(file).map_or(&[][..], |it| &it.blocks).iter().enumerate() {
+                    let place = place_json(krate, &[&module[..], &block.steps].concat());
+                    let (file, built) = (file.clone(), block.built.clone());
+                    now.entry(place).or_insert(SentBlock { krate, file, number, built, is_refused: false });
+                }
+            }
+        }
+        for place in self.blocks.keys().filter(|it| !now.contains_key(*it)) {
+            lines.push(format!("{{\"do\":\"remove block\",\"at\":{place}}}"));
+        }
+        for (place, block) in &mut now {
+            match self.blocks.get(place).filter(|it| it.built.json == block.built.json) {
+                Some(before) => block.is_refused = before.is_refused,
+                None => lines.push(set_block(place, &block.built.json)),
+            }
+        }
+        self.blocks = now;
+    }
+
+    /// Sends the commands. A refused file is handed in as broken, and told; a refused block counts as one that isn't there.
+    pub(super) fn hand_in(&mut self, lines: Vec<String>) -> Result<()> {
+        let mut sent = Vec::with_capacity(lines.len());
+        for line in lines {
+            let key = line.strip_prefix("{\"do\":\"set file\",\"file\":").and_then(key_at_front);
+            if line.len() > MOST_BYTES {
+                self.refuse_block(&line);
+                if let Some(key) = &key {
+                    self.refuse(key, "its items take more than 16 MB as JSON; split the file");
+                    sent.push((Some(key.clone()), set_file(key, "\"broken\"")));
+                }
+                continue;
+            }
+            if let Some(key) = &key {
+                self.refused.retain(|it| it.0 != *key);
+            }
+            sent.push((key, line));
+        }
+        let texts: Vec<String> = sent.iter().map(|it| it.1.clone()).collect();
+        let total = texts.len();
+        let mut replies = Vec::with_capacity(total);
+        for part in texts.chunks(200) {
+            replies.extend(self.program.ask_all(part)?);
+            (self.progress)("handing in", replies.len(), total);
+        }
+        let mut again = Vec::new();
+        for ((key, line), reply) in sent.iter().zip(replies) {
+            let Some(error) = reply.get("error") else {
+                continue;
+            };
+            if self.refuse_block(line) {
+                continue;
+            }
+            let what = match (error.as_str(), reply.get("what").and_then(Value::as_str)) {
+                (Some("too large"), Some(what)) => format!("it passes the limit of the program for `{what}`"),
+                (Some(it), _) => format!("the program refuses it: {it}"),
+                _ => "the program refuses it".to_owned(),
+            };
+            match key {
+                Some(key) => {
+                    self.refuse(key, &what);
+                    again.push(set_file(key, "\"broken\""));
+                }
+                None => self.refused.push(("".into(), format!("an expansion isn't taken: {what}"))),
+            }
+        }
+        if !again.is_empty() {
+            self.program.ask_all(&again)?;
+        }
+        Ok(())
+    }
+
+    /// Notes that a block isn't taken. False where the command sets or removes none.
+    pub(super) fn refuse_block(&mut self, line: &str) -> bool {
+        let Some(rest) = line.strip_prefix(SET_BLOCK) else {
+            return line.starts_with("{\"do\":\"remove block\"");
+        };
+        let mut read = serde_json::Deserializer::from_str(rest).into_iter::<Value>();
+        if let Some(Ok(place)) = read.next() {
+            if let Some(it) = self.blocks.get_mut(&place.to_string()) {
+                it.is_refused = true;
+            }
+        }
+        true
+    }
+
+    pub(super) fn refuse(&mut self, key: &Key, why: &str) {
+        self.refused.push((key.clone(), why.to_owned()));
+    }
+}

@@ -1,0 +1,471 @@
+//! One walk over a crate, in the order in which rustc walks it: textual scope, calls, and what they expand to.
+
+use std::collections::{HashMap, HashSet};
+use std::path::PathBuf;
+use std::sync::Arc;
+
+use anyhow::Result;
+
+use super::expansions::macro_question;
+use super::files::{key_of, parse, path_of_key, Folder};
+use super::{Endless, Expansion, How, Key, NotRun, Target, Workspace};
+use crate::cfg::Options;
+use crate::macros::MOST_TOKENS;
+use crate::syntax::{Attribute, Block, Call, Item, ItemKind, MacroDefinition, Unit};
+use crate::token::Hash;
+use crate::unit::{is_enabled, numbered, text_attribute, Given};
+
+/// One walk over a crate, in the order in which rustc walks it.
+pub(super) struct Walk<'a> {
+    space: &'a mut Workspace,
+    krate: u32,
+    limit: usize,
+    /// The macros in textual scope, and how to go back.
+    scope: HashMap<Arc<str>, Target>,
+    log: Vec<(Arc<str>, Option<Target>)>,
+    /// How many definitions were come upon.
+    defined: usize,
+    /// Calls of macros in textual scope in the module that is walked.
+    calls: Vec<(Arc<str>, String, Vec<Hash>)>,
+    /// The calls in whose expansions the walk is, but for those around the block that it is in.
+    chain: Vec<Hash>,
+    /// How many calls there are around in all.
+    depth: usize,
+    /// Whether it is in what a call brings that no rules expand, so that positions are those of another text.
+    is_elsewhere: bool,
+    files: Vec<(Key, Vec<String>)>,
+    missing: HashSet<Key>,
+    pending: Vec<(Hash, String, Arc<Expansion>)>,
+    replaced: HashMap<Hash, Arc<Unit>>,
+    units: HashMap<Hash, Arc<Unit>>,
+    taken: HashMap<Hash, String>,
+    tokens: usize,
+    is_too_deep: bool,
+    endless: Vec<Endless>,
+    without_end: HashSet<Hash>,
+    /// How many blocks of expansions were come upon that positions of a file may be in.
+    blocks: usize,
+    with_blocks: HashSet<Hash>,
+    expansions_with_blocks: HashMap<Key, Vec<Arc<Unit>>>,
+    open: HashSet<Vec<String>>,
+    included: HashSet<Key>,
+    /// The paths that were looked up, by module.
+    looked_up: HashSet<(Vec<String>, String)>,
+    not_run: NotRun,
+    in_block: bool,
+}
+
+impl Walk<'_> {
+    pub(super) fn options(&self) -> &Options {
+        &self.space.crates.all[self.krate as usize].options
+    }
+
+    pub(super) fn define(&mut self, name: Arc<str>, target: Target) {
+        self.defined += 1;
+        let before = self.scope.insert(name.clone(), target);
+        self.log.push((name, before));
+    }
+
+    pub(super) fn go_back(&mut self, mark: usize) {
+        while self.log.len() > mark {
+            if let Some((name, before)) = self.log.pop() {
+                match before {
+                    Some(it) => self.scope.insert(name, it),
+                    None => self.scope.remove(&name),
+                };
+            }
+        }
+    }
+
+    pub(super) fn file(&mut self, key: &Key, folder: &Folder, place: &[String]) {
+        // A file that is a module of itself.
+        if self.files.iter().filter(|it| it.0 == *key).count() > 8 || place.len() > 32 {
+            return;
+        }
+        let Some(parsed) = self.space.parsed.get(key).cloned() else {
+            return;
+        };
+        self.files.push((key.clone(), place.to_vec()));
+        if is_enabled(&parsed.unit.attributes, self.options()) {
+            let chain = std::mem::take(&mut self.chain);
+            let (depth, is_elsewhere) = (self.depth, self.is_elsewhere);
+            (self.depth, self.is_elsewhere) = (0, false);
+            self.items(&parsed.unit.items, folder, place, key);
+            (self.chain, self.depth, self.is_elsewhere) = (chain, depth, is_elsewhere);
+        }
+    }
+
+    pub(super) fn module(&mut self, item: &Item, walk: impl FnOnce(&mut Self), top: &[Attribute]) {
+        let gives_back = |walk: &Self, all: &[Attribute]| {
+            numbered(all, walk.options()).iter().any(|it| it.1.path.text == "macro_use")
+        };
+        let gives_back = gives_back(self, &item.attributes) || gives_back(self, top);
+        let (mark, calls, defined) = (self.log.len(), std::mem::take(&mut self.calls), self.defined);
+        walk(self);
+        let inner = std::mem::replace(&mut self.calls, calls);
+        self.settle(inner);
+        if !gives_back {
+            self.go_back(mark);
+            self.defined = defined;
+        }
+    }
+
+    /// Calls that mean another macro than the last of its name are replaced by what they expand to.
+    pub(super) fn settle(&mut self, calls: Vec<(Arc<str>, String, Vec<Hash>)>) {
+        for (name, text, chain) in calls {
+            if self.scope.get(&name).map(|it| &it.text) != Some(&text) {
+                for it in chain {
+                    if let Some(unit) = self.units.get(&it) {
+                        self.replaced.insert(it, unit.clone());
+                    }
+                }
+            }
+        }
+    }
+
+    pub(super) fn items(&mut self, items: &[Item], folder: &Folder, place: &[String], key: &Key) {
+        let has_bodies = self.space.takes_blocks && !self.is_elsewhere;
+        for item in items {
+            let is_of_interest = matches!(
+                item.kind,
+                ItemKind::Macro(_) | ItemKind::Module(_) | ItemKind::Call(_) | ItemKind::ExternBlock(_)
+            );
+            let associated = match &item.kind {
+                ItemKind::Trait(inner) | ItemKind::Impl { items: inner, .. } if has_bodies => &inner[..],
+                _ => &[],
+            };
+            // Those of a call are what it expands to.
+            let has_own = !item.blocks.is_empty() && !matches!(item.kind, ItemKind::Call(_));
+            let has_blocks = has_bodies && has_own || !associated.is_empty();
+            if !(is_of_interest || has_blocks) || !is_enabled(&item.attributes, self.options()) {
+                continue;
+            }
+            for it in std::iter::once(item).chain(associated).filter(|_| has_blocks) {
+                if is_enabled(&it.attributes, self.options()) {
+                    it.blocks.iter().for_each(|it| self.block(it, folder, place, key));
+                }
+            }
+            match &item.kind {
+                ItemKind::Macro(definition) if definition.is_rules => {
+                    let target = target_of(self.krate, item.name_text(), Some(definition), item);
+                    if numbered(&item.attributes, self.options()).iter().any(|it| it.1.path.text == "macro_export") {
+                        let state = &mut self.space.states[self.krate as usize];
+                        state.exported.insert(definition.name.clone(), target.clone());
+                    }
+                    self.define(definition.name.clone(), target);
+                }
+                ItemKind::Module(inner) => {
+                    let path = text_attribute(&item.attributes, "path", self.options());
+                    let name = item.name_text().to_owned();
+                    let mut inside = place.to_vec();
+                    if !self.in_block {
+                        inside.push(name.clone());
+                    }
+                    match inner {
+                        Some(items) => {
+                            let folder = folder.inline(&name, path.as_deref());
+                            self.module(item, |walk| walk.items(items, &folder, &inside, key), &[]);
+                        }
+                        None if self.in_block => {}
+                        None => {
+                            let found = self.find(folder.candidates(&name, path.as_deref()));
+                            if let Some((key, folder)) = found {
+                                let top = self.space.parsed[&key].unit.attributes.clone();
+                                self.module(item, |walk| walk.file(&key, &folder, &inside), &top);
+                            }
+                        }
+                    }
+                }
+                ItemKind::Call(call) => {
+                    let is_expanded = self.call(call, folder, place, key);
+                    if !is_expanded && has_bodies {
+                        item.blocks.iter().for_each(|it| self.block(it, folder, place, key));
+                    }
+                }
+                ItemKind::ExternBlock(items) => self.items(items, folder, place, key),
+                _ => {}
+            }
+        }
+    }
+
+    /// The macros of a block, and what its calls expand to. They stand in textual scope to its end.
+    pub(super) fn block(&mut self, block: &Block, folder: &Folder, place: &[String], key: &Key) {
+        if !block.is_given() {
+            return;
+        }
+        self.blocks += usize::from(self.depth > 0);
+        let (mark, defined, in_block) = (self.log.len(), self.defined, self.in_block);
+        let chain = std::mem::take(&mut self.chain);
+        self.in_block = true;
+        self.statements(&block.items, &block.blocks, folder, place, key);
+        self.go_back(mark);
+        (self.chain, self.defined, self.in_block) = (chain, defined, in_block);
+    }
+
+    pub(super) fn statements(
+        &mut self,
+        items: &[Item],
+        blocks: &[Arc<Block>],
+        folder: &Folder,
+        place: &[String],
+        key: &Key,
+    ) {
+        let mut blocks = blocks.iter().peekable();
+        for (number, item) in items.iter().enumerate() {
+            while let Some(it) = blocks.next_if(|it| it.before <= number) {
+                self.block(it, folder, place, key);
+            }
+            self.items(std::slice::from_ref(item), folder, place, key);
+        }
+        blocks.for_each(|it| self.block(it, folder, place, key));
+    }
+
+    /// The first of the files that is there, read.
+    pub(super) fn find(&mut self, candidates: Vec<(PathBuf, bool)>) -> Option<(Key, Folder)> {
+        for (path, owns_folder) in candidates {
+            let key = key_of(&path).ok()?;
+            if !self.space.parsed.contains_key(&key) {
+                if !path.is_file() {
+                    self.missing.insert(key);
+                    continue;
+                }
+                let parsed = parse(&path, &key).ok()?;
+                self.space.parsed.insert(key.clone(), Arc::new(parsed));
+            }
+            let folder = Folder::of(&path_of_key(&key), owns_folder);
+            return Some((key, folder));
+        }
+        None
+    }
+
+    /// Goes on in what a call expands to. True where rules say what that is.
+    pub(super) fn call(&mut self, call: &Arc<Call>, folder: &Folder, place: &[String], key: &Key) -> bool {
+        if self.depth >= self.limit || self.tokens > MOST_TOKENS {
+            self.is_too_deep = true;
+            return false;
+        }
+        let textual = self.scope.get(&*call.path.text).cloned();
+        let target = match &textual {
+            Some(it) => it.clone(),
+            None => {
+                let question = (place.to_vec(), call.path.text.clone());
+                self.looked_up.insert(question.clone());
+                let known = self.space.states[self.krate as usize].reached.get(&question).cloned();
+                let found = match known {
+                    Some(it) => it,
+                    // The program doesn't tell that a call of a block is absent.
+                    None if self.in_block => self.space.likely_or_asked(self.krate, question),
+                    None => self.space.likely(self.krate, question),
+                };
+                match found {
+                    Some(it) => it,
+                    None => return false,
+                }
+            }
+        };
+        let (first, blocks) = (self.pending.len(), self.blocks);
+        let is_outermost = self.depth == 0;
+        if is_outermost {
+            (self.tokens, self.is_too_deep) = (0, false);
+        }
+        let mut in_body = NotRun::new();
+        let not_run = if self.in_block { &mut in_body } else { &mut self.not_run };
+        let expansion = self.space.expand(self.krate, call, &target, folder, not_run);
+        let is_unknown = match target.how {
+            How::Procedural => expansion.unit.items.is_empty(),
+            How::Builtin => target.name == "include" && expansion.is_unknown,
+            How::Rules(_) => false,
+        };
+        if is_unknown && !self.in_block {
+            self.open.insert(place.to_vec());
+        }
+        self.included.extend(expansion.file.clone());
+        self.tokens += expansion.tokens + 1;
+        let expansion_key = self.space.expansion_key(self.krate, call, &target);
+        self.taken.insert(call.identity, expansion_key.clone());
+        self.pending.push((call.identity, expansion_key, expansion.clone()));
+        self.units.insert(call.identity, expansion.unit.clone());
+        let (defined, is_elsewhere) = (self.defined, self.is_elsewhere);
+        self.is_elsewhere |= expansion.source.is_none();
+        self.depth += 1;
+        self.chain.push(call.identity);
+        if self.in_block {
+            // The program is told of the items alone.
+            self.replaced.insert(call.identity, expansion.unit.clone());
+        } else if textual.is_some() {
+            self.calls.push((call.path.text.as_str().into(), target.text.clone(), self.chain.clone()));
+        }
+        self.statements(&expansion.unit.items, &expansion.unit.blocks, folder, place, key);
+        if self.defined > defined {
+            for it in &self.chain {
+                self.replaced.insert(*it, self.units[it].clone());
+            }
+        }
+        self.chain.pop();
+        self.depth -= 1;
+        self.is_elsewhere = is_elsewhere;
+        if self.blocks > blocks {
+            self.with_blocks.insert(call.identity);
+            self.expansions_with_blocks.entry(key.clone()).or_default().push(expansion.unit.clone());
+        }
+        if is_outermost && self.is_too_deep {
+            let name = &call.path.text;
+            let message = match self.tokens > MOST_TOKENS {
+                true => format!("`{name}!` doesn't end: it expands to more than {MOST_TOKENS} tokens; end it"),
+                false => format!(
+                    "recursion limit reached while expanding `{name}!`: end it, or raise `recursion_limit` above {}",
+                    self.limit
+                ),
+            };
+            self.endless.push(Endless { file: key.clone(), span: call.path.span, message });
+            let none = Arc::new(Expansion { is_endless: true, ..Expansion::of(Arc::default(), None, 0) });
+            for it in &mut self.pending[first..] {
+                it.2 = none.clone();
+                self.replaced.remove(&it.0);
+                self.without_end.insert(it.0);
+            }
+            self.tokens = 0;
+        }
+        expansion.source.is_some()
+    }
+}
+
+pub(super) fn target_of(krate: u32, name: &str, definition: Option<&Arc<MacroDefinition>>, item: &Item) -> Target {
+    let builtin = item.attributes.iter().any(|it| it.path.text == "rustc_builtin_macro");
+    let (text, how) = match definition {
+        Some(it) if !builtin => (it.hash.text(), How::Rules(it.clone())),
+        _ => (format!("builtin {name}"), How::Builtin),
+    };
+    Target { krate, text, name: name.to_owned(), how }
+}
+
+impl Workspace {
+    /// Walks a crate. What its calls expand to is added, which isn't handed in yet.
+    pub(super) fn walk(
+        &mut self,
+        krate: u32,
+        lines: &mut Vec<String>,
+        expansions: &mut Vec<(u32, String, Arc<Expansion>)>,
+    ) -> Result<()> {
+        let root = self.crates.all[krate as usize].root.clone();
+        let key = key_of(&root)?;
+        let options = &self.crates.all[krate as usize].options;
+        let limit = self
+            .parsed
+            .get(&key)
+            .and_then(|it| text_attribute(&it.unit.attributes, "recursion_limit", options))
+            .and_then(|it| it.parse().ok())
+            .unwrap_or(128)
+            .min(4096);
+        let mut walk = Walk {
+            space: self,
+            krate,
+            limit,
+            scope: HashMap::new(),
+            log: Vec::new(),
+            defined: 0,
+            calls: Vec::new(),
+            chain: Vec::new(),
+            depth: 0,
+            is_elsewhere: false,
+            files: Vec::new(),
+            missing: HashSet::new(),
+            pending: Vec::new(),
+            replaced: HashMap::new(),
+            units: HashMap::new(),
+            taken: HashMap::new(),
+            tokens: 0,
+            is_too_deep: false,
+            endless: Vec::new(),
+            without_end: HashSet::new(),
+            blocks: 0,
+            with_blocks: HashSet::new(),
+            expansions_with_blocks: HashMap::new(),
+            open: HashSet::new(),
+            included: HashSet::new(),
+            looked_up: HashSet::new(),
+            not_run: NotRun::new(),
+            in_block: false,
+        };
+        walk.file(&key, &Folder::of(&root, true), &[]);
+        let calls = std::mem::take(&mut walk.calls);
+        walk.settle(calls);
+        let Walk { files, missing, pending, replaced, units, taken, looked_up, not_run, .. } = walk;
+        let Walk { endless, without_end, with_blocks, expansions_with_blocks, open, included, .. } = walk;
+        let mut given = Given::default();
+        for (identity, key, expansion) in pending {
+            given = given.and(expansion.given);
+            if !replaced.contains_key(&identity) {
+                expansions.push((krate, key, expansion));
+            }
+        }
+        let before: Vec<Hash> = self.states[krate as usize].taken.keys().copied().collect();
+        for it in before {
+            if !replaced.contains_key(&it) {
+                self.replaced.remove(&it);
+            }
+        }
+        self.replaced.extend(replaced);
+        // What no call takes any more.
+        self.cache.retain(|it, _| it.0 != krate || units.contains_key(&it.1));
+        let used: HashSet<&String> = taken.values().collect();
+        let front = format!("{{\"caller\":{krate},");
+        let is_left =
+            |key: &&String| key.starts_with(&front) && key.contains(",\"call\":\"bang\",") && !used.contains(key);
+        let left: Vec<String> = self.expansions.keys().filter(is_left).cloned().collect();
+        for key in left {
+            lines.push(format!("{{\"do\":\"remove expansion\",\"key\":{key}}}"));
+            self.expansions.remove(&key);
+        }
+        for it in files.iter().filter_map(|it| self.parsed.get(&it.0)) {
+            given = given.and(it.given);
+        }
+        let state = &mut self.states[krate as usize];
+        state.given = given;
+        state.reached.retain(|it, _| looked_up.contains(it));
+        state.places = HashMap::new();
+        for (at, (key, _)) in files.iter().enumerate() {
+            state.places.entry(key.clone()).or_insert(at);
+        }
+        (state.files, state.missing, state.taken) = (files, missing, taken);
+        (state.endless, state.open, state.included) = (endless, open, included);
+        (state.without_end, state.with_blocks) = (without_end, with_blocks);
+        state.expansions_with_blocks = expansions_with_blocks;
+        let kept = self.not_run.entry(krate).or_default();
+        kept.retain(|it, _| it.0 != "macro");
+        kept.extend(not_run);
+        Ok(())
+    }
+
+    /// The exported macro that a path most likely reaches, which is asked later on: an expansion that is there at once
+    /// saves a round.
+    pub(super) fn likely(&mut self, krate: u32, question: (Vec<String>, String)) -> Option<Target> {
+        let own = &self.crates.all[krate as usize];
+        let named = |name: &str| own.dependencies.iter().find(|it| it.1 == name).map(|it| it.0);
+        let (crates, name) = match question.1.split_once("::") {
+            None => (vec![Some(krate), named("std"), named("core"), named("alloc")], &*question.1),
+            Some(("crate", name)) => (vec![Some(krate)], name),
+            Some((first, name)) => match first.strip_prefix('$') {
+                Some(number) => (vec![number.parse().ok()], name),
+                None => (vec![named(first)], name),
+            },
+        };
+        let states = crates.into_iter().flatten().filter_map(|it| self.states.get(it as usize));
+        let found = states.filter_map(|it| it.exported.get(name)).next().cloned()?;
+        self.states[krate as usize].reached.insert(question, Some(found.clone()));
+        Some(found)
+    }
+
+    /// The macro that a path most likely reaches, else the one that the program says. Where that is none it is asked
+    /// again when the crate is resolved.
+    pub(super) fn likely_or_asked(&mut self, krate: u32, question: (Vec<String>, String)) -> Option<Target> {
+        let likely = self.likely(krate, question.clone());
+        if likely.is_some() {
+            return likely;
+        }
+        let reply = self.program.ask(macro_question(krate, &question.0, &question.1, "bang"));
+        let found = reply.ok().and_then(|it| self.target(&it["ok"]["macros"]["def"]));
+        self.states[krate as usize].reached.insert(question, found.clone());
+        found
+    }
+}
