@@ -2,11 +2,7 @@
 #![tactic(auto)]
 
 #[cfg(test)]
-mod conditions;
-#[cfg(test)]
 mod copies;
-#[cfg(test)]
-mod ids;
 #[cfg(test)]
 mod names;
 #[cfg(test)]
