@@ -3,7 +3,6 @@
 //! Sessions that are given line by line stand in `hir_session_rows`.
 
 mod built;
-mod calls;
 mod chain;
 mod faults;
 mod library;
