@@ -28,13 +28,18 @@ use Rattle.hir_import_resolution.specs.Rules.{acts as import_acts}
 use Rattle.hir_tables.specs.Tables.{TablesValue}
 use Rattle.hir_collector_rules.specs.Attributes.{attr_id, item_node}
 use Rattle.hir_collector_rules.specs.Calls.{by_style, called_macro, error_of, path_of_call, style_of, suited, suits}
-use Rattle.hir_collector_rules.specs.Changes.{Change, lists, makes, gives_variants, begins_paths, reaches, awaits, ends, settles, changes_imports, adds_textual, takes_textual, defines, describes, helps, lists_derive, exports, uses_macros, tells, goes_on, act}
+use Rattle.hir_collector_rules.specs.Changes.{Change, lists, makes, gives_variants, begins_paths, reaches, awaits, ends, settles, changes_imports, adds_textual}
+use Rattle.hir_collector_rules.specs.Changes.{takes_textual, defines, describes, helps, lists_derive, notes, exports, uses_macros, tells, goes_on, act}
 use Rattle.hir_collector_rules.specs.ItemIds.{macro_rules_id, module_id}
 use Rattle.hir_collector_rules.specs.Keys.{Environment, environment, map_keys}
 use Rattle.hir_collector_rules.specs.ModuleFiles.{LookedAt, Tried, file_readings, tried_in}
 use Rattle.hir_collector_rules.specs.Start.{Beginning, begin_of, block_of, holders_by, krate_of, read_by, start_of}
 use Rattle.hir_collector_rules.specs.State.{State, import_state}
-use Rattle.hir_collector_rules.specs.Steps.{Rule, drops_item, awaits_attribute, lists_derives, faults_derive, exports_macro, reaches_call, rests, expands_call, drops_call, drops_reached, derives_builtin, skips_attribute, falls_back, defines_rules, defines_macro, closes_module, declares_item, declares_enum, lists_constant, lists_impl, opens_module, opens_file, drops_file, misses_file, enters_block, reaches_imports, reaches_crate, resolves_imports, May, acts, asking, derives_from, keys_read, reads, Step, Steps, none, more}
+use Rattle.hir_collector_rules.specs.Steps.{Rule, drops_item, awaits_attribute, lists_derives, faults_derive, exports_macro, reaches_call, rests, expands_call}
+use Rattle.hir_collector_rules.specs.Steps.{drops_call, drops_reached, derives_builtin, skips_attribute, falls_back, defines_rules, defines_macro}
+use Rattle.hir_collector_rules.specs.Steps.{closes_module, declares_item, declares_enum, lists_constant, lists_impl, opens_module, opens_file, drops_file}
+use Rattle.hir_collector_rules.specs.Steps.{misses_file, enters_block, reaches_imports, reaches_crate, resolves_imports, May, acts, asking, derives_from}
+use Rattle.hir_collector_rules.specs.Steps.{keys_read, reads, Step, Steps, none, more}
 use Rattle.hir_collector_rules.specs.Workspace.{Workspace, transitive_dependencies_in}
 use Rattle.hir_collector_rules.specs.declared.macro_directive.MacroDirective.{MacroDirective}
 use Rattle.hir_collector_rules.specs.declared.site.Site.{Site}
@@ -84,7 +89,8 @@ of_files : (krate : Crate) (edition : Edition) (tried : List Tried) → Blockles
 of_files krate edition [] = tt
 of_files krate edition (t ∷ ts) = go t.file (of_files krate edition ts)
   where
-    go : (o : Option LookedAt) → Blockless (keys_read (file_readings krate edition ts)) → Blockless (keys_read (file_readings krate edition (record t { file = o } ∷ ts)))
+    go : (o : Option LookedAt) → Blockless (keys_read (file_readings krate edition ts))
+        → Blockless (keys_read (file_readings krate edition (record t { file = o } ∷ ts)))
     go None others = others
     go (Some f) others = (refl, others)
 
@@ -116,6 +122,7 @@ Written s (defines node makro) = Unit {0}
 Written s (describes makro what) = Unit {0}
 Written s (helps node helper) = Unit {0}
 Written s (lists_derive home imp) = Unit {0}
+Written s (notes home invocation) = Unit {0}
 Written s (exports f makro) = Unit {0}
 Written s (uses_macros macros by) = Unit {0}
 Written s (tells d) = Unit {0}
@@ -140,15 +147,18 @@ written-act s (defines node makro) f fine = f
 written-act s (describes makro what) f fine = f
 written-act s (helps node helper) f fine = f
 written-act s (lists_derive home imp) f fine = f
+written-act s (notes home invocation) f fine = f
 written-act s (exports x makro) f fine = f
 written-act s (uses_macros macros by) f fine = f
 written-act s (tells d) f fine = f
 written-act s (goes_on vs) f fine = f
 
-derives_written : (site : Site) (node : AstId) (attr : AttrId) (adt : AdtId) → is_some node.block ≡ false → (index : ℕ) (paths : List Path) → list_any on_node (derives_from site node attr adt index paths) ≡ false
+derives_written : (site : Site) (node : AstId) (attr : AttrId) (adt : AdtId) → is_some node.block ≡ false → (index : ℕ) (paths : List Path)
+    → list_any on_node (derives_from site node attr adt index paths) ≡ false
 derives_written site node attr adt own index [] = refl
 derives_written site node attr adt own index (path ∷ paths) =
-    neither (is_some node.block) (list_any on_node (derives_from site node attr adt (count_of (index + 1)) paths)) own (derives_written site node attr adt own (count_of (index + 1)) paths)
+    neither (is_some node.block) (list_any on_node (derives_from site node attr adt (count_of (index + 1)) paths)) own
+    (derives_written site node attr adt own (count_of (index + 1)) paths)
 
 -- ---- steps
 
@@ -164,17 +174,21 @@ module _ (answers : PathsAnswerFromSources) (paths : PathsLeadToWhatIsThere) (fi
     called_clear : (d : MacroDirective) (makro : MacroId) → called_macro finished s.core.local s.core.map d ≡ Some makro → on_macro in_blocks makro ≡ false
     called_clear d makro reached = go _ clear.macros reached
       where
-        clear : HoldsOfNone in_blocks (resolution_of (overlay finished s.core.map) (by_style (style_of d.kind) s.core.local) (numbered s.core.map.id d.site.home) (path_of_call d)).resolved_def
+        clear : HoldsOfNone in_blocks (resolution_of (overlay finished s.core.map) (by_style (style_of d.kind) s.core.local)
+            (numbered s.core.map.id d.site.home) (path_of_call d)).resolved_def
         clear = answers in_blocks (overlay finished s.core.map) (by_style (style_of d.kind) s.core.local) (numbered s.core.map.id d.site.home) (path_of_call d)
             (HoldsNowhere-overlay in_blocks finished s.core.map nowhere b.sourced.map) b.sourced.local
 
-        by : (i : Item MacroId ImportOrExternCrate) → on_macro_item in_blocks i ≡ false → (t : Bool) → cond t (Some i.def) None ≡ Some makro → on_macro in_blocks makro ≡ false
+        by : (i : Item MacroId ImportOrExternCrate) → on_macro_item in_blocks i ≡ false → (t : Bool) → cond t (Some i.def) None ≡ Some makro
+            → on_macro in_blocks makro ≡ false
         by i f true e =
             let same : i.def ≡ makro = cc in
-            subst (λ (m : MacroId). on_macro in_blocks m ≡ false) same (not_first (on_macro in_blocks i.def) (on_visibility in_blocks i.vis || on_some (on_import in_blocks) i.import) f)
+            subst (λ (m : MacroId). on_macro in_blocks m ≡ false) same
+            (not_first (on_macro in_blocks i.def) (on_visibility in_blocks i.vis || on_some (on_import in_blocks) i.import) f)
         by i f false e = absurd (let wrong : ⊥ = cc in wrong)
 
-        go : (o : Option (Item MacroId ImportOrExternCrate)) → on_some (on_macro_item in_blocks) o ≡ false → suited d.kind (macro_in o) ≡ Some makro → on_macro in_blocks makro ≡ false
+        go : (o : Option (Item MacroId ImportOrExternCrate)) → on_some (on_macro_item in_blocks) o ≡ false → suited d.kind (macro_in o) ≡ Some makro
+            → on_macro in_blocks makro ≡ false
         go None f e = absurd (let wrong : ⊥ = cc in wrong)
         go (Some i) f e = by i f (suits d.kind i.def) e
 
@@ -182,7 +196,8 @@ module _ (answers : PathsAnswerFromSources) (paths : PathsLeadToWhatIsThere) (fi
     reads_blockless : (r : Rule) → May finished s r → Blockless (keys_read (reads s r))
     reads_blockless (drops_item v report rest) may = tt
     reads_blockless (declares_item v d rest) may = tt
-    reads_blockless (declares_enum site head name found rest) may = (no_block site.tree.block (next_visits in_blocks s.agenda _ rest b.sourced.visits may.next).0, tt)
+    reads_blockless (declares_enum site head name found rest) may =
+        (no_block site.tree.block (next_visits in_blocks s.agenda _ rest b.sourced.visits may.next).0, tt)
     reads_blockless (lists_constant site head rest) may = tt
     reads_blockless (lists_impl site head of_trait rest) may = tt
     reads_blockless (opens_module site head name items rest) may = tt
@@ -196,7 +211,7 @@ module _ (answers : PathsAnswerFromSources) (paths : PathsLeadToWhatIsThere) (fi
     reads_blockless (defines_macro site head name expander helpers rest) may = tt
     reads_blockless (closes_module parent child rest) may = tt
     reads_blockless (awaits_attribute v a k rest) may = tt
-    reads_blockless (lists_derives v at a adt ps rest) may = tt
+    reads_blockless (lists_derives v at a adt ps call rest) may = tt
     reads_blockless (faults_derive v at report rest) may = tt
     reads_blockless (exports_macro site head name d e rest) may = tt
     reads_blockless (reaches_call site head path rest) may = tt
@@ -237,17 +252,23 @@ module _ (answers : PathsAnswerFromSources) (paths : PathsLeadToWhatIsThere) (fi
     brings_written (closes_module parent child rest) may = (tt, (tt, tt))
     brings_written (awaits_attribute v a k rest) may =
         (tt, (neither (is_some v.site.tree.block) false (next_visits in_blocks s.agenda v rest b.sourced.visits may.has.on.next).0 refl, tt))
-    brings_written (lists_derives v at a adt ps rest) may =
-        (tt, (derives_written v.site (item_node v.site v.item) (attr_id a) adt (next_visits in_blocks s.agenda v rest b.sourced.visits may.has.on.next).0 0 ps, tt))
+    brings_written (lists_derives v at a adt ps call rest) may = (
+      tt,
+      (
+        derives_written v.site (item_node v.site v.item) (attr_id a) adt (next_visits in_blocks s.agenda v rest b.sourced.visits may.has.on.next).0 0 ps,
+        (tt, tt),
+      ),
+    )
     brings_written (faults_derive v at report rest) may = (tt, (tt, tt))
     brings_written (exports_macro site head name d e rest) may = (tt, (tt, (tt, (tt, (tt, (tt, (tt, tt)))))))
-    brings_written (reaches_call site head path rest) may = (tt, (neither (is_some site.tree.block) false (next_visits in_blocks s.agenda _ rest b.sourced.visits may.next).0 refl, tt))
+    brings_written (reaches_call site head path rest) may =
+        (tt, (neither (is_some site.tree.block) false (next_visits in_blocks s.agenda _ rest b.sourced.visits may.next).0 refl, tt))
     brings_written rests may = (tt, tt)
     brings_written (expands_call i d makro x) may =
-        (tt, (tt, fine_expanding Written _ (λ at helper. tt) _ (module_id s.core.map d.site.home) d (error_of x.there) (λ at text. tt) _))
+        (tt, (tt, (tt, fine_expanding Written _ (λ at helper. tt) _ (module_id s.core.map d.site.home) d (error_of x.there) (λ at text. tt) _)))
     brings_written (drops_call i d) may = (tt, tt)
     brings_written (drops_reached i d makro) may = (tt, fine_bringing Written _ (λ at helper. tt) _ _)
-    brings_written (derives_builtin i d makro imp) may = (tt, (tt, fine_bringing Written _ (λ at helper. tt) _ _))
+    brings_written (derives_builtin i d makro imp) may = (tt, (tt, (tt, fine_bringing Written _ (λ at helper. tt) _ _)))
     brings_written (skips_attribute i d k item) may = (tt, (tt, tt))
     brings_written (falls_back i d k item) may = (tt, (tt, (tt, tt)))
     brings_written (resolves_imports rule) may = all_fine Written (λ at c. tt) (import_acts finished (import_state s) rule) _
@@ -260,21 +281,27 @@ module _ (answers : PathsAnswerFromSources) (paths : PathsLeadToWhatIsThere) (fi
         record {
           sourced = sourced-Step in_blocks answers paths finished whole nowhere s inside names (λ at there. refl) b.sourced env new step clear;
           asked = asked;
-          calls = subst AreWritten (sym step.is) (perform_keeps AreWritten Written written-act (acts finished s step.rule) (asking s step.rule) b.calls (brings_written step.rule step.may));
+          calls =
+              subst AreWritten (sym step.is) (perform_keeps AreWritten Written written-act (acts finished s step.rule) (asking s step.rule) b.calls
+              (brings_written step.rule step.may));
         }
 
-  all_blockless : (env : Environment) (from to : State) → IsInRange from → NamesWhatIsThere finished from → IsBlockless from → Steps env finished from to → IsBlockless to
+  all_blockless : (env : Environment) (from to : State) → IsInRange from → NamesWhatIsThere finished from → IsBlockless from → Steps env finished from to
+      → IsBlockless to
   all_blockless env from to inside names first none = first
   all_blockless env from to inside names first (more old new before last) =
-      blockless-Step old (in_range-Steps before inside) (steps_keep paths finished whole env from old inside names before) (all_blockless env from old inside names first before) env new last
+      blockless-Step old (in_range-Steps before inside) (steps_keep paths finished whole env from old inside names before)
+      (all_blockless env from old inside names first before) env new last
 
 -- ---- a crate's run
 
 -- it begins with the tree of a file
-first_blockless : (finished : Maps) → HoldsNowhere in_blocks finished → (tables : TablesValue) (w : Workspace) (from : Beginning) (start : Start) → block_of start ≡ None → from.tree.block ≡ None
+first_blockless : (finished : Maps) → HoldsNowhere in_blocks finished → (tables : TablesValue) (w : Workspace) (from : Beginning) (start : Start)
+    → block_of start ≡ None → from.tree.block ≡ None
     → IsBlockless (start_of tables w finished (holders_by finished start) (record from { start = start }))
 first_blockless finished nowhere tables w from (starts.Crate krate root) own fileless = record {
-  sourced = first_sourced in_blocks finished nowhere tables w (holders_by finished (starts.Crate krate root)) (record from { start = starts.Crate krate root }) tt
+  sourced =
+      first_sourced in_blocks finished nowhere tables w (holders_by finished (starts.Crate krate root)) (record from { start = starts.Crate krate root }) tt
       (ap (λ (o : Option BlockId). is_some o) fileless);
   asked = (fileless, tt);
   calls = refl;
@@ -293,10 +320,13 @@ none_asked answers paths tables w all from answer whole stands e own fileless no
     let names : NamesWhatIsThere finished begun = begins paths finished whole tables w holders from stands in
     let no_holders : holders_by all from.start ≡ holders_by finished from.start = no_holder all finished from.start own in
     let first : IsBlockless begun =
-    subst (λ (hs : List ModuleId). IsBlockless (start_of tables w finished hs from)) (sym no_holders) (first_blockless finished nowhere tables w from from.start own fileless) in
-    let last : IsBlockless e.last = all_blockless answers paths finished whole nowhere (environment tables w) begun e.last (in_range-start tables w finished holders from) names first e.derived in
+    subst (λ (hs : List ModuleId). IsBlockless (start_of tables w finished hs from)) (sym no_holders)
+    (first_blockless finished nowhere tables w from from.start own fileless) in
+    let last : IsBlockless e.last = all_blockless answers paths finished whole nowhere (environment tables w) begun e.last
+    (in_range-start tables w finished holders from) names first e.derived in
     let asked : Blockless answer.asked =
-    subst Blockless (sym e.asked_is) (both e.last.core.asked (map_keys (transitive_dependencies_in w (krate_of from.start))) last.asked (of_maps (transitive_dependencies_in w (krate_of from.start)))) in (
+    subst Blockless (sym e.asked_is) (both e.last.core.asked (map_keys (transitive_dependencies_in w (krate_of from.start))) last.asked
+    (of_maps (transitive_dependencies_in w (krate_of from.start)))) in (
       of_each answer.asked asked,
       (ends_sourced in_blocks answers paths finished whole tables w all from answer refl stands (begins_clear finished from.start from.tree own) e (record {
         written = λ key h. ap (λ (o : Option BlockId). is_some o) (of_each answer.asked asked (keys.Tree key) h);

@@ -7,7 +7,8 @@ use Rattle.hir_import_resolution.specs.State.{ImportState}
 use Rattle.hir_tables.specs.Tables.{TablesValue}
 use Rattle.hir_collector_rules.specs.Keys.{Environment}
 use Rattle.hir_collector_rules.specs.State.{Core, State, import_state}
-use Rattle.hir_collector_rules.specs.Changes.{Change, lists, makes, gives_variants, begins_paths, reaches, awaits, ends, settles, changes_imports, adds_textual, takes_textual, defines, describes, helps, lists_derive, exports, uses_macros, tells, goes_on, act, perform}
+use Rattle.hir_collector_rules.specs.Changes.{Change, lists, makes, gives_variants, begins_paths, reaches, awaits, ends, settles, changes_imports, adds_textual}
+use Rattle.hir_collector_rules.specs.Changes.{takes_textual, defines, describes, helps, lists_derive, notes, exports, uses_macros, tells, goes_on, act, perform}
 use Rattle.hir_collector_rules.specs.Derivation.{CollectedValue, Ends}
 use Rattle.hir_collector_rules.specs.Ended.{ended, exporting_scope}
 use Rattle.hir_collector_rules.specs.Start.{Beginning, holder_of}
@@ -39,6 +40,7 @@ act_holder s (defines node makro) = refl
 act_holder s (describes makro what) = refl
 act_holder s (helps node helper) = refl
 act_holder s (lists_derive home imp) = refl
+act_holder s (notes home invocation) = refl
 act_holder s (exports f makro) = refl
 act_holder s (uses_macros macros by) = refl
 act_holder s (tells d) = refl
@@ -67,5 +69,6 @@ ended_holder c = go c.is_proc_macro
     go true = refl
     go false = refl
 
-pub ends_held : {tables : TablesValue} {w : Workspace} {finished : Maps} {from : Beginning} {answer : CollectedValue} → Ends tables w finished from answer → answer.map.holder ≡ holder_of from.start
+pub ends_held : {tables : TablesValue} {w : Workspace} {finished : Maps} {from : Beginning} {answer : CollectedValue} → Ends tables w finished from answer
+    → answer.map.holder ≡ holder_of from.start
 ends_held e = ap (λ (m : Map). m.holder) e.map_is ∙ ended_holder e.last.core ∙ steps_holder e.derived
