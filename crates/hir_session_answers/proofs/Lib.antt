@@ -9,3 +9,4 @@ pub mod Growing
 pub mod Differ
 pub mod Stand
 pub mod Diagnosing
+pub mod Listed
