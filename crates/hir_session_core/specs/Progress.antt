@@ -1,6 +1,6 @@
 -- How far has a refresh come? No public clause speaks of this.
-use Rattle.std.specs.Prelude.{◌≡◌, ℕ, ◌<◌, cond, is_none, is_some, true, false, List, [], ◌∷◌, ◌++◌, length, Option, Some, None, Contains}
-use Rattle.std.specs.BTreeSet.{insert_key}
+use Rattle.std.specs.Prelude.{◌≡◌, ⊤, ℕ, ◌<◌, cond, is_none, is_some, true, false, List, [], ◌∷◌, ◌++◌, length, Option, Some, None, Contains}
+use Rattle.std.specs.BTreeSet.{BTreeSet, insert_key}
 use Rattle.hir_base.specs.Place.{PlaceValue}
 use Rattle.hir_base.specs.declared.ast_id.BlockId.{BlockId}
 use Rattle.hir_base.specs.declared.ids.MapId.{MapId}
@@ -76,6 +76,18 @@ with_pending s b keys = cond (is_none (block_kept s b)) (insert_key pending_orde
 pub record HasAllPending (s : SessionState) (pending : List PendingBlock) : Type 0 where
   pub all : (b : BlockPlace) → is_set s.sources.blocks b ≡ true → block_kept s b ≡ None → Contains pending (pending_of (place_of_block b))
   pub own : (p : PendingBlock) → Contains pending p → p ≡ pending_of p.place
+
+-- those that are known to wait, if that is known
+abbrev pub ArePending : SessionState → Option (BTreeSet PendingBlock) → Type 0
+ArePending s None = ⊤
+ArePending s (Some pending) = HasAllPending s pending.keys
+
+-- a block is set whose root this is, and nothing is kept of it
+pub record IsPendingAt (s : SessionState) (root : PlaceValue) : Type 0 where
+  pub block : BlockPlace
+  pub is : place_of_block block ≡ root
+  pub set : is_set s.sources.blocks block ≡ true
+  pub marked : block_kept s block ≡ None
 
 -- none of a list is due
 abbrev pub AreNotDue : SessionState → List PendingBlock → Type 0

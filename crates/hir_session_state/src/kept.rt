@@ -1,5 +1,6 @@
 //! What is kept of the places that were resolved.
-ghost use Rattle.std.specs.Prelude.{◌≡◌, ◌≢◌, true, None, Some, OnOk, OnErr, option_map};
+ghost use Rattle.std.specs.Prelude.{◌≡◌, ◌≢◌, ◌↔◌, All, IsTrue, true, None, Some, OnOk, OnErr, is_some, option_map};
+ghost use Rattle.std.specs.Option.{option_and_then};
 ghost use Rattle.std.specs.BTreeMap.{get, IsUnchanged};
 ghost use Rattle.hir_base.specs.declared.ids.MapId.{MapId};
 ghost use Rattle.hir_base.specs.contracts.ids.MapIdOrd.TheImpl as map_order;
@@ -189,4 +190,35 @@ impl Kept {
             self.forget_one(*id);
         }
     }
+
+    /// Whether something is kept of a place, where there is one.
+    fn has(&self, id: Option<MapId>) -> bool
+        ensures value { result ≡ is_some (option_and_then (kept_in self.now) id) }
+    {
+        match id {
+            Some(id) => self.get(id).is_some(),
+            None => false,
+        }
+    }
+
+    /// Drops what is kept of some places, and of each that depends on one of them; whether that is nothing, or what is kept of
+    /// this one place alone.
+    pub fn forget_around(&mut self, own: Option<MapId>, ids: &Vec<MapId>) -> bool
+        ensures forgotten { AreForgotten self.old ids.now.items self.new }
+        ensures alone { result ≡ true → (id : MapId) → Some id ≢ own → kept_in self.new id ≡ kept_in self.old id }
+    {
+        let before = self.world.maps.len();
+        let had = self.has(own);
+        let own_alone = are_only(own, ids);
+        self.forget(ids);
+        let fallen = before.checked_sub(self.world.maps.len());
+        own_alone && (fallen == Some(0) || (had && fallen == Some(1)))
+    }
+}
+
+/// Whether no other place is among some.
+fn are_only(own: Option<MapId>, ids: &Vec<MapId>) -> bool
+    ensures value { IsTrue result ↔ All (λ id. Some id ≡ own) ids.now.items }
+{
+    ids.iter().all(|id| Some(*id) == own)
 }

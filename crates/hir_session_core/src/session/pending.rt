@@ -1,13 +1,18 @@
 //! Blocks that wait to be resolved.
-ghost use Rattle.std.specs.Prelude.{◌≡◌, IfOk, OnOk, is_none};
+ghost use Rattle.std.specs.Prelude.{◌≡◌, ◌≢◌, ◌⊎◌, false, IfOk, OnOk, OnErr, None, Some, is_none, option_map};
+ghost use Rattle.std.specs.BTreeSet.{insert_key};
+ghost use Rattle.hir_base.specs.declared.ids.MapId.{MapId};
 ghost use Rattle.hir_session_state.specs.Blocks.{place_of_block};
+ghost use Rattle.hir_session_state.specs.Kept.{kept_in, AreForgotten};
 ghost use Rattle.hir_session_state.specs.SessionState.{block_kept, is_marked, IsSound};
-ghost use Rattle.hir_session_core.specs.Progress.{pending_of, with_pending, HasAllPending};
+ghost use Rattle.hir_session_core.specs.contracts.session.pending.PendingBlockOrd.TheImpl as pending_order;
+ghost use Rattle.hir_session_core.specs.Progress.{pending_of, with_pending, HasAllPending, IsPendingAt};
 
 use super::Session;
 use hir_base::ids::MapId;
 use hir_base::place::{BlockPlace, Place};
 use hir_session_sources::blocks::root_of_block;
+use hir_session_state::kept::Kept;
 use hir_session_state::steps::nesting;
 use std::alloc::{AllocError, Global};
 use std::collections::BTreeSet;
@@ -22,7 +27,7 @@ pub struct PendingBlock {
 }
 
 impl PendingBlock {
-    fn new(alloc: Global, block: &BlockPlace) -> Result<PendingBlock, AllocError>
+    pub fn new(alloc: Global, block: &BlockPlace) -> Result<PendingBlock, AllocError>
         ensures value { IfOk result (λ p. p ≡ pending_of (place_of_block block.now)) }
     {
         let place = root_of_block(alloc, block)?;
@@ -30,6 +35,52 @@ impl PendingBlock {
             nesting: nesting(place.elements()),
             place,
         })
+    }
+}
+
+/// Puts a block among those that wait, where these are known.
+pub fn await_block(
+    alloc: Global,
+    pending: &mut Option<BTreeSet<PendingBlock>>,
+    block: &BlockPlace,
+) -> Result<(), AllocError>
+    ensures ok { OnOk result (option_map (λ p. p.keys) pending.new
+        ≡ option_map (λ p. insert_key pending_order.ghosts.cmp p.keys (pending_of (place_of_block block.now))) pending.old) }
+    ensures err { OnErr result (pending.new ≡ pending.old) }
+{
+    if let Some(known) = pending {
+        let one = PendingBlock::new(alloc, block)?;
+        known.insert(one)?;
+    }
+    Ok(())
+}
+
+/// Drops what is kept of these places, and of what depends on them. Where something falls, which blocks wait isn't known.
+pub fn forget(kept: &mut Kept, pending: &mut Option<BTreeSet<PendingBlock>>, hits: &Vec<MapId>)
+    ensures forgotten { AreForgotten kept.old hits.now.items kept.new }
+    ensures pending { (pending.new ≡ None)
+        ⊎ ((pending.new ≡ pending.old) × ((id : MapId) → kept_in kept.new id ≡ kept_in kept.old id)) }
+{
+    if !hits.is_empty() {
+        *pending = None;
+    }
+    kept.forget(hits);
+}
+
+/// The same after an edit of a block. Where nothing but what is kept of the block itself falls, the other blocks that wait are
+/// known still.
+pub fn forget_block(
+    kept: &mut Kept,
+    pending: &mut Option<BTreeSet<PendingBlock>>,
+    own: Option<MapId>,
+    hits: &Vec<MapId>,
+)
+    ensures forgotten { AreForgotten kept.old hits.now.items kept.new }
+    ensures pending { (pending.new ≡ None)
+        ⊎ ((pending.new ≡ pending.old) × ((id : MapId) → Some id ≢ own → kept_in kept.new id ≡ kept_in kept.old id)) }
+{
+    if !kept.forget_around(own, hits) {
+        *pending = None;
     }
 }
 
@@ -51,6 +102,17 @@ impl Session {
                 block: Some(number),
             }),
             None => true,
+        }
+    }
+
+    /// Whether a block is set whose root this is, and nothing is kept of it.
+    pub(super) fn is_pending(&self, root: &Place) -> bool
+        ensures off { result ≡ false → ¬ IsPendingAt self.now root.now }
+    {
+        let blocks = self.inputs.sources().blocks();
+        match blocks.place(root.krate(), root.elements()) {
+            Some(block) => self.is_block_marked(block),
+            None => false,
         }
     }
 
@@ -81,5 +143,43 @@ impl Session {
             self.add_pending(alloc, &mut pending, block)?;
         }
         Ok(pending)
+    }
+
+    /// The same, and maybe other blocks. Which blocks wait isn't known then, until it is said again.
+    pub(super) fn take_pending(&mut self, alloc: Global) -> Result<BTreeSet<PendingBlock>, AllocError>
+        ensures same { self.new ≡ self.old }
+        ensures all { IfOk result (λ pending. HasAllPending self.old pending.keys) }
+        ensures sound { OnOk result (IsSound self.old) }
+    {
+        match self.pending.take() {
+            Some(pending) => Ok(pending),
+            None => self.pending_blocks(alloc),
+        }
+    }
+
+    /// Those of some blocks that wait still.
+    pub(super) fn still_pending(
+        &self,
+        alloc: Global,
+        mut pending: BTreeSet<PendingBlock>,
+    ) -> Result<BTreeSet<PendingBlock>, AllocError>
+        requires all { HasAllPending self.now pending.keys }
+        ensures all { IfOk result (λ left. HasAllPending self.now left.keys) }
+    {
+        let mut left = BTreeSet::new(alloc);
+        'next: while let Some(block) = pending.pop_first() {
+            if self.is_pending(&block.place) {
+                left.insert(block)?;
+            }
+        }
+        Ok(left)
+    }
+
+    /// From now on these are the blocks that wait.
+    pub(super) fn await_blocks(&mut self, pending: BTreeSet<PendingBlock>)
+        requires all { HasAllPending self.old pending.keys }
+        ensures same { self.new ≡ self.old }
+    {
+        self.pending = Some(pending);
     }
 }

@@ -1,5 +1,5 @@
 -- What the run came to may join what is kept, and all on which its place stands is current.
-use Rattle.std.proofs.Common.{◌≡◌, ◌∙◌, ap, sym, subst, true}
+use Rattle.std.proofs.Common.{◌≡◌, ◌∙◌, ap, sym, subst, true, None}
 use Rattle.hir_base.specs.declared.ids.MapId.{MapId}
 use Rattle.hir_collector_rules.specs.Derivation.{collected_view}
 use Rattle.hir_session_state.specs.Askers.{is_asker}
@@ -9,6 +9,8 @@ use Rattle.hir_session_state.specs.SessionState.{SessionState, IsPlace, IsResolu
 use Rattle.hir_session_core.specs.Progress.{held_in, AreFollowedCurrent}
 use Rattle.hir_session_state.proofs.Asking.{noted_kept, noted_more}
 use Rattle.hir_session_state.proofs.Resolving.{may_join}
+use Rattle.hir_session_core.proofs.Awaiting.{known_kept}
+use Rattle.hir_session_core.proofs.Pending.{marked_none}
 use Rattle.hir_session_core.proofs.Sound.{free_own, resolved_of, resolved_sound}
 use Rattle.hir_session_core.proofs.session.Session.keep_found.Goals as goal
 
@@ -26,23 +28,27 @@ keep-requires-clause-complete c =
 
 -- what the run asked for was noted before
 pub invariant_of-self : goal.invariant_of-self
-invariant_of-self c = (c.self.invariant.0, noted_more _ _ _ c.self.invariant.1 _ c.note.ensures.stay)
+invariant_of-self c = (c.self.invariant.0, noted_more _ _ _ c.self.invariant.1.0 _ c.note.ensures.stay, c.self.invariant.1.1)
 
 pub invariant_of-self-in_err-keep : goal.invariant_of-self-in_err-keep
-invariant_of-self-in_err-keep c = rw c.in_err-keep.ensures.err (c.self.invariant.0, noted_more _ _ _ c.self.invariant.1 _ c.note.ensures.stay)
+invariant_of-self-in_err-keep c = rw c.in_err-keep.ensures.err (c.self.invariant.0, noted_more _ _ _ c.self.invariant.1.0 _ c.note.ensures.stay, c.self.invariant.1.1)
 
 pub invariant_of-self-2 : goal.invariant_of-self-2
 invariant_of-self-2 c =
     let back = sym c.self.view_is in
-    let found = subst (λ (s : SessionState). IsResolutionOf s c.args.id (held_in s (collected_view c.args.found))) back c.requires.found in (
+    let inside = state_of c.self.inside.inputs c.self.inside.tables c.self.inside.kept in
+    let found = subst (λ (s : SessionState). IsResolutionOf s c.args.id (held_in s (collected_view c.args.found))) back c.requires.found in
+    let free : kept_in inside.kept c.args.found.map.id ≡ None =
+    marked_none _ (ap (λ (id : MapId). is_marked inside id) found.own ∙ subst (λ (s : SessionState). is_marked s c.args.id ≡ true) back c.requires.marked) in (
       resolved_sound _ c.args.id _ c.keep.new.self c.self.invariant.0
           (subst (λ (s : SessionState). IsPlace s c.args.id) back c.requires.place)
           (subst (λ (s : SessionState). is_marked s c.args.id ≡ true) back c.requires.marked) found
           (subst (λ (s : SessionState). AreFollowedCurrent s c.args.id c.args.found.map.holder) back c.requires.behind)
           (ap (kept_in c.keep.new.self) (sym found.own) ∙ c.in_ok-keep.ensures.here) (λ j ne. c.in_ok-keep.ensures.others j (λ e. ne (e ∙ found.own))),
-      noted_kept _ _ _ (noted_more _ _ _ c.self.invariant.1 _ c.note.ensures.stay) c.keep.new.self c.args.found.map.id _
+      noted_kept _ _ _ (noted_more _ _ _ c.self.invariant.1.0 _ c.note.ensures.stay) c.keep.new.self c.args.found.map.id _
           c.in_ok-keep.ensures.here c.in_ok-keep.ensures.others
           (λ key number among asks. subst (λ (id : MapId). is_asker c.note.new.self number id ≡ true) (sym found.own) (c.in_ok-note.ensures.all key number among asks)),
+      known_kept inside c.keep.new.self c.args.found.map.id c.self.inside.pending free c.in_ok-keep.ensures.others c.self.invariant.1.1,
     )
 
 pub returns-clause-ok : goal.returns-clause-ok
