@@ -1,2 +1,5 @@
 pub mod Reserved
 pub mod Picked
+pub mod Place
+pub mod Kept
+pub mod Runs

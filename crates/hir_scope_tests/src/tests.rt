@@ -1,6 +1,7 @@
 //! What all tests stand on: ids, imports and pushes of a small crate. What pushes bind and how a scope prints are rows of
 //! `hir_def_map_rows`.
 mod import_chains;
+mod many_names;
 mod small_tree;
 mod tables;
 mod visibility;

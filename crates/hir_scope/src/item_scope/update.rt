@@ -5,6 +5,7 @@ ghost use Rattle.hir_scope.specs.Entries.{item_at};
 ghost use Rattle.hir_scope.specs.Scope.Updates.{with_visibility, with_definition, is_definition, without_definition};
 
 use crate::item_scope::ItemScope;
+use crate::per_ns::Item;
 use crate::visibility::Visibility;
 use hir_base::ids::ModuleDefId;
 use hir_base::macro_kind::MacroId;
@@ -15,21 +16,21 @@ impl ItemScope {
     pub fn has_type(&self, name: &Name) -> bool
         ensures value { result ≡ is_some (item_at self.now.types name.now) }
     {
-        self.types.contains(name)
+        self.type_item(name).is_some()
     }
 
     /// Whether the name stands for a value.
     pub fn has_value(&self, name: &Name) -> bool
         ensures value { result ≡ is_some (item_at self.now.values name.now) }
     {
-        self.values.contains(name)
+        self.value_item(name).is_some()
     }
 
     /// Whether the name stands for a macro.
     pub fn has_macro(&self, name: &Name) -> bool
         ensures value { result ≡ is_some (item_at self.now.macros name.now) }
     {
-        self.macros.contains(name)
+        self.macro_item(name).is_some()
     }
 
     /// Changes who may see the type that the name stands for.
@@ -39,7 +40,9 @@ impl ItemScope {
         ensures bound { item_at self.new.types name.now ≡ option_map (with_item_visibility vis) (item_at self.old.types name.now) }
         ensures others { (other : List ℕ) → other ≢ name.now → item_at self.new.types other ≡ item_at self.old.types other }
     {
-        self.types.update_visibility(name, vis);
+        if let Some(item) = self.type_item(name) {
+            self.names.set_type(name, Item { def: item.def, vis, import: item.import });
+        }
     }
 
     /// Changes the type that the name stands for, and who may see it.
@@ -49,7 +52,9 @@ impl ItemScope {
         ensures bound { item_at self.new.types name.now ≡ option_map (with_item_definition def vis) (item_at self.old.types name.now) }
         ensures others { (other : List ℕ) → other ≢ name.now → item_at self.new.types other ≡ item_at self.old.types other }
     {
-        self.types.update_definition(name, def, vis);
+        if let Some(item) = self.type_item(name) {
+            self.names.set_type(name, Item { def, vis, import: item.import });
+        }
     }
 
     /// Changes who may see the value that the name stands for.
@@ -59,7 +64,9 @@ impl ItemScope {
         ensures bound { item_at self.new.values name.now ≡ option_map (with_item_visibility vis) (item_at self.old.values name.now) }
         ensures others { (other : List ℕ) → other ≢ name.now → item_at self.new.values other ≡ item_at self.old.values other }
     {
-        self.values.update_visibility(name, vis);
+        if let Some(item) = self.value_item(name) {
+            self.names.set_value(name, Item { def: item.def, vis, import: item.import });
+        }
     }
 
     /// Changes the value that the name stands for, and who may see it.
@@ -69,7 +76,9 @@ impl ItemScope {
         ensures bound { item_at self.new.values name.now ≡ option_map (with_item_definition def vis) (item_at self.old.values name.now) }
         ensures others { (other : List ℕ) → other ≢ name.now → item_at self.new.values other ≡ item_at self.old.values other }
     {
-        self.values.update_definition(name, def, vis);
+        if let Some(item) = self.value_item(name) {
+            self.names.set_value(name, Item { def, vis, import: item.import });
+        }
     }
 
     /// Changes who may see the macro that the name stands for.
@@ -79,7 +88,9 @@ impl ItemScope {
         ensures bound { item_at self.new.macros name.now ≡ option_map (with_item_visibility vis) (item_at self.old.macros name.now) }
         ensures others { (other : List ℕ) → other ≢ name.now → item_at self.new.macros other ≡ item_at self.old.macros other }
     {
-        self.macros.update_visibility(name, vis);
+        if let Some(item) = self.macro_item(name) {
+            self.names.set_macro(name, Item { def: item.def, vis, import: item.import });
+        }
     }
 
     /// Changes the macro that the name stands for, and who may see it.
@@ -89,7 +100,9 @@ impl ItemScope {
         ensures bound { item_at self.new.macros name.now ≡ option_map (with_item_definition def vis) (item_at self.old.macros name.now) }
         ensures others { (other : List ℕ) → other ≢ name.now → item_at self.new.macros other ≡ item_at self.old.macros other }
     {
-        self.macros.update_definition(name, def, vis);
+        if let Some(item) = self.macro_item(name) {
+            self.names.set_macro(name, Item { def, vis, import: item.import });
+        }
     }
 
     /// Removes the value that the name stands for, if it is this definition.
@@ -98,6 +111,10 @@ impl ItemScope {
         ensures removed { item_at self.new.values name.now ≡ cond (is_definition (⟦<ModuleDefId as PartialEq>⟧.eq) def (item_at self.old.values name.now)) None (item_at self.old.values name.now) }
         ensures others { (other : List ℕ) → other ≢ name.now → item_at self.new.values other ≡ item_at self.old.values other }
     {
-        self.values.remove(name, def);
+        if let Some(item) = self.value_item(name) {
+            if item.def == def {
+                self.names.remove_value(name);
+            }
+        }
     }
 }
