@@ -1,6 +1,8 @@
 //! What all tests stand on: ids, imports and pushes of a small crate. What pushes bind and how a scope prints are rows of
 //! `hir_def_map_rows`.
+mod bindings;
 mod import_chains;
+mod per_ns;
 mod small_tree;
 mod tables;
 mod visibility;
@@ -8,7 +10,8 @@ mod visibility;
 use hir_base::ast_id::{EditionedFileId, FileId, HirFileId, SyntaxId};
 use hir_base::edition::Edition;
 use hir_base::ids::{
-    AdtId, Crate, ExternCrateId, ItemLoc, MapId, ModuleDefId, ModuleId, StructId, UseId,
+    AdtId, Crate, ExternCrateId, FunctionId, ItemContainerId, ItemLoc, MapId, ModuleDefId,
+    ModuleId, StructId, TraitId, UseId,
 };
 use hir_base::macro_kind::{MacroCallStyles, MacroExpander, MacroId, MacroLoc, MacroRulesId};
 use hir_base::name::Name;
@@ -55,6 +58,23 @@ fn adt(number: u16) -> AdtId {
 
 fn structure(number: u16) -> ModuleDefId {
     ModuleDefId::AdtId(adt(number))
+}
+
+fn trait_of(number: u16) -> TraitId {
+    TraitId {
+        loc: use_item(0, number).loc,
+    }
+}
+
+fn function(number: u16) -> ModuleDefId {
+    ModuleDefId::FunctionId(FunctionId {
+        loc: ItemLoc {
+            container: ItemContainerId::ModuleId(module(0)),
+            file_id: FILE,
+            block: None,
+            id: node(number),
+        },
+    })
 }
 
 fn macro_of(number: u16, styles: MacroCallStyles) -> MacroId {

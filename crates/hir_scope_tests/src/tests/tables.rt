@@ -4,7 +4,8 @@ use either::Either;
 use hir_base::ast_id::{AstId, AstKind, AttrId, MacroCallId};
 use hir_base::macro_kind::{BuiltinDeriveImplId, MacroCallStyles};
 use hir_scope::item_scope::ItemScope;
-use std::alloc::Global;
+use std::alloc::{AllocError, Global};
+use std::fmt::Write;
 use std::process::Abort;
 use std::test::Fail;
 
@@ -103,4 +104,49 @@ fn derive_attributes(rt: HostRuntime) -> Result<(), Fail> {
     let mut scope = empty_scope(alloc)?;
     note_derive(&rt, alloc, &mut scope)?;
     has_derive(&rt, &scope)
+}
+
+/// A path of a `derive` that is a builtin one's, and one that a call stands for.
+fn note_paths(alloc: Global, scope: &mut ItemScope) -> Result<(), Fail> {
+    let paths = Vec::from_array(
+        alloc,
+        [
+            Some(Either::Right(derived(1))),
+            Some(Either::Left(MacroCallId(3))),
+        ],
+    )?;
+    scope.init_derive_attribute(item(1), AttrId(4), MacroCallId(9), paths)?;
+    scope.add_attr_macro_invoc(item(1), MacroCallId(1))?;
+    scope.add_macro_invoc(item(2), MacroCallId(2))?;
+    Ok(())
+}
+
+fn numbers_of_calls(alloc: Global, scope: &ItemScope) -> Result<String, AllocError> {
+    let mut text = String::new(alloc);
+    for call in scope.all_macro_calls() {
+        let number = call.0;
+        write!(text, "{number} ")?;
+    }
+    Ok(text)
+}
+
+fn has_calls(rt: &impl Abort, alloc: Global, scope: &ItemScope) -> Result<(), Fail> {
+    let text = numbers_of_calls(alloc, scope)?;
+    assert_eq!(rt; text.as_str(), "2 1 3 ");
+    let mut calls = scope.iter_macro_invoc();
+    assert_eq!(rt; calls.next(), Some((&item(2), &MacroCallId(2))));
+    assert!(rt; calls.next().is_none());
+    let (_, attributes) = scope.derive_macro_invocs().next().ok_or("an item")?;
+    let attribute = attributes.as_slice().first().ok_or("an attribute")?;
+    assert_eq!(rt; attribute.attr_id(), AttrId(4));
+    Ok(())
+}
+
+/// Calls come before those of attributes, and these before what derives became; a builtin derive is no call.
+#[test]
+fn all_calls(rt: HostRuntime) -> Result<(), Fail> {
+    let alloc = rt.alloc();
+    let mut scope = empty_scope(alloc)?;
+    note_paths(alloc, &mut scope)?;
+    has_calls(&rt, alloc, &scope)
 }

@@ -3,7 +3,7 @@ use super::small_tree::SmallTree;
 use super::{MAP, module};
 use hir_base::ast_id::BlockId;
 use hir_base::ids::{Crate, MapId, ModuleId};
-use hir_item_tree::raw_visibility::VisibilityExplicitness;
+use hir_item_tree::raw_visibility::{RawVisibility, VisibilityExplicitness};
 use hir_scope::visibility::Visibility;
 use std::process::Abort;
 
@@ -178,4 +178,38 @@ fn any_seen_from_any(rt: HostRuntime) {
     for (digit, seen) in SEEN {
         see_from_each(&rt, digit, seen);
     }
+}
+
+/// Only what is public may be seen from other crates; a map that is being built is asked like any tree.
+#[test]
+fn seen_from_other_crates(rt: HostRuntime) {
+    for (digit, seen) in SEEN {
+        let vis = visibility(digit).expect(&rt, "a digit");
+        assert_eq!(rt; vis.is_public(), digit == b'0', "{}", digit as char);
+        assert_eq!(rt;
+            vis.is_visible_from_other_crate(),
+            digit == b'0',
+            "{}",
+            digit as char
+        );
+        for at in 0..8 {
+            let is_visible = vis.is_visible_from_def_map(&SmallTree, asking(at));
+            assert_eq!(rt; is_visible, seen[at] == b'+', "{} {at}", digit as char);
+        }
+    }
+}
+
+/// What is written is looked up once, and counts as public where that finds nothing.
+#[test]
+fn written_visibilities(rt: HostRuntime) {
+    let crate_alone = Visibility::resolve(
+        |raw: &RawVisibility| match raw {
+            RawVisibility::PubCrate => Some(IN_CRATE),
+            _ => None,
+        },
+        &RawVisibility::PubCrate,
+    );
+    assert_eq!(rt; crate_alone, IN_CRATE);
+    let unresolved = Visibility::resolve(|_: &RawVisibility| None, &RawVisibility::PubCrate);
+    assert_eq!(rt; unresolved, PUBLIC);
 }

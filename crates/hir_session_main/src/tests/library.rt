@@ -123,7 +123,10 @@ fn errors_of_queries_have_texts(rt: HostRuntime) -> Result<(), Fail> {
             QueryError::StalePlace,
             "what is kept of the place may be out of date",
         ),
-        (QueryError::UnknownPlace, "there is no such crate, module or block"),
+        (
+            QueryError::UnknownPlace,
+            "there is no such crate, module or block",
+        ),
         (QueryError::Memory, "out of memory"),
     ];
     for (error, text) in rows {
