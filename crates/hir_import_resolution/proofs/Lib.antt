@@ -28,6 +28,10 @@ pub mod Counting
 pub mod Running
 pub mod Passes
 pub mod Restarting
+pub mod Declared
+pub mod Built
+pub mod Grown
+pub mod Reached
 pub mod Starting
 -- what is queued before a round
 pub mod Growing

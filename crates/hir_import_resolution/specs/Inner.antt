@@ -6,3 +6,4 @@ pub mod OpenLaws
 pub mod State
 pub mod Steps
 pub mod Queue
+pub mod Builder

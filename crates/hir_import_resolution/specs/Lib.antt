@@ -13,6 +13,7 @@ pub mod Rest
 -- ---- and what may happen before they are taken up again
 pub mod Lasting
 pub mod Rounds
+pub mod Builder
 pub mod Sound
 -- ---- words of private code
 pub mod KeyLists

@@ -2,6 +2,7 @@
 #![tactic(auto)]
 
 pub mod answers;
+pub mod builder;
 pub mod directive;
 pub mod import_queue;
 pub mod imports;

@@ -9,6 +9,7 @@ ghost use Rattle.hir_def_map.specs.WorldParts.{part_of};
 ghost use Rattle.hir_import_resolution.specs.Inner.State.{finished_by, queue_by, state_by, state_in};
 
 pub(crate) mod bind;
+mod declare;
 mod lasting;
 mod settle;
 mod steps;

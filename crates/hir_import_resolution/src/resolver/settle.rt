@@ -13,7 +13,7 @@ use hir_glob_imports::{Edge, MAX_STEPS};
 
 impl Resolver<'_> {
     /// Takes names along globs, and queues what read a name that changed.
-    fn wave(&mut self) -> Result<(), ImportError>
+    pub(crate) fn wave(&mut self) -> Result<(), ImportError>
         requires begun { IsBegun self.old None }
         ensures running { OnOk result (IsRunning self.new None) }
         ensures finished { OnOk result (finished_by self.new ≡ finished_by self.old) }

@@ -1,5 +1,5 @@
 //! The names of a map that is built, as its imports read and write them.
-ghost use Rattle.std.specs.Prelude.{◌≡◌, OnOk, Some};
+ghost use Rattle.std.specs.Prelude.{◌≡◌, None, OnOk, Some};
 ghost use Rattle.hir_def_map.specs.DefMaps.{maps_of};
 ghost use Rattle.hir_def_map_rules.specs.Overlay.{overlay};
 ghost use Rattle.hir_def_map_rules.specs.State.{globs_after, module_at, numbered, pushed, with_scope};
@@ -68,6 +68,17 @@ impl<'a> OpenScopes<'a> {
     {
         self.map
             .push(&mut self.globs, home, name, items, Some(import))?;
+        Ok(())
+    }
+
+    /// Pushes items to a name of a module by a declaration.
+    pub fn declare(&mut self, home: u32, name: Name, items: PerNs) -> Result<(), AllocError>
+        ensures ok { OnOk result (self.new ≡ record self.old {
+          map = pushed self.old.map self.old.globs home name items None;
+          globs = globs_after self.old.map self.old.globs home name items None;
+        }) }
+    {
+        self.map.push(&mut self.globs, home, name, items, None)?;
         Ok(())
     }
 
