@@ -10,4 +10,5 @@ use Rattle.hir_def_map.specs.World.{finished_in, local_in}
 
 -- whether both have an equal map with equal crates for its paths to begin with, or neither has one
 abbrev pub agrees_at : BTreeMap MapId Finished → BTreeMap MapId Finished → MapId → Bool
-agrees_at one other id = option_eq same_def_map (map_in (finished_in one) id) (map_in (finished_in other) id) && option_eq same_local (local_in one id) (local_in other id)
+agrees_at one other id =
+    option_eq same_def_map (map_in (finished_in one) id) (map_in (finished_in other) id) && option_eq same_local (local_in one id) (local_in other id)

@@ -51,7 +51,8 @@ pub IsChecked-empty : (maps : BTreeMap MapId Finished) → maps.entries ≡ [] �
 unfolding finished_in frames_of
 IsChecked-empty maps e = record {
   placed = λ id h hs f.
-      let none : [] ≡ h ∷ hs = ap (λ (es : List (MapId × Finished)). holders_of_frame (option_map frame_of (option_map placed_of (lookup (is_at (map_order.ghosts.cmp id)) es)))) (sym e) ∙ f in
+      let none : [] ≡ h ∷ hs = ap (λ (es : List (MapId × Finished)). holders_of_frame
+      (option_map frame_of (option_map placed_of (lookup (is_at (map_order.ghosts.cmp id)) es)))) (sym e) ∙ f in
       absurd cc;
   each = λ id finished f.
       let none : None ≡ Some finished = ap (λ (es : List (MapId × Finished)). lookup (is_at (map_order.ghosts.cmp id)) es) (sym e) ∙ f in

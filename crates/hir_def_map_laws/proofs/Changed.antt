@@ -152,7 +152,8 @@ module _ (t : Change) where
   finished_out m there = go (is_in own m) refl
     where
       go : (b : Bool) → is_in own m ≡ b → Out m
-      go true e = either-false (is_some (finished m.map)) there (ap (λ (id : MapId). is_some (finished id)) (is_own m e) ∙ none_is_some (finished own) t.apart.absent)
+      go true e =
+          either-false (is_some (finished m.map)) there (ap (λ (id : MapId). is_some (finished id)) (is_own m e) ∙ none_is_some (finished own) t.apart.absent)
       go false e = e
 
   finished_holders : (h : AnyModule) → All Out (holders_of (finished h.map))
@@ -177,7 +178,9 @@ module _ (t : Change) where
   holders_out m = subst (All Out) (sym (frame_holders (old m.map))) (go (map_id.ghosts.eq m.map own) refl)
     where
       go : (b : Bool) → map_id.ghosts.eq m.map own ≡ b → All Out (holders_of (old m.map))
-      go true e = subst (All Out) (sym (ap holders_of (old_own m.map e) ∙ ap (λ (o : Option Placed). holders_or o (holders_under finished own one.holder)) t.apart.absent)) own_holders
+      go true e =
+          subst (All Out) (sym (ap holders_of (old_own m.map e) ∙ ap (λ (o : Option Placed). holders_or o (holders_under finished own one.holder))
+          t.apart.absent)) own_holders
       go false e = subst (All Out) (sym (ap holders_of (old_out m.map e))) (finished_holders m)
 
   pub same_nearest : (m : AnyModule) → nearest_non_block_module new m ≡ nearest_non_block_module old m
@@ -222,7 +225,9 @@ module _ (t : Change) where
     where
       go : (o : Option ModuleValue) → ((v : ModuleValue) → o ≡ Some v → any_reference_in (is_named_in own) v ≡ false) → parent_of o ≡ Some p → Out p
       go None names f = absurd cc
-      go (Some v) names f = ap (λ (x : Option AnyModule). test_of (is_named_in own) (option_map named.Module x)) (sym f) ∙ (module_parts (is_named_in own) v (names v refl)).parent
+      go (Some v) names f =
+          ap (λ (x : Option AnyModule). test_of (is_named_in own) (option_map named.Module x)) (sym f) ∙
+          (module_parts (is_named_in own) v (names v refl)).parent
 
   parent_here : (m p : AnyModule) → Here m → parent_in old m ≡ Some p → Here p
   parent_here m p here e = go (is_in own m) refl
@@ -277,7 +282,8 @@ module _ (t : Change) where
   same_under [] m here all = ap (list_map (numbered m.map)) (same_numbers m here)
   same_under (h ∷ hs) m here all =
       let inside : above_inside (frames_of new) m ≡ above_inside (frames_of old) m = ap (list_map (numbered m.map)) (same_numbers m here) in
-      let outwards : above_under (frames_of new) hs h ≡ above_under (frames_of old) hs h = same_under hs h (here_out h (All-head Out h hs all)) (All-tail Out h hs all) in
+      let outwards : above_under (frames_of new) hs h ≡ above_under (frames_of old) hs h = same_under hs h (here_out h (All-head Out h hs all))
+      (All-tail Out h hs all) in
       λ i. inside i ++ h ∷ outwards i
 
   -- the same lies above a module that stays
@@ -287,14 +293,16 @@ module _ (t : Change) where
       ap (λ (hs : List AnyModule). above_under (frames_of new) hs m) (same_holders m)
       ∙ same_under (holders_in old m) m here (holders_out m)
 
-  same_visible : (from : AnyModule) → Here from → (v : Visibility) → is_visible (above_in new) (holders_in new) v from ≡ is_visible (above_in old) (holders_in old) v from
+  same_visible : (from : AnyModule) → Here from → (v : Visibility) → is_visible (above_in new) (holders_in new) v from
+      ≡ is_visible (above_in old) (holders_in old) v from
   same_visible from here (Module m e) = λ i.
       same_crate from.map.krate m.map.krate && list_any (same_module (stands_for from m (same_holders m i))) (from ∷ same_above from here i)
   same_visible from here (PubCrate c) = refl
   same_visible from here Public = refl
 
   -- it sees the same of what stands for the same
-  pub same_seen : (from at : AnyModule) (name : List ℕ) → Here from → entry_in new at name ≡ entry_in old at name → seen new from at name ≡ seen old from at name
+  pub same_seen : (from at : AnyModule) (name : List ℕ) → Here from → entry_in new at name ≡ entry_in old at name → seen new from at name
+      ≡ seen old from at name
   same_seen from at name here e = λ i. keep_of (λ v. same_visible from here v i) (e i)
 
   -- ---- names in other maps
@@ -306,11 +314,14 @@ module _ (t : Change) where
   legacy_out m name out = ap (λ (o : Option ModuleValue). legacy_of o name) (same_module_out m out)
 
   pub names_out : (m : AnyModule) (name : List ℕ) → Out m → Fails (is_named_in own) (entry_in old m name)
-  names_out m name out = subst (Fails (is_named_in own)) (sym (ap (λ (o : Option ModuleValue). entry_of o name) (module_out m out))) (entry_fails (is_named_in own) (module_in finished m) (t.apart.modules m) name)
+  names_out m name out =
+      subst (Fails (is_named_in own)) (sym (ap (λ (o : Option ModuleValue). entry_of o name) (module_out m out)))
+      (entry_fails (is_named_in own) (module_in finished m) (t.apart.modules m) name)
 
   -- ---- names in the map
 
-  pub entry_here : (m : AnyModule) (name : List ℕ) → is_in own m ≡ true → entry_at other m.index name ≡ entry_at one m.index name → entry_in new m name ≡ entry_in old m name
+  pub entry_here : (m : AnyModule) (name : List ℕ) → is_in own m ≡ true → entry_at other m.index name ≡ entry_at one m.index name → entry_in new m name
+      ≡ entry_in old m name
   entry_here m name e same =
       ap (λ (o : Option ModuleValue). entry_of o name) (new_module m e) ∙ same ∙ sym (ap (λ (o : Option ModuleValue). entry_of o name) (old_module m e))
 
@@ -326,9 +337,11 @@ module _ (t : Change) where
 
   pub variant_out : (id : EnumId) (name : List ℕ) → map_id.ghosts.eq id.loc.container.map own ≡ false → variant_in new id name ≡ variant_in old id name
   variant_out id name e =
-      ap (λ (o : Option Placed). option_and_then (λ (vs : Variants). at_name vs name) (option_and_then (λ (placed : Placed). variants_at placed.map id) o)) (same_out id.loc.container.map e)
+      ap (λ (o : Option Placed). option_and_then (λ (vs : Variants). at_name vs name) (option_and_then (λ (placed : Placed). variants_at placed.map id) o))
+      (same_out id.loc.container.map e)
 
-  pub variant_here : (id : EnumId) (name : List ℕ) → map_id.ghosts.eq id.loc.container.map own ≡ true → t.changes id ≡ false → variant_in new id name ≡ variant_in old id name
+  pub variant_here : (id : EnumId) (name : List ℕ) → map_id.ghosts.eq id.loc.container.map own ≡ true → t.changes id ≡ false → variant_in new id name
+      ≡ variant_in old id name
   variant_here id name e same =
       ap (λ (o : Option Variants). option_and_then (λ (vs : Variants). at_name vs name) o)
       (ap (λ (o : Option Placed). option_and_then (λ (placed : Placed). variants_at placed.map id) o) (new_own id.loc.container.map e)
@@ -358,10 +371,13 @@ module _ (t : Change) where
   same_2015 id = same_of_map is_in_edition_2015 (λ i. is_edition_2015 (t.crate_data i).edition) id
 
   pub same_reach : (from : AnyModule) (c : Crate) → is_in_reach new from c ≡ is_in_reach old from c
-  same_reach from c = λ i. same_crate c from.map.krate || same_of_map (λ (o : Option Map). is_dependency o c) (λ j. list_any (same_crate c) (t.crate_data j).dependencies) from.map i
+  same_reach from c =
+      λ i. same_crate c from.map.krate || same_of_map (λ (o : Option Map). is_dependency o c) (λ j. list_any (same_crate c) (t.crate_data j).dependencies)
+      from.map i
 
   pub same_prelude_module : (id : MapId) → prelude_module_of (map_in new id) ≡ prelude_module_of (map_in old id)
   same_prelude_module id = same_of_map prelude_module_of t.prelude id
 
   pub prelude_out : (id : MapId) → map_id.ghosts.eq id own ≡ false → (p : AnyModule) → prelude_module_of (map_in old id) ≡ Some p → Out p
-  prelude_out id e p f = t.apart.preludes id p (sym (ap (λ (o : Option Placed). prelude_module_of (option_map (λ (placed : Placed). placed.map) o)) (old_out id e)) ∙ f)
+  prelude_out id e p f =
+      t.apart.preludes id p (sym (ap (λ (o : Option Placed). prelude_module_of (option_map (λ (placed : Placed). placed.map) o)) (old_out id e)) ∙ f)

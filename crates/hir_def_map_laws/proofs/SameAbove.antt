@@ -1,5 +1,6 @@
 -- Where a map gains modules, the same lies above those that it had.
-use Rattle.std.proofs.Common.{◌≡◌, ◌∙◌, ap, sym, subst, refl, ℕ, zero, suc, ◌+◌, ◌<◌, ◌≤◌, List, [], ◌∷◌, length, Bool, true, ◌||◌, cond, nat_lt, Option, None, Some, arith}
+use Rattle.std.proofs.Common.{◌≡◌, ◌∙◌, ap, sym, subst, refl, ℕ, zero, suc, ◌+◌, ◌<◌, ◌≤◌, List, [], ◌∷◌, length, Bool, true, ◌||◌, cond, nat_lt, Option, None}
+use Rattle.std.proofs.Common.{Some, arith}
 use Rattle.std.proofs.lemmas.Grind.{common_steps}
 use Rattle.std.specs.Prelude.{slice_get}
 use Rattle.hir_base.specs.declared.ids.MapId.{MapId}
@@ -89,7 +90,8 @@ module _ (one other : Map) (grows : Grows one other) (in_order : IsInOrder one) 
     step-after at low =
         step_listed after at
         ∙ ap (λ (o : Option ModuleId). step_to (frame_of after) at (number_in other.id o)) (same_parent_at at low)
-        ∙ step-known (frame_of after) other.id at (parent_at one at) (subst (λ (id : MapId). IsBefore id at (parent_at one at)) (sym grows.id) (before_at at low))
+        ∙ step-known (frame_of after) other.id at (parent_at one at) (subst (λ (id : MapId). IsBefore id at (parent_at one at)) (sym grows.id)
+        (before_at at low))
 
     pub same_numbers_above : (at : ℕ) → at < length one.modules → numbers_above (frame_of after) at ≡ numbers_above (frame_of before) at
     unfolding numbers_above

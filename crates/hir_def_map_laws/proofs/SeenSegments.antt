@@ -28,7 +28,9 @@ AreKept-keep_of test p = record {
 
 module _ (maps : Maps) (from m : ModuleId) (s : List ℕ) where
   abbrev on : (ModuleId → PerNs → ResolvePathResult) → Bool → ResolvePathResult
-  on further b = cond b (further from (seen maps from m s)) (crossing (further (nearest_non_block_module maps m) (seen maps (nearest_non_block_module maps m) (nearest_non_block_module maps m) s)))
+  on further b =
+      cond b (further from (seen maps from m s))
+      (crossing (further (nearest_non_block_module maps m) (seen maps (nearest_non_block_module maps m) (nearest_non_block_module maps m) s)))
 
   pub takes_here : same_crate m.map.krate from.map.krate ≡ true → TakesHere maps from m s
   takes_here e = (seen maps from m s, AreKept-keep_of (may_see maps from) (entry_in maps m s), λ further. ap (on further) e)

@@ -37,7 +37,8 @@ use Rattle.hir_def_map_rules.specs.contracts.enum_variants.EnumVariantPartialEq.
 use Rattle.hir_def_map_rules.specs.contracts.enum_variants.EnumVariantEq.TheImpl.Laws.{laws-law as enum_variant_laws}
 use Rattle.hir_def_map_rules.specs.contracts.origin.ModuleOriginPartialEq.TheImpl as origin
 use Rattle.hir_def_map_rules.specs.contracts.origin.ModuleOriginEq.TheImpl.Laws.{laws-law as origin_laws}
-use Rattle.hir_def_map_rules.specs.Inner.MacroEquality.{same_diagnostics, same_diagnostics_equiv, same_helpers, same_helpers_equiv, same_macro_data, same_macro_data_equiv}
+use Rattle.hir_def_map_rules.specs.Inner.MacroEquality.{same_diagnostics, same_diagnostics_equiv, same_helpers, same_helpers_equiv, same_macro_data}
+use Rattle.hir_def_map_rules.specs.Inner.MacroEquality.{same_macro_data_equiv}
 use Rattle.hir_def_map_rules.specs.State.{CrateData, Local, Map, Modules, ModuleValue, Variants}
 
 -- a test of two values

@@ -8,7 +8,8 @@ use Rattle.hir_base.specs.contracts.ids.MapIdPartialEq.TheImpl as map_id
 use Rattle.hir_base.specs.declared.ids.AdtId.TheVariants as adts
 use Rattle.hir_base.specs.declared.ids.MapId.{MapId}
 use Rattle.hir_base.specs.declared.ids.ModuleDefId.{ModuleDefId}
-use Rattle.hir_base.specs.declared.ids.ModuleDefId.TheVariants.{ModuleId, FunctionId, AdtId as AnyAdt, EnumVariantId, ConstId, StaticId, TraitId, TypeAliasId, BuiltinType, MacroId}
+use Rattle.hir_base.specs.declared.ids.ModuleDefId.TheVariants.{ModuleId, FunctionId, AdtId as AnyAdt, EnumVariantId, ConstId, StaticId, TraitId, TypeAliasId}
+use Rattle.hir_base.specs.declared.ids.ModuleDefId.TheVariants.{BuiltinType, MacroId}
 use Rattle.hir_base.specs.declared.ids.ModuleId.{ModuleId as AnyModule}
 use Rattle.hir_scope.specs.PerNs.{Item}
 use Rattle.hir_scope.specs.declared.imports.ImportOrExternCrate.{ImportOrExternCrate}
@@ -53,7 +54,9 @@ module _ (s t : Map) (keeps : (n : Reference) → has_no_variants s n ≡ false 
   still_filled_type (Some item) e = still_filled item.def e
 
   pub still_unstopped : (a : Resolution) → stops_bare s a ≡ false → stops_bare t a ≡ false
-  still_unstopped a e = either_no (is_some a.segment_index) (is_bare s a.resolved_def.types) (is_some a.segment_index) (is_bare t a.resolved_def.types) e (still_filled_type a.resolved_def.types) refl
+  still_unstopped a e =
+      either_no (is_some a.segment_index) (is_bare s a.resolved_def.types) (is_some a.segment_index) (is_bare t a.resolved_def.types) e
+      (still_filled_type a.resolved_def.types) refl
 
   -- a target that had its variants has them
   pub still_has : (of : Target) → HasVariants s of → HasVariants t of
@@ -104,7 +107,8 @@ module _ (s t : Map) (grows : Grows s t) where
   pub more_variants : (n : Reference) → has_no_variants s n ≡ false → has_no_variants t n ≡ false
   more_variants (named.Module m) e = refl
   more_variants (named.Enum id) e =
-      either_no (map_id.ghosts.eq id.loc.container.map s.id) (not (is_some (variants_at s id))) (map_id.ghosts.eq id.loc.container.map t.id) (not (is_some (variants_at t id))) e
+      either_no (map_id.ghosts.eq id.loc.container.map s.id) (not (is_some (variants_at s id))) (map_id.ghosts.eq id.loc.container.map t.id)
+      (not (is_some (variants_at t id))) e
       (stays (variants_at s id) refl) (ap (map_id.ghosts.eq id.loc.container.map) grows.id)
     where
       stays : (o : Option Variants) → variants_at s id ≡ o → not (is_some (variants_at s id)) ≡ false → not (is_some (variants_at t id)) ≡ false

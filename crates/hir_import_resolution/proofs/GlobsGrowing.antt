@@ -23,8 +23,8 @@ use Rattle.hir_glob_imports.specs.declared.edge.Brought.{Brought}
 use Rattle.hir_glob_imports.specs.declared.edge.Edge.{Edge}
 use Rattle.hir_glob_imports.specs.declared.edge.Key.{Key}
 use Rattle.hir_glob_imports.specs.declared.edge.Target.{Target}
-use Rattle.hir_glob_imports.specs.declared.edge.Target.TheVariants as targets
 use Rattle.hir_glob_imports.specs.declared.edge.Update.{Update}
+use Rattle.hir_glob_imports.specs.declared.edge.Target.TheVariants as targets
 use Rattle.hir_glob_imports.specs.declared.edge.Update.TheVariants.{Nothing, Follow}
 use Rattle.hir_import_resolution.specs.Directives.{open_items}
 use Rattle.hir_import_resolution.specs.Names.{bound_at, is_foreign, open_vis, trait_vis, variant_items, view_of}
@@ -44,7 +44,8 @@ module _ (v w : View) (j : ℕ) (e : Edge) (b c : Bound) (greater : w.greater c.
 -- what stands at a key may only be raised where it has no name, or another edge brought it
 pub same_update : (v w : View) (j : ℕ) (e : Edge) (key : Key) (by : Option Brought) (shows stands : Option Bound)
     → ((b c : Bound) → shows ≡ Some b → stands ≡ Some c → is_unnamed key ≡ true → w.greater c.vis (brought_vis w e b) ≡ v.greater c.vis (brought_vis v e b))
-    → ((b c : Bound) (last : Brought) → shows ≡ Some b → stands ≡ Some c → by ≡ Some last → w.greater c.vis (brought_vis w e b) ≡ v.greater c.vis (brought_vis v e b))
+    → ((b c : Bound) (last : Brought) → shows ≡ Some b → stands ≡ Some c → by ≡ Some last → w.greater c.vis (brought_vis w e b)
+    ≡ v.greater c.vis (brought_vis v e b))
     → update_of w j e key shows stands by ≡ update_of v j e key shows stands by
 same_update v w j e key by None stands unnamed brought = refl
 same_update v w j e key by (Some b) None unnamed brought = refl
@@ -54,17 +55,20 @@ same_update v w j e key by (Some b) (Some c) unnamed brought = on_name (is_unnam
     on_brought None is = refl
     on_brought (Some last) is = same_brought v w j e b c (brought b c last refl refl is) last
 
-    on_name : (t : Bool) → is_unnamed key ≡ t → (if t then raise_of w e b c else update_of_brought w j e b c by) ≡ (if t then raise_of v e b c else update_of_brought v j e b c by)
+    on_name : (t : Bool) → is_unnamed key ≡ t → (if t then raise_of w e b c else update_of_brought w j e b c by)
+        ≡ (if t then raise_of v e b c else update_of_brought v j e b c by)
     on_name true is = same_raise v w j e b c (unnamed b c refl refl is)
     on_name false is = on_brought by refl
 
 -- ---- the lesser of two visibilities names what one of them names
 
-pub chosen : (map : Map) (own : Visibility) (test : Bool) (x y : Option Visibility) → IsPlaced map (unwrap_or x own) → IsPlaced map (unwrap_or y own) → IsPlaced map (unwrap_or (cond test x y) own)
+pub chosen : (map : Map) (own : Visibility) (test : Bool) (x y : Option Visibility) → IsPlaced map (unwrap_or x own) → IsPlaced map (unwrap_or y own)
+    → IsPlaced map (unwrap_or (cond test x y) own)
 chosen map own true x y first second = first
 chosen map own false x y first second = second
 
-pub lesser_placed : (above : ModuleId → List ModuleId) (map : Map) (a b : Visibility) → IsPlaced map a → IsPlaced map b → IsPlaced map (unwrap_or (lesser_of above map.id a b) a)
+pub lesser_placed : (above : ModuleId → List ModuleId) (map : Map) (a b : Visibility) → IsPlaced map a → IsPlaced map b
+    → IsPlaced map (unwrap_or (lesser_of above map.id a b) a)
 lesser_placed above map Public b first second = second
 lesser_placed above map (PubCrate c) Public first second = tt
 lesser_placed above map (PubCrate c) (PubCrate d) first second = chosen map (PubCrate c) (same_crate c d) (Some (PubCrate c)) None tt tt
@@ -105,12 +109,15 @@ module _ (finished : Maps) (old new : Map) (names new_names : GlobNames) (ordere
       ∙ same_visible finished old new grows ordered (numbered old.id at) (same_id old.id) (below at (length old.modules) is) vis
 
   -- what a target shows, where it does so among the modules of the map
-  pub source_still : (of : Target) (key : Key) → HasVariants old of → ((at : ℕ) → of ≡ targets.Own at → w.bound (targets.Own at) key ≡ v.bound (targets.Own at) key)
+  pub source_still : (of : Target) (key : Key) → HasVariants old of → ((at : ℕ) → of ≡ targets.Own at → w.bound (targets.Own at) key
+      ≡ v.bound (targets.Own at) key)
       → w.bound of key ≡ v.bound of key
   source_still (targets.Own at) key has own = own at refl
   source_still (targets.Module m) key has own = λ i.
-      bound_at (λ name. open_items (is_foreign (grows.id i) m) (entry_in finished m name)) (λ id. open_vis (is_foreign (grows.id i) m) (trait_vis (module_in finished m) id)) key
-  source_still (targets.Enum id) key has own = λ i. bound_at (λ name. variant_items (same_variant finished old new grows ordered id name has i)) (λ tr. None) key
+      bound_at (λ name. open_items (is_foreign (grows.id i) m) (entry_in finished m name))
+      (λ id. open_vis (is_foreign (grows.id i) m) (trait_vis (module_in finished m) id)) key
+  source_still (targets.Enum id) key has own =
+      λ i. bound_at (λ name. variant_items (same_variant finished old new grows ordered id name has i)) (λ tr. None) key
 
   -- what an edge shows at a key
   pub shown_along : (e : Edge) (key : Key) → v.has e.importer ≡ true → w.bound e.source key ≡ v.bound e.source key → shown w e key ≡ shown v e key

@@ -41,7 +41,8 @@ module _ (finished : Maps) (old new : Map) (names new_names : GlobNames) (ordere
       → ((at : ℕ) → e.source ≡ Own at → bound_of (beside finished new new_names) (Own at) key ≡ bound_of (beside finished old names) (Own at) key)
       → bound_of (beside finished new new_names) (Own e.importer) key ≡ bound_of (beside finished old names) (Own e.importer) key
       → new_brought (slot_at e.importer key) ≡ brought (slot_at e.importer key)
-      → ((by : Brought) (c : Bound) → brought (slot_at e.importer key) ≡ Some by → bound_of (beside finished old names) (Own e.importer) key ≡ Some c → IsPlaced old c.vis)
+      → ((by : Brought) (c : Bound) → brought (slot_at e.importer key) ≡ Some by → bound_of (beside finished old names) (Own e.importer) key ≡ Some c
+      → IsPlaced old c.vis)
       → ((id : TraitId) (c : Bound) → key ≡ Unnamed id → bound_of (beside finished old names) (Own e.importer) key ≡ Some c → IsPlaced old c.vis)
       → update_at v brought j e key ≡ Nothing → update_at w new_brought j e key ≡ Nothing
   pair_still long brought new_brought j e key low of_edge variants source importer same by_glob traits nothing =
@@ -55,4 +56,6 @@ module _ (finished : Maps) (old new : Map) (names new_names : GlobNames) (ordere
       has = has_below finished old new names new_names ordered grows e.importer low
 
       shows : shown w e key ≡ shown v e key
-      shows = shown_along finished old new names new_names ordered grows e key has (source_still finished old new names new_names ordered grows e.source key variants source)
+      shows =
+          shown_along finished old new names new_names ordered grows e key has (source_still finished old new names new_names ordered grows e.source key
+          variants source)

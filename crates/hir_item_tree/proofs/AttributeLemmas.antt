@@ -65,7 +65,8 @@ module _ (set : CfgAtom → Bool) where
     renumbered (meta m) i j = refl
     renumbered (cfg c) i j = refl
     renumbered (cfg_attr c inner) i j =
-        either_way (holds set c) (collect_all set inner (count_of (i + 1))) (collect_all set inner (count_of (j + 1))) empty (all_renumbered inner (count_of (i + 1)) (count_of (j + 1)))
+        either_way (holds set c) (collect_all set inner (count_of (i + 1))) (collect_all set inner (count_of (j + 1))) empty
+        (all_renumbered inner (count_of (i + 1)) (count_of (j + 1)))
 
     all_renumbered : (attrs : Attributes) (i j : ℕ) → unnumbered (collect_all set attrs i) ≡ unnumbered (collect_all set attrs j)
     all_renumbered no_attributes i j = refl

@@ -6,7 +6,8 @@ use Rattle.hir_tables.specs.Tables.{TablesValue, source_of, KeepsTables}
 
 -- where a tree's source stands stays
 abbrev pub GrowthKeepsSources : Type 0
-GrowthKeepsSources = (old new : TablesValue) (id : TreeId) (place : SourcePlaceValue) → KeepsTables old new → source_of old id ≡ Some place → source_of new id ≡ Some place
+GrowthKeepsSources =
+    (old new : TablesValue) (id : TreeId) (place : SourcePlaceValue) → KeepsTables old new → source_of old id ≡ Some place → source_of new id ≡ Some place
 
 -- tables to which nothing comes keep what they have
 abbrev pub NoGrowthIsGrowth : Type 0

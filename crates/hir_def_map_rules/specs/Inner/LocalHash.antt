@@ -31,7 +31,8 @@ fed_local local = fed.slice fed_entry local
 options_alike : Alike (option_eq extern_crate.ghosts.eq) (fed.option extern_crate_hash.ghosts.hash_input)
 options_alike = record { fed = go }
   where
-    go : (one other : Option ExternCrateId) → option_eq extern_crate.ghosts.eq one other ≡ true → fed.option extern_crate_hash.ghosts.hash_input one ≡ fed.option extern_crate_hash.ghosts.hash_input other
+    go : (one other : Option ExternCrateId) → option_eq extern_crate.ghosts.eq one other ≡ true → fed.option extern_crate_hash.ghosts.hash_input one
+        ≡ fed.option extern_crate_hash.ghosts.hash_input other
     go None None e = refl
     go None (Some y) e = absurd cc
     go (Some x) None e = absurd cc

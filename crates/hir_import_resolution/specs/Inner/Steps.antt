@@ -9,11 +9,12 @@ use Rattle.hir_glob_imports.specs.View.{View}
 use Rattle.hir_glob_imports.specs.Waves.{IsExplicit}
 use Rattle.hir_glob_imports.specs.declared.edge.Edge.{Edge}
 use Rattle.hir_glob_imports.specs.declared.edge.Key.{Key}
-use Rattle.hir_glob_imports.specs.declared.edge.Key.TheVariants.{Types, Values, Macros}
 use Rattle.hir_glob_imports.specs.declared.edge.Target.{Target}
+use Rattle.hir_glob_imports.specs.declared.edge.Key.TheVariants.{Types, Values, Macros}
 use Rattle.hir_import_resolution.specs.declared.directive.ImportDirective.{ImportDirective}
 use Rattle.hir_import_resolution.specs.declared.resolver.steps.Taking.{Taking}
-use Rattle.hir_import_resolution.specs.Directives.{TakenValue, answer_to, edge_to, glob_of, goes_beyond, kept_trait, name_of, namespaces_of, offered_by, reached_by, target_of, visibility_of}
+use Rattle.hir_import_resolution.specs.Directives.{TakenValue, answer_to, edge_to, glob_of, goes_beyond, kept_trait, name_of, namespaces_of, offered_by}
+use Rattle.hir_import_resolution.specs.Directives.{reached_by, target_of, visibility_of}
 use Rattle.hir_import_resolution.specs.State.{ImportState}
 
 -- what is to be done to take an import

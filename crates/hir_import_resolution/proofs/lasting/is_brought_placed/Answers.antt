@@ -17,7 +17,8 @@ pub next-preserved : goal.next-preserved
 next-preserved c = λ s by is.
     let taken : c.next.left ≡ c.in-Some.slot.now ∷ c.next-in-next.new.self = search rules in
     in_either (c.next.invariant s by is) (λ h. popped c.next.left c.next-in-next.new.self c.in-Some.slot.now s taken h)
-    (λ same. subst (λ (x : Slot). (b : Bound) → bound_inside x.key (module_at c.args.map.now x.at) ≡ Some b → IsPlaced c.args.map.now b.vis) same (c.is_placed_at.ensures.placed (search rules)))
+    (λ same. subst (λ (x : Slot). (b : Bound) → bound_inside x.key (module_at c.args.map.now x.at) ≡ Some b → IsPlaced c.args.map.now b.vis) same
+    (c.is_placed_at.ensures.placed (search rules)))
 
 pub returns : goal.returns
 returns c = record {

@@ -14,7 +14,8 @@ next-smaller c = fewer_before c.next.left c.next_back.new.self c.in-Some.krate (
 
 pub next-preserved : goal.next-preserved
 next-preserved c = (
-  last-gained c.iter-left.result c.next.left c.next_back.new.self c.in-Some.krate (search rules) c.next.invariant.2 c.args.recorded.now c.next.recorded c.record_uncovered.new.recorded c.args.own
+  last-gained c.iter-left.result c.next.left c.next_back.new.self c.in-Some.krate (search rules) c.next.invariant.2 c.args.recorded.now c.next.recorded
+      c.record_uncovered.new.recorded c.args.own
       c.next.invariant.0 c.in_ok-record_uncovered.ensures.gains,
   c.in_ok-record_uncovered.ensures.covered,
   last-less c.iter-left.result c.next.left c.next_back.new.self c.in-Some.krate (search rules) c.next.invariant.2,

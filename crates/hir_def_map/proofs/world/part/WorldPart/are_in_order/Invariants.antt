@@ -9,8 +9,10 @@ use Rattle.hir_def_map.proofs.world.part.WorldPart.are_in_order.Given as goal
 
 abbrev pub invariant-next : goal.invariant-next
 invariant-next l =
-    (are_within (option_copied l.self.crates) l.self.holders.now l.left ≡ true → are_within (option_copied l.self.crates) l.self.holders.now l.fn.modules ≡ true)
-    × ((id : MapId) → list_any (λ (h : ModuleId). map_id.ghosts.eq h.map id) l.holders ≡ true → list_any (λ (h : ModuleId). map_id.ghosts.eq h.map id) l.self.holders.now ≡ true)
+    (are_within (option_copied l.self.crates) l.self.holders.now l.left ≡ true → are_within (option_copied l.self.crates) l.self.holders.now l.fn.modules
+    ≡ true)
+    × ((id : MapId) → list_any (λ (h : ModuleId). map_id.ghosts.eq h.map id) l.holders ≡ true → list_any (λ (h : ModuleId). map_id.ghosts.eq h.map id)
+    l.self.holders.now ≡ true)
 
 abbrev pub decreases-next : goal.decreases-next
 decreases-next l = length l.holders
