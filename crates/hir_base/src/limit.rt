@@ -18,6 +18,7 @@ pub enum Limit {
     Cfg,
     Blocks,
     Crates,
+    Inner,
 }
 
 impl Limit {
@@ -37,6 +38,7 @@ impl Limit {
             Limit::Cfg => "cfg",
             Limit::Blocks => "blocks",
             Limit::Crates => "crates",
+            Limit::Inner => "inner",
         }
     }
 }

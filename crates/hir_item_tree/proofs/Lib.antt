@@ -8,3 +8,4 @@ pub mod AttributeLemmas
 pub mod Walks
 pub mod SideIndexLemmas
 pub mod TreeKeys
+mod SameAttributes

@@ -1,11 +1,11 @@
 //! Tests of attributes, each exact.
 ghost use Rattle.std.specs.Prelude.{◌≡◌, ◌↔◌, IsTrue, map, option_map};
 ghost use Rattle.hir_base.specs.Cfg.{cfg_view};
-ghost use Rattle.hir_item_tree.specs.Attributes.{token_tree_view, input_view, meta_view};
+ghost use Rattle.hir_item_tree.specs.Attributes.{attribute_view, attributes_view, token_tree_view, input_view, meta_view};
 ghost use Rattle.hir_item_tree.specs.Collected.{numbered, collected_of};
 
 use crate::attrs::{Attr, AttrsOrCfg};
-use crate::raw_attr::{AttrInput, Meta, TokenTree};
+use crate::raw_attr::{AttrInput, Meta, RawAttr, TokenTree};
 use crate::same::{same_name, same_names, same_path};
 use hir_base::cfg::CfgExpr;
 use hir_base::mod_path::ModPath;
@@ -98,6 +98,44 @@ fn same_optional_cfg(a: &Option<CfgExpr>, b: &Option<CfgExpr>) -> bool
         (Some(a), Some(b)) => a.same(b),
         _ => false,
     }
+}
+
+/// Whether an attribute that was handed in says the same as another.
+#[cycle(same)]
+fn same_raw_attr(a: &RawAttr, b: &RawAttr) -> bool
+    ensures exact { IsTrue result ↔ (attribute_view a.now ≡ attribute_view b.now) }
+{
+    match (a, b) {
+        (RawAttr::Meta(a), RawAttr::Meta(b)) => same_meta(a, b),
+        (RawAttr::Cfg(a), RawAttr::Cfg(b)) => a.same(b),
+        (RawAttr::CfgAttr { cfg: a, attrs: x }, RawAttr::CfgAttr { cfg: b, attrs: y }) =>
+            a.same(b) && same_raw_list(x, y),
+        _ => false,
+    }
+}
+
+#[cycle(same)]
+fn same_raw_list(a: &Vec<RawAttr>, b: &Vec<RawAttr>) -> bool
+    ensures exact { IsTrue result ↔ (attributes_view a.now.items ≡ attributes_view b.now.items) }
+{
+    if a.len() != b.len() {
+        return false;
+    }
+    let mut i = 0;
+    for attr in a {
+        if !same_raw_attr(attr, &b[i]) {
+            return false;
+        }
+        i += 1;
+    }
+    true
+}
+
+/// Whether attributes that were handed in say the same, one after another.
+pub fn same_raw_attrs(a: &Vec<RawAttr>, b: &Vec<RawAttr>) -> bool
+    ensures exact { IsTrue result ↔ (attributes_view a.now.items ≡ attributes_view b.now.items) }
+{
+    same_raw_list(a, b)
 }
 
 impl AttrsOrCfg {

@@ -153,6 +153,7 @@ is_before_index limit.UseTree = false
 is_before_index limit.Cfg = false
 is_before_index limit.Blocks = false
 is_before_index limit.Crates = false
+is_before_index limit.Inner = false
 
 -- whether a source is refused for a limit
 abbrev pub passes_limit : Result (Unit {0}) EditError → Bool

@@ -94,6 +94,7 @@ fn measured(limit: Limit) -> &'static str {
         Limit::Cfg => "the depth of a condition",
         Limit::Blocks => "the depth of blocks",
         Limit::Crates => "the number of crates",
+        Limit::Inner => "the number of inner paths",
     }
 }
 

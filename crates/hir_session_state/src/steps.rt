@@ -81,7 +81,8 @@ fn is_before_index(limit: Limit) -> bool
         | Limit::UseTree
         | Limit::Cfg
         | Limit::Blocks
-        | Limit::Crates => false,
+        | Limit::Crates
+        | Limit::Inner => false,
     }
 }
 

@@ -35,6 +35,7 @@ graver-memory (TooLarge limit.UseTree) = refl
 graver-memory (TooLarge limit.Cfg) = refl
 graver-memory (TooLarge limit.Blocks) = refl
 graver-memory (TooLarge limit.Crates) = refl
+graver-memory (TooLarge limit.Inner) = refl
 graver-memory Memory = refl
 
 pub graver-memory_last : (e : ReadError) → graver e Memory ≡ Memory
@@ -52,6 +53,7 @@ graver-memory_last (TooLarge limit.UseTree) = refl
 graver-memory_last (TooLarge limit.Cfg) = refl
 graver-memory_last (TooLarge limit.Blocks) = refl
 graver-memory_last (TooLarge limit.Crates) = refl
+graver-memory_last (TooLarge limit.Inner) = refl
 graver-memory_last Memory = refl
 
 pub graver_assoc : (e f g : ReadError) → graver (graver e f) g ≡ graver e (graver f g)

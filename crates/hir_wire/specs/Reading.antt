@@ -20,20 +20,21 @@ error_text Memory = codes "out of memory"
 
 -- how soon an error is told: a fault of form before a limit, a limit before those that come after it
 abbrev pub gravity : ReadError → ℕ
-gravity (TooLarge limit.Crates) = 0
-gravity (TooLarge limit.Blocks) = 1
-gravity (TooLarge limit.Cfg) = 2
-gravity (TooLarge limit.UseTree) = 3
-gravity (TooLarge limit.Modules) = 4
-gravity (TooLarge limit.Nodes) = 5
-gravity (TooLarge limit.Index) = 6
-gravity (TooLarge limit.File) = 7
-gravity (TooLarge limit.Path) = 8
-gravity (TooLarge limit.Name) = 9
-gravity (TooLarge limit.Line) = 10
-gravity Command = 11
-gravity Json = 12
-gravity Memory = 13
+gravity (TooLarge limit.Inner) = 0
+gravity (TooLarge limit.Crates) = 1
+gravity (TooLarge limit.Blocks) = 2
+gravity (TooLarge limit.Cfg) = 3
+gravity (TooLarge limit.UseTree) = 4
+gravity (TooLarge limit.Modules) = 5
+gravity (TooLarge limit.Nodes) = 6
+gravity (TooLarge limit.Index) = 7
+gravity (TooLarge limit.File) = 8
+gravity (TooLarge limit.Path) = 9
+gravity (TooLarge limit.Name) = 10
+gravity (TooLarge limit.Line) = 11
+gravity Command = 12
+gravity Json = 13
+gravity Memory = 14
 
 -- of two errors the one that is told
 unfoldable pub graver : ReadError → ReadError → ReadError

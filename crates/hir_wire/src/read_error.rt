@@ -61,20 +61,21 @@ impl ReadError {
         ensures value { result ≡ gravity self }
     {
         match self {
-            ReadError::TooLarge(Limit::Crates) => 0,
-            ReadError::TooLarge(Limit::Blocks) => 1,
-            ReadError::TooLarge(Limit::Cfg) => 2,
-            ReadError::TooLarge(Limit::UseTree) => 3,
-            ReadError::TooLarge(Limit::Modules) => 4,
-            ReadError::TooLarge(Limit::Nodes) => 5,
-            ReadError::TooLarge(Limit::Index) => 6,
-            ReadError::TooLarge(Limit::File) => 7,
-            ReadError::TooLarge(Limit::Path) => 8,
-            ReadError::TooLarge(Limit::Name) => 9,
-            ReadError::TooLarge(Limit::Line) => 10,
-            ReadError::Command => 11,
-            ReadError::Json => 12,
-            ReadError::Memory => 13,
+            ReadError::TooLarge(Limit::Inner) => 0,
+            ReadError::TooLarge(Limit::Crates) => 1,
+            ReadError::TooLarge(Limit::Blocks) => 2,
+            ReadError::TooLarge(Limit::Cfg) => 3,
+            ReadError::TooLarge(Limit::UseTree) => 4,
+            ReadError::TooLarge(Limit::Modules) => 5,
+            ReadError::TooLarge(Limit::Nodes) => 6,
+            ReadError::TooLarge(Limit::Index) => 7,
+            ReadError::TooLarge(Limit::File) => 8,
+            ReadError::TooLarge(Limit::Path) => 9,
+            ReadError::TooLarge(Limit::Name) => 10,
+            ReadError::TooLarge(Limit::Line) => 11,
+            ReadError::Command => 12,
+            ReadError::Json => 13,
+            ReadError::Memory => 14,
         }
     }
 

@@ -66,6 +66,7 @@ fn too_large_text(limit: Limit) -> &'static str
         Limit::Cfg => "{\"error\":\"too large\",\"what\":\"cfg\"}",
         Limit::Blocks => "{\"error\":\"too large\",\"what\":\"blocks\"}",
         Limit::Crates => "{\"error\":\"too large\",\"what\":\"crates\"}",
+        Limit::Inner => "{\"error\":\"too large\",\"what\":\"inner\"}",
     }
 }
 
