@@ -5,14 +5,14 @@ use Rattle.std.specs.Option.{option_and_then}
 use Rattle.hir_item_tree.specs.KeptForest.{KeptItem}
 use Rattle.hir_item_tree.specs.SideLists.{entry_associated}
 use Rattle.hir_item_tree.specs.SourceTree.{side_of}
-use Rattle.hir_item_tree.specs.declared.check.NodeId.{NodeId}
-use Rattle.hir_item_tree.specs.declared.tree_id.TreeKey.{TreeKey}
+use Rattle.hir_item_tree.specs.Types.{NodeId, TreeKey}
 use Rattle.hir_tables.specs.SourcePlaces.{SourcePlaceValue}
 use Rattle.hir_tables.specs.Tables.{TablesValue, source_of}
 use Rattle.hir_collector_rules.specs.Keys.{source_in, source_under}
 use Rattle.hir_collector_rules.specs.Workspace.{Workspace}
 
-pub there_where_kept : (tables : TablesValue) (w : Workspace) (key : TreeKey) (node : NodeId) (is : List KeptItem) → option_and_then entry_associated (side_of (source_in tables w key) node) ≡ Some is
+pub there_where_kept : (tables : TablesValue) (w : Workspace) (key : TreeKey) (node : NodeId) (is : List KeptItem) → option_and_then entry_associated
+    (side_of (source_in tables w key) node) ≡ Some is
     → IsSome (source_of tables key.id)
 there_where_kept tables w key node is kept = go (source_of tables key.id) kept
   where

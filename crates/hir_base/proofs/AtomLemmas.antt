@@ -2,7 +2,7 @@
 use Rattle.std.proofs.Common.{◌≡◌, refl, ap, sym, ◌∙◌, Bool, true, false, List, [], ◌∷◌, ◌||◌, ◌==◌, ℕ, cond, subst, rules}
 use Rattle.std.specs.List.{list_any}
 use Rattle.std.specs.Ordering.{eq_by_cmp, is_eq}
-use Rattle.hir_base.specs.declared.cfg.CfgAtom.{CfgAtom}
+use Rattle.hir_base.specs.Types.{CfgAtom}
 use Rattle.hir_base.specs.declared.cfg.CfgAtom.TheVariants.{Flag, KeyValue}
 use Rattle.hir_base.specs.contracts.cfg.CfgAtomPartialEq.TheImpl as equality
 use Rattle.hir_base.specs.contracts.cfg.CfgAtomOrd.TheImpl as order

@@ -5,7 +5,7 @@ use Rattle.hir_base.specs.NameForm.{IsName}
 use Rattle.hir_base.specs.declared.builtin_type.BuiltinInt.TheVariants as int
 use Rattle.hir_base.specs.declared.builtin_type.BuiltinUint.TheVariants as uint
 use Rattle.hir_base.specs.declared.builtin_type.BuiltinFloat.TheVariants as float
-use Rattle.hir_base.specs.declared.builtin_type.BuiltinType.{BuiltinType}
+use Rattle.hir_base.specs.Types.{BuiltinType}
 use Rattle.hir_base.specs.declared.builtin_type.BuiltinType.TheVariants.{Char, Bool, Str, Int, Uint, Float}
 use Rattle.hir_base.specs.BuiltinType.{builtin_text}
 

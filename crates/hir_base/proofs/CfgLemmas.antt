@@ -2,7 +2,7 @@
 use Rattle.std.proofs.Common.{◌≡◌, ◌∙◌, ap, refl, sym, arith, ℕ, ◌+◌, ◌<◌, Bool, true, false, ◌||◌, List, [], ◌∷◌, ◌++◌, length, take, get_or}
 use Rattle.std.proofs.lemmas.List.{append-nil, take_more}
 use Rattle.std.proofs.lemmas.Grind.{common_steps}
-use Rattle.hir_base.specs.declared.cfg.CfgExpr.{CfgExpr}
+use Rattle.hir_base.specs.Types.{CfgExpr}
 use Rattle.hir_base.specs.Cfg.{Cfgs, no_cfgs, cfg, cfg_view, cfgs_view, cfg_text, parts_text, comma_if}
 
 -- whether there is a part

@@ -1,5 +1,6 @@
 -- Texts are in the order of their heads, where those differ.
-use Rattle.std.proofs.Common.{Ordering, Less, Equal, Greater, ◌≡◌, ℕ, zero, suc, ◌+◌, ◌*◌, ◌<◌, ◌≤◌, Bool, true, false, List, [], ◌∷◌, get_or, drop, refl, ap, ◌∙◌, arith, subst, ◌≢◌}
+use Rattle.std.proofs.Common.{Ordering, Less, Equal, Greater, ◌≡◌, ℕ, zero, suc, ◌+◌, ◌*◌, ◌<◌, ◌≤◌, Bool, true, false, List, [], ◌∷◌, get_or, drop, refl, ap}
+use Rattle.std.proofs.Common.{◌∙◌, arith, subst, ◌≢◌}
 use Rattle.std.specs.Prelude.{nat_eq}
 use Rattle.std.specs.Cmp.Lexicographic.{pointwise, slice_cmp, bytes_decides}
 use Rattle.std.specs.Ordering.{nat_cmp, ordering_then, ordering_reverse, MatchOrdering}
@@ -36,7 +37,8 @@ still_lower (suc n) low high (x ∷ xs) (y ∷ ys) all lt =
     let byte = bytes_first x xs all in
     still_lower n (low * 256 + x) (high * 256 + y) xs ys (bytes_rest x xs all) (omega arith)
 
-by_first : (x y : ℕ) (rest r : Ordering) → MatchOrdering r (x < y) (x ≡ y) (y < x) → (x ≡ y → rest ≡ Less) → (y < x → ordering_then r rest ≡ Less) → ordering_then r rest ≡ Less
+by_first : (x y : ℕ) (rest r : Ordering) → MatchOrdering r (x < y) (x ≡ y) (y < x) → (x ≡ y → rest ≡ Less) → (y < x → ordering_then r rest ≡ Less)
+    → ordering_then r rest ≡ Less
 by_first x y rest Less m same above = refl
 by_first x y rest Equal m same above = same m
 by_first x y rest Greater m same above = above m

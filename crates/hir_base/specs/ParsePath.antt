@@ -1,5 +1,6 @@
 -- Which path does a text spell?
-use Rattle.std.specs.Prelude.{◌≡◌, ℕ, ◌+◌, ◌^◌, ◌==◌, not, ◌&&◌, ◌||◌, nat_lt, List, [], ◌∷◌, length, slice_index, drop, codes, Result, Ok, Err, Option, Some, None, if◌then◌else◌}
+use Rattle.std.specs.Prelude.{◌≡◌, ℕ, ◌+◌, ◌^◌, ◌==◌, not, ◌&&◌, ◌||◌, nat_lt, List, [], ◌∷◌, length, slice_index, drop, codes, Result, Ok, Err, Option, Some}
+use Rattle.std.specs.Prelude.{None, if◌then◌else◌}
 use Rattle.std.specs.List.{list_any, list_all, slice_split}
 use Rattle.std.specs.Option.{option_map}
 use Rattle.std.specs.Str.{all_ascii_digits}

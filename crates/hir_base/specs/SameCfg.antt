@@ -45,7 +45,8 @@ atoms_alike : (a b : CfgAtom) → same_atom a b ≡ true → a ≡ b
 atoms_alike (Flag a) (Flag b) same = ap Flag ((pointwise_decides unsigned_Decides a b).0 same)
 atoms_alike (KeyValue a v) (KeyValue b w) same =
     let texts = both_hold _ _ same in
-    ap (λ key. KeyValue key v) ((pointwise_decides unsigned_Decides a b).0 texts.0) ∙ ap (λ value. KeyValue b value) ((pointwise_decides unsigned_Decides v w).0 texts.1)
+    ap (λ key. KeyValue key v) ((pointwise_decides unsigned_Decides a b).0 texts.0) ∙ ap (λ value. KeyValue b value)
+    ((pointwise_decides unsigned_Decides v w).0 texts.1)
 atoms_alike (Flag a) (KeyValue b w) same = absurd (true≢false (sym same))
 atoms_alike (KeyValue a v) (Flag b) same = absurd (true≢false (sym same))
 

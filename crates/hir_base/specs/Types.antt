@@ -93,3 +93,4 @@ pub use Rattle.hir_base.specs.declared.cfg.CfgAtom.TheVariants as option
 pub use Rattle.hir_base.specs.declared.cfg.CfgExpr.{CfgExpr}
 pub use Rattle.hir_base.specs.Cfg.{Cfg, Cfgs}
 pub use Rattle.hir_base.specs.declared.locations.LocationsError.{LocationsError}
+pub use Rattle.hir_base.specs.declared.name.Name.{Name}

@@ -9,7 +9,7 @@ use Rattle.hir_worklist.proofs.Settled.{IsUnread}
 use Rattle.hir_worklist.specs.Moves.{Wakes}
 use Rattle.hir_worklist.specs.Queue.{IsIdle, Queue, is_among}
 use Rattle.hir_worklist.specs.Settling.{AreSettled, WatchesEach}
-use Rattle.hir_worklist.specs.declared.watchers.Watchers.{Watchers}
+use Rattle.hir_worklist.specs.Types.{Watchers}
 use Rattle.hir_import_resolution.specs.Inner.Queue.{IsSamePass, KeepsWatched, WakesEach, more, none, slot_cmp}
 use Rattle.hir_import_resolution.proofs.Waking.{pass_woken, same_pass, woken_settled}
 use Rattle.hir_call_queue.specs.Changes.{ChangedValue, IsThere}
@@ -36,13 +36,16 @@ goes_on_itself q = record { apart = refl; pass = same_pass (worklist_of q); queu
 -- ---- what is idle
 
 -- what is idle once slots are woken, one after another, was idle
-idle_each : (r : Queue) (after : Watchers PathSlot) (q : Queue) (watchers : Watchers PathSlot) (slots : List PathSlot) → WakesEach r after q watchers slots → (p : ℕ) → IsIdle r p → IsIdle q p
+idle_each : (r : Queue) (after : Watchers PathSlot) (q : Queue) (watchers : Watchers PathSlot) (slots : List PathSlot) → WakesEach r after q watchers slots
+    → (p : ℕ) → IsIdle r p → IsIdle q p
 idle_each r after _ _ _ none p idle = idle
-idle_each r after _ _ _ (more q b watchers forgot slot slots wakes forgets rest) p idle = (idle-woken q b _ p wakes (idle_each r after b forgot slots rest p idle)).0
+idle_each r after _ _ _ (more q b watchers forgot slot slots wakes forgets rest) p idle =
+    (idle-woken q b _ p wakes (idle_each r after b forgot slots rest p idle)).0
 
 module _ (changed : ChangedValue) (old new : CallQueue) (on : GoesOn old new) where
   -- those that watch one of the slots are queued
-  pub woken_some : changed.all ≡ false → is_apart old ≡ true → WakesEach (worklist_of new) (watchers_of new) (worklist_of old) (watchers_of old) changed.slots → IsWoken changed old new
+  pub woken_some : changed.all ≡ false → is_apart old ≡ true → WakesEach (worklist_of new) (watchers_of new) (worklist_of old) (watchers_of old) changed.slots
+      → IsWoken changed old new
   woken_some some apart each = record {
     on = on;
     idle = λ p idle. idle_each (worklist_of new) (watchers_of new) (worklist_of old) (watchers_of old) changed.slots each p idle;
@@ -90,7 +93,8 @@ module _ (modules : ℕ) (slots : List PathSlot) (i : ℕ) where
 
   module _ (old new : CallQueue) (same : is_apart new ≡ is_apart old) (others : KeepsWatched (watchers_of old) (watchers_of new)) where
     -- where all are there
-    pub watching_each : worklist_of new ≡ worklist_of old → WatchesEach slot_cmp (watchers_of new) i slots → All (IsThere modules) slots → IsWatching modules slots i old new
+    pub watching_each : worklist_of new ≡ worklist_of old → WatchesEach slot_cmp (watchers_of new) i slots → All (IsThere modules) slots
+        → IsWatching modules slots i old new
     watching_each stays each there = record {
       on = record {
         apart = same;
@@ -106,7 +110,13 @@ module _ (modules : ℕ) (slots : List PathSlot) (i : ℕ) where
     -- where one isn't, the call is queued
     pub watching_queued : Wakes (worklist_of old) (worklist_of new) (λ (p : ℕ). i == p) → IsWatching modules slots i old new
     watching_queued wakes = record {
-      on = record { apart = same; pass = pass_woken (worklist_of old) (worklist_of new) _ wakes; queued = queued_woken (worklist_of old) (worklist_of new) _ wakes };
+      on =
+          record {
+            apart = same;
+            pass = pass_woken (worklist_of old) (worklist_of new) _ wakes;
+            queued = queued_woken (worklist_of old) (worklist_of new) _
+                wakes;
+          };
       idle = λ p idle. (idle-woken (worklist_of old) (worklist_of new) _ p wakes idle).0;
       others = others;
       each = λ a idle. absurd (not_idle idle);

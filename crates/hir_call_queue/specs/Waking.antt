@@ -4,7 +4,7 @@ use Rattle.std.specs.List.{All}
 use Rattle.hir_def_map.specs.declared.nameres.path_resolution.slots.Slot.{Slot as PathSlot}
 use Rattle.hir_worklist.specs.Queue.{IsIdle, Queue, is_among}
 use Rattle.hir_worklist.specs.Settling.{AreWatched, WatchesEach}
-use Rattle.hir_worklist.specs.declared.watchers.Watchers.{Watchers}
+use Rattle.hir_worklist.specs.Types.{Watchers}
 use Rattle.hir_import_resolution.specs.Inner.Queue.{IsSamePass, KeepsWatched, slot_cmp}
 use Rattle.hir_call_queue.specs.declared.queue.CallQueue.{CallQueue}
 use Rattle.hir_call_queue.specs.Changes.{ChangedValue, IsThere, IsUntouched}
@@ -44,7 +44,8 @@ pub record IsWoken (changed : ChangedValue) (old new : CallQueue) : Type 0 where
   -- it watches what it watched, and has seen nothing that may have changed
   pub watching : is_apart old ≡ true → (seen : ℕ → List PathSlot) → AreWatching seen old → AreWatching seen new
   pub some : is_apart old ≡ true → (p : ℕ) → IsIdle (worklist_of new) p → changed.all ≡ false
-  pub untouched : is_apart old ≡ true → (seen : ℕ → List PathSlot) → AreWatching seen old → (p : ℕ) → IsIdle (worklist_of new) p → (slot : PathSlot) → Contains (seen p) slot
+  pub untouched : is_apart old ≡ true → (seen : ℕ → List PathSlot) → AreWatching seen old → (p : ℕ) → IsIdle (worklist_of new) p → (slot : PathSlot)
+      → Contains (seen p) slot
       → IsUntouched changed slot
   pub alone : is_apart old ≡ false → (p : ℕ) → ¬ IsIdle (worklist_of new) p
 

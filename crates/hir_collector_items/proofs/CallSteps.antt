@@ -1,30 +1,23 @@
 -- Steps by which what waits is expanded, dropped, derived or given up, and by which imports rest.
 use Rattle.std.specs.Prelude.{IsSome}
-use Rattle.std.proofs.Common.{◌≡◌, ◌∙◌, ◌+◌, ℕ, ◌<◌, ◌≤◌, List, [], ◌∷◌, ◌++◌, length, slice_get, slice_set, Option, None, Some, inl, refl, sym, ap, subst, arith, append-nil}
+use Rattle.std.proofs.Common.{◌≡◌, ◌∙◌, ◌+◌, ℕ, ◌<◌, ◌≤◌, List, [], ◌∷◌, ◌++◌, length, slice_get, slice_set, Option, None, Some, inl, refl, sym, ap, subst}
+use Rattle.std.proofs.Common.{arith, append-nil}
 use Rattle.either.specs.declared.Either.TheVariants as either
-use Rattle.hir_base.specs.declared.ast_id.AstId.{AstId}
-use Rattle.hir_base.specs.declared.ast_id.MacroCallId.{MacroCallId}
-use Rattle.hir_base.specs.declared.ids.MapId.{MapId}
-use Rattle.hir_base.specs.declared.ids.ModuleId.{ModuleId}
-use Rattle.hir_base.specs.declared.macro_kind.BuiltinDeriveImplId.{BuiltinDeriveImplId}
-use Rattle.hir_base.specs.declared.macro_kind.MacroId.{MacroId}
+use Rattle.hir_base.specs.Types.{AstId, BuiltinDeriveImplId, MacroCallId, MacroId, MapId, ModuleId}
 use Rattle.hir_item_tree.specs.KeptForest.{KeptForest, KeptItem, all_items}
 use Rattle.hir_item_tree.specs.Rows.{items_at, numbers_of}
 use Rattle.hir_item_tree.specs.SourceTree.{SourceTreeValue}
-use Rattle.hir_item_tree.specs.declared.rows.ModItemId.{ModItemId}
+use Rattle.hir_item_tree.specs.Types.{ModItemId}
 use Rattle.hir_tables.specs.Tables.{KeepsTables, TablesValue}
 use Rattle.hir_tables.proofs.Growth.{KeepsTables-trans}
 use Rattle.hir_def_map_rules.specs.Macros.{with_diagnostic}
 use Rattle.hir_def_map_rules.specs.Overlay.{Maps}
 use Rattle.hir_def_map_rules.specs.State.{Map, numbered}
-use Rattle.hir_def_map_rules.specs.declared.derive_helpers.DeriveHelper.{DeriveHelper}
+use Rattle.hir_def_map_rules.specs.Types.{DeriveHelper}
 use Rattle.hir_import_resolution.specs.Rest.{IsAtRest}
 use Rattle.hir_collector_rules.specs.declared.start.TheConstants.{STEP_LIMIT}
-use Rattle.hir_collector_rules.specs.declared.macro_directive.Fate.{Fate}
+use Rattle.hir_collector_rules.specs.Types.{Fate, MacroDirective, Site, WaitingItem}
 use Rattle.hir_collector_rules.specs.declared.macro_directive.Fate.TheVariants.{GivenUp, Handled, Waits}
-use Rattle.hir_collector_rules.specs.declared.macro_directive.MacroDirective.{MacroDirective}
-use Rattle.hir_collector_rules.specs.declared.macro_directive.WaitingItem.{WaitingItem}
-use Rattle.hir_collector_rules.specs.declared.site.Site.{Site}
 use Rattle.hir_collector_rules.specs.CallMoves.{NoneWaitsBefore, Rested, RestsTooFar, SeesCall, already, moved}
 use Rattle.hir_collector_rules.specs.Calls.{Expanding, IsMeantAt, IsWaiting, LeadsNowhere, call_site, error_of, helpers_brought, item_kept, waiting_item}
 use Rattle.hir_collector_rules.specs.Changes.{Change, act, helps, perform, with_derived}
@@ -33,8 +26,11 @@ use Rattle.hir_collector_rules.specs.ItemIds.{module_id}
 use Rattle.hir_collector_rules.specs.Keys.{Environment, environment}
 use Rattle.hir_collector_rules.specs.NumberedOut.{LacksExpansion, lacks_call}
 use Rattle.hir_collector_rules.specs.Moves.{Makes, OnceGrown, Walks, WalksTooFar}
-use Rattle.hir_collector_rules.specs.State.{Core, State, Task, at_rest, behind, counted, import_state, joined, ticked, visit, visits, visits_over, with_fate, with_map, with_settled}
-use Rattle.hir_collector_rules.specs.Steps.{CallsMacro, DerivesBuiltin, Expands, FallsBack, IsDeep, IsQuiet, IsReachedDeep, May, MayRest, Numbered, Rule, Sees, Skips, Step, Steps, bringing, derives_builtin, drops_call, drops_reached, expands_call, failing, falls_back, none, reads, rests, site_behind, skips_attribute, visit_behind}
+use Rattle.hir_collector_rules.specs.State.{Core, State, Task, at_rest, behind, counted, import_state, joined, ticked, visit, visits, visits_over, with_fate}
+use Rattle.hir_collector_rules.specs.State.{with_map, with_settled}
+use Rattle.hir_collector_rules.specs.Steps.{CallsMacro, DerivesBuiltin, Expands, FallsBack, IsDeep, IsQuiet, IsReachedDeep, May, MayRest, Numbered, Rule, Sees}
+use Rattle.hir_collector_rules.specs.Steps.{Skips, Step, Steps, bringing, derives_builtin, drops_call, drops_reached, expands_call, failing, falls_back, none}
+use Rattle.hir_collector_rules.specs.Steps.{reads, rests, site_behind, skips_attribute, visit_behind}
 use Rattle.hir_collector_rules.specs.TreeReads.{visits_at, visits_behind, visits_found}
 use Rattle.hir_collector_rules.specs.Workspace.{TreeLook, Workspace}
 use Rattle.hir_collector_rules.specs.Reports.{call_report}
@@ -50,7 +46,8 @@ use Rattle.hir_collector_rules.proofs.Tried.{handled_stays}
 
 -- a call might be expanded, but that it or its expansion can't get a number
 pub spent_by_numbers : (tables : TablesValue) (w : Workspace) (finished : Maps) (c : Core) (i : ℕ) (d : MacroDirective) (makro : MacroId)
-    → CallsMacro finished (at_rest c) i d makro → d.site.level < c.map.crate_data.recursion_limit → OnceGrown tables w (λ env. LacksExpansion env finished c.map d makro)
+    → CallsMacro finished (at_rest c) i d makro → d.site.level < c.map.crate_data.recursion_limit
+    → OnceGrown tables w (λ env. LacksExpansion env finished c.map d makro)
     → OnceGrown tables w (λ env. IsSpent env finished (at_rest c))
 spent_by_numbers tables w finished c i d makro called shallow lacks = λ grown kept. record {
   at = at_rest c;
@@ -72,7 +69,8 @@ fates_bringing node [] s = refl
 fates_bringing node (helper ∷ helpers) s = fates_bringing node helpers (act s (helps node helper))
 
 -- where helpers are brought alone, the fate that was set is there
-pub fate_helped : (c ended helped new : Core) (i : ℕ) (node : AstId) (helpers : List DeriveHelper) → slice_get c.fates i ≡ Some Waits → ended.fates ≡ slice_set c.fates i Handled
+pub fate_helped : (c ended helped new : Core) (i : ℕ) (node : AstId) (helpers : List DeriveHelper) → slice_get c.fates i ≡ Some Waits → ended.fates
+    ≡ slice_set c.fates i Handled
     → Makes (bringing node helpers) ended helped → new ≡ counted helped → slice_get new.fates i ≡ Some Handled
 fate_helped c ended helped new i node helpers waits set brings ticks =
     ap (λ (n : Core). slice_get n.fates i) ticks
@@ -86,7 +84,8 @@ fates_failing at d (Some error) s = refl
 -- ---- a call, a path of a derive or an attribute is expanded
 
 module _ (tables : TablesValue) (w : Workspace) (finished : Maps) (c asked : Core) (i : ℕ) (d : MacroDirective) (makro : MacroId) (x : Expanding) (source : SourceTreeValue)
-    (sees : SeesCall tables w finished d makro c asked x source) (called : CallsMacro finished (at_rest c) i d makro) (shallow : d.site.level < c.map.crate_data.recursion_limit) where
+    (sees : SeesCall tables w finished d makro c asked x source) (called : CallsMacro finished (at_rest c) i d makro)
+    (shallow : d.site.level < c.map.crate_data.recursion_limit) where
   may : Expands finished (at_rest c) i d makro x
   may = record { called = called; shallow = shallow; text = sees.text }
 
@@ -106,12 +105,14 @@ module _ (tables : TablesValue) (w : Workspace) (finished : Maps) (c asked : Cor
   expanded ended reported new handled tells ticks = λ grown kept.
       subst (λ (look : TreeLook). Step (environment grown w) finished (at_rest c) (joined new (visits_over (call_site d x.id) look.tree.items))) sees.tree
       (made (expands_call i d makro x) may (sees.sees grown kept finished) (sees.numbered grown kept)
-      (ap (λ (n : Core). joined n items) ticks ∙ ap ticked (tells.is items) ∙ ap (λ (e : Core). ticked (perform (joined e items) (helped ++ told))) (handled ∙ ap (λ (a : Core). with_fate a i Handled) sees.asked)))
+      (ap (λ (n : Core). joined n items) ticks ∙ ap ticked (tells.is items) ∙ ap (λ (e : Core). ticked (perform (joined e items) (helped ++ told)))
+      (handled ∙ ap (λ (a : Core). with_fate a i Handled) sees.asked)))
 
   -- as many as are counted were taken already, and the call might be expanded
   pub expanded_past : STEP_LIMIT ≤ c.count → OnceGrown tables w (λ env. IsSpent env finished (at_rest c))
   expanded_past full = λ grown kept.
-      let next : Goes (environment grown w) finished (at_rest c) = goes (expands_call i d makro x) may (sees.sees grown kept finished) (sees.numbered grown kept) in
+      let next : Goes (environment grown w) finished (at_rest c) = goes (expands_call i d makro x) may (sees.sees grown kept finished)
+      (sees.numbered grown kept) in
       record { at = at_rest c; steps = none; stuck = counted_out next.next next.step (inl full) }
 
   -- what becomes of what waits is what it was
@@ -123,8 +124,10 @@ module _ (tables : TablesValue) (w : Workspace) (finished : Maps) (c asked : Cor
 
 -- it is expanded as the program does it: it is handled, its helpers are brought, its failure reported, and its items are visited
 module _ (tables : TablesValue) (w : Workspace) (finished : Maps) (c asked : Core) (i : ℕ) (d : MacroDirective) (makro : MacroId) (x : Expanding) (source : SourceTreeValue)
-    (sees : SeesCall tables w finished d makro c asked x source) (called : CallsMacro finished (at_rest c) i d makro) (shallow : d.site.level < c.map.crate_data.recursion_limit)
-    (ended brought reported : Core) (id : MacroCallId) (error : Option (List ℕ)) (ends : ended ≡ with_fate asked i Handled) (is_id : id ≡ x.id) (is_error : error ≡ error_of x.there)
+    (sees : SeesCall tables w finished d makro c asked x source) (called : CallsMacro finished (at_rest c) i d makro)
+    (shallow : d.site.level < c.map.crate_data.recursion_limit)
+    (ended brought reported : Core) (id : MacroCallId) (error : Option (List ℕ)) (ends : ended ≡ with_fate asked i Handled) (is_id : id ≡ x.id)
+    (is_error : error ≡ error_of x.there)
     (brings : Makes (bringing d.ast_id (helpers_brought finished ended.map d makro (Some (either.Left id)))) ended brought)
     (tells : Makes (failing (module_id brought.map d.site.home) d error) brought reported) where
   -- it was handled
@@ -151,7 +154,8 @@ module _ (tables : TablesValue) (w : Workspace) (finished : Maps) (c asked : Cor
       subst (λ (own : MapId). Makes (failing (numbered own d.site.home) d (error_of x.there)) brought reported) same_own
       (subst (λ (e : Option (List ℕ)). Makes (failing (module_id brought.map d.site.home) d e) brought reported) is_error tells)
 
-  both : Makes (helped tables w finished c asked i d makro x source sees called shallow ++ told tables w finished c asked i d makro x source sees called shallow) ended reported
+  both : Makes (helped tables w finished c asked i d makro x source sees called shallow ++ told tables w finished c asked i d makro x source sees called
+      shallow) ended reported
   both = makes_append _ _ ended brought reported brings_helped tells_told
 
   -- as many as are counted were taken already
@@ -169,7 +173,8 @@ module _ (tables : TablesValue) (w : Workspace) (finished : Maps) (c asked : Cor
 
     fate_now : slice_get new.fates i ≡ Some Handled
     fate_now =
-        ap (λ (n : Core). slice_get n.fates i) ticks ∙ ap (λ (fs : List Fate). slice_get fs i) (fates_told tables w finished c asked i d makro x source sees called shallow ended reported both)
+        ap (λ (n : Core). slice_get n.fates i) ticks ∙ ap (λ (fs : List Fate). slice_get fs i) (fates_told tables w finished c asked i d makro x source sees
+        called shallow ended reported both)
         ∙ ap (λ (e : Core). slice_get e.fates i) from_start ∙ get_set_same c.fates i Handled (get_inside c.fates i Waits called.due.waiting.waits)
 
     module _ (site : Site) (ids : List ModItemId) (is_site : site ≡ call_site d id) (all : items_at (all_items source.tree.items) (numbers_of ids) ≡ source.tree.items) where
@@ -207,7 +212,8 @@ module _ (tables : TablesValue) (w : Workspace) (finished : Maps) (c asked : Cor
             (subst (λ (ts : List Task). IsSpent (environment grown w) finished (joined new ts)) visits_same (on.spent []))
 
         -- the call stays handled
-        pub handled_at_last : (last : Core) → OnceGrown later v (λ env. Walks env finished new last (visits_at source.tree site (numbers_of ids))) → slice_get last.fates i ≡ Some Handled
+        pub handled_at_last : (last : Core) → OnceGrown later v (λ env. Walks env finished new last (visits_at source.tree site (numbers_of ids)))
+            → slice_get last.fates i ≡ Some Handled
         handled_at_last last walks =
             let on : Walks (environment later v) finished new last (visits_at source.tree site (numbers_of ids)) = walks later (tables_stay later) in
             handled_stays (on.steps []) i fate_now
@@ -216,27 +222,34 @@ module _ (tables : TablesValue) (w : Workspace) (finished : Maps) (c asked : Cor
 
 module _ (env : Environment) (finished : Maps) (c : Core) where
   -- as many as are counted were taken already, and a rule might be applied
-  pub past_rule : (r : Rule) → May finished (at_rest c) r → Sees env finished (reads (at_rest c) r) → Numbered env.tables (at_rest c) r → STEP_LIMIT ≤ c.count → IsSpent env finished (at_rest c)
+  pub past_rule : (r : Rule) → May finished (at_rest c) r → Sees env finished (reads (at_rest c) r) → Numbered env.tables (at_rest c) r → STEP_LIMIT ≤ c.count
+      → IsSpent env finished (at_rest c)
   past_rule r may sees numbers full =
       let next : Goes env finished (at_rest c) = goes r may sees numbers in
       record { at = at_rest c; steps = none; stuck = counted_out next.next next.step (inl full) }
 
-  pub dropped : (i : ℕ) (d : MacroDirective) (new : Core) → IsDeep (at_rest c) i d → new ≡ counted (with_fate c i Handled) → Steps env finished (at_rest c) (at_rest new)
+  pub dropped : (i : ℕ) (d : MacroDirective) (new : Core) → IsDeep (at_rest c) i d → new ≡ counted (with_fate c i Handled) → Steps env finished (at_rest c)
+      (at_rest new)
   dropped i d new may is = Steps-one (made (drops_call i d) may tt tt (ap at_rest is))
 
   -- one that reaches a macro brings its helpers
-  pub dropped_reached : (i : ℕ) (d : MacroDirective) (makro : MacroId) (ended helped new : Core) → IsReachedDeep finished (at_rest c) i d makro → ended ≡ with_fate c i Handled
-      → Makes (bringing d.ast_id (helpers_brought finished ended.map d makro None)) ended helped → new ≡ counted helped → Steps env finished (at_rest c) (at_rest new)
+  pub dropped_reached : (i : ℕ) (d : MacroDirective) (makro : MacroId) (ended helped new : Core) → IsReachedDeep finished (at_rest c) i d makro → ended
+      ≡ with_fate c i Handled
+      → Makes (bringing d.ast_id (helpers_brought finished ended.map d makro None)) ended helped → new ≡ counted helped → Steps env finished (at_rest c)
+      (at_rest new)
   dropped_reached i d makro ended helped new may handled brings ticks =
       let same : Makes (bringing d.ast_id (helpers_brought finished c.map d makro None)) ended helped =
       subst (λ (m : Map). Makes (bringing d.ast_id (helpers_brought finished m d makro None)) ended helped) (ap (λ (e : Core). e.map) handled) brings in
       Steps-one (made (drops_reached i d makro) may tt tt
-      (ap at_rest ticks ∙ ap ticked (same.is []) ∙ ap (λ (e : Core). ticked (perform (at_rest e) (bringing d.ast_id (helpers_brought finished c.map d makro None)))) handled))
+      (ap at_rest ticks ∙ ap ticked (same.is []) ∙ ap
+      (λ (e : Core). ticked (perform (at_rest e) (bringing d.ast_id (helpers_brought finished c.map d makro None)))) handled))
 
   -- a path of a derive that reaches a builtin macro stands for an impl
-  pub derived : (i : ℕ) (d : MacroDirective) (makro : MacroId) (imp : BuiltinDeriveImplId) (ended listed helped new : Core) → DerivesBuiltin finished (at_rest c) i d makro imp
+  pub derived : (i : ℕ) (d : MacroDirective) (makro : MacroId) (imp : BuiltinDeriveImplId) (ended listed helped new : Core)
+      → DerivesBuiltin finished (at_rest c) i d makro imp
       → ended ≡ with_fate c i Handled → listed ≡ with_map ended (with_derived ended.map d.site.home imp)
-      → Makes (bringing d.ast_id (helpers_brought finished c.map d makro (Some (either.Right imp)))) listed helped → new ≡ counted helped → Steps env finished (at_rest c) (at_rest new)
+      → Makes (bringing d.ast_id (helpers_brought finished c.map d makro (Some (either.Right imp)))) listed helped → new ≡ counted helped
+      → Steps env finished (at_rest c) (at_rest new)
   derived i d makro imp ended listed helped new may handled is_listed is_helped ticks =
       Steps-one (made (derives_builtin i d makro imp) may tt tt
       (ap at_rest ticks ∙ ap ticked (is_helped.is [])
@@ -258,20 +271,24 @@ module _ (env : Environment) (finished : Maps) (c : Core) where
 
   -- ---- the item of an attribute goes on
 
-  pub skipped : (i : ℕ) (d : MacroDirective) (k : WaitingItem) (item : KeptItem) (ended new : Core) → Skips finished (at_rest c) i d k item → ended ≡ with_fate c i Handled → new ≡ counted ended
+  pub skipped : (i : ℕ) (d : MacroDirective) (k : WaitingItem) (item : KeptItem) (ended new : Core) → Skips finished (at_rest c) i d k item → ended
+      ≡ with_fate c i Handled → new ≡ counted ended
       → Step env finished (at_rest c) (joined new (visits (visit_behind d k item) ∷ []))
   skipped i d k item ended new may handled ticks =
       made (skips_attribute i d k item) may tt tt (ap (λ (n : Core). joined n (visits (visit_behind d k item) ∷ [])) (ticks ∙ ap counted handled))
 
-  pub given_up : (i : ℕ) (d : MacroDirective) (k : WaitingItem) (item : KeptItem) (ended told new : Core) → FallsBack finished (at_rest c) i d k item → ended ≡ with_fate c i GivenUp
-      → told ≡ with_map ended (with_diagnostic ended.map (call_report c.map.id d)) → new ≡ counted told → Step env finished (at_rest c) (joined new (visits (visit_behind d k item) ∷ []))
+  pub given_up : (i : ℕ) (d : MacroDirective) (k : WaitingItem) (item : KeptItem) (ended told new : Core) → FallsBack finished (at_rest c) i d k item → ended
+      ≡ with_fate c i GivenUp
+      → told ≡ with_map ended (with_diagnostic ended.map (call_report c.map.id d)) → new ≡ counted told → Step env finished (at_rest c)
+      (joined new (visits (visit_behind d k item) ∷ []))
   given_up i d k item ended told new may handled is_told ticks =
       made (falls_back i d k item) may tt tt
       (ap (λ (n : Core). joined n (visits (visit_behind d k item) ∷ []))
       (ticks ∙ ap counted (is_told ∙ ap (λ (e : Core). with_map e (with_diagnostic e.map (call_report c.map.id d))) handled)))
 
   -- it may be where imports rest, nothing that waits reaches anything, and no attribute waits before it
-  pub falls_back_at : (i : ℕ) (d : MacroDirective) (k : WaitingItem) (item : KeptItem) → IsAtRest finished (import_state (at_rest c)) → ((j : ℕ) → LeadsNowhere finished (at_rest c) j)
+  pub falls_back_at : (i : ℕ) (d : MacroDirective) (k : WaitingItem) (item : KeptItem) → IsAtRest finished (import_state (at_rest c))
+      → ((j : ℕ) → LeadsNowhere finished (at_rest c) j)
       → NoneWaitsBefore c i → IsWaiting (at_rest c) i d → waiting_item d ≡ Some k → item_kept k ≡ Some item → FallsBack finished (at_rest c) i d k item
   falls_back_at i d k item rest nowhere first waits of_item kept = record {
     waiting = waits;
@@ -316,7 +333,8 @@ kept_item k there = go (item_kept k) refl there
     go (Some item) e h = (item, e)
 
 -- imports that rest do so where a step was counted
-rest_counted : (finished : Maps) (c : Core) → IsAtRest finished (import_state (at_rest c)) → IsAtRest finished (import_state (at_rest (counted (with_settled c))))
+rest_counted : (finished : Maps) (c : Core) → IsAtRest finished (import_state (at_rest c))
+    → IsAtRest finished (import_state (at_rest (counted (with_settled c))))
 rest_counted finished c rest = record {
   settled = λ i. record { among = (rest.settled i).among; linked = (rest.settled i).linked };
   recorded = λ i. record {

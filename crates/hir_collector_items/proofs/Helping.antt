@@ -1,8 +1,8 @@
 -- Helpers that are brought one after another.
 use Rattle.std.proofs.Common.{◌≡◌, ◌∙◌, ◌<◌, ◌+◌, ℕ, zero, suc, List, [], ◌∷◌, drop, length, map, refl, sym, ap, arith}
-use Rattle.hir_base.specs.declared.ast_id.AstId.{AstId}
+use Rattle.hir_base.specs.Types.{AstId}
 use Rattle.hir_def_map_rules.specs.Macros.{with_derive_helper}
-use Rattle.hir_def_map_rules.specs.declared.derive_helpers.DeriveHelper.{DeriveHelper}
+use Rattle.hir_def_map_rules.specs.Types.{DeriveHelper}
 use Rattle.hir_collector_rules.specs.Changes.{act, helps, perform}
 use Rattle.hir_collector_rules.specs.Moves.{Makes}
 use Rattle.hir_collector_rules.specs.State.{Core, State, Task, joined, with_map}
@@ -16,7 +16,8 @@ pub none_brought : (node : AstId) (all : List DeriveHelper) (c : Core) → Makes
 none_brought node all c = record { is = λ rest. refl }
 
 -- one more
-pub one_brought : (node : AstId) (helper : DeriveHelper) (left all : List DeriveHelper) (old now new : Core) → new ≡ with_map now (with_derive_helper now.map node helper)
+pub one_brought : (node : AstId) (helper : DeriveHelper) (left all : List DeriveHelper) (old now new : Core) → new
+    ≡ with_map now (with_derive_helper now.map node helper)
     → MakesWithLeft node (helper ∷ left) all old now → MakesWithLeft node left all old new
 one_brought node helper left all old now new is before = record {
   is = λ rest. ap (λ (n : Core). perform (joined n rest) (bringing node left)) is ∙ before.is rest;

@@ -1,11 +1,11 @@
 -- What numbers mean stays as tables grow.
 use Rattle.std.proofs.Common.{◌≡◌, ◌∙◌, ◌<◌, ℕ, List, Some, Result, Ok, Err, IsErrAnd, ap, arith}
 use Rattle.hir_base.specs.Locations.{KeepsNumbers}
-use Rattle.hir_base.specs.declared.locations.LocationsError.{LocationsError}
+use Rattle.hir_base.specs.Types.{LocationsError}
 use Rattle.hir_base.specs.declared.locations.LocationsError.TheVariants as numbers
 use Rattle.hir_tables.specs.Interning.{IsFull}
 use Rattle.hir_tables.specs.Tables.{TablesValue, KeepsTables}
-use Rattle.hir_collector_rules.specs.declared.start.CollectError.{CollectError}
+use Rattle.hir_collector_rules.specs.Types.{CollectError}
 use Rattle.hir_collector_rules.specs.declared.start.CollectError.TheVariants.{TooMany}
 use Rattle.hir_collector_rules.specs.Moves.{refusal_of_number}
 use Rattle.hir_collector_rules.specs.NumberedOut.{IsNumberedOut}

@@ -1,15 +1,15 @@
 -- What a run comes to: the end of a derivation by the import rules.
 use Rattle.std.specs.Prelude.{◌≡◌, ◌≤◌, ◌⊎◌, ℕ, Bool, false, true, List, [], ◌∷◌, ◌++◌, length, Option, None, Some, slice_get, Contains, cond}
-use Rattle.hir_scope.specs.declared.imports.GlobId.{GlobId}
-use Rattle.hir_scope.specs.declared.imports.ImportOrExternCrate.{ImportOrExternCrate}
+use Rattle.hir_scope.specs.Types.{GlobId, ImportOrExternCrate}
 use Rattle.hir_def_map_rules.specs.State.{Local, Map, entry_at}
 use Rattle.hir_def_map_rules.specs.Overlay.{Maps}
-use Rattle.hir_def_map_rules.specs.declared.diagnostics.DefDiagnostic.{DefDiagnostic}
-use Rattle.hir_base.specs.declared.ids.Crate.{Crate}
+use Rattle.hir_def_map_rules.specs.Types.{DefDiagnostic}
+use Rattle.hir_base.specs.Types.{Crate}
 use Rattle.hir_tables.specs.Tables.{TablesValue}
-use Rattle.hir_glob_imports.specs.declared.edge.Target.{Target}
-use Rattle.hir_import_resolution.specs.declared.directive.ImportDirective.{ImportDirective}
-use Rattle.hir_import_resolution.specs.Directives.{AreAmong, TakenValue, glob_of, is_untaken, kept_by_kind, kind_of, name_of, namespaces_of, reached_by, target_of, way_of}
+use Rattle.hir_glob_imports.specs.Types.{Target}
+use Rattle.hir_import_resolution.specs.Types.{ImportDirective}
+use Rattle.hir_import_resolution.specs.Directives.{AreAmong, TakenValue, glob_of, is_untaken, kept_by_kind, kind_of, name_of, namespaces_of, reached_by}
+use Rattle.hir_import_resolution.specs.Directives.{target_of, way_of}
 use Rattle.hir_import_resolution.specs.Rest.{BroughtStands, IsClosed, IsSettled, IsSource}
 use Rattle.hir_collector_rules.specs.declared.collected.Collected.{Collected}
 use Rattle.hir_collector_rules.specs.declared.start.TheConstants.{STEP_LIMIT}
@@ -30,8 +30,10 @@ use Rattle.hir_collector_rules.specs.Causes.{HasCause}
 -- under the name that the import at the place gives, its module binds each namespace that its path reaches and that imports of
 -- its kind bring, unless a taking of it was answered through another crate
 pub record BindsWhatItReaches (finished : Maps) (s : State) (i : ℕ) : Type 0 where
-  pub binds : (r : ImportDirective) (t : TakenValue) (name : List ℕ) → slice_get s.core.reached i ≡ Some r → slice_get s.core.taken i ≡ Some t → t.crossed ≡ false
-      → name_of r ≡ Some name → AreAmong (namespaces_of (kept_by_kind (kind_of r.source) (reached_by finished s.core.local s.core.map r))) (namespaces_of (entry_at s.core.map r.home name))
+  pub binds : (r : ImportDirective) (t : TakenValue) (name : List ℕ) → slice_get s.core.reached i ≡ Some r → slice_get s.core.taken i ≡ Some t → t.crossed
+      ≡ false
+      → name_of r ≡ Some name → AreAmong (namespaces_of (kept_by_kind (kind_of r.source) (reached_by finished s.core.local s.core.map r)))
+      (namespaces_of (entry_at s.core.map r.home name))
 
 -- what the path of the glob at the place reaches, or where it stops, is the source of a recorded glob into its module
 pub record IsLinked (finished : Maps) (s : State) (i : ℕ) : Type 0 where

@@ -4,10 +4,10 @@ use Rattle.std.specs.Option.{option_or}
 use Rattle.std.specs.BTreeMap.{is_at}
 use Rattle.std.specs.Cmp.Lexicographic.{slice_cmp}
 use Rattle.std.specs.Ordering.{nat_cmp}
-use Rattle.hir_base.specs.declared.ids.EnumId.{EnumId}
-use Rattle.hir_item_tree.specs.declared.side_lists.VariantItem.{VariantItem}
+use Rattle.hir_base.specs.Types.{EnumId}
+use Rattle.hir_item_tree.specs.Types.{VariantItem}
 use Rattle.hir_def_map_rules.specs.State.{Variants, at_name, with_name}
-use Rattle.hir_def_map_rules.specs.declared.enum_variants.EnumVariant.{EnumVariant}
+use Rattle.hir_def_map_rules.specs.Types.{EnumVariant}
 
 -- a variant of an enum
 abbrev pub variant_of : EnumId → VariantItem → EnumVariant
@@ -28,7 +28,8 @@ last_named (item ∷ items) name = option_or (last_named items name) (cond (is_a
 
 -- so a name stands for the last variant that has it
 abbrev pub LastVariantPrevails : Type 0
-LastVariantPrevails = (id : EnumId) (items : List VariantItem) (name : List ℕ) → at_name (variants_by_name id items) name ≡ option_map (variant_of id) (last_named items name)
+LastVariantPrevails =
+    (id : EnumId) (items : List VariantItem) (name : List ℕ) → at_name (variants_by_name id items) name ≡ option_map (variant_of id) (last_named items name)
 
 -- the variants of an enum; none of one that isn't there
 abbrev pub variants_of : EnumId → Option (List VariantItem) → Variants

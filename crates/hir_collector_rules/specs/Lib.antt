@@ -36,3 +36,4 @@ pub mod Waiting
 pub mod TreeReads
 pub mod Codes
 pub mod CollectedCodes
+pub mod Types

@@ -1,8 +1,7 @@
 -- Which calls and imports wait, and when is it in vain to try them?
 use Rattle.std.specs.Prelude.{◌≡◌, ◌≢◌, ℕ, ◌<◌, ◌≤◌, Bool, true, false, [], ◌∷◌, List, Option, None, Some, length, option_map, slice_get, unwrap_or}
 use Rattle.std.specs.List.{All}
-use Rattle.hir_base.specs.declared.ast_id.AstId.{AstId}
-use Rattle.hir_base.specs.declared.ids.EnumId.{EnumId}
+use Rattle.hir_base.specs.Types.{AstId, EnumId}
 use Rattle.hir_def_map_rules.specs.Macros.{helpers_at}
 use Rattle.hir_def_map_rules.specs.Overlay.{Maps}
 use Rattle.hir_def_map.specs.Scoping.Slots.{reads}
@@ -18,7 +17,7 @@ use Rattle.hir_import_resolution.specs.Inner.Queue.{slot_cmp}
 use Rattle.hir_import_resolution.specs.Inner.State.{IsApart}
 use Rattle.hir_import_resolution.specs.Rounds.{GlobsLast, Grew, IsUpToDate as AreUpToDate, is_lasting}
 use Rattle.hir_import_resolution.specs.State.{ImportState}
-use Rattle.hir_import_resolution.specs.declared.import_queue.ImportQueue.{ImportQueue}
+use Rattle.hir_import_resolution.specs.Types.{ImportQueue}
 use Rattle.hir_call_queue.specs.Changes.{ChangedValue, IsThere, IsUntouched, everything, joined, with_slot}
 use Rattle.hir_call_queue.specs.Waking.{is_apart, watchers_of, worklist_of}
 use Rattle.hir_call_queue.specs.declared.queue.CallQueue.{CallQueue}
@@ -71,7 +70,8 @@ pub record LeavesImports (old new : Run) : Type 0 where
 
 -- what is known of globs beside finished maps stays true
 abbrev pub LeavesGlobs : Maps → Run → Run → Type 0
-LeavesGlobs finished old new = GlobsLast finished (import_state (at_rest (core_in old))) old.globs → GlobsLast finished (import_state (at_rest (core_in new))) new.globs
+LeavesGlobs finished old new =
+    GlobsLast finished (import_state (at_rest (core_in old))) old.globs → GlobsLast finished (import_state (at_rest (core_in new))) new.globs
 
 -- what has changed of a run is noted, and unless all slots count as changed, imports and globs stand where they stood
 pub record IsNoted (old new : Run) : Type 0 where
@@ -107,9 +107,12 @@ pub record StandsStill (finished : Maps) (c : Core) (d : MacroDirective) (seen :
 pub record IsUpToDate (finished : Maps) (q : CallQueue) (c : Core) (tried : Option ℕ) : Type 0 where
   pub seen : ℕ → List PathSlot
   pub watched : is_apart q ≡ true → AreWatched slot_cmp seen tried (worklist_of q) (watchers_of q)
-  pub stands : is_apart q ≡ true → (p : ℕ) (d : MacroDirective) → IsIdle (worklist_of q) p → tried ≢ Some p → IsWaiting (at_rest c) p d → StandsStill finished c d (seen p)
-  pub shallow : (p : ℕ) (d : MacroDirective) → IsIdle (worklist_of q) p → tried ≢ Some p → IsWaiting (at_rest c) p d → is_call d ≡ true → d.site.level < c.map.crate_data.recursion_limit
-  pub nowhere : (p : ℕ) (d : MacroDirective) → IsIdle (worklist_of q) p → tried ≢ Some p → IsWaiting (at_rest c) p d → called_macro finished c.local c.map d ≡ None
+  pub stands : is_apart q ≡ true → (p : ℕ) (d : MacroDirective) → IsIdle (worklist_of q) p → tried ≢ Some p → IsWaiting (at_rest c) p d
+      → StandsStill finished c d (seen p)
+  pub shallow : (p : ℕ) (d : MacroDirective) → IsIdle (worklist_of q) p → tried ≢ Some p → IsWaiting (at_rest c) p d → is_call d ≡ true
+      → d.site.level < c.map.crate_data.recursion_limit
+  pub nowhere : (p : ℕ) (d : MacroDirective) → IsIdle (worklist_of q) p → tried ≢ Some p → IsWaiting (at_rest c) p d → called_macro finished c.local c.map d
+      ≡ None
   pub active : (p : ℕ) (d : MacroDirective) → IsIdle (worklist_of q) p → tried ≢ Some p → IsWaiting (at_rest c) p d → is_inert_now c.map d ≡ false
   -- it has calls of the run, and none is finished
   pub unfinished : (p : ℕ) → p < count_of (worklist_of q) → is_unfinished (worklist_of q) p ≡ true
@@ -152,4 +155,5 @@ IsBehind finished queue changed now = is_lasting queue ≡ true → changed.all 
 
 -- if the slots that were gathered and noted before held all that has changed since imports rested, those that are gathered and noted now do
 abbrev pub IsGathered : Maps → ChangedValue → Run → ChangedValue → Run → Type 0
-IsGathered finished before old after new = (queue : ImportQueue) → IsBehind finished queue (joined before old.changed) old → IsBehind finished queue (joined after new.changed) new
+IsGathered finished before old after new =
+    (queue : ImportQueue) → IsBehind finished queue (joined before old.changed) old → IsBehind finished queue (joined after new.changed) new

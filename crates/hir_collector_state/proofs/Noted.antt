@@ -1,5 +1,6 @@
 -- What each change of a run notes.
-use Rattle.std.proofs.Common.{◌≡◌, ◌≢◌, ◌∙◌, ap, sym, refl, subst, ℕ, zero, suc, ◌+◌, ◌<◌, ◌≤◌, slice_get, Bool, true, false, ◌||◌, List, [], ◌∷◌, ◌++◌, length, length-append, Option, None, Some, Contains, cond, unwrap_or, bytes_eq, arith}
+use Rattle.std.proofs.Common.{◌≡◌, ◌≢◌, ◌∙◌, ap, sym, refl, subst, ℕ, zero, suc, ◌+◌, ◌<◌, ◌≤◌, slice_get, Bool, true, false, ◌||◌, List, [], ◌∷◌, ◌++◌, length}
+use Rattle.std.proofs.Common.{length-append, Option, None, Some, Contains, cond, unwrap_or, bytes_eq, arith}
 use Rattle.std.specs.Prelude.{IsSome}
 use Rattle.std.proofs.lemmas.List.Elements.{Contains-append_left, Contains-append_right}
 use Rattle.std.proofs.lemmas.Slice.Eq.{bytes_eq-Decides}
@@ -11,26 +12,18 @@ use Rattle.std.specs.declared.cmp.Ordering.{Ordering}
 use Rattle.std.specs.declared.cmp.Ordering.TheVariants.{Less, Equal, Greater}
 use Rattle.hir_base.specs.contracts.ast_id.AstIdOrd.TheImpl as ast_order
 use Rattle.hir_base.specs.contracts.ast_id.AstIdOrd.TheImpl.Laws.{total-law as ast_total}
-use Rattle.hir_base.specs.declared.ast_id.AstId.{AstId}
-use Rattle.hir_base.specs.declared.ids.EnumId.{EnumId}
-use Rattle.hir_base.specs.declared.ids.ExternCrateId.{ExternCrateId}
-use Rattle.hir_base.specs.declared.ids.FunctionId.{FunctionId}
-use Rattle.hir_base.specs.declared.ids.ModuleId.{ModuleId}
-use Rattle.hir_base.specs.declared.macro_kind.BuiltinDeriveImplId.{BuiltinDeriveImplId}
-use Rattle.hir_base.specs.declared.macro_kind.MacroId.{MacroId}
-use Rattle.hir_base.specs.declared.macro_kind.ProcMacroId.{ProcMacroId}
+use Rattle.hir_base.specs.Types.{AstId, BuiltinDeriveImplId, EnumId, ExternCrateId, FunctionId, MacroId, ModuleId, ProcMacroId}
 use Rattle.hir_scope.specs.Scope.{ScopeValue}
-use Rattle.hir_scope.specs.declared.per_ns.PerNs.{PerNs}
-use Rattle.hir_scope.specs.declared.visibility.Visibility.{Visibility}
+use Rattle.hir_scope.specs.Types.{PerNs, Visibility}
 use Rattle.hir_def_map_rules.proofs.Grown.{kept, length-changed}
 use Rattle.hir_def_map_rules.specs.Declaration.{listed}
 use Rattle.hir_def_map_rules.specs.Overlay.{Maps}
 use Rattle.hir_def_map_rules.specs.Macros.{helpers_at, with_derive_helper, with_diagnostic, with_exported, with_helper, with_macro_data, with_macro_def}
-use Rattle.hir_def_map_rules.specs.State.{IsInOrder, Local, MacroDataValue, Map, ModuleValue, changed_at, entry_of, module_at, new_module, numbered, parent_at, parent_of, pushed, pushed_module, place_at, Variants, variants_at, with_enum, with_extern, with_module, with_module_scope, with_scope}
+use Rattle.hir_def_map_rules.specs.State.{IsInOrder, Local, MacroDataValue, Map, ModuleValue, changed_at, entry_of, module_at, new_module, numbered, parent_at}
+use Rattle.hir_def_map_rules.specs.State.{parent_of, pushed, pushed_module, place_at, Variants, variants_at, with_enum, with_extern, with_module}
+use Rattle.hir_def_map_rules.specs.State.{with_module_scope, with_scope}
 use Rattle.hir_def_map_rules.specs.declared.declaration.Declaration.{Declaration as Listing}
-use Rattle.hir_def_map_rules.specs.declared.derive_helpers.DeriveHelper.{DeriveHelper}
-use Rattle.hir_def_map_rules.specs.declared.diagnostics.DefDiagnostic.{DefDiagnostic}
-use Rattle.hir_def_map_rules.specs.declared.origin.ModuleOrigin.{ModuleOrigin}
+use Rattle.hir_def_map_rules.specs.Types.{DefDiagnostic, DeriveHelper, ModuleOrigin}
 use Rattle.hir_def_map.specs.declared.nameres.path_resolution.slots.Slot.{Slot as PathSlot}
 use Rattle.hir_def_map.specs.declared.nameres.path_resolution.slots.Slot.TheVariants.{Module as of_module, Preludes as of_preludes}
 use Rattle.hir_def_map_rules.specs.Scoping.FirstSegment.{legacy_of}
@@ -48,7 +41,7 @@ use Rattle.hir_import_resolution.specs.Changes.{forgotten}
 use Rattle.hir_import_resolution.specs.Directives.{TakenValue}
 use Rattle.hir_import_resolution.specs.Inner.Steps.{IsBound}
 use Rattle.hir_import_resolution.specs.Rounds.{GlobsLast, GrowsAround, HaveGlobs}
-use Rattle.hir_import_resolution.specs.declared.directive.ImportDirective.{ImportDirective}
+use Rattle.hir_import_resolution.specs.Types.{ImportDirective}
 use Rattle.hir_call_queue.specs.Changes.{ChangedValue, IsThere, IsUntouched, everything, with_preludes, with_slot}
 use Rattle.hir_collector_rules.specs.Attributes.{is_named_by}
 use Rattle.hir_collector_rules.specs.Changes.{with_builtin_derive, with_derived}
@@ -80,10 +73,12 @@ modules_kept_later a b c first then = record {
 
 -- maps that grow keep their modules
 pub grown_kept : (old new : Map) → Grows old new → length old.modules ≤ length new.modules → KeepsModules old new
-grown_kept old new grows longer = record { id = grows.id; holder = grows.holder; crate_data = grows.crate_data; prelude = grows.prelude; parents = grows.parents; count = longer }
+grown_kept old new grows longer =
+    record { id = grows.id; holder = grows.holder; crate_data = grows.crate_data; prelude = grows.prelude; parents = grows.parents; count = longer }
 
 -- where helpers stay, the same names are helpers
-pub helped_alike : (old new : Map) → new.derive_helpers ≡ old.derive_helpers → (node : AstId) (name : List ℕ) → is_helped new node name ≡ is_helped old node name
+pub helped_alike : (old new : Map) → new.derive_helpers ≡ old.derive_helpers → (node : AstId) (name : List ℕ) → is_helped new node name
+    ≡ is_helped old node name
 helped_alike old new same node name = ap (λ (helpers : List (AstId × List DeriveHelper)). is_helped (record old { derive_helpers = helpers }) node name) same
 
 -- ---- maps that grow around their names
@@ -202,12 +197,15 @@ slots_same a b map local changed = record {
   some = λ e. ap (λ (c : ChangedValue). c.all) (sym changed) ∙ e;
   noted = λ slot e. subst (λ (c : ChangedValue). IsUntouched c slot) changed e;
   keeps = λ e. subst (KeepsModules a.map) (sym map) (modules_kept_itself a.map);
-  others = λ slot e there. subst (λ (m : Map). AgreeAt a.map a.local m b.local slot) (sym map) (subst (λ (l : Local). AgreeAt a.map a.local a.map l slot) (sym local) (agree_itself a.map a.local slot));
+  others =
+      λ slot e there. subst (λ (m : Map). AgreeAt a.map a.local m b.local slot) (sym map) (subst (λ (l : Local). AgreeAt a.map a.local a.map l slot) (sym local)
+      (agree_itself a.map a.local slot));
   helpers = λ node name e. ap (λ (m : Map). is_helped m node name) map;
 }
 
 pub noted_same : (a b : Run) → b.map ≡ a.map → b.local ≡ a.local → b.changed ≡ a.changed → KeepsImports a b → IsNoted a b
-noted_same a b map local changed stay = record { slots = slots_same a b map local changed; imports = λ e. imports_same a b stay map; globs = λ e. globs_same a b stay.0 map }
+noted_same a b map local changed stay =
+    record { slots = slots_same a b map local changed; imports = λ e. imports_same a b stay map; globs = λ e. globs_same a b stay.0 map }
 
 -- where nothing changes at all
 pub noted_itself : (a : Run) → IsNoted a a
@@ -217,17 +215,23 @@ pub noted_still : {a b : Run} → a ≡ b → IsNoted a b
 noted_still {a} same = subst (IsNoted a) same (noted_itself a)
 
 -- where one more import is come upon
-pub noted_reached : (a b : Run) (r : ImportDirective) (t : TakenValue) → b.map ≡ a.map → b.local ≡ a.local → b.changed ≡ a.changed → b.globs ≡ a.globs → b.reached ≡ a.reached ++ r ∷ [] → b.taken ≡ a.taken ++ t ∷ []
+pub noted_reached : (a b : Run) (r : ImportDirective) (t : TakenValue) → b.map ≡ a.map → b.local ≡ a.local → b.changed ≡ a.changed → b.globs ≡ a.globs
+    → b.reached ≡ a.reached ++ r ∷ [] → b.taken ≡ a.taken ++ t ∷ []
     → IsNoted a b
-noted_reached a b r t map local changed globs reached taken = record { slots = slots_same a b map local changed; imports = λ e. left; globs = λ e. globs_same a b globs map }
+noted_reached a b r t map local changed globs reached taken =
+    record { slots = slots_same a b map local changed; imports = λ e. left; globs = λ e. globs_same a b globs map }
   where
     left : LeavesImports a b
     left = record {
       enums = λ id variants e. ap (λ (x : Map). variants_at x id) map ∙ e;
       reached = λ i low. ap (λ (rs : List ImportDirective). slice_get rs i) reached ∙ get_left a.reached (r ∷ []) i low;
       taken = λ i low. ap (λ (ts : List TakenValue). slice_get ts i) taken ∙ get_left a.taken (t ∷ []) i low;
-      longer = let long : length b.reached ≡ length a.reached + 1 = ap (λ (rs : List ImportDirective). length rs) reached ∙ length-append a.reached (r ∷ []) in omega (arith, long);
-      taken_longer = let long : length b.taken ≡ length a.taken + 1 = ap (λ (ts : List TakenValue). length ts) taken ∙ length-append a.taken (t ∷ []) in omega (arith, long);
+      longer =
+          let long : length b.reached ≡ length a.reached + 1 = ap (λ (rs : List ImportDirective). length rs) reached ∙ length-append a.reached (r ∷ [])
+          in omega (arith, long);
+      taken_longer =
+          let long : length b.taken ≡ length a.taken + 1 = ap (λ (ts : List TakenValue). length ts) taken ∙ length-append a.taken (t ∷ [])
+          in omega (arith, long);
     }
 
 -- where all slots are noted
@@ -244,7 +248,8 @@ slots_everything a b all = record {
 }
 
 pub noted_everything : (a b : Run) → b.changed ≡ everything → IsNoted a b
-noted_everything a b all = record { slots = slots_everything a b all; imports = λ e. absurd (not_all b.changed all e); globs = λ e. absurd (not_all b.changed all e) }
+noted_everything a b all =
+    record { slots = slots_everything a b all; imports = λ e. absurd (not_all b.changed all e); globs = λ e. absurd (not_all b.changed all e) }
 
 -- where the map grows around its names, and no slot of a module that was there changes, nor helpers
 module _ (a b : Run) (local : b.local ≡ a.local) (changed : b.changed ≡ a.changed) (stay : KeepsImports a b) where
@@ -255,7 +260,9 @@ module _ (a b : Run) (local : b.local ≡ a.local) (changed : b.changed ≡ a.ch
       some = λ e. ap (λ (c : ChangedValue). c.all) (sym changed) ∙ e;
       noted = λ slot e. subst (λ (c : ChangedValue). IsUntouched c slot) changed e;
       keeps = λ e. subst (KeepsModules a.map) (sym map) (grown_kept a.map m around.grows around.modules);
-      others = λ slot e there. subst (λ (x : Map). AgreeAt a.map a.local x b.local slot) (sym map) (subst (λ (l : Local). AgreeAt a.map a.local m l slot) (sym local) (agree slot there));
+      others =
+          λ slot e there. subst (λ (x : Map). AgreeAt a.map a.local x b.local slot) (sym map) (subst (λ (l : Local). AgreeAt a.map a.local m l slot) (sym local)
+          (agree slot there));
       helpers = λ node name e. helped_alike a.map b.map (ap (λ (x : Map). x.derive_helpers) map ∙ helpers) node name;
     };
     imports = λ e. imports_around a b stay m map around;
@@ -288,7 +295,9 @@ module _ (one : PathSlot) (c : ChangedValue) where
     where
       go : (all : Bool) → c.all ≡ all → IsUntouched (cond all c (record c { slots = c.slots ++ one ∷ [] })) slot → ⊥
       go true is e = let wrong : c.all ≡ false = e.some in absurd (let no : ⊥ = cc in no)
-      go false is e = e.other (subst (λ (x : PathSlot). Contains (c.slots ++ one ∷ []) x) (sym same) (Contains-append_right c.slots (one ∷ []) one (zero, omega arith, refl)))
+      go false is e =
+          e.other (subst (λ (x : PathSlot). Contains (c.slots ++ one ∷ []) x) (sym same)
+          (Contains-append_right c.slots (one ∷ []) one (zero, omega arith, refl)))
 
 -- where one slot may change, which is noted
 module _ (a b : Run) (one : PathSlot) (changed : b.changed ≡ with_one one a.changed) where
@@ -302,7 +311,8 @@ module _ (a b : Run) (one : PathSlot) (changed : b.changed ≡ with_one one a.ch
       apart : slot ≢ one → Some slot ≢ Some one
       apart other same = other (let here : slot ≡ one = cc in here)
 
-  noted_slot : b.map.derive_helpers ≡ a.map.derive_helpers → ChangesOnly a.map a.local b.map b.local (Some one) → length a.map.modules ≤ length b.map.modules → LeavesImports a b
+  noted_slot : b.map.derive_helpers ≡ a.map.derive_helpers → ChangesOnly a.map a.local b.map b.local (Some one) → length a.map.modules ≤ length b.map.modules
+      → LeavesImports a b
       → ((finished : Maps) → LeavesGlobs finished a b) → IsNoted a b
   noted_slot helpers changes count left globs = record {
     slots = record {
@@ -342,10 +352,14 @@ module _ {K V : Type 0} (cmp : K → K → Ordering) (sees : Option V → Bool) 
       below true same = refl
       below false same = same
 
-      go : (o : Ordering) → cmp k e.0 ≡ o → (lookup (is_at (cmp k)) es ≡ None → sees (lookup (is_at (cmp q)) (insert_entry cmp es k v)) ≡ sees (lookup (is_at (cmp q)) es))
-          → sees (lookup (is_at (cmp q)) (match_ordering o ((k, v) ∷ e ∷ es) ((e.0, v) ∷ es) (e ∷ insert_entry cmp es k v))) ≡ sees (lookup (is_at (cmp q)) (e ∷ es))
+      go : (o : Ordering) → cmp k e.0 ≡ o → (lookup (is_at (cmp k)) es ≡ None → sees (lookup (is_at (cmp q)) (insert_entry cmp es k v))
+          ≡ sees (lookup (is_at (cmp q)) es))
+          → sees (lookup (is_at (cmp q)) (match_ordering o ((k, v) ∷ e ∷ es) ((e.0, v) ∷ es) (e ∷ insert_entry cmp es k v)))
+          ≡ sees (lookup (is_at (cmp q)) (e ∷ es))
       go Less s later = found (cmp q k) refl
-      go Equal s later = let some : Some e.1 ≡ None = sym (ap (λ (o : Ordering). cond (is_eq o) (Some e.1) (lookup (is_at (cmp k)) es)) s) ∙ none in absurd (let no : ⊥ = cc in no)
+      go Equal s later =
+          let some : Some e.1 ≡ None = sym (ap (λ (o : Ordering). cond (is_eq o) (Some e.1) (lookup (is_at (cmp k)) es)) s) ∙ none
+          in absurd (let no : ⊥ = cc in no)
       go Greater s later = below (is_at (cmp q) e.0) (later (sym (ap (λ (o : Ordering). cond (is_eq o) (Some e.1) (lookup (is_at (cmp k)) es)) s) ∙ none))
 
   -- and where a value is followed by one in which the same is seen
@@ -364,7 +378,8 @@ module _ {K V : Type 0} (cmp : K → K → Ordering) (sees : Option V → Bool) 
           now false = refl
       go false here later = below (is_at (cmp q) e.0)
         where
-          below : (b : Bool) → sees (cond b (Some e.1) (lookup (is_at (cmp q)) (set_value (is_at (cmp k)) es w))) ≡ sees (cond b (Some e.1) (lookup (is_at (cmp q)) es))
+          below : (b : Bool) → sees (cond b (Some e.1) (lookup (is_at (cmp q)) (set_value (is_at (cmp k)) es w)))
+              ≡ sees (cond b (Some e.1) (lookup (is_at (cmp q)) es))
           below true = refl
           below false = later here
 
@@ -377,22 +392,28 @@ module _ (helper : DeriveHelper) (name : List ℕ) (other : bytes_eq helper.name
   abbrev is_named : Option (List DeriveHelper) → Bool
   is_named of_item = is_named_by (unwrap_or of_item []) name
 
-  named_with : (helpers : List (AstId × List DeriveHelper)) (node item : AstId) (of_item : Option (List DeriveHelper)) → lookup (is_at (ast_order.ghosts.cmp item)) helpers ≡ of_item
-      → is_named (lookup (is_at (ast_order.ghosts.cmp node)) (with_helper helpers item helper of_item)) ≡ is_named (lookup (is_at (ast_order.ghosts.cmp node)) helpers)
+  named_with : (helpers : List (AstId × List DeriveHelper)) (node item : AstId) (of_item : Option (List DeriveHelper))
+      → lookup (is_at (ast_order.ghosts.cmp item)) helpers ≡ of_item
+      → is_named (lookup (is_at (ast_order.ghosts.cmp node)) (with_helper helpers item helper of_item))
+      ≡ is_named (lookup (is_at (ast_order.ghosts.cmp node)) helpers)
   named_with helpers node item None e = seen_inserted ast_order.ghosts.cmp is_named item node ast_total (helper ∷ []) (named_behind []) helpers e
   named_with helpers node item (Some hs) e = seen_set ast_order.ghosts.cmp is_named item node hs (hs ++ helper ∷ []) (named_behind hs) helpers e
 
 -- a helper comes into scope on an item, and the slot of its name in the preludes is noted
-pub noted_helper : (a b : Run) (item : AstId) (helper : DeriveHelper) → b.map ≡ with_derive_helper a.map item helper → b.local ≡ a.local → b.changed ≡ with_preludes helper.name a.changed → KeepsImports a b → IsNoted a b
+pub noted_helper : (a b : Run) (item : AstId) (helper : DeriveHelper) → b.map ≡ with_derive_helper a.map item helper → b.local ≡ a.local → b.changed
+    ≡ with_preludes helper.name a.changed → KeepsImports a b → IsNoted a b
 noted_helper a b item helper map local changed stay = record {
   slots = record {
     some = λ e. some_before (of_preludes helper.name) a.changed (ap (λ (c : ChangedValue). c.all) (sym changed) ∙ e);
     noted = λ slot e. untouched_before (of_preludes helper.name) a.changed slot (subst (λ (c : ChangedValue). IsUntouched c slot) changed e);
     keeps = λ e. subst (KeepsModules a.map) (sym map) (grown_kept a.map (with_derive_helper a.map item helper) around.grows around.modules);
-    others = λ slot e there. subst (λ (m : Map). AgreeAt a.map a.local m b.local slot) (sym map) (subst (λ (l : Local). AgreeAt a.map a.local (with_derive_helper a.map item helper) l slot) (sym local) (same slot));
+    others =
+        λ slot e there. subst (λ (m : Map). AgreeAt a.map a.local m b.local slot) (sym map)
+        (subst (λ (l : Local). AgreeAt a.map a.local (with_derive_helper a.map item helper) l slot) (sym local) (same slot));
     helpers = λ node name e.
         ap (λ (m : Map). is_helped m node name) map
-        ∙ named_with helper name (other name (noted_other a b (of_preludes helper.name) changed (of_preludes name) e)) a.map.derive_helpers node item (helpers_at a.map item) refl;
+        ∙ named_with helper name (other name (noted_other a b (of_preludes helper.name) changed (of_preludes name) e)) a.map.derive_helpers node item
+        (helpers_at a.map item) refl;
   };
   imports = λ e. imports_around a b stay (with_derive_helper a.map item helper) map around;
   globs = λ e. globs_around a b stay.0 (with_derive_helper a.map item helper) map around (λ h. h);
@@ -428,11 +449,14 @@ elsewhere (x ∷ xs) (suc at) change (suc k) low = elsewhere xs at change k (ome
 -- ---- each change of the map
 
 -- a push, once it's noted where globs are to be looked at
-pub noted_push : (a b : Run) (home : ℕ) (name : List ℕ) (items : PerNs) → b.map ≡ pushed a.map a.names home name items None → b.local ≡ a.local → b.changed ≡ with_slot home name a.changed
-    → b.globs.edges ≡ a.globs.edges → brought_of b.globs ≡ forgotten home name items (brought_of a.globs) → ((v w : View) → IsKept v a.globs → IsBound home name items v w → IsKept w b.globs)
+pub noted_push : (a b : Run) (home : ℕ) (name : List ℕ) (items : PerNs) → b.map ≡ pushed a.map a.names home name items None → b.local ≡ a.local → b.changed
+    ≡ with_slot home name a.changed
+    → b.globs.edges ≡ a.globs.edges → brought_of b.globs ≡ forgotten home name items (brought_of a.globs)
+    → ((v w : View) → IsKept v a.globs → IsBound home name items v w → IsKept w b.globs)
     → b.reached ≡ a.reached → b.taken ≡ a.taken → IsNoted a b
 unfolding core_in
-noted_push a b home name items map local changed edges brought forgets reached taken = noted_slot a b (of_module home name) changed (ap (λ (m : Map). m.derive_helpers) map) changes count left globs
+noted_push a b home name items map local changed edges brought forgets reached taken =
+    noted_slot a b (of_module home name) changed (ap (λ (m : Map). m.derive_helpers) map) changes count left globs
   where
     once : Map
     once = pushed a.map a.names home name items None
@@ -440,7 +464,8 @@ noted_push a b home name items map local changed edges brought forgets reached t
     changes : ChangesOnly a.map a.local b.map b.local (Some (of_module home name))
     changes =
         subst (λ (m : Map). ChangesOnly a.map a.local m b.local (Some (of_module home name))) (sym map)
-        (subst (λ (l : Local). ChangesOnly a.map a.local once l (Some (of_module home name))) (sym local) (changes-pushed a.map a.local a.names home name items None))
+        (subst (λ (l : Local). ChangesOnly a.map a.local once l (Some (of_module home name))) (sym local)
+        (changes-pushed a.map a.local a.names home name items None))
 
     count : length a.map.modules ≤ length b.map.modules
     count =
@@ -458,15 +483,19 @@ noted_push a b home name items map local changed edges brought forgets reached t
 
     globs : (finished : Maps) → LeavesGlobs finished a b
     globs finished last =
-        globs_pushed finished (import_state (at_rest (core_in a))) (import_state (at_rest (core_in b))) a.globs b.globs home name items (have_globs a) (have_globs b) map edges brought forgets last
+        globs_pushed finished (import_state (at_rest (core_in a))) (import_state (at_rest (core_in b))) a.globs b.globs home name items (have_globs a)
+        (have_globs b) map edges brought forgets last
 
 -- a macro in textual scope
-pub noted_textual : (a b : Run) (home : ℕ) (name : List ℕ) (makro : MacroId) → b.map ≡ with_textual_macro a.map home name makro → b.local ≡ a.local → b.changed ≡ with_slot home name a.changed → KeepsImports a b → IsNoted a b
+pub noted_textual : (a b : Run) (home : ℕ) (name : List ℕ) (makro : MacroId) → b.map ≡ with_textual_macro a.map home name makro → b.local ≡ a.local → b.changed
+    ≡ with_slot home name a.changed → KeepsImports a b → IsNoted a b
 noted_textual a b home name makro map local changed stay =
     noted_slot a b (of_module home name) changed (ap (λ (m : Map). m.derive_helpers) map)
     (subst (λ (m : Map). ChangesOnly a.map a.local m b.local (Some (of_module home name))) (sym map)
-    (subst (λ (l : Local). ChangesOnly a.map a.local (with_textual_macro a.map home name makro) l (Some (of_module home name))) (sym local) (textual_macros a.map a.local home name makro)))
-    (subst (λ (m : Map). length a.map.modules ≤ length m.modules) (sym map) around.modules) (imports_around a b stay (with_textual_macro a.map home name makro) map around)
+    (subst (λ (l : Local). ChangesOnly a.map a.local (with_textual_macro a.map home name makro) l (Some (of_module home name))) (sym local)
+    (textual_macros a.map a.local home name makro)))
+    (subst (λ (m : Map). length a.map.modules ≤ length m.modules) (sym map) around.modules) (imports_around a b stay (with_textual_macro a.map home name makro)
+    map around)
     (globs_around a b stay.0 (with_textual_macro a.map home name makro) map around (λ h. in_order_scope a.map h home change))
   where
     change : ScopeValue → ScopeValue
@@ -476,22 +505,28 @@ noted_textual a b home name makro map local changed stay =
     around = scopes_around a.map home change (λ s other. refl) (λ s id. refl)
 
 -- a crate that paths may begin with
-pub noted_extern : (a b : Run) (name : List ℕ) (entry : ModuleId × Option ExternCrateId) → b.map ≡ a.map → b.local ≡ with_extern a.local name entry → b.changed ≡ with_preludes name a.changed → KeepsImports a b → IsNoted a b
+pub noted_extern : (a b : Run) (name : List ℕ) (entry : ModuleId × Option ExternCrateId) → b.map ≡ a.map → b.local ≡ with_extern a.local name entry → b.changed
+    ≡ with_preludes name a.changed → KeepsImports a b → IsNoted a b
 noted_extern a b name entry map local changed stay =
     noted_slot a b (of_preludes name) changed (ap (λ (m : Map). m.derive_helpers) map)
     (subst (λ (m : Map). ChangesOnly a.map a.local m b.local (Some (of_preludes name))) (sym map)
     (subst (λ (l : Local). ChangesOnly a.map a.local a.map l (Some (of_preludes name))) (sym local) (changes-crate a.map a.local name entry)))
-    (let same : length b.map.modules ≡ length a.map.modules = ap (λ (m : Map). length m.modules) map in omega (arith, same)) (imports_same a b stay map) (globs_same a b stay.0 map)
+    (let same : length b.map.modules ≡ length a.map.modules = ap (λ (m : Map). length m.modules) map in omega (arith, same)) (imports_same a b stay map)
+    (globs_same a b stay.0 map)
 
 -- what is listed
-pub noted_list : (a b : Run) (home : ℕ) (d : Listing) → b.map ≡ with_scope a.map home (listed d) → b.local ≡ a.local → b.changed ≡ a.changed → KeepsImports a b → IsNoted a b
+pub noted_list : (a b : Run) (home : ℕ) (d : Listing) → b.map ≡ with_scope a.map home (listed d) → b.local ≡ a.local → b.changed ≡ a.changed → KeepsImports a b
+    → IsNoted a b
 noted_list a b home d map local changed stay =
-    noted_around a b local changed stay (with_scope a.map home (listed d)) map refl (lists_around a.map home d) (λ h. in_order_scope a.map h home (listed d)) (λ slot there. (changes-listed a.map a.local home d).others slot (λ e. absurd cc))
+    noted_around a b local changed stay (with_scope a.map home (listed d)) map refl (lists_around a.map home d) (λ h. in_order_scope a.map h home (listed d))
+    (λ slot there. (changes-listed a.map a.local home d).others slot (λ e. absurd cc))
 
 -- an impl for which a builtin derive stands
-pub noted_derived : (a b : Run) → b.local ≡ a.local → b.changed ≡ a.changed → KeepsImports a b → (home : ℕ) (imp : BuiltinDeriveImplId) → b.map ≡ with_derived a.map home imp → IsNoted a b
+pub noted_derived : (a b : Run) → b.local ≡ a.local → b.changed ≡ a.changed → KeepsImports a b → (home : ℕ) (imp : BuiltinDeriveImplId) → b.map
+    ≡ with_derived a.map home imp → IsNoted a b
 noted_derived a b local changed stay home imp map =
-    noted_around a b local changed stay (with_derived a.map home imp) map refl (scopes_around a.map home (with_builtin_derive imp) (λ s other. refl) (λ s id. refl))
+    noted_around a b local changed stay (with_derived a.map home imp) map refl (scopes_around a.map home (with_builtin_derive imp) (λ s other. refl)
+    (λ s id. refl))
     (λ h. in_order_scope a.map h home (with_builtin_derive imp)) (λ slot there. same slot)
   where
     same : (slot : PathSlot) → AgreeAt a.map a.local (with_derived a.map home imp) a.local slot
@@ -502,14 +537,17 @@ noted_derived a b local changed stay home imp map =
     same (of_preludes name) = record { crates = refl; macro_uses = refl }
 
 -- the scope of a module that wasn't there
-other_scope_agrees : (map : Map) (local : Local) (bound home : ℕ) (change : ScopeValue → ScopeValue) → bound ≤ home → (slot : PathSlot) → IsThere bound slot → AgreeAt map local (with_scope map home change) local slot
+other_scope_agrees : (map : Map) (local : Local) (bound home : ℕ) (change : ScopeValue → ScopeValue) → bound ≤ home → (slot : PathSlot) → IsThere bound slot
+    → AgreeAt map local (with_scope map home change) local slot
 other_scope_agrees map local bound home change above (of_module at name) there =
-    let same : module_at (with_scope map home change) at ≡ module_at map at = elsewhere map.modules home (with_module_scope change) at (omega (arith, above, there)) in
+    let same : module_at (with_scope map home change) at ≡ module_at map at = elsewhere map.modules home (with_module_scope change) at
+    (omega (arith, above, there)) in
     record { entries = ap (λ (o : Option ModuleValue). entry_of o name) same; legacy = ap (λ (o : Option ModuleValue). legacy_of o name) same }
 other_scope_agrees map local bound home change above (of_preludes name) there = record { crates = refl; macro_uses = refl }
 
 -- a module that is made, and begins with the macros in textual scope around it
-pub noted_module : (a b : Run) (home : ℕ) (name : List ℕ) (origin : ModuleOrigin) (visibility : Visibility) (parent : Option ModuleId) → parent ≡ Some (numbered a.map.id home) → home < length a.map.modules
+pub noted_module : (a b : Run) (home : ℕ) (name : List ℕ) (origin : ModuleOrigin) (visibility : Visibility) (parent : Option ModuleId) → parent
+    ≡ Some (numbered a.map.id home) → home < length a.map.modules
     → b.map ≡ begun a.map home name (new_module origin visibility parent) → b.local ≡ a.local → b.changed ≡ a.changed → KeepsImports a b → IsNoted a b
 noted_module a b home name origin visibility parent inside low map local changed stay =
     let made : Map = with_module a.map home name (new_module origin visibility parent) in
@@ -517,16 +555,20 @@ noted_module a b home name origin visibility parent inside low map local changed
     let changes : ChangesOnly a.map a.local made a.local None = changes-made a.map a.local home name origin visibility parent in
     let change : ScopeValue → ScopeValue = λ s. record s { legacy_macros = textual_at made home } in
     noted_around a b local changed stay (begun a.map home name (new_module origin visibility parent)) map refl
-    (around_later a.map made (with_scope made count change) (modules_around a.map home name origin visibility parent) (scopes_around made count change (λ s other. refl) (λ s id. refl)))
+    (around_later a.map made (with_scope made count change) (modules_around a.map home name origin visibility parent)
+    (scopes_around made count change (λ s other. refl) (λ s id. refl)))
     (λ h. in_order_scope made (in_order_made a.map home name (new_module origin visibility parent) inside low h) count change)
     (λ slot there.
-    agree_later a.map made (with_scope made count change) a.local a.local a.local slot (changes.others slot (λ e. absurd cc)) (other_scope_agrees made a.local count count change (omega arith) slot there))
+    agree_later a.map made (with_scope made count change) a.local a.local a.local slot (changes.others slot (λ e. absurd cc))
+    (other_scope_agrees made a.local count count change (omega arith) slot there))
 
 -- what lies beside modules and preludes
 module _ (a b : Run) (local : b.local ≡ a.local) (changed : b.changed ≡ a.changed) (stay : KeepsImports a b) where
   -- a diagnostic
   pub noted_told : (d : DefDiagnostic) → b.map ≡ with_diagnostic a.map d → IsNoted a b
-  noted_told d map = noted_around a b local changed stay (with_diagnostic a.map d) map refl (record { grows = around; modules = omega arith; entries = λ at name. refl; traits = λ at id. refl }) (λ h. h) (λ slot there. same slot)
+  noted_told d map =
+      noted_around a b local changed stay (with_diagnostic a.map d) map refl
+      (record { grows = around; modules = omega arith; entries = λ at name. refl; traits = λ at id. refl }) (λ h. h) (λ slot there. same slot)
     where
       around : Grows a.map (with_diagnostic a.map d)
       around = record { id = refl; holder = refl; crate_data = refl; prelude = refl; parents = λ at m e. ap parent_of e; enums = λ id variants e. e }
@@ -538,7 +580,8 @@ module _ (a b : Run) (local : b.local ≡ a.local) (changed : b.changed ≡ a.ch
   -- the macro that an item defines
   pub noted_defined : (node : AstId) (makro : MacroId) → b.map ≡ with_macro_def a.map node makro → IsNoted a b
   noted_defined node makro map =
-      noted_around a b local changed stay (with_macro_def a.map node makro) map refl (record { grows = around; modules = omega arith; entries = λ at name. refl; traits = λ at id. refl }) (λ h. h) (λ slot there. same slot)
+      noted_around a b local changed stay (with_macro_def a.map node makro) map refl
+      (record { grows = around; modules = omega arith; entries = λ at name. refl; traits = λ at id. refl }) (λ h. h) (λ slot there. same slot)
     where
       around : Grows a.map (with_macro_def a.map node makro)
       around = record { id = refl; holder = refl; crate_data = refl; prelude = refl; parents = λ at m e. ap parent_of e; enums = λ id variants e. e }
@@ -550,7 +593,8 @@ module _ (a b : Run) (local : b.local ≡ a.local) (changed : b.changed ≡ a.ch
   -- the variants of an enum that had none
   noted_enum : (id : EnumId) (variants : Variants) → variants_at a.map id ≡ None → b.map ≡ with_enum a.map id variants → IsNoted a b
   noted_enum id variants fresh map =
-      noted_around a b local changed stay (with_enum a.map id variants) map refl (enums_around a.map id variants (λ before e. absurd (let no : ⊥ = cc in no))) (λ h. h) (λ slot there. same slot)
+      noted_around a b local changed stay (with_enum a.map id variants) map refl (enums_around a.map id variants (λ before e. absurd (let no : ⊥ = cc in no)))
+      (λ h. h) (λ slot there. same slot)
     where
       same : (slot : PathSlot) → AgreeAt a.map a.local (with_enum a.map id variants) a.local slot
       same (of_module at name) = record { entries = refl; legacy = refl }
@@ -559,7 +603,8 @@ module _ (a b : Run) (local : b.local ≡ a.local) (changed : b.changed ≡ a.ch
   -- what is kept of a macro
   pub noted_described : (makro : MacroId) (what : MacroDataValue) → b.map ≡ with_macro_data a.map makro what → IsNoted a b
   noted_described makro what map =
-      noted_around a b local changed stay (with_macro_data a.map makro what) map refl (record { grows = around; modules = omega arith; entries = λ at name. refl; traits = λ at id. refl }) (λ h. h) (λ slot there. same slot)
+      noted_around a b local changed stay (with_macro_data a.map makro what) map refl
+      (record { grows = around; modules = omega arith; entries = λ at name. refl; traits = λ at id. refl }) (λ h. h) (λ slot there. same slot)
     where
       around : Grows a.map (with_macro_data a.map makro what)
       around = record { id = refl; holder = refl; crate_data = refl; prelude = refl; parents = λ at m e. ap parent_of e; enums = λ id variants e. e }
@@ -571,7 +616,8 @@ module _ (a b : Run) (local : b.local ≡ a.local) (changed : b.changed ≡ a.ch
   -- a function that exports a macro
   pub noted_exported : (function : FunctionId) (makro : ProcMacroId) → b.map ≡ with_exported a.map function makro → IsNoted a b
   noted_exported function makro map =
-      noted_around a b local changed stay (with_exported a.map function makro) map refl (record { grows = around; modules = omega arith; entries = λ at name. refl; traits = λ at id. refl }) (λ h. h) (λ slot there. same slot)
+      noted_around a b local changed stay (with_exported a.map function makro) map refl
+      (record { grows = around; modules = omega arith; entries = λ at name. refl; traits = λ at id. refl }) (λ h. h) (λ slot there. same slot)
     where
       around : Grows a.map (with_exported a.map function makro)
       around = record { id = refl; holder = refl; crate_data = refl; prelude = refl; parents = λ at m e. ap parent_of e; enums = λ id variants e. e }

@@ -1,11 +1,11 @@
 -- Names that go along globs while items are walked are noted.
-use Rattle.std.proofs.Common.{◌≡◌, ◌⊎◌, inl, inr, ◌∙◌, ap, sym, refl, subst, ℕ, Bool, true, false, List, [], ◌∷◌, ◌++◌, length, Option, None, Some, Contains, cond, slice_get, arith}
+use Rattle.std.proofs.Common.{◌≡◌, ◌⊎◌, inl, inr, ◌∙◌, ap, sym, refl, subst, ℕ, Bool, true, false, List, [], ◌∷◌, ◌++◌, length, Option, None, Some, Contains}
+use Rattle.std.proofs.Common.{cond, slice_get, arith}
 use Rattle.std.proofs.lemmas.List.Elements.{Contains-append_cases, Contains-append_left, Contains-append_right, Contains-push_cases}
 use Rattle.std.specs.Option.{option_and_then}
 use Rattle.std.specs.Prelude.{Result, Ok, Err, IfOk, IsOkAnd, OnOk}
-use Rattle.hir_base.specs.declared.ids.ModuleId.{ModuleId}
-use Rattle.hir_scope.specs.declared.imports.GlobId.{GlobId}
-use Rattle.hir_scope.specs.declared.visibility.Visibility.{Visibility}
+use Rattle.hir_base.specs.Types.{ModuleId}
+use Rattle.hir_scope.specs.Types.{GlobId, Visibility}
 use Rattle.hir_def_map_rules.proofs.WellFormed.{parent_listed}
 use Rattle.hir_def_map_rules.specs.Overlay.{Maps}
 use Rattle.hir_def_map_rules.specs.State.{Map, ModuleValue, parent_at, parent_of}
@@ -15,18 +15,16 @@ use Rattle.hir_def_map_laws.specs.ReadLaw.{AgreeAt, DiffersInScopes}
 use Rattle.hir_def_map_laws.specs.SlotChanges.{ScopesChangeAmong}
 use Rattle.hir_glob_imports.specs.Keys.{name_of}
 use Rattle.hir_glob_imports.specs.Rules.{brings, copies, follows, raises}
-use Rattle.hir_glob_imports.specs.declared.edge.Bound.{Bound}
-use Rattle.hir_glob_imports.specs.declared.edge.Key.{Key}
+use Rattle.hir_glob_imports.specs.Types.{Bound, Key, Target}
 use Rattle.hir_glob_imports.specs.declared.edge.Key.TheVariants.{Types, Values, Macros, Unnamed}
 use Rattle.hir_glob_imports.specs.declared.edge.Slot.{Slot as GlobSlot}
-use Rattle.hir_glob_imports.specs.declared.edge.Target.{Target}
 use Rattle.hir_import_resolution.specs.Changes.{Change as ImportChange, act, along, keeps_trait, perform, pushes, records, takes}
 use Rattle.hir_import_resolution.specs.Directives.{TakenValue}
 use Rattle.hir_import_resolution.specs.Inner.State.{path_slots, slots_named}
 use Rattle.hir_import_resolution.specs.Names.{ScopesValue, bound_of, copied, copied_to, copied_where, followed, followed_to, followed_where}
 use Rattle.hir_import_resolution.specs.Rules.{Step, Steps, acts, more, none}
 use Rattle.hir_import_resolution.specs.State.{ImportState, scopes_of}
-use Rattle.hir_import_resolution.specs.declared.directive.ImportDirective.{ImportDirective}
+use Rattle.hir_import_resolution.specs.Types.{ImportDirective}
 use Rattle.hir_call_queue.specs.Changes.{ChangedValue, IsUntouched, with_slots}
 use Rattle.hir_collector_rules.specs.State.{Run, at_rest, core_in, import_state}
 use Rattle.hir_collector_rules.specs.Waiting.{IsNotedBeside, KeepsModules, LeavesGlobs, LeavesImports, NotesSlots, noted_along, noted_name}
@@ -86,7 +84,8 @@ named_before : (at : ℕ) (name : Option (List ℕ)) (c : ChangedValue) (slot : 
 named_before at None c slot e = let wrong : true ≡ false = e.some in absurd (let no : ⊥ = cc in no)
 named_before at (Some name) c slot e = untouched_before (of_module at name) c slot e
 
-named_apart : (at : ℕ) (name : Option (List ℕ)) (c : ChangedValue) (slot : PathSlot) → IsUntouched (noted_name at name c) slot → ¬ Contains (slots_named at name) slot
+named_apart : (at : ℕ) (name : Option (List ℕ)) (c : ChangedValue) (slot : PathSlot) → IsUntouched (noted_name at name c) slot
+    → ¬ Contains (slots_named at name) slot
 named_apart at None c slot e has = absurd (no_member slot has)
 named_apart at (Some name) c slot e has = go (first_or_later (of_module at name) [] slot has)
   where
@@ -104,7 +103,8 @@ along_before (s ∷ ss) c slot e = named_before s.at (name_of s.key) c slot (alo
 
 along_apart : (slots : List GlobSlot) (c : ChangedValue) (slot : PathSlot) → IsUntouched (noted_along slots c) slot → ¬ Contains (path_slots slots) slot
 along_apart [] c slot e has = no_member slot has
-along_apart (s ∷ ss) c slot e has = go (along_apart ss (noted_name s.at (name_of s.key) c) slot e) (Contains-append_cases (slots_named s.at (name_of s.key)) (path_slots ss) slot has)
+along_apart (s ∷ ss) c slot e has =
+    go (along_apart ss (noted_name s.at (name_of s.key) c) slot e) (Contains-append_cases (slots_named s.at (name_of s.key)) (path_slots ss) slot has)
   where
     go : ¬ Contains (path_slots ss) slot → Contains (slots_named s.at (name_of s.key)) slot ⊎ Contains (path_slots ss) slot → ⊥
     go apart (inl here) = named_apart s.at (name_of s.key) c slot (along_before ss (noted_name s.at (name_of s.key) c) slot e) here
@@ -120,7 +120,9 @@ module _ (old new : Map) (differs : DiffersInScopes old new) where
       ∙ parent_listed old.modules at
 
   pub same_count : length new.modules ≡ length old.modules
-  same_count = sym (length_mapped (λ (v : ModuleValue). v.parent) new.modules) ∙ ap (λ (ps : List (Option ModuleId)). length ps) differs.parents ∙ length_mapped (λ (v : ModuleValue). v.parent) old.modules
+  same_count =
+      sym (length_mapped (λ (v : ModuleValue). v.parent) new.modules) ∙ ap (λ (ps : List (Option ModuleId)). length ps) differs.parents ∙ length_mapped
+      (λ (v : ModuleValue). v.parent) old.modules
 
   differs_kept : KeepsModules old new
   differs_kept = record {
@@ -134,14 +136,13 @@ module _ (old new : Map) (differs : DiffersInScopes old new) where
 
 -- ---- helpers stay where imports are taken and names go along globs
 
-copied_helpers : (n : ScopesValue) (s : GlobSlot) (of : Target) (vis : Visibility) (by : GlobId) → (copied n s of vis by).map.derive_helpers ≡ n.map.derive_helpers
+copied_helpers : (n : ScopesValue) (s : GlobSlot) (of : Target) (vis : Visibility) (by : GlobId) → (copied n s of vis by).map.derive_helpers
+    ≡ n.map.derive_helpers
 copied_helpers n s of vis by = go (bound_of n of s.key)
   where
     on : (key : Key) (b : Bound) → (copied_to n s.at key vis by b).map.derive_helpers ≡ n.map.derive_helpers
     on (Types name) b = refl
-    on (Values name) b = refl
-    on (Macros name) b = refl
-    on (Unnamed id) b = refl
+    on other b = refl
 
     go : (o : Option Bound) → (copied_where n s vis by o).map.derive_helpers ≡ n.map.derive_helpers
     go None = refl
@@ -152,9 +153,7 @@ followed_helpers n s of vis = go (bound_of n of s.key)
   where
     on : (key : Key) (b : Bound) → (followed_to n s.at key vis b).map.derive_helpers ≡ n.map.derive_helpers
     on (Types name) b = refl
-    on (Values name) b = refl
-    on (Macros name) b = refl
-    on (Unnamed id) b = refl
+    on other b = refl
 
     go : (o : Option Bound) → (followed_where n s vis o).map.derive_helpers ≡ n.map.derive_helpers
     go None = refl
@@ -237,7 +236,8 @@ module _ (finished : Maps) (a b : Run) (slots : List GlobSlot) (steps : Steps fi
 -- ---- where two calls succeed
 
 module _ {T E U F : Type 0} where
-  pub through_both : (P Q : T → Type 0) (R : Type 0) (first : Result T E) (second : Result U F) → OnOk second (IsOkAnd first P) → IfOk first Q → ((x : T) → P x → Q x → R) → OnOk second R
+  pub through_both : (P Q : T → Type 0) (R : Type 0) (first : Result T E) (second : Result U F) → OnOk second (IsOkAnd first P) → IfOk first Q
+      → ((x : T) → P x → Q x → R) → OnOk second R
   through_both P Q R (Ok x) (Ok y) both holds gives = gives x both holds
   through_both P Q R (Err e) (Ok y) both holds gives = absurd both
   through_both P Q R (Ok x) (Err f) both holds gives = tt

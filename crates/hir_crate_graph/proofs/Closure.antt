@@ -1,11 +1,12 @@
 -- What is reached in steps to direct dependencies, and what is depended on.
-use Rattle.std.proofs.Common.{◌≡◌, ◌⊎◌, inl, inr, nat_eq, nat_le, ℕ, ◌<◌, ◌≤◌, zero, suc, Bool, true, false, ◌||◌, List, [], ◌∷◌, ◌++◌, length, Option, Some, None, Result, Ok, Err, map, cond, refl, sym, ap, ap₂, ◌∙◌, arith, subst, Contains, get_or}
+use Rattle.std.proofs.Common.{◌≡◌, ◌⊎◌, inl, inr, nat_eq, nat_le, ℕ, ◌<◌, ◌≤◌, zero, suc, Bool, true, false, ◌||◌, List, [], ◌∷◌, ◌++◌, length, Option, Some}
+use Rattle.std.proofs.Common.{None, Result, Ok, Err, map, cond, refl, sym, ap, ap₂, ◌∙◌, arith, subst, Contains, get_or}
 use Rattle.std.specs.Cmp.{unsigned_Decides}
 use Rattle.std.specs.List.{list_any}
 use Rattle.std.proofs.lemmas.Bool.{cases_eq, cases_lt}
 use Rattle.std.proofs.lemmas.Bool.Decides.{nat_tests}
 use Rattle.std.proofs.lemmas.Map.Views.{list_any-from_Contains, Contains-from_any}
-use Rattle.hir_base.specs.declared.ids.Crate.{Crate}
+use Rattle.hir_base.specs.Types.{Crate}
 use Rattle.hir_base.specs.contracts.ids.CrateEq.TheImpl.Laws.{laws-law as crate_laws}
 use Rattle.hir_crate_graph.specs.CrateSet.{same_crate, has_crate, crate_of}
 use Rattle.hir_crate_graph.specs.Dependencies.DependsOn.{directly, through}
@@ -15,7 +16,8 @@ use Rattle.hir_crate_graph.specs.Graph.{crates_at, comes_by, Adds, first_late, g
 use Rattle.hir_crate_graph.specs.declared.transitive.CrateGraphError.{CrateGraphError}
 use Rattle.hir_crate_graph.specs.declared.transitive.CrateGraphError.TheVariants.{DependencyOrder}
 use Rattle.hir_crate_graph.specs.Laws.{ListsWhatIsDependedOn, ListsAscend}
-use Rattle.hir_crate_graph.proofs.CrateLists.{clash, length_one_more, or_true, exact_crate, same_number, ascending_alike, IsAscending-crates_from, has_above, has_within}
+use Rattle.hir_crate_graph.proofs.CrateLists.{clash, length_one_more, or_true, exact_crate, same_number, ascending_alike, IsAscending-crates_from, has_above}
+use Rattle.hir_crate_graph.proofs.CrateLists.{has_within}
 
 -- ---- dependencies that come before their crate
 
@@ -39,7 +41,8 @@ some_on_time : (k : ℕ) (p : Crate → Bool) (ds : List Crate) → has_late k d
 some_on_time k p [] none some = clash some refl
 some_on_time k p (d ∷ ds) none some = go (some_on_time k p ds) (p d) refl some
   where
-    go : (has_late k ds ≡ false → list_any p ds ≡ true → (e : Crate) × (e.0 < k) × (p e ≡ true) × (has_crate ds e ≡ true)) → (b : Bool) → p d ≡ b → (b || list_any p ds) ≡ true
+    go : (has_late k ds ≡ false → list_any p ds ≡ true → (e : Crate) × (e.0 < k) × (p e ≡ true) × (has_crate ds e ≡ true)) → (b : Bool) → p d ≡ b
+        → (b || list_any p ds) ≡ true
         → (e : Crate) × (e.0 < k) × (p e ≡ true) × (has_crate (d ∷ ds) e ≡ true)
     go behind true s e = (d, (on_time k d.0 (has_late k ds) none).0, s, ap (λ (t : Bool). t || has_crate ds d) (same_number d.0 d.0 refl))
     go behind false s e =
@@ -57,7 +60,8 @@ any_by : (p : Crate → Bool) (ds : List Crate) (d : Crate) → has_crate ds d �
 any_by p [] d has passes = clash has refl
 any_by p (e ∷ es) d has passes = go (any_by p es d) (same_crate d e) refl has
   where
-    go : (has_crate es d ≡ true → p d ≡ true → list_any p es ≡ true) → (b : Bool) → same_crate d e ≡ b → (b || has_crate es d) ≡ true → (p e || list_any p es) ≡ true
+    go : (has_crate es d ≡ true → p d ≡ true → list_any p es ≡ true) → (b : Bool) → same_crate d e ≡ b → (b || has_crate es d) ≡ true → (p e || list_any p es)
+        ≡ true
     go behind true s h = ap (λ (t : Bool). t || list_any p es) (ap p (sym (exact_crate d e s)) ∙ passes)
     go behind false s h = ap (λ (t : Bool). p e || t) (behind h passes) ∙ or_true (p e)
 
@@ -90,7 +94,8 @@ module _ (direct : ℕ → List Crate) where
       let h = some_on_time k (λ d. nat_eq j d.0 || is_reached direct n d.0 j) (direct k) (ordered k (omega arith)) e in
       go h.0 h.1 (λ r. reached_before n h.0.0 j (less (suc h.0.0) (suc k) (omega (arith, h.1)) ordered) r) (nat_eq j h.0.0) refl h.2
     where
-      go : (d : Crate) → d.0 < k → (is_reached direct n d.0 j ≡ true → j < d.0) → (b : Bool) → nat_eq j d.0 ≡ b → (b || is_reached direct n d.0 j) ≡ true → j < k
+      go : (d : Crate) → d.0 < k → (is_reached direct n d.0 j ≡ true → j < d.0) → (b : Bool) → nat_eq j d.0 ≡ b → (b || is_reached direct n d.0 j) ≡ true
+          → j < k
       go d lt before true s e = let same : j ≡ d.0 = (unsigned_Decides j d.0).0 s in omega arith
       go d lt before false s e = let h = before e in omega arith
 
@@ -131,7 +136,8 @@ module _ (direct : ℕ → List Crate) where
   depends_reached k j (through _ _ d among rest) (suc n) le ordered =
       let lt = early k (direct k) d (ordered k (omega arith)) (list_any-from_Contains crate_laws d (direct k) among) in
       any_by (λ e. nat_eq j e.0 || is_reached direct n e.0 j) (direct k) d (list_any-from_Contains crate_laws d (direct k) among)
-      (ap (λ (t : Bool). nat_eq j d.0 || t) (depends_reached d.0 j rest n (omega arith) (less (suc d.0) (suc k) (omega arith) ordered)) ∙ or_true (nat_eq j d.0))
+      (ap (λ (t : Bool). nat_eq j d.0 || t) (depends_reached d.0 j rest n (omega arith) (less (suc d.0) (suc k) (omega arith) ordered)) ∙ or_true
+      (nat_eq j d.0))
 
 pub transitive_agree : ListsWhatIsDependedOn
 transitive_agree direct k ordered c = (
@@ -178,7 +184,8 @@ module _ (direct : ℕ → List Crate) where
       ∙ sym (has-transitive direct d.0 c (less direct (suc d.0) (suc (suc n)) (omega arith) ordered))
       ∙ ap (λ (cs : List Crate). has_crate cs c) (sym (transitive_at (suc n) d.0 lt) ∙ ap (λ (all : List (List Crate)). crates_at all d.0) (sym is))))
 
-  pub AreTransitive-adds : (old new : List (List Crate)) (dependencies : List Crate) → AreTransitive direct old → direct (length old) ≡ dependencies → Adds old new dependencies
+  pub AreTransitive-adds : (old new : List (List Crate)) (dependencies : List Crate) → AreTransitive direct old → direct (length old) ≡ dependencies
+      → Adds old new dependencies
       → AreTransitive direct new
   AreTransitive-adds old new dependencies are now adds =
       let longer : length new ≡ suc (length old) = ap (λ (xs : List (List Crate)). length xs) adds.is ∙ length_one_more old adds.union in
@@ -203,13 +210,15 @@ first_late-none direct zero ordered = refl
 first_late-none direct (suc n) ordered =
     ap₂ (λ (o : Option Crate) (b : Bool). or_late o b n) (first_late-none direct n (less direct n (suc n) (omega arith) ordered)) (ordered n (omega arith))
 
-pub first_late-some : (direct : ℕ → List Crate) (n k : ℕ) → IsOrderedBelow direct k → has_late k (direct k) ≡ true → k < n → first_late direct n ≡ Some (crate_of k)
+pub first_late-some : (direct : ℕ → List Crate) (n k : ℕ) → IsOrderedBelow direct k → has_late k (direct k) ≡ true → k < n → first_late direct n
+    ≡ Some (crate_of k)
 first_late-some direct zero k ordered late lt = absurd (omega arith)
 first_late-some direct (suc n) k ordered late lt = go (first_late-some direct n k ordered late) (cases_eq k n)
   where
     go : (k < n → first_late direct n ≡ Some (crate_of k)) → (k ≡ n) ⊎ (k ≡ n → ⊥) → first_late direct (suc n) ≡ Some (crate_of k)
     go before (inl e) =
-        ap₂ (λ (o : Option Crate) (b : Bool). or_late o b n) (first_late-none direct n (subst (IsOrderedBelow direct) e ordered)) (subst (λ (m : ℕ). has_late m (direct m) ≡ true) e late)
+        ap₂ (λ (o : Option Crate) (b : Bool). or_late o b n) (first_late-none direct n (subst (IsOrderedBelow direct) e ordered))
+        (subst (λ (m : ℕ). has_late m (direct m) ≡ true) e late)
         ∙ ap (λ (m : ℕ). Some (crate_of m)) (sym e)
     go before (inr ne) = ap (λ (o : Option Crate). or_late o (has_late n (direct n)) n) (before (omega arith))
 
@@ -227,7 +236,8 @@ transitive_of-done lists sets are long =
 
 -- the next one isn't
 pub transitive_of-late : (lists sets : List (List Crate)) (dependencies : List Crate) (error : CrateGraphError) → AreTransitive (crates_at lists) sets
-    → crates_at lists (length sets) ≡ dependencies → length sets < length lists → verdict_of_push sets dependencies ≡ Err error → transitive_of lists ≡ Err error
+    → crates_at lists (length sets) ≡ dependencies → length sets < length lists → verdict_of_push sets dependencies ≡ Err error → transitive_of lists
+    ≡ Err error
 transitive_of-late lists sets dependencies error are now lt verdict = go (has_late (length sets) dependencies) refl verdict
   where
     go : (b : Bool) → has_late (length sets) dependencies ≡ b

@@ -1,9 +1,10 @@
 -- Lists of crates in ascending order, and those that pass a test.
-use Rattle.std.proofs.Common.{◌≡◌, ◌⊎◌, inl, inr, nat_eq, ℕ, ◌+◌, ◌-◌, ◌<◌, ◌≤◌, zero, suc, Bool, true, false, ◌||◌, ◌&&◌, List, [], ◌∷◌, ◌++◌, length, cond, refl, sym, ap, ap₂, ◌∙◌, arith, subst}
+use Rattle.std.proofs.Common.{◌≡◌, ◌⊎◌, inl, inr, nat_eq, ℕ, ◌+◌, ◌-◌, ◌<◌, ◌≤◌, zero, suc, Bool, true, false, ◌||◌, ◌&&◌, List, [], ◌∷◌, ◌++◌, length, cond}
+use Rattle.std.proofs.Common.{refl, sym, ap, ap₂, ◌∙◌, arith, subst}
 use Rattle.std.specs.Cmp.{unsigned_Decides}
 use Rattle.std.specs.List.{AllByRecursion}
 use Rattle.std.proofs.lemmas.Bool.{cases_eq, cases_lt}
-use Rattle.hir_base.specs.declared.ids.Crate.{Crate}
+use Rattle.hir_base.specs.Types.{Crate}
 use Rattle.hir_crate_graph.specs.CrateSet.{same_crate, has_crate, IsAscending, crate_of, crates_from}
 use mathlib.Core.Bool.{true≢false}
 
@@ -114,7 +115,8 @@ module _ (p : ℕ → Bool) where
       go true rest above h = (above, h)
       go false rest above h = h
 
-  has_cond : (b : Bool) (x : Crate) (rest : List Crate) (c : Crate) → has_crate (cond b (x ∷ rest) rest) c ≡ cond b (same_crate c x || has_crate rest c) (has_crate rest c)
+  has_cond : (b : Bool) (x : Crate) (rest : List Crate) (c : Crate) → has_crate (cond b (x ∷ rest) rest) c ≡ cond b (same_crate c x || has_crate rest c)
+      (has_crate rest c)
   has_cond true x rest c = refl
   has_cond false x rest c = refl
 
@@ -124,9 +126,11 @@ module _ (p : ℕ → Bool) where
   pick false true r = refl
   pick false false r = refl
 
-  has_step : (start count : ℕ) (c : Crate) → has_crate (crates_from p start (suc count)) c ≡ ((nat_eq c.0 start && p start) || has_crate (crates_from p (suc start) count) c)
+  has_step : (start count : ℕ) (c : Crate) → has_crate (crates_from p start (suc count)) c
+      ≡ ((nat_eq c.0 start && p start) || has_crate (crates_from p (suc start) count) c)
   has_step start count c =
-      has_cond (p start) (crate_of start) (crates_from p (suc start) count) c ∙ pick (p start) (nat_eq c.0 start) (has_crate (crates_from p (suc start) count) c)
+      has_cond (p start) (crate_of start) (crates_from p (suc start) count) c ∙ pick (p start) (nat_eq c.0 start)
+      (has_crate (crates_from p (suc start) count) c)
 
   -- at another number than the first
   has_other : (start count : ℕ) (c : Crate) → (c.0 ≡ start → ⊥) → has_crate (crates_from p start (suc count)) c ≡ has_crate (crates_from p (suc start) count) c
@@ -169,7 +173,8 @@ module _ (p : ℕ → Bool) where
       ∙ crates_from-none (suc start) k (λ n le lt. none n (omega arith) (omega arith))
 
   -- first those below a number, and then those from it on
-  split : (start first count rest at : ℕ) → count ≡ first + rest → at ≡ start + first → crates_from p start count ≡ crates_from p start first ++ crates_from p at rest
+  split : (start first count rest at : ℕ) → count ≡ first + rest → at ≡ start + first → crates_from p start count ≡ crates_from p start first ++ crates_from p
+      at rest
   split start zero count rest at e f =
       let same_start : start ≡ at = omega arith in
       let same_count : count ≡ rest = omega arith in
@@ -200,6 +205,8 @@ module _ (p : ℕ → Bool) where
   pub last_of_crates : (from to place : ℕ) → from ≤ place → place < to → p place ≡ true → ((n : ℕ) → place < n → n < to → p n ≡ false)
       → crates_from p from (to - from) ≡ crates_from p from (place - from) ++ crate_of place ∷ []
   last_of_crates from to place le lt set none =
-      let back : crates_from p (suc place) (to - suc place) ≡ [] = crates_from-none (suc place) (to - suc place) (λ n a b. none n (omega arith) (omega arith)) in
+      let back : crates_from p (suc place) (to - suc place) ≡ [] = crates_from-none (suc place) (to - suc place) (λ n a b. none n (omega arith) (omega arith))
+      in
       split from (place - from) (to - from) (suc (to - suc place)) place (omega arith) (omega arith)
-      ∙ ap (λ (ys : List Crate). crates_from p from (place - from) ++ ys) (at_set place (to - suc place) set ∙ ap (λ (ys : List Crate). crate_of place ∷ ys) back)
+      ∙ ap (λ (ys : List Crate). crates_from p from (place - from) ++ ys) (at_set place (to - suc place) set ∙ ap (λ (ys : List Crate). crate_of place ∷ ys)
+      back)

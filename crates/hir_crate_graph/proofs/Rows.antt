@@ -1,14 +1,16 @@
 -- Rows of bits, and the crates that they have.
-use Rattle.std.proofs.Common.{◌≡◌, ◌⊎◌, inl, inr, nat_eq, ℕ, ◌+◌, ◌*◌, ◌/◌, ◌%◌, ◌^◌, ◌<◌, ◌≤◌, zero, suc, Bool, false, ◌||◌, List, [], ◌∷◌, ◌++◌, Result, Ok, Err, OnErr, length, get_or, set, max, refl, sym, ap, ap₂, ◌∙◌, arith, w64}
+use Rattle.std.proofs.Common.{◌≡◌, ◌⊎◌, inl, inr, nat_eq, ℕ, ◌+◌, ◌*◌, ◌/◌, ◌%◌, ◌^◌, ◌<◌, ◌≤◌, zero, suc, Bool, false, ◌||◌, List, [], ◌∷◌, ◌++◌, Result, Ok}
+use Rattle.std.proofs.Common.{Err, OnErr, length, get_or, set, max, refl, sym, ap, ap₂, ◌∙◌, arith, w64}
 use Rattle.std.specs.Int.{bit_at}
 use Rattle.std.specs.Int.RustNames.{bit_and, bit_or}
 use Rattle.std.proofs.lemmas.Bool.{cases_eq, cases_lt}
 use Rattle.std.proofs.lemmas.List.{get_or_past, get_or-set_same, get_or-set_other}
 use Rattle.std.proofs.lemmas.Nat.Bits.{bit_at-zero, bit_at_or, bit_at_set_same, bit_at_set_other, shr_and_one, bit_at-lt}
-use Rattle.hir_base.specs.declared.ids.Crate.{Crate}
+use Rattle.hir_base.specs.Types.{Crate}
 use Rattle.hir_crate_graph.specs.Bits.{has_bit, members}
 use Rattle.hir_crate_graph.specs.CrateSet.{has_crate, IsAscending, Gains}
-use Rattle.hir_crate_graph.proofs.CrateLists.{or_true, or_false, same_number, other_number, ascending_alike, IsAscending-crates_from, length-crates_from, has_above, has_within}
+use Rattle.hir_crate_graph.proofs.CrateLists.{or_true, or_false, same_number, other_number, ascending_alike, IsAscending-crates_from, length-crates_from}
+use Rattle.hir_crate_graph.proofs.CrateLists.{has_above, has_within}
 
 -- a row whose word is 0 there has no bit there
 pub has_bit-zero_word : (words : List ℕ) (n : ℕ) → get_or words (n / 64) 0 ≡ 0 → has_bit words n ≡ false
@@ -120,12 +122,14 @@ pub members-alike : (words others : List ℕ) → ((n : ℕ) → has_bit words n
 members-alike words others same = ascending_alike (members words) (members others) (IsAscending-members words) (IsAscending-members others)
     (λ c. has-members words c ∙ same c.0 ∙ sym (has-members others c))
 
-pub Gains-members : (old new : List ℕ) (test : ℕ → Bool) → ((n : ℕ) → has_bit new n ≡ (has_bit old n || test n)) → Gains (members old) (members new) (λ c. test c.0)
+pub Gains-members : (old new : List ℕ) (test : ℕ → Bool) → ((n : ℕ) → has_bit new n ≡ (has_bit old n || test n)) → Gains (members old) (members new)
+    (λ c. test c.0)
 Gains-members old new test is = record {
   has = λ c. has-members new c ∙ is c.0 ∙ ap (λ (b : Bool). b || test c.0) (sym (has-members old c));
 }
 
-pub Gains-union : (old new others : List ℕ) → ((n : ℕ) → has_bit new n ≡ (has_bit old n || has_bit others n)) → Gains (members old) (members new) (has_crate (members others))
+pub Gains-union : (old new others : List ℕ) → ((n : ℕ) → has_bit new n ≡ (has_bit old n || has_bit others n)) → Gains (members old) (members new)
+    (has_crate (members others))
 Gains-union old new others is = record {
   has = λ c. has-members new c ∙ is c.0 ∙ ap₂ (λ (a b : Bool). a || b) (sym (has-members old c)) (sym (has-members others c));
 }

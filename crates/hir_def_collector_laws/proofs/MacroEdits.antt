@@ -1,7 +1,6 @@
 -- Macros that are used one after another.
 use Rattle.std.proofs.Common.{◌≡◌, ℕ, List, [], ◌∷◌, ◌++◌, Option, refl, ap}
-use Rattle.hir_base.specs.declared.ids.ExternCrateId.{ExternCrateId}
-use Rattle.hir_base.specs.declared.macro_kind.MacroId.{MacroId}
+use Rattle.hir_base.specs.Types.{ExternCrateId, MacroId}
 use Rattle.hir_def_map_rules.specs.State.{Map, with_name}
 use Rattle.hir_collector_rules.specs.Macros.{with_macros_used, with_used}
 
@@ -12,4 +11,5 @@ used_joined prelude (e ∷ es) others by = used_joined (with_name prelude e.0 (e
 
 pub used_append : (m : Map) (macros others : List (List ℕ × MacroId)) (by : Option ExternCrateId)
     → with_macros_used m (macros ++ others) by ≡ with_macros_used (with_macros_used m macros by) others by
-used_append m macros others by = ap (λ (prelude : List (List ℕ × (MacroId × Option ExternCrateId))). record m { macro_use_prelude = prelude }) (used_joined m.macro_use_prelude macros others by)
+used_append m macros others by = ap (λ (prelude : List (List ℕ × (MacroId × Option ExternCrateId))). record m { macro_use_prelude = prelude })
+    (used_joined m.macro_use_prelude macros others by)

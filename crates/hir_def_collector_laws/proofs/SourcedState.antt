@@ -4,16 +4,15 @@ use Rattle.std.specs.List.{list_any}
 use Rattle.std.proofs.Common.{Contains, ap, refl, sym, ◌∙◌, arith}
 use mathlib.Core.Bool.{true≢false}
 use Rattle.hir_base.specs.contracts.ids.MapIdPartialEq.TheImpl as map_id
-use Rattle.hir_base.specs.declared.ids.MapId.{MapId}
-use Rattle.hir_base.specs.declared.ids.ModuleId.{ModuleId}
-use Rattle.hir_item_tree.specs.declared.tree_id.TreeKey.{TreeKey}
+use Rattle.hir_base.specs.Types.{MapId, ModuleId}
+use Rattle.hir_item_tree.specs.Types.{TreeKey}
 use Rattle.hir_def_map_rules.specs.Closed.{ModuleIsThere}
 use Rattle.hir_def_map_rules.specs.Sources.{HoldsNowhereIn, HoldsOfNoExtern, SourceTest, on_import}
 use Rattle.hir_def_map_rules.specs.State.{Map, module_at}
 use Rattle.hir_def_map_rules.specs.Overlay.{Maps, Placed, overlay, placed_in}
-use Rattle.hir_import_resolution.specs.declared.directive.ImportDirective.{ImportDirective}
+use Rattle.hir_import_resolution.specs.Types.{ImportDirective}
 use Rattle.hir_import_resolution.specs.Directives.{way_of}
-use Rattle.hir_collector_rules.specs.declared.macro_directive.MacroDirective.{MacroDirective}
+use Rattle.hir_collector_rules.specs.Types.{MacroDirective}
 use Rattle.hir_collector_rules.specs.State.{State, Task, visits, closes}
 use Rattle.hir_collector_rules.specs.declared.source_database.Key.TheVariants as keys
 use Rattle.hir_collector_rules.proofs.Grows.{Grows}
@@ -57,10 +56,12 @@ some_at (x ∷ xs) [] low k e = absurd (omega arith)
 some_at (x ∷ xs) (y ∷ ys) low zero e = refl
 some_at (x ∷ xs) (y ∷ ys) low (suc k) e = some_at xs ys (omega arith) k e
 
-pub stays_longer : (finished : Maps) (old new : Map) → new.id ≡ old.id → length old.modules ≤ length new.modules → (m : ModuleId) → ModuleIsThere (overlay finished old) m
+pub stays_longer : (finished : Maps) (old new : Map) → new.id ≡ old.id → length old.modules ≤ length new.modules → (m : ModuleId)
+    → ModuleIsThere (overlay finished old) m
     → ModuleIsThere (overlay finished new) m
 stays_longer finished old new same longer m e =
-    ap (λ (id : MapId). is_some (option_and_then (λ (p : Placed). module_at p.map m.index) (cond (map_id.ghosts.eq m.map id) (Some (placed_in finished new)) (finished m.map)))) same
+    ap (λ (id : MapId). is_some (option_and_then (λ (p : Placed). module_at p.map m.index) (cond (map_id.ghosts.eq m.map id) (Some (placed_in finished new))
+    (finished m.map)))) same
     ∙ go (map_id.ghosts.eq m.map old.id) e
   where
     go : (b : Bool) → is_some (option_and_then (λ (p : Placed). module_at p.map m.index) (cond b (Some (placed_in finished old)) (finished m.map))) ≡ true
@@ -68,5 +69,6 @@ stays_longer finished old new same longer m e =
     go true f = some_at old.modules new.modules longer m.index f
     go false f = f
 
-pub stays_there : (finished : Maps) (old new : Map) → new.id ≡ old.id → Grows old new → (m : ModuleId) → ModuleIsThere (overlay finished old) m → ModuleIsThere (overlay finished new) m
+pub stays_there : (finished : Maps) (old new : Map) → new.id ≡ old.id → Grows old new → (m : ModuleId) → ModuleIsThere (overlay finished old) m
+    → ModuleIsThere (overlay finished new) m
 stays_there finished old new same grows m e = stays_longer finished old new same grows.longer m e

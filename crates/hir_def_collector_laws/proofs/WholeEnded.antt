@@ -5,31 +5,24 @@ use Rattle.std.specs.Cmp.Lexicographic.{slice_cmp}
 use Rattle.std.specs.List.{list_any}
 use Rattle.std.specs.Map.{remove_entry}
 use Rattle.std.specs.Ordering.{nat_cmp}
-use Rattle.hir_base.specs.declared.ids.Crate.{Crate}
-use Rattle.hir_base.specs.declared.ids.FunctionId.{FunctionId}
-use Rattle.hir_base.specs.declared.ids.ModuleDefId.{ModuleDefId}
+use Rattle.hir_base.specs.Types.{Crate, FunctionId, MacroId, ModuleDefId, TraitId}
 use Rattle.hir_base.specs.declared.ids.ModuleDefId.TheVariants as definitions
 use Rattle.hir_base.specs.contracts.ids.ModuleDefIdPartialEq.TheImpl as module_def
-use Rattle.hir_base.specs.declared.ids.TraitId.{TraitId}
-use Rattle.hir_base.specs.declared.macro_kind.MacroId.{MacroId}
 use Rattle.hir_base.specs.declared.macro_kind.MacroId.TheVariants as macros
 use Rattle.hir_scope.specs.PerNs.{Item}
 use Rattle.hir_scope.specs.Scope.{ScopeValue}
 use Rattle.hir_scope.specs.Scope.Updates.{censored, censored_item, censored_macro, censored_macros, censored_scope, censored_vis, is_definition}
 use Rattle.hir_scope_table.specs.Entries.{item_at}
-use Rattle.hir_scope.specs.declared.imports.ImportId.{ImportId}
-use Rattle.hir_scope.specs.declared.imports.ImportOrExternCrate.{ImportOrExternCrate}
-use Rattle.hir_scope.specs.declared.imports.ImportOrGlob.{ImportOrGlob}
-use Rattle.hir_scope.specs.declared.visibility.Visibility.{Visibility}
+use Rattle.hir_scope.specs.Types.{ImportId, ImportOrExternCrate, ImportOrGlob, Visibility}
 use Rattle.hir_def_map_rules.specs.References.{any_reference_in_scope, is_missing, reference_to, test_item, test_macro, test_of, test_trait, test_visibility}
 use Rattle.hir_def_map_rules.specs.Overlay.{Maps, overlay}
 use Rattle.hir_def_map_rules.specs.State.{with_scope}
 use Rattle.hir_def_map_rules.specs.WellFormed.{Extends, HasNoDanglingReference}
-use Rattle.hir_def_map_rules.specs.declared.reference.Reference.{Reference}
+use Rattle.hir_def_map_rules.specs.Types.{Reference}
 use Rattle.hir_def_map_rules.proofs.NoneOf.{neither, not_first, not_second}
 use Rattle.hir_def_map_rules.proofs.Referred.{FailsInScope, scope_parts, scope_whole}
 use Rattle.hir_def_map_rules.proofs.StaysWellFormed.{Extends-scope, HasNoDanglingReference-scope}
-use Rattle.hir_collector_rules.specs.declared.exported.ExportedFunction.{ExportedFunction}
+use Rattle.hir_collector_rules.specs.Types.{ExportedFunction}
 use Rattle.hir_collector_rules.specs.Ended.{ended, exporting_scope, without_function, without_functions}
 use Rattle.hir_collector_rules.specs.State.{Core}
 
@@ -57,7 +50,8 @@ module _ (test : Reference → Bool) where
   seen_before krate (macros.Macro2Id id) import vis f = refl
   seen_before krate (macros.MacroRulesId id) import vis f = refl
 
-  none_censored_macros : (krate : Crate) (es : List (List ℕ × Item MacroId ImportOrExternCrate)) → list_any (test_macro test) es ≡ false → list_any (test_macro test) (censored_macros krate es) ≡ false
+  none_censored_macros : (krate : Crate) (es : List (List ℕ × Item MacroId ImportOrExternCrate)) → list_any (test_macro test) es ≡ false
+      → list_any (test_macro test) (censored_macros krate es) ≡ false
   none_censored_macros krate [] f = refl
   none_censored_macros krate (e ∷ es) f =
       neither (test_visibility test (censored_macro krate e.1).vis) (list_any (test_macro test) (censored_macros krate es))
@@ -65,7 +59,8 @@ module _ (test : Reference → Bool) where
       (none_censored_macros krate es (not_second (test_macro test e) (list_any (test_macro test) es) f))
 
   -- a scope that others see less of
-  pub scope_censored : (krate : Crate) (scope : ScopeValue) → any_reference_in_scope test scope ≡ false → any_reference_in_scope test (censored_scope krate scope) ≡ false
+  pub scope_censored : (krate : Crate) (scope : ScopeValue) → any_reference_in_scope test scope ≡ false
+      → any_reference_in_scope test (censored_scope krate scope) ≡ false
   scope_censored krate scope f =
       let parts : FailsInScope test scope = scope_parts test scope f in
       scope_whole test (censored_scope krate scope) (record {
@@ -84,7 +79,8 @@ module _ (test : Reference → Bool) where
       go true below = not_second (p e) (list_any p es) f
       go false below = neither (p e) (list_any p (remove_entry at es)) (not_first (p e) (list_any p es) f) below
 
-  scope_without : (name : List ℕ) (f : FunctionId) (scope : ScopeValue) → any_reference_in_scope test scope ≡ false → any_reference_in_scope test (without_function name f scope) ≡ false
+  scope_without : (name : List ℕ) (f : FunctionId) (scope : ScopeValue) → any_reference_in_scope test scope ≡ false
+      → any_reference_in_scope test (without_function name f scope) ≡ false
   scope_without name f scope none =
       let parts : FailsInScope test scope = scope_parts test scope none in
       scope_whole test (without_function name f scope) (record {
@@ -97,15 +93,18 @@ module _ (test : Reference → Bool) where
       on_value : List ℕ × Item ModuleDefId ImportOrGlob → Bool
       on_value e = test_item test e.1
 
-      go : (b : Bool) → list_any on_value scope.values ≡ false → list_any on_value (cond b (remove_entry (is_at (slice_cmp nat_cmp name)) scope.values) scope.values) ≡ false
+      go : (b : Bool) → list_any on_value scope.values ≡ false
+          → list_any on_value (cond b (remove_entry (is_at (slice_cmp nat_cmp name)) scope.values) scope.values) ≡ false
       go true f = none_removed on_value (is_at (slice_cmp nat_cmp name)) scope.values f
       go false f = f
 
-  scope_without_all : (fs : List ExportedFunction) (scope : ScopeValue) → any_reference_in_scope test scope ≡ false → any_reference_in_scope test (without_functions fs scope) ≡ false
+  scope_without_all : (fs : List ExportedFunction) (scope : ScopeValue) → any_reference_in_scope test scope ≡ false
+      → any_reference_in_scope test (without_functions fs scope) ≡ false
   scope_without_all [] scope none = none
   scope_without_all (f ∷ fs) scope none = scope_without_all fs (without_function f.name f.id scope) (scope_without f.name f.id scope none)
 
-  pub scope_exporting : (krate : Crate) (fs : List ExportedFunction) (scope : ScopeValue) → any_reference_in_scope test scope ≡ false → any_reference_in_scope test (exporting_scope krate fs scope) ≡ false
+  pub scope_exporting : (krate : Crate) (fs : List ExportedFunction) (scope : ScopeValue) → any_reference_in_scope test scope ≡ false
+      → any_reference_in_scope test (exporting_scope krate fs scope) ≡ false
   scope_exporting krate fs scope none = scope_censored krate (without_functions fs scope) (scope_without_all fs scope none)
 
 -- the map that a run leaves has what its core's has
@@ -120,7 +119,8 @@ module _ (finished : Maps) (c : Core) where
   pub HasNoDanglingReference-ended : HasNoDanglingReference (overlay finished c.map) c.map → HasNoDanglingReference (overlay finished (ended c)) (ended c)
   HasNoDanglingReference-ended f = go c.is_proc_macro
     where
-      go : (b : Bool) → HasNoDanglingReference (overlay finished (cond b (with_scope c.map 0 (exporting_scope c.map.id.krate c.exported)) c.map)) (cond b (with_scope c.map 0 (exporting_scope c.map.id.krate c.exported)) c.map)
+      go : (b : Bool) → HasNoDanglingReference (overlay finished (cond b (with_scope c.map 0 (exporting_scope c.map.id.krate c.exported)) c.map))
+          (cond b (with_scope c.map 0 (exporting_scope c.map.id.krate c.exported)) c.map)
       go true = HasNoDanglingReference-scope finished c.map 0 (exporting_scope c.map.id.krate c.exported)
           (λ scope none. scope_exporting (is_missing (overlay finished c.map)) c.map.id.krate c.exported scope none) f
       go false = f

@@ -1,23 +1,17 @@
 -- Which glob brought a name, and what does its source show now?
 use Rattle.std.specs.Prelude.{◌≡◌, ◌≢◌, ℕ, Bool, true, false, List, Option, None, Some, option_and_then, slice_get}
-use Rattle.hir_base.specs.declared.ids.Crate.{Crate}
+use Rattle.hir_base.specs.Types.{Crate}
 use Rattle.hir_scope.specs.Imports.{as_item_import, glob_of}
 use Rattle.hir_scope.specs.ModuleTree.{same_crate}
 use Rattle.hir_scope.specs.PerNs.{Item}
-use Rattle.hir_scope.specs.declared.imports.GlobId.{GlobId}
-use Rattle.hir_scope.specs.declared.imports.ImportOrGlob.{ImportOrGlob}
-use Rattle.hir_scope.specs.declared.per_ns.PerNs.{PerNs}
-use Rattle.hir_scope.specs.declared.visibility.Visibility.{Visibility}
+use Rattle.hir_scope.specs.Types.{GlobId, ImportOrGlob, PerNs, Visibility}
 use Rattle.hir_scope.specs.declared.visibility.Visibility.TheVariants.{Module, PubCrate, Public}
 use Rattle.hir_def_map_rules.specs.Overlay.{Maps}
 use Rattle.hir_def_map_rules.specs.State.{entry_at}
 use Rattle.hir_glob_imports.specs.Keys.{slot_at}
 use Rattle.hir_glob_imports.specs.Moves.{brought_vis, shown}
 use Rattle.hir_glob_imports.specs.View.{View, bound_in}
-use Rattle.hir_glob_imports.specs.declared.edge.Bound.{Bound}
-use Rattle.hir_glob_imports.specs.declared.edge.Brought.{Brought}
-use Rattle.hir_glob_imports.specs.declared.edge.Edge.{Edge}
-use Rattle.hir_glob_imports.specs.declared.edge.Key.{Key}
+use Rattle.hir_glob_imports.specs.Types.{Bound, Brought, Edge, Key}
 use Rattle.hir_glob_imports.specs.declared.edge.Key.TheVariants.{Types, Values, Macros, Unnamed}
 use Rattle.hir_import_resolution.specs.Names.{view_of}
 use Rattle.hir_import_resolution.specs.State.{scopes_of}
@@ -93,13 +87,15 @@ pub record IsAsShown (v : View) (s : State) (number : ℕ) (key : Key) (id : Glo
   -- if the source shows the module anything now, the edge saw just this, and then had the visibility that it has now
   pub now : (b : Bound) → shown v by.edge key ≡ Some b → WasSeen by.last by.edge b
   -- where all may see that, or all of a crate, and the edge lets them, they may see this
-  pub kept_open : (b : Bound) → shown v by.edge key ≡ Some b → (within : Option Crate) → is_open_in within b.vis ≡ true → is_open_in within by.edge.vis ≡ true → is_open_in within bound.vis ≡ true
+  pub kept_open : (b : Bound) → shown v by.edge key ≡ Some b → (within : Option Crate) → is_open_in within b.vis ≡ true → is_open_in within by.edge.vis ≡ true
+      → is_open_in within bound.vis ≡ true
   -- no other edge that shows the same definition would give it a greater visibility
   pub widest : (other : Edge) (b : Bound) → AlsoShows v s number key by.place bound other b
       → (wide : Visibility) → v.greater bound.vis (brought_vis v other b) ≡ Some wide → wide ≡ bound.vis
 
 -- each name that a glob brought in a run is what the glob's source shows now
 abbrev pub GlobsBringWhatIsShown : Type 0
-GlobsBringWhatIsShown = (tables : TablesValue) (w : Workspace) (finished : Maps) (from : Beginning) (answer : CollectedValue) → (ends : Ends tables w finished from answer)
+GlobsBringWhatIsShown =
+    (tables : TablesValue) (w : Workspace) (finished : Maps) (from : Beginning) (answer : CollectedValue) → (ends : Ends tables w finished from answer)
     → (number : ℕ) (key : Key) (id : GlobId) → glob_at (entry_at answer.map number) key ≡ Some id
     → IsAsShown (view_in (read_by w finished from.start) ends.last) ends.last number key id

@@ -1,16 +1,15 @@
 -- Which items do the sources write that a run asked for?
 use Rattle.std.specs.Prelude.{◌≡◌, ◌≢◌, true, List, None, Contains}
-use Rattle.hir_base.specs.declared.ast_id.MacroCallId.{MacroCallId}
+use Rattle.hir_base.specs.Types.{MacroCallId}
 use Rattle.hir_item_tree.specs.Collected.{is_enabled}
 use Rattle.hir_item_tree.specs.KeptForest.{Head, Holder, KeptItem, KeptForest, holder, item}
-use Rattle.hir_item_tree.specs.declared.tree_id.TreeId.{TreeId}
-use Rattle.hir_item_tree.specs.declared.tree_id.TreeKey.{TreeKey}
+use Rattle.hir_item_tree.specs.Types.{TreeId, TreeKey}
 use Rattle.hir_tables.specs.Tables.{TablesValue}
 use Rattle.hir_collector_rules.specs.Calls.{call_tree}
 use Rattle.hir_collector_rules.specs.Derivation.{CollectedValue}
 use Rattle.hir_collector_rules.specs.Keys.{tree_at}
 use Rattle.hir_collector_rules.specs.Workspace.{Workspace}
-use Rattle.hir_collector_rules.specs.declared.source_database.Key.{Key}
+use Rattle.hir_collector_rules.specs.Types.{Key}
 use Rattle.hir_collector_rules.specs.declared.source_database.Key.TheVariants.{Tree}
 
 -- a tree under the crate of a run
@@ -21,7 +20,8 @@ key_of answer tree = record { krate = answer.map.id.krate; id = tree }
 pub data IsIn (i : KeptItem) : KeptForest → Type 0 where
   first : (others : KeptForest) → IsIn i (item i others)
   behind : (before : KeptItem) (others : KeptForest) → IsIn i others → IsIn i (item before others)
-  inside : (head : Head) (kind : Holder) (items others : KeptForest) → is_enabled head.attributes ≡ true → IsIn i items → IsIn i (item (holder head kind items) others)
+  inside : (head : Head) (kind : Holder) (items others : KeptForest) → is_enabled head.attributes ≡ true → IsIn i items
+      → IsIn i (item (holder head kind items) others)
 
 -- an item of a tree that was asked for; what holds the item is enabled
 pub record IsWritten (tables : TablesValue) (w : Workspace) (asked : List Key) (key : TreeKey) (i : KeptItem) : Type 0 where

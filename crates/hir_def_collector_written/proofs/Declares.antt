@@ -1,17 +1,15 @@
 -- What an item declares stands for one definition, and carries no import.
 use Rattle.std.proofs.Common.{◌≡◌, ℕ, List, Option, None, Some, refl, ap, subst}
-use Rattle.hir_base.specs.declared.ids.ModuleDefId.{ModuleDefId}
+use Rattle.hir_base.specs.Types.{MacroId, ModuleDefId}
 use Rattle.hir_base.specs.declared.ids.ModuleDefId.TheVariants as definitions
-use Rattle.hir_base.specs.declared.macro_kind.MacroId.{MacroId}
-use Rattle.hir_item_tree.specs.KeptForest.{Head, Holder, KeptItem, Leaf, constant, enumeration, extern_block, extern_crate, function, holder, implementation, import, inline_module, leaf, macro_call, macro_def, macro_rules, outline_module, static_item, structure, trait_item, type_alias, union_structure}
+use Rattle.hir_item_tree.specs.KeptForest.{Head, Holder, KeptItem, Leaf, constant, enumeration, extern_block, extern_crate, function, holder, implementation}
+use Rattle.hir_item_tree.specs.KeptForest.{import, inline_module, leaf, macro_call, macro_def, macro_rules, outline_module, static_item, structure, trait_item}
+use Rattle.hir_item_tree.specs.KeptForest.{type_alias, union_structure}
 use Rattle.hir_scope.specs.PerNs.{Item}
-use Rattle.hir_scope.specs.declared.imports.ImportOrExternCrate.{ImportOrExternCrate}
-use Rattle.hir_scope.specs.declared.imports.ImportOrGlob.{ImportOrGlob}
-use Rattle.hir_scope.specs.declared.visibility.Visibility.{Visibility}
+use Rattle.hir_scope.specs.Types.{ImportOrExternCrate, ImportOrGlob, Visibility}
 use Rattle.hir_def_map_rules.specs.Overlay.{Maps}
 use Rattle.hir_def_map_rules.specs.State.{Local, Map}
-use Rattle.hir_collector_rules.specs.declared.declaration.Declaration.{Declaration}
-use Rattle.hir_collector_rules.specs.declared.site.Site.{Site}
+use Rattle.hir_collector_rules.specs.Types.{Declaration, Site}
 use Rattle.hir_collector_rules.specs.Items.{declared_by, declared_by_leaf, declared_struct, type_declaration, value_declaration}
 use Rattle.hir_collector_rules.specs.Macros.{macro_declaration}
 use Rattle.hir_def_collector_written.specs.Declared.{holder_declares, item_declares, leaf_declares}
@@ -103,21 +101,10 @@ module _ (finished : Maps) (local : Local) (m : Map) (s : Site) (d : Declaration
 
   -- what the visited item declares is such
   leaf_declared : (h : Head) (l : Leaf) → declared_by_leaf finished local m s h l ≡ Some d → leaf_declares finished local m s h l ≡ Some d
-  leaf_declared h (import tree) e = e
-  leaf_declared h (extern_crate name alias) e = e
-  leaf_declared h (function name) e = e
-  leaf_declared h (structure name shape fields) e = e
-  leaf_declared h (union_structure name fields) e = e
   leaf_declared h (enumeration name) e = absurd cc
-  leaf_declared h (constant name) e = e
-  leaf_declared h (static_item name) e = e
-  leaf_declared h (trait_item name) e = e
-  leaf_declared h (implementation of_trait) e = e
-  leaf_declared h (type_alias name) e = e
   leaf_declared h (outline_module name) e = absurd cc
-  leaf_declared h (macro_call path) e = e
-  leaf_declared h (macro_rules name expander helpers) e = e
   leaf_declared h (macro_def name expander helpers) e = absurd cc
+  leaf_declared h other e = e
 
   pub declared_item : (i : KeptItem) → declared_by finished local m s i ≡ Some d → item_declares finished local m s i ≡ Some d
   declared_item (leaf h l) e = leaf_declared h l e

@@ -7,10 +7,9 @@ use Rattle.std.specs.Option.{option_map}
 use Rattle.std.specs.BTreeMap.{BTreeMap, get, is_at, Updates}
 use Rattle.std.specs.Map.{lookup}
 use Rattle.std.specs.BTreeSet.{BTreeSet, btree_set_len, contains}
-use Rattle.hir_base.specs.declared.ids.MapId.{MapId}
+use Rattle.hir_base.specs.Types.{MapId}
 use Rattle.hir_base.specs.contracts.ids.MapIdOrd.TheImpl as map_order
-use Rattle.hir_def_map.specs.declared.world.dependents.Dependents.{Dependents}
-use Rattle.hir_def_map.specs.declared.world.finished.Finished.{Finished}
+use Rattle.hir_def_map.specs.Types.{Dependents, Finished}
 use Rattle.hir_def_map_rules.specs.State.{Local, Map}
 use Rattle.hir_def_map_rules.specs.References.{is_well_formed}
 use Rattle.hir_def_map.specs.Insertion.{may_join}
@@ -45,7 +44,8 @@ pub changed_at : (op : Bool → Bool → Bool) → ((a : Bool) → op a false �
     → (k id : MapId) → has_id (get map_order.ghosts.cmp new k) id ≡ op (has_id (get map_order.ghosts.cmp old k) id) (is_entry (on ∷ []) own k id)
 changed_at op none old new on own ids updates has k id = ap (λ (o : Option (BTreeSet MapId)). has_id o id) (updates k) ∙ go (is_id on k) refl
   where
-    go : (b : Bool) → is_id on k ≡ b → has_id (cond b ids (get map_order.ghosts.cmp old k)) id ≡ op (has_id (get map_order.ghosts.cmp old k) id) ((is_id k on || false) && is_id own id)
+    go : (b : Bool) → is_id on k ≡ b → has_id (cond b ids (get map_order.ghosts.cmp old k)) id ≡ op (has_id (get map_order.ghosts.cmp old k) id)
+        ((is_id k on || false) && is_id own id)
     go true s =
         has id
         ∙ ap (λ (x : MapId). op (has_id (get map_order.ghosts.cmp old x) id) (is_id own id)) (same_id on k s)
@@ -82,7 +82,8 @@ pub emptied_at : (old mid new : Index) (on own : MapId) (ids left : BTreeSet Map
     → ((k : MapId) → get map_order.ghosts.cmp new k ≡ cond (is_id on k) None (get map_order.ghosts.cmp mid k))
     → (k id : MapId) → has_id (get map_order.ghosts.cmp new k) id ≡ (has_id (get map_order.ghosts.cmp old k) id && not (is_entry (on ∷ []) own k id))
 emptied_at old mid new on own ids left found removed empty first second =
-    changed_at (λ (a b : Bool). a && not b) and-true old new on own None (λ k. second k ∙ ap (cond (is_id on k) None) (first k) ∙ twice (is_id on k) (get map_order.ghosts.cmp old k))
+    changed_at (λ (a b : Bool). a && not b) and-true old new on own None (λ k. second k ∙ ap (cond (is_id on k) None) (first k) ∙ twice (is_id on k)
+    (get map_order.ghosts.cmp old k))
     (λ id.
     sym (none left.keys empty id)
     ∙ removed id
@@ -206,15 +207,18 @@ absent_before maps map local may = go (get map_order.ghosts.cmp maps map.id) ref
     go : (o : Option Finished) → get map_order.ghosts.cmp maps map.id ≡ o → get map_order.ghosts.cmp maps map.id ≡ None
     go None s = s
     go (Some f) s =
-        absurd (true≢false (sym (first_so (not (is_some (finished_in maps map.id))) (is_well_formed (finished_in maps) map local) may) ∙ ap (λ (o : Option Finished). not (is_some (option_map placed_of o))) s))
+        absurd (true≢false (sym (first_so (not (is_some (finished_in maps map.id))) (is_well_formed (finished_in maps) map local) may) ∙ ap
+        (λ (o : Option Finished). not (is_some (option_map placed_of o))) s))
 
-pub empty_index : (maps : Store) (dependents : Dependents) → maps.entries ≡ [] → ((on id : MapId) → is_dependent dependents on id ≡ false) → IsIndexed dependents maps
+pub empty_index : (maps : Store) (dependents : Dependents) → maps.entries ≡ [] → ((on id : MapId) → is_dependent dependents on id ≡ false)
+    → IsIndexed dependents maps
 empty_index maps dependents empty none = record {
   each = λ on id. none on id ∙ sym (ap (λ (es : List (MapId × Finished)). lists_of (lookup (is_id id) es) on) empty);
 }
 
 -- a map that isn't there depends on none
-pub depends_on_none : (maps : Store) (dependents : Dependents) (id : MapId) → IsIndexed dependents maps → get map_order.ghosts.cmp maps id ≡ None → (on : MapId) → is_dependent dependents on id ≡ false
+pub depends_on_none : (maps : Store) (dependents : Dependents) (id : MapId) → IsIndexed dependents maps → get map_order.ghosts.cmp maps id ≡ None → (on : MapId)
+    → is_dependent dependents on id ≡ false
 depends_on_none maps dependents id indexed none on = indexed.each on id ∙ ap (λ (o : Option Finished). lists_of o on) none
 
 pub entered : (maps : Store) (old new : Dependents) (f : Finished) → IsIndexed old maps → Enters old new f.named.keys f.map.id → IsEntered new maps f
@@ -235,15 +239,18 @@ alike_index maps maps' dependents same indexed = record { each = λ on id. index
 -- an entered map joins
 pub joined_index : (maps maps' : Store) (dependents : Dependents) (f : Finished) → get map_order.ghosts.cmp maps f.map.id ≡ None → IsEntered dependents maps f
     → Updates map_order.ghosts.cmp maps maps' f.map.id (Some f) → IsIndexed dependents maps'
-joined_index maps maps' dependents f absent entered updates = record { each = λ on id. entered.each on id ∙ sym (ap (λ (o : Option Finished). lists_of o on) (updates.0 id) ∙ go on id (is_id f.map.id id) refl) }
+joined_index maps maps' dependents f absent entered updates =
+    record { each = λ on id. entered.each on id ∙ sym (ap (λ (o : Option Finished). lists_of o on) (updates.0 id) ∙ go on id (is_id f.map.id id) refl) }
   where
     go : (on id : MapId) (b : Bool) → is_id f.map.id id ≡ b
         → lists_of (cond b (Some f) (get map_order.ghosts.cmp maps id)) on ≡ (lists_in maps id on || is_entry f.named.keys f.map.id on id)
     go on id true s =
         sym (ap (λ (b : Bool). list_any (is_id on) f.named.keys && b) s ∙ and-true (list_any (is_id on) f.named.keys))
-        ∙ ap (λ (b : Bool). b || is_entry f.named.keys f.map.id on id) (sym (ap (λ (o : Option Finished). lists_of o on) (sym (ap (get map_order.ghosts.cmp maps) (same_id f.map.id id s)) ∙ absent)))
+        ∙ ap (λ (b : Bool). b || is_entry f.named.keys f.map.id on id)
+        (sym (ap (λ (o : Option Finished). lists_of o on) (sym (ap (get map_order.ghosts.cmp maps) (same_id f.map.id id s)) ∙ absent)))
     go on id false s =
-        sym (ap (λ (b : Bool). lists_in maps id on || (list_any (is_id on) f.named.keys && b)) s ∙ none (lists_in maps id on) (list_any (is_id on) f.named.keys))
+        sym (ap (λ (b : Bool). lists_in maps id on || (list_any (is_id on) f.named.keys && b)) s ∙ none (lists_in maps id on)
+        (list_any (is_id on) f.named.keys))
       where
         none : (a b : Bool) → (a || (b && false)) ≡ a
         none true b = refl
@@ -261,9 +268,11 @@ refused_index maps old new f absent entered leaves = record {
 }
   where
     go : (on id : MapId) (b : Bool) → is_id f.map.id id ≡ b
-        → ((lists_in maps id on || (list_any (is_id on) f.named.keys && is_id f.map.id id)) && not (list_any (is_id on) f.named.keys && is_id f.map.id id)) ≡ lists_in maps id on
+        → ((lists_in maps id on || (list_any (is_id on) f.named.keys && is_id f.map.id id)) && not (list_any (is_id on) f.named.keys && is_id f.map.id id))
+        ≡ lists_in maps id on
     go on id true s =
-        let gone : lists_in maps id on ≡ false = ap (λ (o : Option Finished). lists_of o on) (sym (ap (get map_order.ghosts.cmp maps) (same_id f.map.id id s)) ∙ absent) in
+        let gone : lists_in maps id on ≡ false = ap (λ (o : Option Finished). lists_of o on) (sym (ap (get map_order.ghosts.cmp maps) (same_id f.map.id id s)) ∙
+        absent) in
         ap (λ (a : Bool). (a || (list_any (is_id on) f.named.keys && is_id f.map.id id)) && not (list_any (is_id on) f.named.keys && is_id f.map.id id)) gone
         ∙ none (list_any (is_id on) f.named.keys && is_id f.map.id id)
         ∙ sym gone
@@ -295,7 +304,8 @@ removed_index maps maps' old new f id there indexed updates leaves = record {
     go : (on k : MapId) (b : Bool) → is_id id k ≡ b
         → (lists_in maps k on && not (list_any (is_id on) f.named.keys && is_id id k)) ≡ lists_of (cond b None (get map_order.ghosts.cmp maps k)) on
     go on k true s =
-        ap (λ (o : Option Finished). lists_of o on && not (list_any (is_id on) f.named.keys && is_id id k)) (sym (ap (get map_order.ghosts.cmp maps) (same_id id k s)) ∙ there)
+        ap (λ (o : Option Finished). lists_of o on && not (list_any (is_id on) f.named.keys && is_id id k))
+        (sym (ap (get map_order.ghosts.cmp maps) (same_id id k s)) ∙ there)
         ∙ ap (λ (c : Bool). list_any (is_id on) f.named.keys && not (list_any (is_id on) f.named.keys && c)) s
         ∙ none (list_any (is_id on) f.named.keys)
       where

@@ -1,14 +1,14 @@
 -- What falls with a map depends on it, and what is left stays checked.
-use Rattle.std.proofs.Common.{◌≡◌, ◌∙◌, ap, sym, subst, refl, Bool, true, false, not, ◌&&◌, ◌||◌, is_some, cond, Option, Some, None, List, [], ◌∷◌, ◌⊎◌, inl, inr}
+use Rattle.std.proofs.Common.{◌≡◌, ◌∙◌, ap, sym, subst, refl, Bool, true, false, not, ◌&&◌, ◌||◌, is_some, cond, Option, Some, None, List, [], ◌∷◌, ◌⊎◌, inl}
+use Rattle.std.proofs.Common.{inr}
 use mathlib.Core.Bool.{true≢false}
 use Rattle.std.specs.Option.{option_map}
 use Rattle.std.specs.List.{list_any}
 use Rattle.std.specs.BTreeMap.{BTreeMap, get, is_at, Updates}
-use Rattle.hir_base.specs.declared.ids.MapId.{MapId}
-use Rattle.hir_base.specs.declared.ids.ModuleId.{ModuleId}
+use Rattle.hir_base.specs.Types.{MapId, ModuleId}
 use Rattle.hir_base.specs.contracts.ids.MapIdOrd.TheImpl as map_order
 use Rattle.hir_scope.specs.ModuleTree.{same_crate}
-use Rattle.hir_def_map.specs.declared.world.finished.Finished.{Finished}
+use Rattle.hir_def_map.specs.Types.{Finished}
 use Rattle.hir_def_map_rules.specs.Overlay.{Maps, Placed, holders_of, holders_under}
 use Rattle.hir_def_map_rules.specs.Ancestors.{HolderLeads, IsPlaced, frame_of, frames_of, holders_of_frame}
 use Rattle.hir_def_map_rules.specs.References.{lies_in, refers_to, any_reference}
@@ -38,7 +38,8 @@ module _ (test : MapId → Bool) where
       right false b f = f
 
       go : (list_any (is_at (map_order.ghosts.cmp id)) xs ≡ true → list_any test xs ≡ true)
-          → (b : Bool) → is_at (map_order.ghosts.cmp id) x ≡ b → (b || list_any (is_at (map_order.ghosts.cmp id)) xs) ≡ true → (test x || list_any test xs) ≡ true
+          → (b : Bool) → is_at (map_order.ghosts.cmp id) x ≡ b → (b || list_any (is_at (map_order.ghosts.cmp id)) xs) ≡ true → (test x || list_any test xs)
+          ≡ true
       go below true s f = ap (λ (b : Bool). b || list_any test xs) (let P : MapId → Type 0 = λ y. test y ≡ true in subst P (same_id id x s) t)
       go below false s f = right (test x) (list_any test xs) (below f)
 
@@ -52,7 +53,8 @@ module _ (test : MapId → Bool) where
       right false b f = f
 
       go : (list_any test xs ≡ true → (id : MapId) × (list_any (is_at (map_order.ghosts.cmp id)) xs ≡ true) × (test id ≡ true))
-          → (b : Bool) → test x ≡ b → (b || list_any test xs) ≡ true → (id : MapId) × ((is_at (map_order.ghosts.cmp id) x || list_any (is_at (map_order.ghosts.cmp id)) xs) ≡ true) × (test id ≡ true)
+          → (b : Bool) → test x ≡ b → (b || list_any test xs) ≡ true → (id : MapId)
+          × ((is_at (map_order.ghosts.cmp id) x || list_any (is_at (map_order.ghosts.cmp id)) xs) ≡ true) × (test id ≡ true)
       go below true s f = (x, ap (λ (b : Bool). b || list_any (is_at (map_order.ghosts.cmp x)) xs) (own_id x), s)
       go below false s f = let h = below f in (h.0, right (is_at (map_order.ghosts.cmp h.0) x) (list_any (is_at (map_order.ghosts.cmp h.0)) xs) h.1, h.2)
 
@@ -61,7 +63,8 @@ is_there_or None e = refl
 is_there_or (Some f) e = absurd cc
 
 -- where a map lists a missing one, it is there and lists it
-pub which_lacks : (maps : Store) (o : Option Finished) → lacks_some maps o ≡ true → (j : MapId) × (lists_of o j ≡ true) × (at maps j ≡ None) × (is_some o ≡ true)
+pub which_lacks : (maps : Store) (o : Option Finished) → lacks_some maps o ≡ true → (j : MapId) × (lists_of o j ≡ true) × (at maps j ≡ None)
+    × (is_some o ≡ true)
 which_lacks maps None e = absurd cc
 which_lacks maps (Some f) e =
     let h = any_which (λ (id : MapId). not (is_some (at maps id))) f.named.keys e in
@@ -143,7 +146,8 @@ module _ (old new : Store) (id : MapId) (falling : IsFalling old new id) (closed
       go None s = ap (λ (o : Option Finished). not (is_some o)) s
       go (Some f) s =
           let same : at new k ≡ at old k = was_there k (ap is_some s) in
-          absurd (true≢false (sym (lacks_from new (at new k) other (ap (λ (o : Option Finished). lists_of o other) same ∙ l) (is_there_or (at new other) g)) ∙ closed k))
+          absurd (true≢false (sym (lacks_from new (at new k) other (ap (λ (o : Option Finished). lists_of o other) same ∙ l) (is_there_or (at new other) g)) ∙
+          closed k))
 
   pub all_gone : (k : MapId) → FallsWith (lists_in old) id k → at new k ≡ None
   all_gone k d = is_there_or (at new k) (d (λ x. not (is_some (at new x))) (ap (λ (o : Option Finished). not (is_some o)) falling.gone) gone_upward)
@@ -233,7 +237,8 @@ module _ (old new : Store) (id : MapId) (checked : IsChecked old) (falling : IsF
       go : (o : Option Finished) → at new j ≡ o → is_some (at new j) ≡ true
       go (Some f) s = ap is_some s
       go None s =
-          let away : not (is_some (at new k)) ≡ true = checked.covered k j n (λ x. not (is_some (at new x))) (ap (λ (o : Option Finished). not (is_some o)) s) (gone_upward old new id falling closed) in
+          let away : not (is_some (at new k)) ≡ true = checked.covered k j n (λ x. not (is_some (at new x))) (ap (λ (o : Option Finished). not (is_some o)) s)
+          (gone_upward old new id falling closed) in
           absurd (true≢false (sym away ∙ ap not i))
 
   -- and it falls with the same maps as before
@@ -265,7 +270,8 @@ module _ (old new : Store) (id : MapId) (checked : IsChecked old) (falling : IsF
             later (not (is_some (at new k))) (falls k) (up k other (listed i) (ap (λ (b : Bool). not b || falls other) (sym (here i)) ∙ f))
 
     still_falls : (k j : MapId) → refers_in old k j ≡ true → is_some (at new k) ≡ true → falls j ≡ true → falls k ≡ true
-    still_falls k j n i f = ap (λ (b : Bool). not b || falls k) (sym i) ∙ checked.covered k j n or_gone (later (not (is_some (at new j))) (falls j) f) up_or_gone
+    still_falls k j n i f =
+        ap (λ (b : Bool). not b || falls k) (sym i) ∙ checked.covered k j n or_gone (later (not (is_some (at new j))) (falls j) f) up_or_gone
       where
         later : (a b : Bool) → b ≡ true → (a || b) ≡ true
         later true b e = refl
@@ -298,7 +304,8 @@ module _ (old new : Store) (id : MapId) (checked : IsChecked old) (falling : IsF
     where
       leads : (g : Finished) → at new k ≡ Some g → g.holders.items ≡ h ∷ hs → HolderLeads (frames_of after) k h hs
       leads g s f =
-          let l : HolderLeads (frames_of before) k h hs = checked.placed k h hs (ap (λ (o : Option Finished). holders_of_frame (option_map frame_of (option_map placed_of o))) (was k g s) ∙ f) in
+          let l : HolderLeads (frames_of before) k h hs = checked.placed k h hs
+          (ap (λ (o : Option Finished). holders_of_frame (option_map frame_of (option_map placed_of o))) (was k g s) ∙ f) in
           let held : g.map.holder ≡ Some h = under_head before k g.map.holder h hs (sym (checked.each k g (was k g s)).holders ∙ f) in
           let kept : before h.map ≡ after h.map = same k g s h.map (holder_named g.map g.local h held) in (
             l.0,
@@ -306,7 +313,8 @@ module _ (old new : Store) (id : MapId) (checked : IsChecked old) (falling : IsF
             ap (λ (o : Option Placed). holders_of_frame (option_map frame_of o)) (sym kept) ∙ l.2,
           )
 
-      go : (o : Option Finished) → at new k ≡ o → holders_of_frame (option_map frame_of (option_map placed_of o)) ≡ h ∷ hs → HolderLeads (frames_of after) k h hs
+      go : (o : Option Finished) → at new k ≡ o → holders_of_frame (option_map frame_of (option_map placed_of o)) ≡ h ∷ hs → HolderLeads (frames_of after) k h
+          hs
       go None s f = absurd cc
       go (Some g) s f = leads g s f
 

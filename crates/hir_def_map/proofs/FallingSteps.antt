@@ -1,5 +1,6 @@
 -- One map falls after another, and those on which others may still depend wait in a list.
-use Rattle.std.proofs.Common.{◌≡◌, ◌∙◌, ap, sym, subst, refl, Bool, true, false, ◌||◌, is_some, cond, Option, Some, None, List, [], ◌∷◌, ◌++◌, ◌⊎◌, inl, inr, ◌+◌, ◌≤◌, length, arith}
+use Rattle.std.proofs.Common.{◌≡◌, ◌∙◌, ap, sym, subst, refl, Bool, true, false, ◌||◌, is_some, cond, Option, Some, None, List, [], ◌∷◌, ◌++◌, ◌⊎◌, inl, inr}
+use Rattle.std.proofs.Common.{◌+◌, ◌≤◌, length, arith}
 use mathlib.Core.Bool.{true≢false}
 use Rattle.std.specs.List.{list_any}
 use Rattle.std.specs.BTreeMap.{btree_map_len, is_at, Updates}
@@ -7,10 +8,9 @@ use Rattle.std.specs.Vec.{vec_capacity, vec_len}
 use Rattle.std.specs.declared.vec.Vec.{Vec}
 use Rattle.std.specs.declared.alloc.Global.{Global}
 use Rattle.std.proofs.lemmas.List.Folds.{list_any-append}
-use Rattle.hir_base.specs.declared.ids.MapId.{MapId}
+use Rattle.hir_base.specs.Types.{MapId}
 use Rattle.hir_base.specs.contracts.ids.MapIdOrd.TheImpl as map_order
-use Rattle.hir_def_map.specs.declared.world.finished.Finished.{Finished}
-use Rattle.hir_def_map.specs.declared.world.dependents.Dependents.{Dependents}
+use Rattle.hir_def_map.specs.Types.{Dependents, Finished}
 use Rattle.hir_def_map.specs.Inner.Dependents.{HasRoom, is_dependent, IsIndexed}
 use Rattle.hir_def_map.specs.Removal.{IsClosed, IsFalling, lacks_some, lists_in, lists_of}
 use Rattle.hir_def_map.proofs.Falling.{Store, at, falling-start, falling-step, lacks_from, which_lacks}
@@ -37,7 +37,9 @@ or_left : (a b : Bool) → a ≡ true → (a || b) ≡ true
 or_left a b e = ap (λ x. x || b) e
 
 waits_last : (items : List MapId) (id : MapId) → waits (items ++ id ∷ []) id ≡ true
-waits_last items id = list_any-append (is_at (map_order.ghosts.cmp id)) items (id ∷ []) ∙ or_right (waits items id) (waits (id ∷ []) id) (or_left (is_at (map_order.ghosts.cmp id) id) false (own_id id))
+waits_last items id =
+    list_any-append (is_at (map_order.ghosts.cmp id)) items (id ∷ []) ∙ or_right (waits items id) (waits (id ∷ []) id)
+    (or_left (is_at (map_order.ghosts.cmp id) id) false (own_id id))
 
 waits_before : (items : List MapId) (id j : MapId) → waits items j ≡ true → waits (items ++ id ∷ []) j ≡ true
 waits_before items id j e = list_any-append (is_at (map_order.ghosts.cmp j)) items (id ∷ []) ∙ or_left (waits items j) (waits (id ∷ []) j) e
@@ -136,10 +138,12 @@ half-end old now items id half none k = go (lacks_some now (at now k)) refl
         absurd (true≢false (sym (half.waiting k h.0 h.1 h.2) ∙ ap (λ (x : List MapId). waits x h.0) none))
 
 -- what depends on another one by the index lists it
-pub listed_by_index : (maps : Store) (dependents : Dependents) (on id : MapId) → IsIndexed dependents maps → is_dependent dependents on id ≡ true → lists_in maps id on ≡ true
+pub listed_by_index : (maps : Store) (dependents : Dependents) (on id : MapId) → IsIndexed dependents maps → is_dependent dependents on id ≡ true
+    → lists_in maps id on ≡ true
 listed_by_index maps dependents on id indexed e = sym (indexed.each on id) ∙ e
 
-pub none_listed : (maps : Store) (dependents : Dependents) (on : MapId) → IsIndexed dependents maps → ((id : MapId) → is_dependent dependents on id ≡ false) → (k : MapId) → lists_in maps k on ≡ false
+pub none_listed : (maps : Store) (dependents : Dependents) (on : MapId) → IsIndexed dependents maps → ((id : MapId) → is_dependent dependents on id ≡ false)
+    → (k : MapId) → lists_in maps k on ≡ false
 none_listed maps dependents on indexed none k = sym (indexed.each on k) ∙ none k
 
 -- what lists another one is there
@@ -165,7 +169,8 @@ room_for falling maps h =
     let room : btree_map_len maps ≤ vec_capacity falling = h.room in
     omega (arith, none, room)
 
-pub room_left : (falling : Vec MapId Global) (maps : Store) → vec_len falling ≡ 0 → btree_map_len maps + vec_len falling ≤ vec_capacity falling → HasRoom falling maps
+pub room_left : (falling : Vec MapId Global) (maps : Store) → vec_len falling ≡ 0 → btree_map_len maps + vec_len falling ≤ vec_capacity falling
+    → HasRoom falling maps
 room_left falling maps none room = record {
   none = emptied falling none;
   room = omega (arith, none, room);

@@ -1,5 +1,6 @@
 -- A complete map joins finished ones, and they stay checked.
-use Rattle.std.proofs.Common.{◌≡◌, ◌∙◌, ap, sym, subst, refl, Bool, true, false, not, ◌&&◌, ◌||◌, is_some, cond, Option, Some, None, List, [], ◌∷◌, Result, Ok, Err}
+use Rattle.std.proofs.Common.{◌≡◌, ◌∙◌, ap, sym, subst, refl, Bool, true, false, not, ◌&&◌, ◌||◌, is_some, cond, Option, Some, None, List, [], ◌∷◌, Result, Ok}
+use Rattle.std.proofs.Common.{Err}
 use mathlib.Core.Bool.{true≢false}
 use Rattle.std.specs.Option.{option_and_then, option_map}
 use Rattle.std.specs.Cmp.{first_so, second_so, tied_itself}
@@ -8,24 +9,24 @@ use Rattle.std.specs.Ordering.{is_eq}
 use Rattle.std.specs.BTreeMap.{BTreeMap, get, is_at, Updates, IsUnchanged}
 use Rattle.std.specs.Map.{lookup}
 use Rattle.std.specs.Result.{OnOk, OnErr}
-use Rattle.hir_base.specs.declared.ids.Crate.{Crate}
-use Rattle.hir_base.specs.declared.ids.MapId.{MapId}
-use Rattle.hir_base.specs.declared.ids.ModuleDefId.{ModuleDefId}
-use Rattle.hir_base.specs.declared.ids.ModuleId.{ModuleId}
+use Rattle.hir_base.specs.Types.{Crate, MapId, ModuleDefId, ModuleId}
 use Rattle.hir_base.specs.contracts.ids.MapIdOrd.TheImpl as map_order
 use Rattle.hir_base.specs.contracts.ids.MapIdOrd.TheImpl.Laws.{total-law as order_total, matches_eq-law as order_ties}
 use Rattle.hir_base.specs.contracts.ids.MapIdPartialEq.TheImpl as map_id
 use Rattle.hir_scope.specs.ModuleTree.{same_crate}
 use Rattle.hir_scope.specs.PerNs.{Item}
 use Rattle.hir_scope.specs.Scope.{ScopeValue}
-use Rattle.hir_def_map.specs.declared.world.finished.Finished.{Finished}
-use Rattle.hir_def_map_rules.specs.declared.reference.Reference.{Reference}
+use Rattle.hir_def_map.specs.Types.{Finished}
+use Rattle.hir_def_map_rules.specs.Types.{Reference}
 use Rattle.hir_def_map_rules.specs.declared.reference.Reference.TheVariants as named
 use Rattle.hir_def_map_rules.specs.State.{Local, Map, ModuleValue, module_at, variants_at}
 use Rattle.hir_def_map_rules.specs.Overlay.{Maps, Placed, overlay, holders_of, holders_or, holders_under, module_in, placed_in, placed_with, with_map}
 use Rattle.hir_def_map_rules.specs.Ancestors.{IsPlaced}
 use Rattle.hir_def_map_rules.specs.Inner.OverlayLaws.{exact_map, IsPlaced-with_map}
-use Rattle.hir_def_map_rules.specs.References.{each_leads_to_root, has_its_parents, has_its_variants, is_well_formed, is_holder_for, is_missing, is_there, lies_in, map_of_reference, reference_to, any_reference_in, any_reference_in_scope, any_own_crate, any_reference, prelude_reference, test_child, test_crate, test_extern, test_item, test_macro, test_of, test_trait, test_type, test_value, test_visibility, visibility_reference}
+use Rattle.hir_def_map_rules.specs.References.{each_leads_to_root, has_its_parents, has_its_variants, is_well_formed, is_holder_for, is_missing, is_there}
+use Rattle.hir_def_map_rules.specs.References.{lies_in, map_of_reference, reference_to, any_reference_in, any_reference_in_scope, any_own_crate, any_reference}
+use Rattle.hir_def_map_rules.specs.References.{prelude_reference, test_child, test_crate, test_extern, test_item, test_macro, test_of, test_trait, test_type}
+use Rattle.hir_def_map_rules.specs.References.{test_value, test_visibility, visibility_reference}
 use Rattle.hir_def_map.specs.World.{IsChecked, IsFinished, finished_in, placed_of}
 use Rattle.hir_def_map.specs.Removal.{FallsWith, lists_in, lists_of, refers_in, refers_of}
 use Rattle.hir_def_map.specs.Inner.Recorded.{IsRecordedFor}
@@ -56,16 +57,19 @@ abbrev Names : Type 0
 Names = (Reference → Bool) → Bool
 
 abbrev Finds : Names → Type 0
-Finds names = (test : Reference → Bool) → names test ≡ true → (n : Reference) × (test n ≡ true) × ((other : Reference → Bool) → other n ≡ true → names other ≡ true)
+Finds names =
+    (test : Reference → Bool) → names test ≡ true → (n : Reference) × (test n ≡ true) × ((other : Reference → Bool) → other n ≡ true → names other ≡ true)
 
 finds_or : (names others : Names) → Finds names → Finds others → Finds (λ test. names test || others test)
 finds_or names others f g test e = go (names test) refl e
   where
-    go : (b : Bool) → names test ≡ b → (b || others test) ≡ true → (n : Reference) × (test n ≡ true) × ((other : Reference → Bool) → other n ≡ true → (names other || others other) ≡ true)
+    go : (b : Bool) → names test ≡ b → (b || others test) ≡ true → (n : Reference) × (test n ≡ true)
+        × ((other : Reference → Bool) → other n ≡ true → (names other || others other) ≡ true)
     go true s t = let h = f test s in (h.0, h.1, λ other o. or_left (names other) (others other) (h.2 other o))
     go false s t = let h = g test t in (h.0, h.1, λ other o. or_right (names other) (others other) (h.2 other o))
 
-finds_any : {A : Type 0} (names : (Reference → Bool) → A → Bool) → ((x : A) → Finds (λ test. names test x)) → (xs : List A) → Finds (λ test. list_any (names test) xs)
+finds_any : {A : Type 0} (names : (Reference → Bool) → A → Bool) → ((x : A) → Finds (λ test. names test x)) → (xs : List A)
+    → Finds (λ test. list_any (names test) xs)
 finds_any names f [] = λ test e. absurd cc
 finds_any names f (x ∷ xs) = finds_or (λ test. names test x) (λ test. list_any (names test) xs) (f x) (finds_any names f xs)
 
@@ -77,13 +81,17 @@ finds_one : (n : Reference) → Finds (λ test. test n)
 finds_one n test e = (n, e, λ other o. o)
 
 finds_item : {I : Type 0} (item : Item ModuleDefId I) → Finds (λ test. test_item test item)
-finds_item item = finds_or (λ test. test_of test (reference_to item.def)) (λ test. test_visibility test item.vis) (finds_of (reference_to item.def)) (finds_of (visibility_reference item.vis))
+finds_item item =
+    finds_or (λ test. test_of test (reference_to item.def)) (λ test. test_visibility test item.vis) (finds_of (reference_to item.def))
+    (finds_of (visibility_reference item.vis))
 
 finds_in_scope : (scope : ScopeValue) → Finds (λ test. any_reference_in_scope test scope)
 finds_in_scope scope =
-    finds_or (λ test. list_any (test_type test) scope.types) (λ test. list_any (test_value test) scope.values || (list_any (test_macro test) scope.macros || list_any (test_trait test) scope.unnamed_traits))
+    finds_or (λ test. list_any (test_type test) scope.types)
+    (λ test. list_any (test_value test) scope.values || (list_any (test_macro test) scope.macros || list_any (test_trait test) scope.unnamed_traits))
     (finds_any test_type (λ t. finds_item t.1) scope.types)
-    (finds_or (λ test. list_any (test_value test) scope.values) (λ test. list_any (test_macro test) scope.macros || list_any (test_trait test) scope.unnamed_traits)
+    (finds_or (λ test. list_any (test_value test) scope.values) (λ test. list_any (test_macro test) scope.macros || list_any (test_trait test)
+    scope.unnamed_traits)
     (finds_any test_value (λ v. finds_item v.1) scope.values)
     (finds_or (λ test. list_any (test_macro test) scope.macros) (λ test. list_any (test_trait test) scope.unnamed_traits)
     (finds_any test_macro (λ m. finds_of (visibility_reference m.1.vis)) scope.macros)
@@ -91,7 +99,8 @@ finds_in_scope scope =
 
 finds_in_module : (m : ModuleValue) → Finds (λ test. any_reference_in test m)
 finds_in_module m =
-    finds_or (λ test. test_of test (option_map named.Module m.parent)) (λ test. test_visibility test m.visibility || (list_any (test_child test) m.children || any_reference_in_scope test m.scope))
+    finds_or (λ test. test_of test (option_map named.Module m.parent))
+    (λ test. test_visibility test m.visibility || (list_any (test_child test) m.children || any_reference_in_scope test m.scope))
     (finds_of (option_map named.Module m.parent))
     (finds_or (λ test. test_visibility test m.visibility) (λ test. list_any (test_child test) m.children || any_reference_in_scope test m.scope)
     (finds_of (visibility_reference m.visibility))
@@ -128,7 +137,8 @@ module _ (map : Map) (local : Local) where
       (finds_or (λ test. test_of test (prelude_reference map.prelude)) from_holder (finds_of (prelude_reference map.prelude))
       (finds_or (λ test. test_of test (option_map named.Module map.holder)) from_externs (finds_of (option_map named.Module map.holder))
       (finds_or (λ test. list_any (test_extern test) local) in_crates (finds_any test_extern (λ e. finds_one (named.Module e.1.0)) local)
-      (finds_or (λ test. list_any (test_crate test) map.crate_data.dependencies) (λ test. any_own_crate test map.id) (finds_any test_crate finds_crate map.crate_data.dependencies)
+      (finds_or (λ test. list_any (test_crate test) map.crate_data.dependencies) (λ test. any_own_crate test map.id)
+      (finds_any test_crate finds_crate map.crate_data.dependencies)
       (finds_own_crate map.id)))))
 
   -- the holder is named
@@ -201,12 +211,15 @@ abbrev IsSameAt : Maps → Maps → MapId → Type 0
 IsSameAt A B k = is_some (A k) ≡ true → A k ≡ B k
 
 module _ (A B : Maps) (map : Map) (local : Local) where
-  missing_kept : ((k : MapId) → any_reference (lies_in k) map local ≡ true → IsSameAt A B k) → any_reference (is_missing A) map local ≡ false → any_reference (is_missing B) map local ≡ false
+  missing_kept : ((k : MapId) → any_reference (lies_in k) map local ≡ true → IsSameAt A B k) → any_reference (is_missing A) map local ≡ false
+      → any_reference (is_missing B) map local ≡ false
   missing_kept same e = go (any_reference (is_missing B) map local) refl
     where
-      stays : (n : Reference) → ((other : Reference → Bool) → other n ≡ true → any_reference other map local ≡ true) → (b : Bool) → is_there A n ≡ b → is_there B n ≡ true
+      stays : (n : Reference) → ((other : Reference → Bool) → other n ≡ true → any_reference other map local ≡ true) → (b : Bool) → is_there A n ≡ b
+          → is_there B n ≡ true
       stays n named true t =
-          let there : A (map_of_reference n) ≡ B (map_of_reference n) = same (map_of_reference n) (named (lies_in (map_of_reference n)) (own_id (map_of_reference n))) (there_in A n t) in
+          let there : A (map_of_reference n) ≡ B (map_of_reference n) = same (map_of_reference n)
+          (named (lies_in (map_of_reference n)) (own_id (map_of_reference n))) (there_in A n t) in
           sym (there_same A B n there) ∙ t
       stays n named false t = absurd (true≢false (sym (named (is_missing A) (ap not t)) ∙ e))
 
@@ -224,7 +237,8 @@ module _ (A B : Maps) (id : MapId) where
       let k : A h.map ≡ B h.map = same h refl (has_first (λ (placed : Placed). module_at placed.map h.index) (A h.map) there) in
       sym (ap (λ (x : Option Placed). same_crate h.map.krate id.krate && is_some (option_and_then (λ (placed : Placed). module_at placed.map h.index) x)) k) ∙ e
 
-  holders_kept : (o : Option ModuleId) → ((h : ModuleId) → o ≡ Some h → IsSameAt A B h.map) → is_holder_for A id o ≡ true → holders_under A id o ≡ holders_under B id o
+  holders_kept : (o : Option ModuleId) → ((h : ModuleId) → o ≡ Some h → IsSameAt A B h.map) → is_holder_for A id o ≡ true → holders_under A id o
+      ≡ holders_under B id o
   holders_kept None same e = refl
   holders_kept (Some h) same e =
       let there : is_some (module_in A h) ≡ true = second_so (same_crate h.map.krate id.krate) (is_some (module_in A h)) e in
@@ -342,7 +356,8 @@ module _ (maps maps' : BTreeMap MapId Finished) (f : Finished) (may : may_join (
           absurd (true≢false (sym (subst P (sym (exact_map id f.map.id u)) (own_id f.map.id)) ∙ s))
       apart s false u = refl
 
-      go : (b : Bool) → is_at (map_order.ghosts.cmp f.map.id) id ≡ b → option_map placed_of (cond b (Some f) (get map_order.ghosts.cmp maps id)) ≡ with_map before f.map f.local id
+      go : (b : Bool) → is_at (map_order.ghosts.cmp f.map.id) id ≡ b → option_map placed_of (cond b (Some f) (get map_order.ghosts.cmp maps id))
+          ≡ with_map before f.map f.local id
       go true s =
           ap (λ (hs : List ModuleId). Some (record { map = f.map; local = f.local; holders = hs })) (holders ∙ sym placed_new)
           ∙ sym (ap (λ (b : Bool). cond b (Some (placed_with before f.map f.local)) (before id)) (equal_id f.map.id id (same_id f.map.id id s)))
@@ -365,8 +380,10 @@ module _ (maps maps' : BTreeMap MapId Finished) (f : Finished) (may : may_join (
       own : after f.map.id ≡ Some (placed_with before f.map f.local)
       own = ap (λ (b : Bool). cond b (Some (placed_with before f.map f.local)) (before f.map.id)) (equal_id f.map.id f.map.id refl)
 
-      go : (b : Bool) → cond b (Some (placed_in before f.map)) (before k) ≡ cond b (Some (placed_in after f.map)) (cond b (Some (placed_with before f.map f.local)) (before k))
-      go true = ap (λ (o : Option Placed). Some (record { map = f.map; local = []; holders = holders_or o (holders_under after f.map.id f.map.holder) })) (sym own)
+      go : (b : Bool) → cond b (Some (placed_in before f.map)) (before k) ≡ cond b (Some (placed_in after f.map))
+          (cond b (Some (placed_with before f.map f.local)) (before k))
+      go true =
+          ap (λ (o : Option Placed). Some (record { map = f.map; local = []; holders = holders_or o (holders_under after f.map.id f.map.holder) })) (sym own)
       go false = refl
 
   new_finished : IsFinished after f.map.id f
@@ -397,14 +414,16 @@ module _ (maps maps' : BTreeMap MapId Finished) (f : Finished) (may : may_join (
   lists_still k j e = ap (λ (o : Option Finished). lists_of o j) (updates.0 k) ∙ go (is_at (map_order.ghosts.cmp f.map.id) k) refl
     where
       go : (b : Bool) → is_at (map_order.ghosts.cmp f.map.id) k ≡ b → lists_of (cond b (Some f) (get map_order.ghosts.cmp maps k)) j ≡ true
-      go true s = absurd (true≢false (sym e ∙ ap (λ (o : Option Finished). lists_of o j) (sym (ap (get map_order.ghosts.cmp maps) (same_id f.map.id k s)) ∙ absent)))
+      go true s =
+          absurd (true≢false (sym e ∙ ap (λ (o : Option Finished). lists_of o j) (sym (ap (get map_order.ghosts.cmp maps) (same_id f.map.id k s)) ∙ absent)))
       go false s = e
 
   falls_after : (on id : MapId) → FallsWith (lists_in maps) on id → FallsWith (lists_in maps') on id
   falls_after on id d = falls_still (lists_in maps) (lists_in maps') lists_still on id d
 
   covered_after : IsChecked maps → (id other : MapId) → refers_in maps' id other ≡ true → FallsWith (lists_in maps') other id
-  covered_after checked id other e = go (is_at (map_order.ghosts.cmp f.map.id) id) refl (sym (ap (λ (o : Option Finished). refers_of o other) (updates.0 id)) ∙ e)
+  covered_after checked id other e =
+      go (is_at (map_order.ghosts.cmp f.map.id) id) refl (sym (ap (λ (o : Option Finished). refers_of o other) (updates.0 id)) ∙ e)
     where
       new : refers_of (Some f) other ≡ true → FallsWith (lists_in maps') other f.map.id
       new n =
@@ -412,7 +431,8 @@ module _ (maps maps' : BTreeMap MapId Finished) (f : Finished) (may : may_join (
           let own : lists_in maps' f.map.id h.by ≡ true = ap (λ (o : Option Finished). lists_of o h.by) updates.1 ∙ h.is_recorded in
           falls_on (lists_in maps') other h.by f.map.id (falls_after other h.by h.falls) (falls_in_step (lists_in maps') f.map.id h.by own)
 
-      go : (b : Bool) → is_at (map_order.ghosts.cmp f.map.id) id ≡ b → refers_of (cond b (Some f) (get map_order.ghosts.cmp maps id)) other ≡ true → FallsWith (lists_in maps') other id
+      go : (b : Bool) → is_at (map_order.ghosts.cmp f.map.id) id ≡ b → refers_of (cond b (Some f) (get map_order.ghosts.cmp maps id)) other ≡ true
+          → FallsWith (lists_in maps') other id
       go true s n = let P : MapId → Type 0 = λ x. FallsWith (lists_in maps') other x in subst P (same_id f.map.id id s) (new n)
       go false s n = falls_after other id (checked.covered id other n)
 
@@ -425,14 +445,16 @@ module _ (maps maps' : BTreeMap MapId Finished) (f : Finished) (may : may_join (
         covered = covered_after checked;
       }
 
-alike_maps : (maps maps' : BTreeMap MapId Finished) → ((id : MapId) → get map_order.ghosts.cmp maps' id ≡ get map_order.ghosts.cmp maps id) → finished_in maps ≡ finished_in maps'
+alike_maps : (maps maps' : BTreeMap MapId Finished) → ((id : MapId) → get map_order.ghosts.cmp maps' id ≡ get map_order.ghosts.cmp maps id) → finished_in maps
+    ≡ finished_in maps'
 unfolding finished_in
 alike_maps maps maps' alike = λ i id. option_map placed_of (sym (alike id) i)
 
 -- maps with the same entries are checked alike
 pub alike_checked : (maps maps' : BTreeMap MapId Finished) → maps'.entries ≡ maps.entries → IsChecked maps → IsChecked maps'
 alike_checked maps maps' same checked =
-    let alike : (id : MapId) → get map_order.ghosts.cmp maps' id ≡ get map_order.ghosts.cmp maps id = λ id i. lookup (is_at (map_order.ghosts.cmp id)) (same i) in
+    let alike : (id : MapId) → get map_order.ghosts.cmp maps' id ≡ get map_order.ghosts.cmp maps id = λ id i. lookup (is_at (map_order.ghosts.cmp id)) (same i)
+    in
     let whole : finished_in maps ≡ finished_in maps' = alike_maps maps maps' alike in
     record {
       placed = subst IsPlaced whole checked.placed;
@@ -444,12 +466,17 @@ alike_checked maps maps' same checked =
 
 -- after an insertion that may fail
 pub insert_checked : {V E : Type 0} (r : Result V E) (maps maps' : BTreeMap MapId Finished) (f : Finished) (id : MapId) → id ≡ f.map.id
-    → may_join (finished_in maps) f.map f.local ≡ true → f.holders.items ≡ holders_under (finished_in maps) f.map.id f.map.holder → IsRecordedFor maps f.named f.map f.local
+    → may_join (finished_in maps) f.map f.local ≡ true → f.holders.items ≡ holders_under (finished_in maps) f.map.id f.map.holder
+    → IsRecordedFor maps f.named f.map f.local
     → OnOk r (Updates map_order.ghosts.cmp maps maps' id (Some f)) → OnErr r (IsUnchanged maps maps') → IsChecked maps → IsChecked maps'
-insert_checked (Ok v) maps maps' f id own may holders kept updates err checked = let P : MapId → Type 0 = λ x. Updates map_order.ghosts.cmp maps maps' x (Some f) in still_checked maps maps' f may holders kept (subst P own updates) checked
+insert_checked (Ok v) maps maps' f id own may holders kept updates err checked =
+    let P : MapId → Type 0 = λ x. Updates map_order.ghosts.cmp maps maps' x (Some f) in still_checked maps maps' f may holders kept (subst P own updates)
+    checked
 insert_checked (Err e) maps maps' f id own may holders kept updates err checked = alike_checked maps maps' err checked
 
 pub joined_under : (maps maps' : BTreeMap MapId Finished) (f : Finished) (id : MapId) → id ≡ f.map.id
-    → may_join (finished_in maps) f.map f.local ≡ true → f.holders.items ≡ holders_under (finished_in maps) f.map.id f.map.holder → IsRecordedFor maps f.named f.map f.local
+    → may_join (finished_in maps) f.map f.local ≡ true → f.holders.items ≡ holders_under (finished_in maps) f.map.id f.map.holder
+    → IsRecordedFor maps f.named f.map f.local
     → Updates map_order.ghosts.cmp maps maps' id (Some f) → (k : MapId) → finished_in maps' k ≡ with_map (finished_in maps) f.map f.local k
-joined_under maps maps' f id own may holders kept updates = let P : MapId → Type 0 = λ x. Updates map_order.ghosts.cmp maps maps' x (Some f) in joined maps maps' f may holders kept (subst P own updates)
+joined_under maps maps' f id own may holders kept updates =
+    let P : MapId → Type 0 = λ x. Updates map_order.ghosts.cmp maps maps' x (Some f) in joined maps maps' f may holders kept (subst P own updates)

@@ -2,12 +2,10 @@
 use Rattle.std.proofs.Common.{◌≡◌, refl, ap, ◌∙◌, Bool, true, false, ◌&&◌, ◌||◌, Option, Some, None, cond, List, [], ◌∷◌}
 use Rattle.std.specs.Option.{is_none, option_and_then, option_copied}
 use Rattle.std.specs.List.{list_any}
-use Rattle.hir_base.specs.declared.ids.Crate.{Crate}
-use Rattle.hir_base.specs.declared.ids.MapId.{MapId}
-use Rattle.hir_base.specs.declared.ids.ModuleId.{ModuleId}
+use Rattle.hir_base.specs.Types.{Crate, MapId, ModuleId}
 use Rattle.hir_base.specs.contracts.ids.MapIdPartialEq.TheImpl as map_id
 use Rattle.hir_scope.specs.ModuleTree.{same_crate}
-use Rattle.hir_def_map.specs.declared.world.part.WorldPart.{WorldPart}
+use Rattle.hir_def_map.specs.Types.{WorldPart}
 use Rattle.hir_def_map_rules.specs.Overlay.{Maps, Placed}
 use Rattle.hir_def_map.specs.WorldParts.{among, is_of_some, with_its_holders, are_within, is_within, limited_to, part_of}
 use Rattle.hir_def_map.specs.Inner.PartLaws.{among-there}
@@ -22,7 +20,9 @@ module _ (holders : List ModuleId) (finished : Maps) (id : MapId) where
   missing : (o : Option (List Crate)) → finished id ≡ None → limited_to o holders finished id ≡ None
   unfolding among
   missing None e = e
-  missing (Some crates) e = ap (λ (p : Option Placed). cond (is_of_some crates holders id) (option_and_then (with_its_holders crates holders) p) None) e ∙ none (is_of_some crates holders id)
+  missing (Some crates) e =
+      ap (λ (p : Option Placed). cond (is_of_some crates holders id) (option_and_then (with_its_holders crates holders) p) None) e ∙ none
+      (is_of_some crates holders id)
     where
       none : (b : Bool) → cond {A = Option Placed} b None None ≡ None
       none true = refl
@@ -95,7 +95,8 @@ module _ (o : Option (List Crate)) (holders : List ModuleId) where
       → ((id : MapId) → holds_in id hs ≡ true → holds_in id holders ≡ true) → (are_within o holders left ≡ true → are_within o holders modules ≡ true)
       → are_within o holders rest ≡ true → are_within o holders modules ≡ true
   order-found hs others modules left rest h m first taken same among onward e =
-      let here : is_within o holders m.map ≡ true = held_within o m.map (among m.map (ap (holds_in m.map) first ∙ first_holds (map_id.ghosts.eq h.map m.map) (holds_in m.map others) same)) in
+      let here : is_within o holders m.map ≡ true = held_within o m.map
+      (among m.map (ap (holds_in m.map) first ∙ first_holds (map_id.ghosts.eq h.map m.map) (holds_in m.map others) same)) in
       onward (ap (are_within o holders) taken ∙ ap (λ (b : Bool). b && are_within o holders rest) here ∙ e)
 
   pub order-others : (hs others : List ModuleId) (h : ModuleId) → hs ≡ h ∷ others → ((id : MapId) → holds_in id hs ≡ true → holds_in id holders ≡ true)

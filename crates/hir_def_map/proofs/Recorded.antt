@@ -1,18 +1,17 @@
 -- What is recorded for a map covers all that it refers to.
-use Rattle.std.proofs.Common.{◌≡◌, ◌∙◌, ◌⊎◌, ap, sym, subst, refl, Bool, true, false, not, ◌&&◌, ◌||◌, Option, Some, None, Result, Ok, Err, is_none, OnOk, List, [], ◌∷◌, ◌++◌, inl, inr, length, ◌+◌, ◌<◌, arith}
+use Rattle.std.proofs.Common.{◌≡◌, ◌∙◌, ◌⊎◌, ap, sym, subst, refl, Bool, true, false, not, ◌&&◌, ◌||◌, Option, Some, None, Result, Ok, Err, is_none, OnOk, List}
+use Rattle.std.proofs.Common.{[], ◌∷◌, ◌++◌, inl, inr, length, ◌+◌, ◌<◌, arith}
 use Rattle.std.specs.Cmp.{first_so, second_so}
 use Rattle.std.specs.List.{list_any}
 use Rattle.std.proofs.lemmas.List.{length-append}
 use Rattle.std.specs.BTreeMap.{BTreeMap, get, is_at}
 use Rattle.std.specs.BTreeSet.{BTreeSet, contains}
-use Rattle.hir_base.specs.declared.ids.Crate.{Crate}
-use Rattle.hir_base.specs.declared.ids.MapId.{MapId}
+use Rattle.hir_base.specs.Types.{BlockId, Crate, MapId}
 use Rattle.hir_base.specs.contracts.ids.MapIdOrd.TheImpl as map_order
 use Rattle.hir_base.specs.contracts.ids.MapIdPartialEq.TheImpl as map_id
-use Rattle.hir_base.specs.declared.ast_id.BlockId.{BlockId}
 use mathlib.Core.Bool.{true≢false}
 use Rattle.hir_crate_graph.specs.CrateSet.{Gains as CratesGain, has_crate}
-use Rattle.hir_def_map.specs.declared.world.finished.Finished.{Finished}
+use Rattle.hir_def_map.specs.Types.{Finished}
 use Rattle.hir_def_map_rules.specs.State.{Local, Map, crate_map}
 use Rattle.hir_def_map.specs.Insertion.{Gains}
 use Rattle.hir_def_map_rules.specs.References.{any_own_crate, any_reference, lies_in, test_crate}
@@ -83,27 +82,35 @@ pub gains-none : (set : BTreeSet MapId) (own : MapId) (test : MapId → Bool) �
 gains-none set own test = record { kept = λ id e. e; only = λ id e. inl e }
 
 -- a test that holds of more
-other-more : (own : MapId) (one more : MapId → Bool) → ((id : MapId) → one id ≡ true → more id ≡ true) → (id : MapId) → is_other own one id ≡ true → is_other own more id ≡ true
-other-more own one more f id e = and_both (not (is_at (map_order.ghosts.cmp own) id)) (more id) (first_so (not (is_at (map_order.ghosts.cmp own) id)) (one id) e) (f id (second_so (not (is_at (map_order.ghosts.cmp own) id)) (one id) e))
+other-more : (own : MapId) (one more : MapId → Bool) → ((id : MapId) → one id ≡ true → more id ≡ true) → (id : MapId) → is_other own one id ≡ true
+    → is_other own more id ≡ true
+other-more own one more f id e =
+    and_both (not (is_at (map_order.ghosts.cmp own) id)) (more id) (first_so (not (is_at (map_order.ghosts.cmp own) id)) (one id) e)
+    (f id (second_so (not (is_at (map_order.ghosts.cmp own) id)) (one id) e))
 
-pub gains-more : (old new : BTreeSet MapId) (own : MapId) (one more : MapId → Bool) → ((id : MapId) → one id ≡ true → more id ≡ true) → GainsOnly old new own one → GainsOnly old new own more
-gains-more old new own one more f g = record { kept = g.kept; only = λ id e. elim (g.only id e) [ inl there ↦ inl there | inr gained ↦ inr (other-more own one more f id gained) ] }
+pub gains-more : (old new : BTreeSet MapId) (own : MapId) (one more : MapId → Bool) → ((id : MapId) → one id ≡ true → more id ≡ true)
+    → GainsOnly old new own one → GainsOnly old new own more
+gains-more old new own one more f g =
+    record { kept = g.kept; only = λ id e. elim (g.only id e) [ inl there ↦ inl there | inr gained ↦ inr (other-more own one more f id gained) ] }
 
-pub gains-then : (old now new : BTreeSet MapId) (own : MapId) (test : MapId → Bool) → GainsOnly old now own test → GainsOnly now new own test → GainsOnly old new own test
+pub gains-then : (old now new : BTreeSet MapId) (own : MapId) (test : MapId → Bool) → GainsOnly old now own test → GainsOnly now new own test
+    → GainsOnly old new own test
 gains-then old now new own test f g = record {
   kept = λ id e. g.kept id (f.kept id e);
   only = λ id e. elim (g.only id e) [ inl there ↦ f.only id there | inr gained ↦ inr gained ];
 }
 
 -- one gain after another
-pub gains-both : (old now new : BTreeSet MapId) (own : MapId) (one other : MapId → Bool) → GainsOnly old now own one → GainsOnly now new own other → GainsOnly old new own (λ id. one id || other id)
+pub gains-both : (old now new : BTreeSet MapId) (own : MapId) (one other : MapId → Bool) → GainsOnly old now own one → GainsOnly now new own other
+    → GainsOnly old new own (λ id. one id || other id)
 gains-both old now new own one other f g =
     gains-then old now new own (λ id. one id || other id)
     (gains-more old now own one (λ id. one id || other id) (λ id e. or_first (one id) (other id) e) f)
     (gains-more now new own other (λ id. one id || other id) (λ id e. or_second (one id) (other id) e) g)
 
 -- the id of another map that is inserted
-pub gains-inserted : (old new : BTreeSet MapId) (own id : MapId) (crates : List Crate) → is_left_out crates own id ≡ false → Gains old new (λ k. is_at (map_order.ghosts.cmp id) k)
+pub gains-inserted : (old new : BTreeSet MapId) (own id : MapId) (crates : List Crate) → is_left_out crates own id ≡ false
+    → Gains old new (λ k. is_at (map_order.ghosts.cmp id) k)
     → GainsOnly old new own (λ k. is_at (map_order.ghosts.cmp id) k)
 gains-inserted old new own id crates out gains = record {
   kept = λ k e. gains.has k ∙ or_first (has old k) (is_at (map_order.ghosts.cmp id) k) e;
@@ -129,12 +136,14 @@ module _ (all before left : List Crate) (krate : Crate) (taken : before ≡ left
   pub last-less : (id : MapId) → list_any (test_crate (lies_in id)) left ≡ true → list_any (test_crate (lies_in id)) all ≡ true
   last-less id e = less id (split id ∙ or_first (list_any (test_crate (lies_in id)) left) (test_crate (lies_in id) krate || false) e)
 
-  pub last-gained : (old now new : BTreeSet MapId) (own : MapId) → GainsOnly old now own (λ id. list_any (test_crate (lies_in id)) all) → GainsOnly now new own (λ id. test_crate (lies_in id) krate)
+  pub last-gained : (old now new : BTreeSet MapId) (own : MapId) → GainsOnly old now own (λ id. list_any (test_crate (lies_in id)) all)
+      → GainsOnly now new own (λ id. test_crate (lies_in id) krate)
       → GainsOnly old new own (λ id. list_any (test_crate (lies_in id)) all)
   last-gained old now new own f g =
       gains-then old now new own (λ id. list_any (test_crate (lies_in id)) all) f
       (gains-more now new own (λ id. test_crate (lies_in id) krate) (λ id. list_any (test_crate (lies_in id)) all)
-      (λ id e. less id (split id ∙ or_second (list_any (test_crate (lies_in id)) left) (test_crate (lies_in id) krate || false) (or_first (test_crate (lies_in id) krate) false e))) g)
+      (λ id e. less id (split id ∙ or_second (list_any (test_crate (lies_in id)) left) (test_crate (lies_in id) krate || false)
+      (or_first (test_crate (lies_in id) krate) false e))) g)
 
 -- ---- what is covered
 
@@ -150,17 +159,20 @@ in_list (d ∷ ds) c e = elim (or_either (same_crate c d) (has_crate ds c) e) [
     own d same = let P : Crate → Type 0 = λ x. test_crate (lies_in (crate_map c)) x ≡ true in subst P same (own_id (crate_map c))
 
 module _ (maps : BTreeMap MapId Finished) where
-  pub covered-more : (old new : BTreeSet MapId) → ((id : MapId) → has old id ≡ true → has new id ≡ true) → (id : MapId) → IsCovered maps old id → IsCovered maps new id
+  pub covered-more : (old new : BTreeSet MapId) → ((id : MapId) → has old id ≡ true → has new id ≡ true) → (id : MapId) → IsCovered maps old id
+      → IsCovered maps new id
   covered-more old new more id c = record { by = c.by; is_recorded = more c.by c.is_recorded; falls = c.falls }
 
-  pub all_covered-more : (old new : BTreeSet MapId) (crates : List Crate) → ((id : MapId) → has old id ≡ true → has new id ≡ true) → AreCovered maps old crates → AreCovered maps new crates
+  pub all_covered-more : (old new : BTreeSet MapId) (crates : List Crate) → ((id : MapId) → has old id ≡ true → has new id ≡ true) → AreCovered maps old crates
+      → AreCovered maps new crates
   all_covered-more old new crates more all = record { each = λ c e. covered-more old new more (crate_map c) (all.each c e) }
 
   pub by_itself : (set : BTreeSet MapId) (id : MapId) → has set id ≡ true → IsCovered maps set id
   by_itself set id e = record { by = id; is_recorded = e; falls = falls_itself (lists_in maps) id }
 
   -- the crates on which that of a recorded map depends
-  pub covered-crate : (old new : BTreeSet MapId) (before after : List Crate) (krate : Crate) (f : Finished) → IsChecked maps → get map_order.ghosts.cmp maps (crate_map krate) ≡ Some f
+  pub covered-crate : (old new : BTreeSet MapId) (before after : List Crate) (krate : Crate) (f : Finished) → IsChecked maps → get map_order.ghosts.cmp maps
+      (crate_map krate) ≡ Some f
       → Gains old new (λ k. is_at (map_order.ghosts.cmp (crate_map krate)) k)
       → AreCovered maps old before → CratesGain before after (has_crate f.map.crate_data.dependencies) → AreCovered maps new after
   covered-crate old new before after krate f checked there inserted all gains = record {
@@ -174,19 +186,26 @@ module _ (maps : BTreeMap MapId Finished) where
       more id e = inserted.has id ∙ or_first (has old id) (is_at (map_order.ghosts.cmp (crate_map krate)) id) e
 
       recorded : has new (crate_map krate) ≡ true
-      recorded = inserted.has (crate_map krate) ∙ or_second (has old (crate_map krate)) (is_at (map_order.ghosts.cmp (crate_map krate)) (crate_map krate)) (own_id (crate_map krate))
+      recorded =
+          inserted.has (crate_map krate) ∙ or_second (has old (crate_map krate)) (is_at (map_order.ghosts.cmp (crate_map krate)) (crate_map krate))
+          (own_id (crate_map krate))
 
-      go : (c : Crate) → has_crate f.map.crate_data.dependencies c ≡ true → (b : Bool) → is_at (map_order.ghosts.cmp (crate_map krate)) (crate_map c) ≡ b → IsCovered maps new (crate_map c)
-      go c is true s = let P : MapId → Type 0 = λ x. has new x ≡ true in by_itself new (crate_map c) (subst P (same_id (crate_map krate) (crate_map c) s) recorded)
+      go : (c : Crate) → has_crate f.map.crate_data.dependencies c ≡ true → (b : Bool) → is_at (map_order.ghosts.cmp (crate_map krate)) (crate_map c) ≡ b
+          → IsCovered maps new (crate_map c)
+      go c is true s =
+          let P : MapId → Type 0 = λ x. has new x ≡ true in by_itself new (crate_map c) (subst P (same_id (crate_map krate) (crate_map c) s) recorded)
       go c is false s = record { by = crate_map krate; is_recorded = recorded; falls = checked.covered (crate_map krate) (crate_map c) named }
         where
           apart : not (is_at (map_order.ghosts.cmp f.map.id) (crate_map c)) ≡ true
-          apart = let P : MapId → Type 0 = λ x. is_at (map_order.ghosts.cmp x) (crate_map c) ≡ false in ap not (subst P (sym (checked.each (crate_map krate) f there).own) s)
+          apart =
+              let P : MapId → Type 0 = λ x. is_at (map_order.ghosts.cmp x) (crate_map c) ≡ false
+              in ap not (subst P (sym (checked.each (crate_map krate) f there).own) s)
 
           named : refers_in maps (crate_map krate) (crate_map c) ≡ true
           named =
               ap (λ o. refers_of o (crate_map c)) there
-              ∙ both (not (is_at (map_order.ghosts.cmp f.map.id) (crate_map c))) (any_reference (lies_in (crate_map c)) f.map f.local) apart (crate_named f.map f.local (crate_map c) (in_list f.map.crate_data.dependencies c is))
+              ∙ both (not (is_at (map_order.ghosts.cmp f.map.id) (crate_map c))) (any_reference (lies_in (crate_map c)) f.map f.local) apart
+              (crate_named f.map f.local (crate_map c) (in_list f.map.crate_data.dependencies c is))
 
   -- no crate is covered yet
   pub none_covered : (set : BTreeSet MapId) (crates : List Crate) → crates ≡ [] → AreCovered maps set crates
@@ -195,14 +214,17 @@ module _ (maps : BTreeMap MapId Finished) where
   -- ---- records
 
   -- what is left out is covered
-  pub records-left_out : (set : BTreeSet MapId) (own id : MapId) (crates : List Crate) → is_left_out crates own id ≡ true → AreCovered maps set crates → Records maps set set own (λ k. is_at (map_order.ghosts.cmp id) k)
+  pub records-left_out : (set : BTreeSet MapId) (own id : MapId) (crates : List Crate) → is_left_out crates own id ≡ true → AreCovered maps set crates
+      → Records maps set set own (λ k. is_at (map_order.ghosts.cmp id) k)
   records-left_out set own id crates out covers = record { gains = gains-none set own (λ k. is_at (map_order.ghosts.cmp id) k); each = each }
     where
       each : (k : MapId) → is_other own (λ k. is_at (map_order.ghosts.cmp id) k) k ≡ true → IsCovered maps set k
       each k e = elim (or_either (map_id.ghosts.eq id own) (is_none id.block && has_crate crates id.krate) out) [
-        | inl same ↦ absurd (true≢false (sym (first_so (not (is_at (map_order.ghosts.cmp own) k)) (is_at (map_order.ghosts.cmp id) k) e) ∙ ap not (at_own same)))
+        | inl same ↦ absurd (true≢false (sym (first_so (not (is_at (map_order.ghosts.cmp own) k)) (is_at (map_order.ghosts.cmp id) k) e) ∙ ap not
+            (at_own same)))
         | inr covered ↦ (let P : MapId → Type 0 = λ x. IsCovered maps set x in
-            subst P (crate_of_id id (first_so (is_none id.block) (has_crate crates id.krate) covered) ∙ here) (covers.each id.krate (second_so (is_none id.block) (has_crate crates id.krate) covered)))
+            subst P (crate_of_id id (first_so (is_none id.block) (has_crate crates id.krate) covered) ∙ here)
+            (covers.each id.krate (second_so (is_none id.block) (has_crate crates id.krate) covered)))
       ]
         where
           here : id ≡ k
@@ -212,24 +234,30 @@ module _ (maps : BTreeMap MapId Finished) where
           at_own same = ap (λ (x : MapId). is_at (map_order.ghosts.cmp x) k) (sym (exact_map id own same) ∙ here) ∙ own_id k
 
   -- what is inserted is covered by itself
-  pub records-inserted : (old new : BTreeSet MapId) (own id : MapId) (crates : List Crate) → is_left_out crates own id ≡ false → Gains old new (λ k. is_at (map_order.ghosts.cmp id) k)
+  pub records-inserted : (old new : BTreeSet MapId) (own id : MapId) (crates : List Crate) → is_left_out crates own id ≡ false
+      → Gains old new (λ k. is_at (map_order.ghosts.cmp id) k)
       → Records maps old new own (λ k. is_at (map_order.ghosts.cmp id) k)
   records-inserted old new own id crates out gains = record {
     gains = gains-inserted old new own id crates out gains;
-    each = λ k e. by_itself new k (gains.has k ∙ or_second (has old k) (is_at (map_order.ghosts.cmp id) k) (second_so (not (is_at (map_order.ghosts.cmp own) k)) (is_at (map_order.ghosts.cmp id) k) e));
+    each =
+        λ k e. by_itself new k (gains.has k ∙ or_second (has old k) (is_at (map_order.ghosts.cmp id) k)
+        (second_so (not (is_at (map_order.ghosts.cmp own) k)) (is_at (map_order.ghosts.cmp id) k) e));
   }
 
-  pub records-none : (set : BTreeSet MapId) (own : MapId) (test : MapId → Bool) → ((id : MapId) → is_other own test id ≡ true → IsCovered maps set id) → Records maps set set own test
+  pub records-none : (set : BTreeSet MapId) (own : MapId) (test : MapId → Bool) → ((id : MapId) → is_other own test id ≡ true → IsCovered maps set id)
+      → Records maps set set own test
   records-none set own test each = record { gains = gains-none set own test; each = each }
 
   -- the same by an equal test
-  pub records-along : (old new : BTreeSet MapId) (own : MapId) (one other : MapId → Bool) → ((id : MapId) → one id ≡ other id) → Records maps old new own one → Records maps old new own other
+  pub records-along : (old new : BTreeSet MapId) (own : MapId) (one other : MapId → Bool) → ((id : MapId) → one id ≡ other id) → Records maps old new own one
+      → Records maps old new own other
   records-along old new own one other same r = record {
     gains = gains-more old new own one other (λ id e. sym (same id) ∙ e) r.gains;
     each = λ id e. r.each id (other-more own other one (λ k f. same k ∙ f) id e);
   }
 
-  pub records-both : (old now new : BTreeSet MapId) (own : MapId) (one other : MapId → Bool) → Records maps old now own one → Records maps now new own other → Records maps old new own (λ id. one id || other id)
+  pub records-both : (old now new : BTreeSet MapId) (own : MapId) (one other : MapId → Bool) → Records maps old now own one → Records maps now new own other
+      → Records maps old new own (λ id. one id || other id)
   records-both old now new own one other f g = record {
     gains = gains-both old now new own one other f.gains g.gains;
     each = λ id e.
@@ -249,7 +277,8 @@ module _ (maps : BTreeMap MapId Finished) where
     pub each : (id : MapId) → is_other own all id ≡ true → IsCovered maps now id ⊎ (left id ≡ true)
     pub less : (id : MapId) → left id ≡ true → all id ≡ true
 
-  pub recording-start : (set : BTreeSet MapId) (own : MapId) (covered : List Crate) (all left : MapId → Bool) → ((id : MapId) → all id ≡ left id) → AreCovered maps set covered → IsRecording set set own covered all left
+  pub recording-start : (set : BTreeSet MapId) (own : MapId) (covered : List Crate) (all left : MapId → Bool) → ((id : MapId) → all id ≡ left id)
+      → AreCovered maps set covered → IsRecording set set own covered all left
   recording-start set own covered all left same covers = record {
     covers = covers;
     gains = gains-none set own all;
@@ -257,22 +286,26 @@ module _ (maps : BTreeMap MapId Finished) where
     less = λ id e. same id ∙ e;
   }
 
-  pub recording-step : (old now new : BTreeSet MapId) (own : MapId) (covered : List Crate) (all left one others : MapId → Bool) → ((id : MapId) → left id ≡ (one id || others id))
+  pub recording-step : (old now new : BTreeSet MapId) (own : MapId) (covered : List Crate) (all left one others : MapId → Bool)
+      → ((id : MapId) → left id ≡ (one id || others id))
       → IsRecording old now own covered all left → Records maps now new own one → IsRecording old new own covered all others
   recording-step old now new own covered all left one others taken half r = record {
     covers = all_covered-more now new covered r.gains.kept half.covers;
-    gains = gains-then old now new own all half.gains (gains-more now new own one all (λ id e. half.less id (taken id ∙ or_first (one id) (others id) e)) r.gains);
+    gains =
+        gains-then old now new own all half.gains (gains-more now new own one all (λ id e. half.less id (taken id ∙ or_first (one id) (others id) e)) r.gains);
     each = λ id e. elim (half.each id e) [
       | inl done ↦ inl (covered-more now new r.gains.kept id done)
       | inr waits ↦ (elim (or_either (one id) (others id) (sym (taken id) ∙ waits)) [
-        | inl this ↦ inl (r.each id (and_both (not (is_at (map_order.ghosts.cmp own) id)) (one id) (first_so (not (is_at (map_order.ghosts.cmp own) id)) (all id) e) this))
+        | inl this ↦ inl (r.each id (and_both (not (is_at (map_order.ghosts.cmp own) id)) (one id)
+            (first_so (not (is_at (map_order.ghosts.cmp own) id)) (all id) e) this))
         | inr later ↦ inr later
       ])
     ];
     less = λ id e. half.less id (taken id ∙ or_second (one id) (others id) e);
   }
 
-  pub recording-end : (old now : BTreeSet MapId) (own : MapId) (covered : List Crate) (all left : MapId → Bool) → ((id : MapId) → left id ≡ false) → IsRecording old now own covered all left → Records maps old now own all
+  pub recording-end : (old now : BTreeSet MapId) (own : MapId) (covered : List Crate) (all left : MapId → Bool) → ((id : MapId) → left id ≡ false)
+      → IsRecording old now own covered all left → Records maps old now own all
   recording-end old now own covered all left none half = record {
     gains = half.gains;
     each = λ id e. elim (half.each id e) [ inl done ↦ done | inr waits ↦ absurd (let no : true ≡ false = sym waits ∙ none id in cc) ];
@@ -281,7 +314,8 @@ module _ (maps : BTreeMap MapId Finished) where
   -- ---- all at once
 
   -- what a block's crate and the dependencies give is referred to
-  crates_less : (map : Map) (local : Local) (id : MapId) → (any_own_crate (lies_in id) map.id || list_any (test_crate (lies_in id)) map.crate_data.dependencies) ≡ true → any_reference (lies_in id) map local ≡ true
+  crates_less : (map : Map) (local : Local) (id : MapId) → (any_own_crate (lies_in id) map.id || list_any (test_crate (lies_in id)) map.crate_data.dependencies)
+      ≡ true → any_reference (lies_in id) map local ≡ true
   crates_less map local id e = elim (or_either (any_own_crate (lies_in id) map.id) (list_any (test_crate (lies_in id)) map.crate_data.dependencies) e) [
     | inl own ↦ own_crate_named map local id own
     | inr crate ↦ crate_named map local id crate
@@ -291,19 +325,22 @@ module _ (maps : BTreeMap MapId Finished) where
       → GainsOnly none first map.id (λ id. any_own_crate (lies_in id) map.id || list_any (test_crate (lies_in id)) map.crate_data.dependencies)
       → Records maps first recorded map.id (λ id. any_listed (lies_in id) map local) → IsRecordedFor maps recorded map local
   recorded_at none first recorded map local empty gains listed =
-      let r = records-along first recorded map.id (λ id. any_listed (lies_in id) map local) (λ id. any_reference (lies_in id) map local) (λ id. any_is (lies_in id) map local) listed in
+      let r = records-along first recorded map.id (λ id. any_listed (lies_in id) map local) (λ id. any_reference (lies_in id) map local)
+      (λ id. any_is (lies_in id) map local) listed in
       record {
         named = λ id e. elim (r.gains.only id e) [
           | inl there ↦ (elim (gains.only id there) [
             | inl before ↦ absurd (true≢false (sym before ∙ empty id))
-            | inr crate ↦ other-more map.id (λ k. any_own_crate (lies_in k) map.id || list_any (test_crate (lies_in k)) map.crate_data.dependencies) (λ k. any_reference (lies_in k) map local) (crates_less map local) id crate
+            | inr crate ↦ other-more map.id (λ k. any_own_crate (lies_in k) map.id || list_any (test_crate (lies_in k)) map.crate_data.dependencies)
+                (λ k. any_reference (lies_in k) map local) (crates_less map local) id crate
           ])
           | inr gained ↦ gained
         ];
         each = λ id e. r.each id e;
       }
 
-  pub recorded_for : (none first recorded : BTreeSet MapId) (own : MapId) (crates : List Crate) (map : Map) (local : Local) → own ≡ map.id → crates ≡ map.crate_data.dependencies → none.keys ≡ []
+  pub recorded_for : (none first recorded : BTreeSet MapId) (own : MapId) (crates : List Crate) (map : Map) (local : Local) → own ≡ map.id → crates
+      ≡ map.crate_data.dependencies → none.keys ≡ []
       → GainsOnly none first own (λ id. any_own_crate (lies_in id) own || list_any (test_crate (lies_in id)) crates)
       → Records maps first recorded own (λ id. any_listed (lies_in id) map local) → IsRecordedFor maps recorded map local
   recorded_for none first recorded own crates map local same_own same_crates empty gains listed =

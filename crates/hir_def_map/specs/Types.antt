@@ -21,3 +21,5 @@ pub use Rattle.hir_def_map.specs.declared.world.insert.InsertError.{InsertError}
 pub use Rattle.hir_def_map.specs.declared.world.insert.Refused.{Refused}
 pub use Rattle.hir_def_map_rules.specs.declared.reference.Reference.{Reference}
 pub use Rattle.hir_def_map.specs.declared.world.part.WorldPart.{WorldPart}
+pub use Rattle.hir_def_map.specs.declared.nameres.path_resolution.slots.Slot.{Slot}
+pub use Rattle.hir_def_map.specs.declared.world.dependents.Dependents.{Dependents}

@@ -4,7 +4,7 @@ use Rattle.std.specs.BTreeMap.{BTreeMap, get, is_at}
 use Rattle.std.specs.BTreeSet.{contains}
 use Rattle.std.specs.Map.{lookup}
 use Rattle.std.proofs.Common.{ap, sym, ◌∙◌}
-use Rattle.hir_base.specs.declared.ids.MapId.{MapId}
+use Rattle.hir_base.specs.Types.{MapId}
 use Rattle.hir_base.specs.contracts.ids.MapIdOrd.TheImpl as map_order
 use Rattle.hir_def_map.specs.declared.world.finished.Finished.{Finished}
 use Rattle.hir_def_map_rules.specs.State.{Local, Map}
@@ -51,7 +51,8 @@ pub IsChecked-empty : (maps : BTreeMap MapId Finished) → maps.entries ≡ [] �
 unfolding finished_in frames_of
 IsChecked-empty maps e = record {
   placed = λ id h hs f.
-      let none : [] ≡ h ∷ hs = ap (λ (es : List (MapId × Finished)). holders_of_frame (option_map frame_of (option_map placed_of (lookup (is_at (map_order.ghosts.cmp id)) es)))) (sym e) ∙ f in
+      let none : [] ≡ h ∷ hs = ap (λ (es : List (MapId × Finished)). holders_of_frame
+      (option_map frame_of (option_map placed_of (lookup (is_at (map_order.ghosts.cmp id)) es)))) (sym e) ∙ f in
       absurd cc;
   each = λ id finished f.
       let none : None ≡ Some finished = ap (λ (es : List (MapId × Finished)). lookup (is_at (map_order.ghosts.cmp id)) es) (sym e) ∙ f in

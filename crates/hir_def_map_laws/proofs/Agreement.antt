@@ -4,19 +4,14 @@ use Rattle.std.specs.List.{All, list_any}
 use Rattle.std.specs.Option.{option_and_then, option_map}
 use Rattle.std.specs.Prelude.{is_some, not, slice_get}
 use Rattle.std.proofs.lemmas.List.Elements.{All-head, All-tail}
-use Rattle.hir_base.specs.declared.ids.AdtId.{AdtId}
+use Rattle.hir_base.specs.Types.{AdtId, Crate, MapId, ModuleDefId, PathKind, UseId}
 use Rattle.hir_base.specs.declared.ids.AdtId.TheVariants as adts
-use Rattle.hir_base.specs.declared.ids.Crate.{Crate}
-use Rattle.hir_base.specs.declared.ids.MapId.{MapId}
 use Rattle.hir_base.specs.declared.ids.ModuleId.{ModuleId as AnyModule}
-use Rattle.hir_base.specs.declared.ids.ModuleDefId.{ModuleDefId}
-use Rattle.hir_base.specs.declared.ids.ModuleDefId.TheVariants.{ModuleId, FunctionId, AdtId as AnyAdt, EnumVariantId, ConstId, StaticId, TraitId, TypeAliasId, BuiltinType, MacroId}
-use Rattle.hir_base.specs.declared.ids.UseId.{UseId}
-use Rattle.hir_base.specs.declared.mod_path.PathKind.{PathKind}
+use Rattle.hir_base.specs.declared.ids.ModuleDefId.TheVariants.{ModuleId, FunctionId, AdtId as AnyAdt, EnumVariantId, ConstId, StaticId, TraitId, TypeAliasId}
+use Rattle.hir_base.specs.declared.ids.ModuleDefId.TheVariants.{BuiltinType, MacroId}
 use Rattle.hir_base.specs.declared.mod_path.PathKind.TheVariants as kinds
-use Rattle.hir_scope.specs.declared.imports.ImportOrExternCrate.{ImportOrExternCrate}
+use Rattle.hir_scope.specs.Types.{ImportOrExternCrate, PerNs}
 use Rattle.hir_scope.specs.PerNs.{Item, keep_of, nothing, or_of}
-use Rattle.hir_scope.specs.declared.per_ns.PerNs.{PerNs}
 use Rattle.hir_scope.specs.ModuleTree.{same_block, same_crate}
 use Rattle.hir_scope.specs.Visibility.{is_visible}
 use Rattle.hir_def_map_rules.specs.State.{CrateData, Map, module_at, parent_of, root_of, crate_root}
@@ -25,11 +20,15 @@ use Rattle.hir_def_map_rules.proofs.WellFormed.{parent_listed}
 use Rattle.hir_def_map_rules.specs.Ancestors.{Frame, above_by, above_in, frame_of, frames_of, holders_by, holders_in}
 use Rattle.hir_def_map_rules.specs.Scoping.Asking.{Asking}
 use Rattle.hir_def_map_rules.specs.Scoping.Blocks.{from_blocks, in_preludes, inherited, joined, with_preludes}
-use Rattle.hir_def_map_rules.specs.Scoping.FirstSegment.{builtin_name, extern_name, is_block_root, legacy_bound, macro_use_bound, name_in_module, name_in_preludes, name_in_crate_root_or_extern_prelude, of_style, prelude_bound, prelude_name, prelude_of, shadow_before, unless_block_root, with_builtin}
-use Rattle.hir_def_map_rules.specs.Scoping.Segments.{after_enum, crossing, nearest_non_block_among, nearest_non_block_module, rest, seen, through, through_adt, through_type, unresolved}
-use Rattle.hir_def_map_rules.specs.Scoping.Start.{abs_from, climb, from_start, is_edition_2015, is_dependency, is_import, is_in_reach, module_bound, is_in_edition_2015, settled_in_block, super_from}
+use Rattle.hir_def_map_rules.specs.Scoping.FirstSegment.{builtin_name, extern_name, is_block_root, legacy_bound, macro_use_bound, name_in_module}
+use Rattle.hir_def_map_rules.specs.Scoping.FirstSegment.{name_in_preludes, name_in_crate_root_or_extern_prelude, of_style, prelude_bound, prelude_name}
+use Rattle.hir_def_map_rules.specs.Scoping.FirstSegment.{prelude_of, shadow_before, unless_block_root, with_builtin}
+use Rattle.hir_def_map_rules.specs.Scoping.Segments.{after_enum, crossing, nearest_non_block_among, nearest_non_block_module, rest, seen, through, through_adt}
+use Rattle.hir_def_map_rules.specs.Scoping.Segments.{through_type, unresolved}
+use Rattle.hir_def_map_rules.specs.Scoping.Start.{abs_from, climb, from_start, is_edition_2015, is_dependency, is_import, is_in_reach, module_bound}
+use Rattle.hir_def_map_rules.specs.Scoping.Start.{is_in_edition_2015, settled_in_block, super_from}
 use Rattle.hir_def_map_rules.specs.declared.path_result.ReachedFixedPoint.TheVariants.{No}
-use Rattle.hir_def_map_rules.specs.declared.path_result.ResolvePathResult.{ResolvePathResult}
+use Rattle.hir_def_map_rules.specs.Types.{ResolvePathResult}
 use Rattle.hir_def_map_laws.specs.Paths.{data_of, AgreeOnName}
 use Rattle.hir_def_map.specs.Scoping.Slots.{prelude_module_of}
 
@@ -67,7 +66,8 @@ abbrev pub bound_in : (AnyModule → PerNs) → Option AnyModule → PerNs
 bound_in entry None = nothing
 bound_in entry (Some m) = entry m
 
-pub bound-in : (maps : Maps) (o : Option Map) (name : List ℕ) → prelude_bound maps (prelude_of o) name ≡ bound_in (λ m. entry_in maps m name) (prelude_module_of o)
+pub bound-in : (maps : Maps) (o : Option Map) (name : List ℕ) → prelude_bound maps (prelude_of o) name ≡ bound_in (λ m. entry_in maps m name)
+    (prelude_module_of o)
 bound-in maps o name = go (prelude_of o)
   where
     go : (p : Option (AnyModule × Option UseId)) → prelude_bound maps p name ≡ bound_in (λ m. entry_in maps m name) (option_map (λ x. x.0) p)
@@ -100,7 +100,8 @@ module _ (one other : Maps) (frames : (id : MapId) → frames_of one id ≡ fram
   same_2015 id = data-2015 (map_in one id) ∙ ap data_2015 (datas id) ∙ sym (data-2015 (map_in other id))
 
   same_dependency : (id : MapId) (c : Crate) → is_dependency (map_in one id) c ≡ is_dependency (map_in other id) c
-  same_dependency id c = data-dependency (map_in one id) c ∙ ap (λ (o : Option CrateData). data_dependency o c) (datas id) ∙ sym (data-dependency (map_in other id) c)
+  same_dependency id c =
+      data-dependency (map_in one id) c ∙ ap (λ (o : Option CrateData). data_dependency o c) (datas id) ∙ sym (data-dependency (map_in other id) c)
 
   same_reach : (from : AnyModule) (c : Crate) → is_in_reach one from c ≡ is_in_reach other from c
   same_reach from c = ap (λ (b : Bool). same_crate c from.map.krate || b) (same_dependency from.map c)
@@ -125,7 +126,8 @@ module _ (one other : Maps) (frames : (id : MapId) → frames_of one id ≡ fram
         ∙ sym (bound-in other (map_in other at.map) name)
 
     same_in_module : (asking : Asking) (ss : List (List ℕ)) (at : AnyModule)
-        → name_in_module one asking.local asking.sub_ns (shadow_before ss asking.shadow) at name ≡ name_in_module other asking.local asking.sub_ns (shadow_before ss asking.shadow) at name
+        → name_in_module one asking.local asking.sub_ns (shadow_before ss asking.shadow) at name ≡ name_in_module other asking.local asking.sub_ns
+        (shadow_before ss asking.shadow) at name
     same_in_module asking ss at = λ i.
         or_of (or_of (or_of (or_of (legacy_bound asking.sub_ns (agree.legacy at i))
         (with_builtin (shadow_before ss asking.shadow) (of_style asking.sub_ns (agree.entries at i)) (builtin_name at name)))
@@ -136,11 +138,13 @@ module _ (one other : Maps) (frames : (id : MapId) → frames_of one id ≡ fram
     same_in_preludes : (asking : Asking) (at : AnyModule) → name_in_preludes one asking.local at name ≡ name_in_preludes other asking.local at name
     same_in_preludes asking at = λ i. or_of (or_of (extern_name asking.local name) (macro_use_bound (agree.macro_uses at.map i))) (same_prelude at i)
 
-    same_in_root : (asking : Asking) (at : AnyModule) → name_in_crate_root_or_extern_prelude one asking.local at name ≡ name_in_crate_root_or_extern_prelude other asking.local at name
+    same_in_root : (asking : Asking) (at : AnyModule) → name_in_crate_root_or_extern_prelude one asking.local at name ≡ name_in_crate_root_or_extern_prelude
+        other asking.local at name
     same_in_root asking at = λ i.
         or_of (agree.entries (root_of (record { krate = at.map.krate; block = None })) i) (unless_block_root at (extern_name asking.local name))
 
-    same_through : (f g : AnyModule → PerNs → ResolvePathResult) → f ≡ g → (from : AnyModule) (ss : List (List ℕ)) (i : ℕ) (t : Option (Item ModuleDefId ImportOrExternCrate))
+    same_through : (f g : AnyModule → PerNs → ResolvePathResult) → f ≡ g → (from : AnyModule) (ss : List (List ℕ)) (i : ℕ)
+        (t : Option (Item ModuleDefId ImportOrExternCrate))
         → through_type f one from ss i name t ≡ through_type g other from ss i name t
     same_through f g same from ss i None = refl
     same_through f g same from ss i (Some item) = go item.def
@@ -155,15 +159,8 @@ module _ (one other : Maps) (frames : (id : MapId) → frames_of one id ≡ fram
             cond (same_crate m.map.krate from.map.krate)
             (same j from (same_seen j from m))
             (crossing (same j (same_nearest j m) (same_seen j (same_nearest j m) (same_nearest j m))))
-        go (FunctionId x) = refl
         go (AnyAdt x) = adt x
-        go (EnumVariantId x) = refl
-        go (ConstId x) = refl
-        go (StaticId x) = refl
-        go (TraitId x) = refl
-        go (TypeAliasId x) = refl
-        go (BuiltinType x) = refl
-        go (MacroId x) = refl
+        go other = refl
 
   -- ---- paths
 
@@ -197,16 +194,20 @@ module _ (one other : Maps) (frames : (id : MapId) → frames_of one id ≡ fram
   same_abs from ss agree names = ap (λ (r : ResolvePathResult). cond (is_some names.types) r (unresolved No)) (same_rest ss agree 1 from names)
 
   module _ (asking : Asking) where
-    same_start : (from : AnyModule) (kind : PathKind) (segs : List (List ℕ)) → Agree segs → from_start one asking from kind segs ≡ from_start other asking from kind segs
+    same_start : (from : AnyModule) (kind : PathKind) (segs : List (List ℕ)) → Agree segs → from_start one asking from kind segs ≡ from_start other asking from
+        kind segs
     same_start from kinds.Crate segs agree = same_rest segs agree 0 from (module_bound (crate_root from.map.krate))
-    same_start from (kinds.DollarCrate c) segs agree = λ i. cond (same_reach from c i) (same_rest segs agree 0 from (module_bound (crate_root c)) i) (unresolved No)
+    same_start from (kinds.DollarCrate c) segs agree =
+        λ i. cond (same_reach from c i) (same_rest segs agree 0 from (module_bound (crate_root c)) i) (unresolved No)
     same_start from (kinds.Super n) segs agree =
-        (λ i. super_from one from segs (same_climb n i (same_nearest i from))) ∙ same_super from segs agree (climb other n (nearest_non_block_module other from))
+        (λ i. super_from one from segs (same_climb n i (same_nearest i from))) ∙ same_super from segs agree
+        (climb other n (nearest_non_block_module other from))
     same_start from kinds.Plain [] agree = refl
     same_start from kinds.Plain (s ∷ ss) agree =
         let here : AgreeOnName one other s = first_of_names s ss agree in
         let left : Agree ss = other_names s ss agree in
-        let root : _ ≡ _ = same_from ss left 1 from (name_in_crate_root_or_extern_prelude one asking.local from s) (name_in_crate_root_or_extern_prelude other asking.local from s) (same_in_root s here asking from) in
+        let root : _ ≡ _ = same_from ss left 1 from (name_in_crate_root_or_extern_prelude one asking.local from s)
+        (name_in_crate_root_or_extern_prelude other asking.local from s) (same_in_root s here asking from) in
         let named : _ ≡ _ = same_from ss left 1 from (name_in_module one asking.local asking.sub_ns (shadow_before ss asking.shadow) from s)
         (name_in_module other asking.local asking.sub_ns (shadow_before ss asking.shadow) from s) (same_in_module s here asking ss from) in
         λ i. cond (same_2015 from.map i && is_import asking.mode) (root i) (named i)
@@ -214,10 +215,12 @@ module _ (one other : Maps) (frames : (id : MapId) → frames_of one id ≡ fram
     same_start from kinds.Abs (s ∷ ss) agree =
         let here : AgreeOnName one other s = first_of_names s ss agree in
         let left : Agree ss = other_names s ss agree in
-        let root : _ ≡ _ = same_from ss left 1 from (name_in_crate_root_or_extern_prelude one asking.local from s) (name_in_crate_root_or_extern_prelude other asking.local from s) (same_in_root s here asking from) in
+        let root : _ ≡ _ = same_from ss left 1 from (name_in_crate_root_or_extern_prelude one asking.local from s)
+        (name_in_crate_root_or_extern_prelude other asking.local from s) (same_in_root s here asking from) in
         λ i. cond (same_2015 from.map i) (root i) (same_abs from ss left (extern_name asking.local s) i)
 
-    same_preludes : (root : AnyModule) (kind : PathKind) (segs : List (List ℕ)) → Agree segs → in_preludes one asking root kind segs ≡ in_preludes other asking root kind segs
+    same_preludes : (root : AnyModule) (kind : PathKind) (segs : List (List ℕ)) → Agree segs → in_preludes one asking root kind segs
+        ≡ in_preludes other asking root kind segs
     same_preludes root kinds.Crate segs agree = refl
     same_preludes root (kinds.DollarCrate c) segs agree = refl
     same_preludes root (kinds.Super n) segs agree = refl
@@ -225,7 +228,8 @@ module _ (one other : Maps) (frames : (id : MapId) → frames_of one id ≡ fram
     same_preludes root kinds.Plain (s ∷ ss) agree =
         let here : AgreeOnName one other s = first_of_names s ss agree in
         let left : Agree ss = other_names s ss agree in
-        let named : _ ≡ _ = same_from ss left 1 root (name_in_preludes one asking.local root s) (name_in_preludes other asking.local root s) (same_in_preludes s here asking root) in
+        let named : _ ≡ _ = same_from ss left 1 root (name_in_preludes one asking.local root s) (name_in_preludes other asking.local root s)
+        (same_in_preludes s here asking root) in
         λ i. cond (same_2015 root.map i && is_import asking.mode) (same_rest ss left 1 root (extern_name asking.local s) i) (named i)
     same_preludes root kinds.Abs [] agree = refl
     same_preludes root kinds.Abs (s ∷ ss) agree =
@@ -233,17 +237,21 @@ module _ (one other : Maps) (frames : (id : MapId) → frames_of one id ≡ fram
         λ i. cond (same_2015 root.map i) (same_rest ss left 1 root (extern_name asking.local s) i) (same_abs root ss left (extern_name asking.local s) i)
 
     module _ (kind : PathKind) (segs : List (List ℕ)) (agree : Agree segs) where
-      same_with_preludes : (r q : ResolvePathResult) → r ≡ q → (m : AnyModule) → with_preludes one asking kind segs r m ≡ with_preludes other asking kind segs q m
+      same_with_preludes : (r q : ResolvePathResult) → r ≡ q → (m : AnyModule) → with_preludes one asking kind segs r m ≡ with_preludes other asking kind segs q
+          m
       same_with_preludes r q e m = λ i.
           cond (is_some m.map.block && not (is_block_root m)) (joined (e i) (same_preludes (crate_root m.map.krate) kind segs agree i)) (e i)
 
-      same_inherited : (hs : List AnyModule) (r q : ResolvePathResult) → r ≡ q → (m : AnyModule) → inherited one asking kind segs r m hs ≡ inherited other asking kind segs q m hs
+      same_inherited : (hs : List AnyModule) (r q : ResolvePathResult) → r ≡ q → (m : AnyModule) → inherited one asking kind segs r m hs
+          ≡ inherited other asking kind segs q m hs
       same_inherited [] r q e m = same_with_preludes r q e m
       same_inherited (h ∷ hs) r q e m =
-          let outwards : _ ≡ _ = same_inherited hs (joined r (from_start one asking h kind segs)) (joined q (from_start other asking h kind segs)) (λ i. joined (e i) (same_start h kind segs agree i)) h in
+          let outwards : _ ≡ _ = same_inherited hs (joined r (from_start one asking h kind segs)) (joined q (from_start other asking h kind segs))
+          (λ i. joined (e i) (same_start h kind segs agree i)) h in
           λ i. cond (is_block_root m) (outwards i) (same_with_preludes r q e m i)
 
       pub same_resolution : (from : AnyModule) → from_blocks one asking from kind segs ≡ from_blocks other asking from kind segs
       same_resolution from =
           ap (inherited one asking kind segs (from_start one asking from kind segs) from) (same_holders from)
-          ∙ same_inherited (holders_in other from) (from_start one asking from kind segs) (from_start other asking from kind segs) (same_start from kind segs agree) from
+          ∙ same_inherited (holders_in other from) (from_start one asking from kind segs) (from_start other asking from kind segs)
+          (same_start from kind segs agree) from

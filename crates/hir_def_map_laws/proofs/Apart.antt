@@ -7,23 +7,21 @@ use Rattle.std.specs.Option.{option_and_then, option_copied, option_map}
 use Rattle.std.specs.Prelude.{is_some, not}
 use Rattle.std.proofs.lemmas.List.Elements.{All-cons, All-nil}
 use mathlib.Core.Bool.{true≢false}
-use Rattle.hir_base.specs.declared.ids.Crate.{Crate}
-use Rattle.hir_base.specs.declared.ids.MapId.{MapId}
-use Rattle.hir_base.specs.declared.ids.ModuleId.{ModuleId}
-use Rattle.hir_base.specs.declared.ids.UseId.{UseId}
+use Rattle.hir_base.specs.Types.{Crate, MapId, ModuleId, UseId}
 use Rattle.hir_base.specs.contracts.ids.MapIdOrd.TheImpl as map_order
 use Rattle.hir_base.specs.contracts.ids.MapIdPartialEq.TheImpl as map_id
 use Rattle.hir_def_map_rules.specs.Inner.OverlayLaws.{exact_map}
 use Rattle.hir_def_map.specs.Inner.PartLaws.{among-only}
 use Rattle.hir_def_map_rules.specs.Ancestors.{frame_of, frames_of, holders_in, holders_of_frame}
-use Rattle.hir_def_map_rules.specs.References.{any_reference, any_reference_besides, any_reference_in, each_leads_to_root, has_its_parents, has_its_variants, is_holder_for, is_missing, is_well_formed, prelude_reference, test_of}
+use Rattle.hir_def_map_rules.specs.References.{any_reference, any_reference_besides, any_reference_in, each_leads_to_root, has_its_parents, has_its_variants}
+use Rattle.hir_def_map_rules.specs.References.{is_holder_for, is_missing, is_well_formed, prelude_reference, test_of}
 use Rattle.hir_def_map_rules.specs.State.{ModuleValue, module_at}
 use Rattle.hir_def_map_rules.specs.Overlay.{Maps, Placed, map_in, module_in, overlay, placed_in}
 use Rattle.hir_def_map.specs.Scoping.Slots.{is_in, prelude_module_of}
 use Rattle.hir_def_map.specs.World.{IsChecked, finished_in, placed_of}
 use Rattle.hir_def_map.specs.WorldParts.{among, limited_to, part_of}
-use Rattle.hir_def_map.specs.declared.world.finished.Finished.{Finished}
-use Rattle.hir_def_map_rules.specs.declared.reference.Reference.{Reference}
+use Rattle.hir_def_map.specs.Types.{Finished}
+use Rattle.hir_def_map_rules.specs.Types.{Reference}
 use Rattle.hir_def_map_rules.specs.declared.reference.Reference.TheVariants as named
 use Rattle.hir_def_map_rules.proofs.NoneOf.{none_at, not_first, not_second}
 use Rattle.hir_def_map_rules.proofs.Referred.{module_less}
@@ -33,7 +31,8 @@ use Rattle.hir_def_map_laws.specs.ReadLaw.{KeepApart, PartsKeepApart, SomeMapsKe
 -- ---- references of a map in which a test holds nowhere
 
 module _ (own : MapId) (test : Reference → Bool) (weaker : (n : Reference) → test n ≡ false → is_named_in own n ≡ false) where
-  prelude_apart : (o : Option (ModuleId × Option UseId)) → test_of test (prelude_reference o) ≡ false → (p : ModuleId) → option_map (λ x. x.0) o ≡ Some p → is_in own p ≡ false
+  prelude_apart : (o : Option (ModuleId × Option UseId)) → test_of test (prelude_reference o) ≡ false → (p : ModuleId) → option_map (λ x. x.0) o ≡ Some p
+      → is_in own p ≡ false
   prelude_apart None f p e = absurd cc
   prelude_apart (Some prelude) f p e = let same : prelude.0 ≡ p = cc in subst (λ (m : ModuleId). is_in own m ≡ false) same (weaker (named.Module prelude.0) f)
 
@@ -47,7 +46,8 @@ module _ (maps : BTreeMap MapId Finished) (own : MapId) (checked : IsChecked map
   unfolding finished_in
   found id placed e = go (get map_order.ghosts.cmp maps id) refl e
     where
-      go : (o : Option Finished) → get map_order.ghosts.cmp maps id ≡ o → option_map placed_of o ≡ Some placed → (f : Finished) × (get map_order.ghosts.cmp maps id ≡ Some f) × (placed_of f ≡ placed)
+      go : (o : Option Finished) → get map_order.ghosts.cmp maps id ≡ o → option_map placed_of o ≡ Some placed → (f : Finished)
+          × (get map_order.ghosts.cmp maps id ≡ Some f) × (placed_of f ≡ placed)
       go None s f = absurd cc
       go (Some x) s f = let same : placed_of x ≡ placed = cc in (x, s, same)
 
@@ -95,7 +95,8 @@ module _ (maps : BTreeMap MapId Finished) (own : MapId) (checked : IsChecked map
 
     module_names : (at : ℕ) (m : ModuleValue) → module_at placed.map at ≡ Some m → any_reference_in missing m ≡ false
     module_names at m e =
-        none_at (any_reference_in missing) placed.map.modules (not_first (list_any (any_reference_in missing) placed.map.modules) (any_reference_besides missing placed.map placed.local) none_missing) at m e
+        none_at (any_reference_in missing) placed.map.modules (not_first (list_any (any_reference_in missing) placed.map.modules)
+        (any_reference_besides missing placed.map placed.local) none_missing) at m e
 
     map_modules : (at : ℕ) (m : ModuleValue) → module_at placed.map at ≡ Some m → any_reference_in (is_named_in own) m ≡ false
     map_modules at m e = module_less missing (is_named_in own) apart m (module_names at m e)
@@ -110,7 +111,8 @@ module _ (maps : BTreeMap MapId Finished) (own : MapId) (checked : IsChecked map
   modules : (m : ModuleId) (value : ModuleValue) → module_in world m ≡ Some value → any_reference_in (is_named_in own) value ≡ false
   modules m value e = go (world m.map) refl e
     where
-      go : (o : Option Placed) → world m.map ≡ o → option_and_then (λ (placed : Placed). module_at placed.map m.index) o ≡ Some value → any_reference_in (is_named_in own) value ≡ false
+      go : (o : Option Placed) → world m.map ≡ o → option_and_then (λ (placed : Placed). module_at placed.map m.index) o ≡ Some value
+          → any_reference_in (is_named_in own) value ≡ false
       go None s f = absurd cc
       go (Some placed) s f = map_modules m.map placed s m.index value f
 
@@ -154,7 +156,8 @@ module _ (fewer finished : Maps) (own : MapId) (less : (id : MapId) (placed : Pl
   fewer_modules : (m : ModuleId) (value : ModuleValue) → module_in fewer m ≡ Some value → any_reference_in (is_named_in own) value ≡ false
   fewer_modules m value e = go (fewer m.map) refl e
     where
-      go : (o : Option Placed) → fewer m.map ≡ o → option_and_then (λ (placed : Placed). module_at placed.map m.index) o ≡ Some value → any_reference_in (is_named_in own) value ≡ false
+      go : (o : Option Placed) → fewer m.map ≡ o → option_and_then (λ (placed : Placed). module_at placed.map m.index) o ≡ Some value
+          → any_reference_in (is_named_in own) value ≡ false
       go None s f = absurd cc
       go (Some placed) s f = apart.modules m value (ap (option_and_then (λ (x : Placed). module_at x.map m.index)) (less m.map placed s) ∙ f)
 
@@ -165,7 +168,8 @@ module _ (fewer finished : Maps) (own : MapId) (less : (id : MapId) (placed : Pl
       go : (o : Option Placed) → fewer m.map ≡ o → All (λ (h : ModuleId). is_in own h ≡ false) (holders_of_frame (option_map frame_of o))
       go None s = All-nil (λ (h : ModuleId). is_in own h ≡ false)
       go (Some placed) s =
-          subst (λ (o : Option Placed). All (λ (h : ModuleId). is_in own h ≡ false) (holders_of_frame (option_map frame_of o))) (less m.map placed s) (apart.holders m)
+          subst (λ (o : Option Placed). All (λ (h : ModuleId). is_in own h ≡ false) (holders_of_frame (option_map frame_of o))) (less m.map placed s)
+          (apart.holders m)
 
   fewer_preludes : (id : MapId) (p : ModuleId) → prelude_module_of (map_in fewer id) ≡ Some p → is_in own p ≡ false
   fewer_preludes id p e = go (fewer id) refl e

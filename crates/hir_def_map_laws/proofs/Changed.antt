@@ -5,15 +5,13 @@ use Rattle.std.specs.Option.{option_and_then, option_map}
 use Rattle.std.specs.Prelude.{is_some, map as list_map}
 use Rattle.std.proofs.lemmas.List.Elements.{All-cons, All-head, All-nil, All-tail}
 use mathlib.Core.Bool.{true≢false}
-use Rattle.hir_base.specs.declared.ids.Crate.{Crate}
-use Rattle.hir_base.specs.declared.ids.EnumId.{EnumId}
-use Rattle.hir_base.specs.declared.ids.MapId.{MapId}
+use Rattle.hir_base.specs.Types.{Crate, EnumId, MapId}
 use Rattle.hir_base.specs.declared.ids.ModuleId.{ModuleId as AnyModule}
 use Rattle.hir_base.specs.contracts.ids.MapIdPartialEq.TheImpl as map_id
 use Rattle.hir_scope.specs.ModuleTree.{same_crate, same_module}
 use Rattle.hir_scope.specs.PerNs.{keep_of}
 use Rattle.hir_scope.specs.Visibility.{is_visible, stands_for}
-use Rattle.hir_scope.specs.declared.visibility.Visibility.{Visibility}
+use Rattle.hir_scope.specs.Types.{Visibility}
 use Rattle.hir_scope.specs.declared.visibility.Visibility.TheVariants.{Module, PubCrate, Public}
 use Rattle.hir_def_map_rules.specs.Inner.OverlayLaws.{exact_map}
 use Rattle.hir_def_map_rules.specs.Ancestors.{above_in, above_inside, above_under, frame_of, frames_of, holders_in, holders_of_frame, numbers_above, numbers_of}
@@ -22,7 +20,7 @@ use Rattle.hir_def_map_rules.specs.Scoping.Segments.{nearest_non_block_among, ne
 use Rattle.hir_def_map_rules.specs.Scoping.Start.{climb, is_dependency, is_edition_2015, is_in_edition_2015, is_in_reach}
 use Rattle.hir_def_map_rules.specs.State.{Map, ModuleValue, Variants, at_name, entry_at, entry_of, module_at, numbered, parent_at, parent_of, variants_at}
 use Rattle.hir_def_map_rules.specs.Overlay.{Maps, Placed, overlay, entry_in, holders_of, holders_or, holders_under, map_in, module_in, parent_in, placed_in}
-use Rattle.hir_def_map_rules.specs.declared.reference.Reference.{Reference}
+use Rattle.hir_def_map_rules.specs.Types.{Reference}
 use Rattle.hir_def_map_rules.specs.declared.reference.Reference.TheVariants as named
 use Rattle.hir_def_map_rules.specs.References.{any_reference_in, test_of, Fails}
 use Rattle.hir_def_map_rules.proofs.Referred.{entry_fails, module_parts}
@@ -152,7 +150,8 @@ module _ (t : Change) where
   finished_out m there = go (is_in own m) refl
     where
       go : (b : Bool) → is_in own m ≡ b → Out m
-      go true e = either-false (is_some (finished m.map)) there (ap (λ (id : MapId). is_some (finished id)) (is_own m e) ∙ none_is_some (finished own) t.apart.absent)
+      go true e =
+          either-false (is_some (finished m.map)) there (ap (λ (id : MapId). is_some (finished id)) (is_own m e) ∙ none_is_some (finished own) t.apart.absent)
       go false e = e
 
   finished_holders : (h : AnyModule) → All Out (holders_of (finished h.map))
@@ -177,7 +176,9 @@ module _ (t : Change) where
   holders_out m = subst (All Out) (sym (frame_holders (old m.map))) (go (map_id.ghosts.eq m.map own) refl)
     where
       go : (b : Bool) → map_id.ghosts.eq m.map own ≡ b → All Out (holders_of (old m.map))
-      go true e = subst (All Out) (sym (ap holders_of (old_own m.map e) ∙ ap (λ (o : Option Placed). holders_or o (holders_under finished own one.holder)) t.apart.absent)) own_holders
+      go true e =
+          subst (All Out) (sym (ap holders_of (old_own m.map e) ∙ ap (λ (o : Option Placed). holders_or o (holders_under finished own one.holder))
+          t.apart.absent)) own_holders
       go false e = subst (All Out) (sym (ap holders_of (old_out m.map e))) (finished_holders m)
 
   pub same_nearest : (m : AnyModule) → nearest_non_block_module new m ≡ nearest_non_block_module old m
@@ -222,7 +223,9 @@ module _ (t : Change) where
     where
       go : (o : Option ModuleValue) → ((v : ModuleValue) → o ≡ Some v → any_reference_in (is_named_in own) v ≡ false) → parent_of o ≡ Some p → Out p
       go None names f = absurd cc
-      go (Some v) names f = ap (λ (x : Option AnyModule). test_of (is_named_in own) (option_map named.Module x)) (sym f) ∙ (module_parts (is_named_in own) v (names v refl)).parent
+      go (Some v) names f =
+          ap (λ (x : Option AnyModule). test_of (is_named_in own) (option_map named.Module x)) (sym f) ∙
+          (module_parts (is_named_in own) v (names v refl)).parent
 
   parent_here : (m p : AnyModule) → Here m → parent_in old m ≡ Some p → Here p
   parent_here m p here e = go (is_in own m) refl
@@ -277,7 +280,8 @@ module _ (t : Change) where
   same_under [] m here all = ap (list_map (numbered m.map)) (same_numbers m here)
   same_under (h ∷ hs) m here all =
       let inside : above_inside (frames_of new) m ≡ above_inside (frames_of old) m = ap (list_map (numbered m.map)) (same_numbers m here) in
-      let outwards : above_under (frames_of new) hs h ≡ above_under (frames_of old) hs h = same_under hs h (here_out h (All-head Out h hs all)) (All-tail Out h hs all) in
+      let outwards : above_under (frames_of new) hs h ≡ above_under (frames_of old) hs h = same_under hs h (here_out h (All-head Out h hs all))
+      (All-tail Out h hs all) in
       λ i. inside i ++ h ∷ outwards i
 
   -- the same lies above a module that stays
@@ -287,14 +291,16 @@ module _ (t : Change) where
       ap (λ (hs : List AnyModule). above_under (frames_of new) hs m) (same_holders m)
       ∙ same_under (holders_in old m) m here (holders_out m)
 
-  same_visible : (from : AnyModule) → Here from → (v : Visibility) → is_visible (above_in new) (holders_in new) v from ≡ is_visible (above_in old) (holders_in old) v from
+  same_visible : (from : AnyModule) → Here from → (v : Visibility) → is_visible (above_in new) (holders_in new) v from
+      ≡ is_visible (above_in old) (holders_in old) v from
   same_visible from here (Module m e) = λ i.
       same_crate from.map.krate m.map.krate && list_any (same_module (stands_for from m (same_holders m i))) (from ∷ same_above from here i)
   same_visible from here (PubCrate c) = refl
   same_visible from here Public = refl
 
   -- it sees the same of what stands for the same
-  pub same_seen : (from at : AnyModule) (name : List ℕ) → Here from → entry_in new at name ≡ entry_in old at name → seen new from at name ≡ seen old from at name
+  pub same_seen : (from at : AnyModule) (name : List ℕ) → Here from → entry_in new at name ≡ entry_in old at name → seen new from at name
+      ≡ seen old from at name
   same_seen from at name here e = λ i. keep_of (λ v. same_visible from here v i) (e i)
 
   -- ---- names in other maps
@@ -306,11 +312,14 @@ module _ (t : Change) where
   legacy_out m name out = ap (λ (o : Option ModuleValue). legacy_of o name) (same_module_out m out)
 
   pub names_out : (m : AnyModule) (name : List ℕ) → Out m → Fails (is_named_in own) (entry_in old m name)
-  names_out m name out = subst (Fails (is_named_in own)) (sym (ap (λ (o : Option ModuleValue). entry_of o name) (module_out m out))) (entry_fails (is_named_in own) (module_in finished m) (t.apart.modules m) name)
+  names_out m name out =
+      subst (Fails (is_named_in own)) (sym (ap (λ (o : Option ModuleValue). entry_of o name) (module_out m out)))
+      (entry_fails (is_named_in own) (module_in finished m) (t.apart.modules m) name)
 
   -- ---- names in the map
 
-  pub entry_here : (m : AnyModule) (name : List ℕ) → is_in own m ≡ true → entry_at other m.index name ≡ entry_at one m.index name → entry_in new m name ≡ entry_in old m name
+  pub entry_here : (m : AnyModule) (name : List ℕ) → is_in own m ≡ true → entry_at other m.index name ≡ entry_at one m.index name → entry_in new m name
+      ≡ entry_in old m name
   entry_here m name e same =
       ap (λ (o : Option ModuleValue). entry_of o name) (new_module m e) ∙ same ∙ sym (ap (λ (o : Option ModuleValue). entry_of o name) (old_module m e))
 
@@ -326,9 +335,11 @@ module _ (t : Change) where
 
   pub variant_out : (id : EnumId) (name : List ℕ) → map_id.ghosts.eq id.loc.container.map own ≡ false → variant_in new id name ≡ variant_in old id name
   variant_out id name e =
-      ap (λ (o : Option Placed). option_and_then (λ (vs : Variants). at_name vs name) (option_and_then (λ (placed : Placed). variants_at placed.map id) o)) (same_out id.loc.container.map e)
+      ap (λ (o : Option Placed). option_and_then (λ (vs : Variants). at_name vs name) (option_and_then (λ (placed : Placed). variants_at placed.map id) o))
+      (same_out id.loc.container.map e)
 
-  pub variant_here : (id : EnumId) (name : List ℕ) → map_id.ghosts.eq id.loc.container.map own ≡ true → t.changes id ≡ false → variant_in new id name ≡ variant_in old id name
+  pub variant_here : (id : EnumId) (name : List ℕ) → map_id.ghosts.eq id.loc.container.map own ≡ true → t.changes id ≡ false → variant_in new id name
+      ≡ variant_in old id name
   variant_here id name e same =
       ap (λ (o : Option Variants). option_and_then (λ (vs : Variants). at_name vs name) o)
       (ap (λ (o : Option Placed). option_and_then (λ (placed : Placed). variants_at placed.map id) o) (new_own id.loc.container.map e)
@@ -358,10 +369,13 @@ module _ (t : Change) where
   same_2015 id = same_of_map is_in_edition_2015 (λ i. is_edition_2015 (t.crate_data i).edition) id
 
   pub same_reach : (from : AnyModule) (c : Crate) → is_in_reach new from c ≡ is_in_reach old from c
-  same_reach from c = λ i. same_crate c from.map.krate || same_of_map (λ (o : Option Map). is_dependency o c) (λ j. list_any (same_crate c) (t.crate_data j).dependencies) from.map i
+  same_reach from c =
+      λ i. same_crate c from.map.krate || same_of_map (λ (o : Option Map). is_dependency o c) (λ j. list_any (same_crate c) (t.crate_data j).dependencies)
+      from.map i
 
   pub same_prelude_module : (id : MapId) → prelude_module_of (map_in new id) ≡ prelude_module_of (map_in old id)
   same_prelude_module id = same_of_map prelude_module_of t.prelude id
 
   pub prelude_out : (id : MapId) → map_id.ghosts.eq id own ≡ false → (p : AnyModule) → prelude_module_of (map_in old id) ≡ Some p → Out p
-  prelude_out id e p f = t.apart.preludes id p (sym (ap (λ (o : Option Placed). prelude_module_of (option_map (λ (placed : Placed). placed.map) o)) (old_out id e)) ∙ f)
+  prelude_out id e p f =
+      t.apart.preludes id p (sym (ap (λ (o : Option Placed). prelude_module_of (option_map (λ (placed : Placed). placed.map) o)) (old_out id e)) ∙ f)

@@ -1,20 +1,19 @@
 -- What is read of a map, whatever variants its enums have.
 use Rattle.std.proofs.Common.{◌≡◌, ◌∙◌, ap, refl, ℕ, zero, suc, List, Bool, true, false, ◌||◌, cond, Option, None, Some}
 use Rattle.std.specs.Option.{option_and_then, option_map}
-use Rattle.hir_base.specs.declared.ids.Crate.{Crate}
-use Rattle.hir_base.specs.declared.ids.EnumId.{EnumId}
-use Rattle.hir_base.specs.declared.ids.MapId.{MapId}
+use Rattle.hir_base.specs.Types.{Crate, EnumId, MapId, UseId}
 use Rattle.hir_base.specs.declared.ids.ModuleId.{ModuleId as AnyModule}
-use Rattle.hir_base.specs.declared.ids.UseId.{UseId}
 use Rattle.hir_base.specs.contracts.ids.MapIdPartialEq.TheImpl as map_id
 use Rattle.hir_scope.specs.ModuleTree.{same_crate}
 use Rattle.hir_scope.specs.PerNs.{keep_of, or_of}
 use Rattle.hir_scope.specs.Visibility.{is_visible}
-use Rattle.hir_scope.specs.declared.per_ns.PerNs.{PerNs}
+use Rattle.hir_scope.specs.Types.{PerNs}
 use Rattle.hir_def_map_rules.specs.Ancestors.{above_by, above_in, frame_of, frames_of, holders_by, holders_in}
 use Rattle.hir_def_map_rules.specs.Overlay.{Maps, Placed, entry_in, map_in, module_in, overlay, parent_in, placed_in}
 use Rattle.hir_def_map_rules.specs.Scoping.Asking.{Asking}
-use Rattle.hir_def_map_rules.specs.Scoping.FirstSegment.{builtin_name, extern_name, legacy_bound, legacy_of, macro_use_bound, macro_use_of, name_in_crate_root_or_extern_prelude, name_in_module, name_in_preludes, of_style, prelude_bound, prelude_name, prelude_of, shadow_before, unless_block_root, with_builtin}
+use Rattle.hir_def_map_rules.specs.Scoping.FirstSegment.{builtin_name, extern_name, legacy_bound, legacy_of, macro_use_bound, macro_use_of}
+use Rattle.hir_def_map_rules.specs.Scoping.FirstSegment.{name_in_crate_root_or_extern_prelude, name_in_module, name_in_preludes, of_style, prelude_bound}
+use Rattle.hir_def_map_rules.specs.Scoping.FirstSegment.{prelude_name, prelude_of, shadow_before, unless_block_root, with_builtin}
 use Rattle.hir_def_map_rules.specs.Scoping.Segments.{nearest_non_block_among, nearest_non_block_module, seen}
 use Rattle.hir_def_map_rules.specs.Scoping.Start.{climb, is_dependency, is_in_edition_2015, is_in_reach}
 use Rattle.hir_def_map_rules.specs.State.{Map, ModuleValue, Variants, crate_root, entry_of, module_at, parent_of}
@@ -28,10 +27,12 @@ module _ (finished : Maps) (map : Map) (enums : List (EnumId × Variants)) where
   other = overlay finished map
 
   -- what is read of each map but its enums is the same
-  pub over : {X : Type 0} (f : Option Placed → X) → f (Some (placed_in finished (record map { enums = enums }))) ≡ f (Some (placed_in finished map)) → (id : MapId) → f (one id) ≡ f (other id)
+  pub over : {X : Type 0} (f : Option Placed → X) → f (Some (placed_in finished (record map { enums = enums }))) ≡ f (Some (placed_in finished map))
+      → (id : MapId) → f (one id) ≡ f (other id)
   over f e id = go (map_id.ghosts.eq id map.id)
     where
-      go : (b : Bool) → f (cond b (Some (placed_in finished (record map { enums = enums }))) (finished id)) ≡ f (cond b (Some (placed_in finished map)) (finished id))
+      go : (b : Bool) → f (cond b (Some (placed_in finished (record map { enums = enums }))) (finished id))
+          ≡ f (cond b (Some (placed_in finished map)) (finished id))
       go true = e
       go false = refl
 
@@ -65,7 +66,8 @@ module _ (finished : Maps) (map : Map) (enums : List (EnumId × Variants)) where
 
   pub same_reach : (from : AnyModule) (c : Crate) → is_in_reach one from c ≡ is_in_reach other from c
   same_reach from c =
-      ap (λ (b : Bool). same_crate c from.map.krate || b) (over (λ (o : Option Placed). is_dependency (option_map (λ (placed : Placed). placed.map) o) c) refl from.map)
+      ap (λ (b : Bool). same_crate c from.map.krate || b) (over (λ (o : Option Placed). is_dependency (option_map (λ (placed : Placed). placed.map) o) c) refl
+      from.map)
 
   pub same_prelude_of : (id : MapId) → prelude_of (map_in one id) ≡ prelude_of (map_in other id)
   same_prelude_of id = over (λ (o : Option Placed). prelude_of (option_map (λ (placed : Placed). placed.map) o)) refl id
@@ -90,10 +92,12 @@ module _ (finished : Maps) (map : Map) (enums : List (EnumId × Variants)) where
     same_bound (Some p) = same_entry p.0
 
     pub same_prelude : (at : AnyModule) → prelude_name one at name ≡ prelude_name other at name
-    same_prelude at = ap (λ (o : Option (AnyModule × Option UseId)). prelude_bound one o name) (same_prelude_of at.map) ∙ same_bound (prelude_of (map_in other at.map))
+    same_prelude at =
+        ap (λ (o : Option (AnyModule × Option UseId)). prelude_bound one o name) (same_prelude_of at.map) ∙ same_bound (prelude_of (map_in other at.map))
 
     pub same_in_module : (asking : Asking) (ss : List (List ℕ)) (at : AnyModule)
-        → name_in_module one asking.local asking.sub_ns (shadow_before ss asking.shadow) at name ≡ name_in_module other asking.local asking.sub_ns (shadow_before ss asking.shadow) at name
+        → name_in_module one asking.local asking.sub_ns (shadow_before ss asking.shadow) at name ≡ name_in_module other asking.local asking.sub_ns
+        (shadow_before ss asking.shadow) at name
     same_in_module asking ss at = λ i.
         or_of (or_of (or_of (or_of (legacy_bound asking.sub_ns (legacy_of (same_module at i) name))
         (with_builtin (shadow_before ss asking.shadow) (of_style asking.sub_ns (same_entry at i)) (builtin_name at name)))
@@ -104,5 +108,6 @@ module _ (finished : Maps) (map : Map) (enums : List (EnumId × Variants)) where
     pub same_in_preludes : (asking : Asking) (at : AnyModule) → name_in_preludes one asking.local at name ≡ name_in_preludes other asking.local at name
     same_in_preludes asking at = λ i. or_of (or_of (extern_name asking.local name) (macro_use_bound (same_macro_use at.map name i))) (same_prelude at i)
 
-    pub same_in_root : (asking : Asking) (at : AnyModule) → name_in_crate_root_or_extern_prelude one asking.local at name ≡ name_in_crate_root_or_extern_prelude other asking.local at name
+    pub same_in_root : (asking : Asking) (at : AnyModule) → name_in_crate_root_or_extern_prelude one asking.local at name ≡ name_in_crate_root_or_extern_prelude
+        other asking.local at name
     same_in_root asking at = λ i. or_of (same_entry (crate_root at.map.krate) i) (unless_block_root at (extern_name asking.local name))

@@ -4,35 +4,32 @@ use Rattle.std.specs.List.{All}
 use Rattle.std.specs.Option.{option_and_then, option_map}
 use Rattle.std.specs.Prelude.{is_some, not}
 use Rattle.hir_base.specs.ModPath.{Path}
-use Rattle.hir_base.specs.declared.ids.AdtId.{AdtId}
+use Rattle.hir_base.specs.Types.{AdtId, EnumId, MapId, ModuleDefId, PathKind, UseId}
 use Rattle.hir_base.specs.declared.ids.AdtId.TheVariants as adts
-use Rattle.hir_base.specs.declared.ids.EnumId.{EnumId}
-use Rattle.hir_base.specs.declared.ids.MapId.{MapId}
 use Rattle.hir_base.specs.declared.ids.ModuleId.{ModuleId as AnyModule}
-use Rattle.hir_base.specs.declared.ids.ModuleDefId.{ModuleDefId}
-use Rattle.hir_base.specs.declared.ids.ModuleDefId.TheVariants.{ModuleId, FunctionId, AdtId as AnyAdt, EnumVariantId, ConstId, StaticId, TraitId, TypeAliasId, BuiltinType, MacroId}
-use Rattle.hir_base.specs.declared.ids.UseId.{UseId}
-use Rattle.hir_base.specs.declared.mod_path.PathKind.{PathKind}
+use Rattle.hir_base.specs.declared.ids.ModuleDefId.TheVariants.{ModuleId, FunctionId, AdtId as AnyAdt, EnumVariantId, ConstId, StaticId, TraitId, TypeAliasId}
+use Rattle.hir_base.specs.declared.ids.ModuleDefId.TheVariants.{BuiltinType, MacroId}
 use Rattle.hir_base.specs.declared.mod_path.PathKind.TheVariants as kinds
 use Rattle.hir_base.specs.contracts.ids.MapIdPartialEq.TheImpl as map_id
 use Rattle.hir_scope.specs.ModuleTree.{same_block, same_crate}
 use Rattle.hir_scope.specs.PerNs.{Item}
-use Rattle.hir_scope.specs.declared.imports.ImportOrExternCrate.{ImportOrExternCrate}
-use Rattle.hir_scope.specs.declared.per_ns.PerNs.{PerNs}
+use Rattle.hir_scope.specs.Types.{ImportOrExternCrate, PerNs}
 use Rattle.hir_def_map_rules.proofs.Fails.{Fails-nowhere}
 use Rattle.hir_def_map_rules.specs.Overlay.{Maps, Placed, map_in, overlay, placed_in}
 use Rattle.hir_def_map_rules.specs.Scoping.{Resolution, resolution_of}
 use Rattle.hir_def_map_rules.specs.Scoping.Asking.{Asking}
 use Rattle.hir_def_map_rules.specs.Scoping.Blocks.{from_blocks}
 use Rattle.hir_def_map_rules.specs.Scoping.FirstSegment.{extern_name, is_block_root, name_in_crate_root_or_extern_prelude, name_in_module, shadow_before}
-use Rattle.hir_def_map_rules.specs.Scoping.Segments.{after_enum, crossing, nearest_non_block_module, rest, seen, through, through_adt, through_type, unresolved, variant_in}
-use Rattle.hir_def_map.specs.Scoping.Slots.{further_slots, kept_in, module_among, prelude_module_of, reads, slots_after, slots_from_crates, slots_from_module, slots_from_root, slots_of, with_prelude_slot, with_slot}
-use Rattle.hir_def_map_rules.specs.Scoping.Start.{abs_from, climb, from_start, is_import, is_in_edition_2015, is_in_reach, module_bound, settled_in_block, super_from}
+use Rattle.hir_def_map_rules.specs.Scoping.Segments.{after_enum, crossing, nearest_non_block_module, rest, seen, through, through_adt, through_type, unresolved}
+use Rattle.hir_def_map_rules.specs.Scoping.Segments.{variant_in}
+use Rattle.hir_def_map.specs.Scoping.Slots.{further_slots, kept_in, module_among, prelude_module_of, reads, slots_after, slots_from_crates, slots_from_module}
+use Rattle.hir_def_map.specs.Scoping.Slots.{slots_from_root, slots_of, with_prelude_slot, with_slot}
+use Rattle.hir_def_map_rules.specs.Scoping.Start.{abs_from, climb, from_start, is_import, is_in_edition_2015, is_in_reach, module_bound, settled_in_block}
+use Rattle.hir_def_map_rules.specs.Scoping.Start.{super_from}
 use Rattle.hir_def_map_rules.specs.State.{IsInOrder, Local, Map, Variants, at_name, crate_root, entry_at, numbered, variants_at}
-use Rattle.hir_def_map_rules.specs.declared.enum_variants.EnumVariant.{EnumVariant}
+use Rattle.hir_def_map_rules.specs.Types.{EnumVariant, ResolvePathResult}
 use Rattle.hir_def_map_rules.specs.declared.path_result.ReachedFixedPoint.TheVariants.{No, Yes}
-use Rattle.hir_def_map_rules.specs.declared.path_result.ResolvePathResult.{ResolvePathResult}
-use Rattle.hir_def_map.specs.declared.nameres.path_resolution.slots.Slot.{Slot}
+use Rattle.hir_def_map.specs.Types.{Slot}
 use Rattle.hir_def_map.specs.declared.nameres.path_resolution.slots.Slot.TheVariants.{Module as of_module, Preludes as of_preludes}
 use Rattle.hir_def_map_laws.proofs.Changed.{Change, has_others}
 use Rattle.hir_def_map_laws.proofs.EnumsApart.{same_2015, same_climb, same_in_module, same_in_root, same_nearest, same_prelude_of, same_reach, same_seen}
@@ -101,14 +98,19 @@ module _ (finished : Maps) (map : Map) (enums : List (EnumId × Variants))
             let has : is_bare_def bare item.def ≡ false = h in
             absurd cc
 
-        go : (b : Bool) → map_id.ghosts.eq id.loc.container.map map.id ≡ b → Stays (after_enum ss i item (variant_in one id name)) (after_enum ss i item (variant_in other id name))
+        go : (b : Bool) → map_id.ghosts.eq id.loc.container.map map.id ≡ b → Stays (after_enum ss i item (variant_in one id name))
+            (after_enum ss i item (variant_in other id name))
         go false e =
-            let before : variant_in one id name ≡ variant_by id (finished id.loc.container.map) = ap (λ (b : Bool). variant_by id (cond b (Some (placed_in finished bare)) (finished id.loc.container.map))) e in
-            let after : variant_in other id name ≡ variant_by id (finished id.loc.container.map) = ap (λ (b : Bool). variant_by id (cond b (Some (placed_in finished map)) (finished id.loc.container.map))) e in
+            let before : variant_in one id name ≡ variant_by id (finished id.loc.container.map) = ap
+            (λ (b : Bool). variant_by id (cond b (Some (placed_in finished bare)) (finished id.loc.container.map))) e in
+            let after : variant_in other id name ≡ variant_by id (finished id.loc.container.map) = ap
+            (λ (b : Bool). variant_by id (cond b (Some (placed_in finished map)) (finished id.loc.container.map))) e in
             λ h. ap (after_enum ss i item) (after ∙ sym before)
         go true e =
-            let before : variant_in one id name ≡ variant_of (variants_at bare id) = ap (λ (b : Bool). variant_by id (cond b (Some (placed_in finished bare)) (finished id.loc.container.map))) e in
-            let after : variant_in other id name ≡ variant_of (variants_at map id) = ap (λ (b : Bool). variant_by id (cond b (Some (placed_in finished map)) (finished id.loc.container.map))) e in
+            let before : variant_in one id name ≡ variant_of (variants_at bare id) = ap
+            (λ (b : Bool). variant_by id (cond b (Some (placed_in finished bare)) (finished id.loc.container.map))) e in
+            let after : variant_in other id name ≡ variant_of (variants_at map id) = ap
+            (λ (b : Bool). variant_by id (cond b (Some (placed_in finished map)) (finished id.loc.container.map))) e in
             λ h. ap (after_enum ss i item) after
             ∙ known (variants_at bare id) refl e (subst (λ (o : Option EnumVariant). stops_bare bare (after_enum ss i item o) ≡ false) before h)
             ∙ sym (ap (after_enum ss i item) before)
@@ -132,42 +134,42 @@ module _ (finished : Maps) (map : Map) (enums : List (EnumId × Variants))
             moved_stays (f from (seen one from m name)) (g from (seen one from m name)) (g from (seen other from m name)) (stays from (seen one from m name))
             (ap (g from) (λ j. same_seen finished map enums name j from m)) in
             let outside : Stays (f near (seen one near near name)) (g near_after (seen other near_after near_after name)) =
-            moved_stays (f near (seen one near near name)) (g near (seen one near near name)) (g near_after (seen other near_after near_after name)) (stays near (seen one near near name))
-            (λ j. g (same_nearest finished map enums j m) (same_seen finished map enums name j (same_nearest finished map enums j m) (same_nearest finished map enums j m))) in
+            moved_stays (f near (seen one near near name)) (g near (seen one near near name)) (g near_after (seen other near_after near_after name))
+            (stays near (seen one near near name))
+            (λ j. g (same_nearest finished map enums j m) (same_seen finished map enums name j (same_nearest finished map enums j m)
+            (same_nearest finished map enums j m))) in
             either_stays (same_crate m.map.krate from.map.krate) (f from (seen one from m name)) (g from (seen other from m name))
             (crossing (f near (seen one near near name))) (crossing (g near_after (seen other near_after near_after name)))
             inside (crossing_stays (f near (seen one near near name)) (g near_after (seen other near_after near_after name)) outside)
-        go (FunctionId x) e = λ h. refl
         go (AnyAdt x) e = adt x e
-        go (EnumVariantId x) e = λ h. refl
-        go (ConstId x) e = λ h. refl
-        go (StaticId x) e = λ h. refl
-        go (TraitId x) e = λ h. refl
-        go (TypeAliasId x) e = λ h. refl
-        go (BuiltinType x) e = λ h. refl
-        go (MacroId x) e = λ h. refl
+        go other e = λ h. refl
 
   -- ---- paths
 
   rest_stays : (ss : List (List ℕ)) (i : ℕ) (from : AnyModule) (now : PerNs) → Stays (rest one from ss i now) (rest other from ss i now)
   rest_stays [] i from now = λ h. refl
   rest_stays (s ∷ ss) i from now =
-      through_stays s (λ next_from next. rest one next_from ss (i + 1) next) (λ next_from next. rest other next_from ss (i + 1) next) (λ next_from next. rest_stays ss (i + 1) next_from next) from ss i now.types
+      through_stays s (λ next_from next. rest one next_from ss (i + 1) next) (λ next_from next. rest other next_from ss (i + 1) next)
+      (λ next_from next. rest_stays ss (i + 1) next_from next) from ss i now.types
 
   -- after a first segment that is named the same
   from_stays : (ss : List (List ℕ)) (i : ℕ) (from : AnyModule) (a b : PerNs) → a ≡ b → Stays (rest one from ss i a) (rest other from ss i b)
-  from_stays ss i from a b e = moved_stays (rest one from ss i a) (rest other from ss i a) (rest other from ss i b) (rest_stays ss i from a) (ap (rest other from ss i) e)
+  from_stays ss i from a b e =
+      moved_stays (rest one from ss i a) (rest other from ss i a) (rest other from ss i b) (rest_stays ss i from a) (ap (rest other from ss i) e)
 
   super_stays : (from : AnyModule) (segs : List (List ℕ)) (o : Option AnyModule) → Stays (super_from one from segs o) (super_from other from segs o)
   super_stays from segs None = λ h. refl
   super_stays from segs (Some m) =
       let before : ResolvePathResult = rest one m segs 0 (module_bound m) in
       let after : ResolvePathResult = rest other m segs 0 (module_bound m) in
-      either_stays (same_block m.map.block from.map.block) (rest one from segs 0 (module_bound m)) (rest other from segs 0 (module_bound m)) (settled_in_block m before) (settled_in_block m after)
+      either_stays (same_block m.map.block from.map.block) (rest one from segs 0 (module_bound m)) (rest other from segs 0 (module_bound m))
+      (settled_in_block m before) (settled_in_block m after)
       (rest_stays segs 0 from (module_bound m)) (settled_stays m before after (rest_stays segs 0 m (module_bound m)))
 
   abs_stays : (from : AnyModule) (ss : List (List ℕ)) (names : PerNs) → Stays (abs_from one from ss names) (abs_from other from ss names)
-  abs_stays from ss names = either_stays (is_some names.types) (rest one from ss 1 names) (rest other from ss 1 names) (unresolved No) (unresolved No) (rest_stays ss 1 from names) (λ h. refl)
+  abs_stays from ss names =
+      either_stays (is_some names.types) (rest one from ss 1 names) (rest other from ss 1 names) (unresolved No) (unresolved No) (rest_stays ss 1 from names)
+      (λ h. refl)
 
   module _ (asking : Asking) (from : AnyModule) where
     abbrev root_names : Maps → List ℕ → PerNs
@@ -181,7 +183,8 @@ module _ (finished : Maps) (map : Map) (enums : List (EnumId × Variants))
     start_stays (kinds.DollarCrate c) segs =
         let before : ResolvePathResult = rest one from segs 0 (module_bound (crate_root c)) in
         let after : ResolvePathResult = rest other from segs 0 (module_bound (crate_root c)) in
-        moved_stays (cond (is_in_reach one from c) before (unresolved No)) (cond (is_in_reach one from c) after (unresolved No)) (cond (is_in_reach other from c) after (unresolved No))
+        moved_stays (cond (is_in_reach one from c) before (unresolved No)) (cond (is_in_reach one from c) after (unresolved No))
+        (cond (is_in_reach other from c) after (unresolved No))
         (either_stays (is_in_reach one from c) before after (unresolved No) (unresolved No) (rest_stays segs 0 from (module_bound (crate_root c))) (λ h. refl))
         (ap (λ (b : Bool). cond b after (unresolved No)) (same_reach finished map enums from c))
     start_stays (kinds.Super n) segs =
@@ -196,7 +199,8 @@ module _ (finished : Maps) (map : Map) (enums : List (EnumId × Variants))
         let root_after : ResolvePathResult = rest other from ss 1 (root_names other s) in
         let inside : ResolvePathResult = rest one from ss 1 (own_names one s ss) in
         let inside_after : ResolvePathResult = rest other from ss 1 (own_names other s ss) in
-        moved_stays (cond is_old root inside) (cond is_old root_after inside_after) (cond (is_in_edition_2015 (map_in other from.map) && is_import asking.mode) root_after inside_after)
+        moved_stays (cond is_old root inside) (cond is_old root_after inside_after) (cond (is_in_edition_2015 (map_in other from.map) && is_import asking.mode)
+        root_after inside_after)
         (either_stays is_old root root_after inside inside_after
         (from_stays ss 1 from (root_names one s) (root_names other s) (same_in_root finished map enums s asking from))
         (from_stays ss 1 from (own_names one s ss) (own_names other s ss) (same_in_module finished map enums s asking ss from)))
@@ -215,7 +219,8 @@ module _ (finished : Maps) (map : Map) (enums : List (EnumId × Variants))
         (ap (λ (b : Bool). cond b root_after crates_after) (same_2015 finished map enums from.map))
 
     -- a path that stops at no enum without variants
-    pub same_answer : (kind : PathKind) (segs : List (List ℕ)) → from.map.block ≡ None → Stays (from_blocks one asking from kind segs) (from_blocks other asking from kind segs)
+    pub same_answer : (kind : PathKind) (segs : List (List ℕ)) → from.map.block ≡ None → Stays (from_blocks one asking from kind segs)
+        (from_blocks other asking from kind segs)
     same_answer kind segs none h =
         let before : from_blocks one asking from kind segs ≡ from_start one asking from kind segs = start-of_crate one asking from kind segs none in
         start-of_crate other asking from kind segs none
@@ -238,7 +243,8 @@ module _ (finished : Maps) (map : Map) (enums : List (EnumId × Variants))
 
       root_slots : (s : List ℕ) (ss : List (List ℕ)) → slots_from_root other asking own from s ss ≡ slots_from_root one asking own from s ss
       root_slots s ss =
-          ap (λ (xs : List Slot). with_slot own (crate_root from.map.krate) s (of_preludes s ∷ xs)) (same_after ss (root_names one s) (root_names other s) (same_in_root finished map enums s asking from))
+          ap (λ (xs : List Slot). with_slot own (crate_root from.map.krate) s (of_preludes s ∷ xs))
+          (same_after ss (root_names one s) (root_names other s) (same_in_root finished map enums s asking from))
 
       module_slots : (s : List ℕ) (ss : List (List ℕ)) → slots_from_module other asking own from s ss ≡ slots_from_module one asking own from s ss
       module_slots s ss =
@@ -260,7 +266,8 @@ module _ (finished : Maps) (map : Map) (enums : List (EnumId × Variants))
       same_slots (kinds.DollarCrate c) segs = same_further segs (kept_in own (crate_root c))
       same_slots (kinds.Super n) segs =
           same_further segs (option_and_then (kept_in own) (climb other n (nearest_non_block_module other from)))
-          ∙ sym (λ j. further_slots one own from segs (option_and_then (kept_in own) (same_climb finished map enums n j (same_nearest finished map enums j from))))
+          ∙ sym (λ j. further_slots one own from segs
+          (option_and_then (kept_in own) (same_climb finished map enums n j (same_nearest finished map enums j from))))
       same_slots kinds.Plain [] = refl
       same_slots kinds.Plain (s ∷ ss) = λ j. cond (old_edition j && is_import asking.mode) (root_slots s ss j) (module_slots s ss j)
       same_slots kinds.Abs [] = refl
@@ -274,7 +281,15 @@ module _ (finished : Maps) (one other : Map) (apart : KeepApart finished one.id)
   grown_bare = record other { enums = one.enums }
 
   grows_bare : Grows one grown_bare
-  grows_bare = record { id = grows.id; holder = grows.holder; crate_data = grows.crate_data; prelude = grows.prelude; parents = grows.parents; enums = λ id variants e. e }
+  grows_bare =
+      record {
+        id = grows.id;
+        holder = grows.holder;
+        crate_data = grows.crate_data;
+        prelude = grows.prelude;
+        parents = grows.parents;
+        enums = λ id variants e. e;
+      }
 
   abbrev change : Change
   change = record {
@@ -314,7 +329,8 @@ module _ (finished : Maps) (one other : Map) (apart : KeepApart finished one.id)
     alike_bare : All (AgreeAt one asking.local other local) (reads finished asking one from path) → IsReadAlike finished one asking grown_bare local from path
     alike_bare agree = reads_alike change asking local (crate_maps_outside one.id asking.local none) at low path (λ n x l. agree_bare _ (agree n x l))
 
-    alike : stops_bare one (resolution_of (overlay finished one) asking from path) ≡ false → All (AgreeAt one asking.local other local) (reads finished asking one from path)
+    alike : stops_bare one (resolution_of (overlay finished one) asking from path) ≡ false → All (AgreeAt one asking.local other local)
+        (reads finished asking one from path)
         → IsReadAlike finished one asking other local from path
     alike unstopped agree =
         let before : IsReadAlike finished one asking grown_bare local from path = alike_bare agree in record {
@@ -326,4 +342,5 @@ module _ (finished : Maps) (one other : Map) (apart : KeepApart finished one.id)
         }
 
 pub unstopped_reads : UnstoppedReadsDecide
-unstopped_reads finished one other asking local at path apart none in_order low grows longer unstopped agree = alike finished one other apart in_order grows asking local none at low path unstopped agree
+unstopped_reads finished one other asking local at path apart none in_order low grows longer unstopped agree =
+    alike finished one other apart in_order grows asking local none at low path unstopped agree

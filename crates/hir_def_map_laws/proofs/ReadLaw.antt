@@ -5,50 +5,50 @@ use Rattle.std.specs.List.{All}
 use Rattle.std.specs.Prelude.{is_some, option_and_then, option_map}
 use Rattle.std.proofs.lemmas.List.Elements.{All-head, All-tail}
 use Rattle.hir_base.specs.ModPath.{Path}
-use Rattle.hir_base.specs.declared.ast_id.BlockId.{BlockId}
-use Rattle.hir_base.specs.declared.ids.AdtId.{AdtId}
+use Rattle.hir_base.specs.Types.{AdtId, BlockId, EnumId, ExternCrateId, MapId, ModuleDefId, PathKind}
 use Rattle.hir_base.specs.declared.ids.AdtId.TheVariants as adts
-use Rattle.hir_base.specs.declared.ids.EnumId.{EnumId}
-use Rattle.hir_base.specs.declared.ids.ExternCrateId.{ExternCrateId}
-use Rattle.hir_base.specs.declared.ids.MapId.{MapId}
 use Rattle.hir_base.specs.declared.ids.ModuleId.{ModuleId as AnyModule}
-use Rattle.hir_base.specs.declared.ids.ModuleDefId.{ModuleDefId}
-use Rattle.hir_base.specs.declared.ids.ModuleDefId.TheVariants.{ModuleId, FunctionId, AdtId as AnyAdt, EnumVariantId, ConstId, StaticId, TraitId, TypeAliasId, BuiltinType, MacroId}
-use Rattle.hir_base.specs.declared.mod_path.PathKind.{PathKind}
+use Rattle.hir_base.specs.declared.ids.ModuleDefId.TheVariants.{ModuleId, FunctionId, AdtId as AnyAdt, EnumVariantId, ConstId, StaticId, TraitId, TypeAliasId}
+use Rattle.hir_base.specs.declared.ids.ModuleDefId.TheVariants.{BuiltinType, MacroId}
 use Rattle.hir_base.specs.declared.mod_path.PathKind.TheVariants as kinds
 use Rattle.hir_base.specs.contracts.ids.MapIdPartialEq.TheImpl as map_id
 use Rattle.hir_scope.specs.ModuleTree.{same_block, same_crate}
 use Rattle.hir_scope.specs.PerNs.{Item, or_of}
 use Rattle.hir_scope.specs.Visibility.{is_visible}
-use Rattle.hir_scope.specs.declared.imports.ImportOrExternCrate.{ImportOrExternCrate}
+use Rattle.hir_scope.specs.Types.{ImportOrExternCrate, PerNs}
 use Rattle.hir_scope.specs.declared.imports.ImportOrExternCrate.TheVariants as ways
-use Rattle.hir_scope.specs.declared.per_ns.PerNs.{PerNs}
 use Rattle.hir_def_map_rules.specs.Inner.OverlayLaws.{same_id}
 use Rattle.hir_def_map_rules.specs.Ancestors.{above_in, holders_in}
 use Rattle.hir_def_map_rules.specs.References.{reference_to, test_of, test_visibility, Fails, FailsAtItem}
 use Rattle.hir_def_map_rules.specs.Scoping.Asking.{Asking}
 use Rattle.hir_def_map_rules.specs.Scoping.Blocks.{from_blocks, inherited}
-use Rattle.hir_def_map_rules.specs.Scoping.FirstSegment.{builtin_name, extern_bound, extern_name, legacy_bound, legacy_of, macro_use_bound, macro_use_name, macro_use_of, name_in_crate_root_or_extern_prelude, name_in_module, of_style, prelude_name, shadow_before, unless_block_root, with_builtin}
-use Rattle.hir_def_map_rules.specs.Scoping.Segments.{after_enum, crossing, nearest_non_block_module, rest, seen, through, through_adt, through_module, through_type, unresolved}
+use Rattle.hir_def_map_rules.specs.Scoping.FirstSegment.{builtin_name, extern_bound, extern_name, legacy_bound, legacy_of, macro_use_bound, macro_use_name}
+use Rattle.hir_def_map_rules.specs.Scoping.FirstSegment.{macro_use_of, name_in_crate_root_or_extern_prelude, name_in_module, of_style, prelude_name}
+use Rattle.hir_def_map_rules.specs.Scoping.FirstSegment.{shadow_before, unless_block_root, with_builtin}
+use Rattle.hir_def_map_rules.specs.Scoping.Segments.{after_enum, crossing, nearest_non_block_module, rest, seen, through, through_adt, through_module}
+use Rattle.hir_def_map_rules.specs.Scoping.Segments.{through_type, unresolved}
 use Rattle.hir_def_map_rules.specs.Scoping.Start.{abs_from, climb, from_start, is_import, is_in_edition_2015, module_bound, settled_in_block, super_from}
 use Rattle.hir_def_map_rules.specs.State.{Local, Map, at_name, crate_root, numbered}
 use Rattle.hir_def_map_rules.specs.Overlay.{Maps, entry_in, map_in, module_in}
 use Rattle.hir_def_map_rules.specs.declared.path_result.ReachedFixedPoint.TheVariants.{No}
-use Rattle.hir_def_map_rules.specs.declared.path_result.ResolvePathResult.{ResolvePathResult}
-use Rattle.hir_def_map_rules.specs.declared.reference.Reference.{Reference}
+use Rattle.hir_def_map_rules.specs.Types.{Reference, ResolvePathResult}
 use Rattle.hir_def_map_rules.specs.declared.reference.Reference.TheVariants as named
 use Rattle.hir_def_map_laws.proofs.Agreement.{bound-in, bound_in}
 use Rattle.hir_def_map_laws.proofs.Growing.{grown}
 use Rattle.hir_def_map_laws.proofs.InScopes.{crates_outside, in_scopes}
 use Rattle.hir_def_map_rules.proofs.Fails.{Fails-in_module, Fails-in_root, Fails-keep, Fails-nothing, Fails-public, Fails-weaker}
 use Rattle.hir_def_map_rules.proofs.NoneOf.{not_first}
-use Rattle.hir_def_map_laws.proofs.Changed.{Change, Here, IsBelow, Out, either-false, entry_here, entry_out, has_other_variants, here_out, holders_out, is_own, legacy_here, legacy_out, names_here, names_out, nearest_here, new, new_map, old, old_map, own, same_2015, same_climb, same_holders, same_nearest, same_prelude_module, same_reach, same_seen, variant_here, variant_out}
+use Rattle.hir_def_map_laws.proofs.Changed.{Change, Here, IsBelow, Out, either-false, entry_here, entry_out, has_other_variants, here_out, holders_out, is_own}
+use Rattle.hir_def_map_laws.proofs.Changed.{legacy_here, legacy_out, names_here, names_out, nearest_here, new, new_map, old, old_map, own, same_2015}
+use Rattle.hir_def_map_laws.proofs.Changed.{same_climb, same_holders, same_nearest, same_prelude_module, same_reach, same_seen, variant_here, variant_out}
 use Rattle.hir_def_map_laws.proofs.Holders.{start-of_crate}
 use Rattle.hir_def_map_laws.proofs.ReadOutside.{Outside, SameFirst, bound_outside, inherited_out, rest_out, through_out}
-use Rattle.hir_def_map_laws.specs.ReadLaw.{AgreeAt, BeginsOutside, IsReadAlike, ReadsDecide, SameInModule, SameInPreludes, ScopesReadAlike, is_named_in, with_crates}
-use Rattle.hir_def_map.specs.declared.nameres.path_resolution.slots.Slot.{Slot}
+use Rattle.hir_def_map_laws.specs.ReadLaw.{AgreeAt, BeginsOutside, IsReadAlike, ReadsDecide, SameInModule, SameInPreludes, ScopesReadAlike, is_named_in}
+use Rattle.hir_def_map_laws.specs.ReadLaw.{with_crates}
+use Rattle.hir_def_map.specs.Types.{Slot}
 use Rattle.hir_def_map.specs.declared.nameres.path_resolution.slots.Slot.TheVariants.{Module as of_module, Preludes as of_preludes}
-use Rattle.hir_def_map.specs.Scoping.Slots.{further_slots, is_in, kept_in, module_among, module_by, prelude_module_of, reads, slots_after, slots_from_crates, slots_from_module, slots_from_root, slots_of, with_prelude_slot, with_slot}
+use Rattle.hir_def_map.specs.Scoping.Slots.{further_slots, is_in, kept_in, module_among, module_by, prelude_module_of, reads, slots_after, slots_from_crates}
+use Rattle.hir_def_map.specs.Scoping.Slots.{slots_from_module, slots_from_root, slots_of, with_prelude_slot, with_slot}
 
 same_block_itself : (b : Option BlockId) → same_block b b ≡ true
 same_block_itself None = refl
@@ -62,7 +62,8 @@ either_way : {X Q : Type 0} (b : Bool) (s k : X) (P : X → Type 0) → (P s →
 either_way true s k P f g a = f a
 either_way false s k P f g a = g a
 
-either_alike : {X Y : Type 0} (c b : Bool) → c ≡ b → (p q r u : X) (k l m n : Y) (P : Y → Type 0) → (P l → (p ≡ q) × (k ≡ l)) → (P n → (r ≡ u) × (m ≡ n)) → P (cond b l n)
+either_alike : {X Y : Type 0} (c b : Bool) → c ≡ b → (p q r u : X) (k l m n : Y) (P : Y → Type 0) → (P l → (p ≡ q) × (k ≡ l)) → (P n → (r ≡ u) × (m ≡ n))
+    → P (cond b l n)
     → (cond c p r ≡ cond b q u) × (cond c k m ≡ cond b l n)
 either_alike c true e p q r u k l m n P f g a = (ap (λ (x : Bool). cond x p r) e ∙ (f a).0, ap (λ (x : Bool). cond x k m) e ∙ (f a).1)
 either_alike c false e p q r u k l m n P f g a = (ap (λ (x : Bool). cond x p r) e ∙ (g a).0, ap (λ (x : Bool). cond x k m) e ∙ (g a).1)
@@ -126,16 +127,23 @@ module _ (t : Change) (asking : Asking) (local : Local) (begins : BeginsOutside 
         through_out t before after (λ f q h o. rest_out t ss (i + 1) f h q o) from from_here ss i s (module_bound m).types (bound_outside t m e).types in
         (outside, refl)
     module_alike m true e agree =
-        let here : SameInModule t.one t.other m.index s = first_agrees (of_module m.index s) (slots_after (old t) (own t) from ss (seen (old t) from m s)) agree in
+        let here : SameInModule t.one t.other m.index s = first_agrees (of_module m.index s) (slots_after (old t) (own t) from ss (seen (old t) from m s)) agree
+        in
         let same : seen (new t) from m s ≡ seen (old t) from m s = same_seen t from m s from_here (entry_here t m s e here.entries) in
         let next : Alike ss (i + 1) (seen (old t) from m s) =
-        alike (seen (old t) from m s) (Fails-keep (has_other_variants t) (λ v. is_visible (above_in (old t)) (holders_in (old t)) v from) (entry_in (old t) m s) (names_here t m s e))
+        alike (seen (old t) from m s) (Fails-keep (has_other_variants t) (λ v. is_visible (above_in (old t)) (holders_in (old t)) v from) (entry_in (old t) m s)
+        (names_here t m s e))
         (others_agree (of_module m.index s) (slots_after (old t) (own t) from ss (seen (old t) from m s)) agree) in
-        let own_crate : same_crate m.map.krate from.map.krate ≡ true = ap (λ (id : MapId). same_crate id.krate from.map.krate) (is_own t m e) ∙ (unsigned_Decides from.map.krate.0 from.map.krate.0).1 refl in
+        let own_crate : same_crate m.map.krate from.map.krate ≡ true = ap (λ (id : MapId). same_crate id.krate from.map.krate) (is_own t m e) ∙
+        (unsigned_Decides from.map.krate.0 from.map.krate.0).1 refl in
         let within : after from (seen (new t) from m s) ≡ before from (seen (old t) from m s) = ap (after from) same ∙ next.answers in (
-          ap (λ (b : Bool). cond b (after from (seen (new t) from m s)) (crossing (after (nearest_non_block_module (new t) m) (seen (new t) (nearest_non_block_module (new t) m) (nearest_non_block_module (new t) m) s)))) own_crate
+          ap (λ (b : Bool). cond b (after from (seen (new t) from m s))
+              (crossing (after (nearest_non_block_module (new t) m) (seen (new t) (nearest_non_block_module (new t) m) (nearest_non_block_module (new t) m) s))))
+              own_crate
               ∙ within
-              ∙ sym (ap (λ (b : Bool). cond b (before from (seen (old t) from m s)) (crossing (before (nearest_non_block_module (old t) m) (seen (old t) (nearest_non_block_module (old t) m) (nearest_non_block_module (old t) m) s)))) own_crate),
+              ∙ sym (ap (λ (b : Bool). cond b (before from (seen (old t) from m s))
+              (crossing (before (nearest_non_block_module (old t) m) (seen (old t) (nearest_non_block_module (old t) m) (nearest_non_block_module (old t) m)
+              s)))) own_crate),
           ap (λ (xs : List Slot). of_module m.index s ∷ xs) (ap (slots_after (new t) (own t) from ss) same ∙ next.slots),
         )
 
@@ -153,24 +161,19 @@ module _ (t : Change) (asking : Asking) (local : Local) (begins : BeginsOutside 
         enum_alike id true e false f none = ap (after_enum ss i item) (variant_here t id s e f)
         enum_alike id false e c f none = ap (after_enum ss i item) (variant_out t id s e)
 
-        adt : (a : AdtId) → test_of (has_other_variants t) (reference_to (AnyAdt a)) ≡ false → through_adt (new t) ss i s item a ≡ through_adt (old t) ss i s item a
+        adt : (a : AdtId) → test_of (has_other_variants t) (reference_to (AnyAdt a)) ≡ false → through_adt (new t) ss i s item a
+            ≡ through_adt (old t) ss i s item a
         adt (adts.EnumId id) none = enum_alike id (map_id.ghosts.eq id.loc.container.map (own t)) refl (t.changes id) refl none
         adt (adts.StructId id) none = refl
         adt (adts.UnionId id) none = refl
 
-        go : (d : ModuleDefId) → test_of (has_other_variants t) (reference_to d) ≡ false → Agree (further_slots (old t) (own t) from (s ∷ ss) (module_by (own t) d))
+        go : (d : ModuleDefId) → test_of (has_other_variants t) (reference_to d) ≡ false
+            → Agree (further_slots (old t) (own t) from (s ∷ ss) (module_by (own t) d))
             → (through after (new t) from ss i s item d ≡ through before (old t) from ss i s item d)
             × (further_slots (new t) (own t) from (s ∷ ss) (module_by (own t) d) ≡ further_slots (old t) (own t) from (s ∷ ss) (module_by (own t) d))
         go (ModuleId m) none a = module_alike m (is_in (own t) m) refl a
-        go (FunctionId x) none a = (refl, refl)
         go (AnyAdt x) none a = (adt x none, refl)
-        go (EnumVariantId x) none a = (refl, refl)
-        go (ConstId x) none a = (refl, refl)
-        go (StaticId x) none a = (refl, refl)
-        go (TraitId x) none a = (refl, refl)
-        go (TypeAliasId x) none a = (refl, refl)
-        go (BuiltinType x) none a = (refl, refl)
-        go (MacroId x) none a = (refl, refl)
+        go other none a = (refl, refl)
 
   rest_alike : (ss : List (List ℕ)) (i : ℕ) (p : PerNs) → Known p → Agree (slots_after (old t) (own t) from ss p) → Alike ss i p
   rest_alike [] i p k agree = record { answers = refl; slots = refl }
@@ -191,7 +194,12 @@ module _ (t : Change) (asking : Asking) (local : Local) (begins : BeginsOutside 
       go : (b : Bool) → is_in (own t) m ≡ b → Agree (cond b (of_module m.index name ∷ slots) slots) → Looked m name slots
       go true e a =
           let here : SameInModule t.one t.other m.index name = first_agrees (of_module m.index name) slots a in
-          record { entries = entry_here t m name e here.entries; legacy = legacy_here t m name e here.legacy; left = others_agree (of_module m.index name) slots a }
+          record {
+            entries = entry_here t m name e here.entries;
+            legacy = legacy_here t m name e here.legacy;
+            left = others_agree (of_module m.index name) slots
+                a;
+          }
       go false e a = record { entries = entry_out t m name e; legacy = legacy_out t m name e; left = a }
 
   look_prelude : (o : Option AnyModule) (name : List ℕ) (slots : List Slot) → Agree (with_prelude_slot (own t) o name slots)
@@ -230,7 +238,8 @@ module _ (t : Change) (asking : Asking) (local : Local) (begins : BeginsOutside 
         ∙ sym (ap (λ (o : Option Map). macro_use_bound (macro_use_of o s)) (old_map t from.map (same_id from.map)))
 
     root_alike : Agree (slots_from_root (old t) asking (own t) from s ss)
-        → (rest (new t) from ss 1 (name_in_crate_root_or_extern_prelude (new t) local from s) ≡ rest (old t) from ss 1 (name_in_crate_root_or_extern_prelude (old t) asking.local from s))
+        → (rest (new t) from ss 1 (name_in_crate_root_or_extern_prelude (new t) local from s)
+        ≡ rest (old t) from ss 1 (name_in_crate_root_or_extern_prelude (old t) asking.local from s))
         × (slots_from_root (new t) asked (own t) from s ss ≡ slots_from_root (old t) asking (own t) from s ss)
     root_alike agree =
         let root : AnyModule = crate_root from.map.krate in
@@ -238,20 +247,24 @@ module _ (t : Change) (asking : Asking) (local : Local) (begins : BeginsOutside 
         let behind : List Slot = slots_after (old t) (own t) from ss names_before in
         let found : Looked root s (of_preludes s ∷ behind) = look root s (of_preludes s ∷ behind) agree in
         let same : SameInPreludes t.one asking.local t.other local s = first_agrees (of_preludes s) behind found.left in
-        let names : name_in_crate_root_or_extern_prelude (new t) local from s ≡ names_before = λ i. or_of (found.entries i) (unless_block_root from (same_extern same i)) in
+        let names : name_in_crate_root_or_extern_prelude (new t) local from s ≡ names_before = λ i. or_of (found.entries i)
+        (unless_block_root from (same_extern same i)) in
         let next : Alike ss 1 names_before =
-        rest_alike ss 1 names_before (Fails-in_root (has_other_variants t) (old t) asking.local from s (known_extern s) (known root s)) (others_agree (of_preludes s) behind found.left) in (
+        rest_alike ss 1 names_before (Fails-in_root (has_other_variants t) (old t) asking.local from s (known_extern s) (known root s))
+        (others_agree (of_preludes s) behind found.left) in (
           ap (rest (new t) from ss 1) names ∙ next.answers,
           ap (λ (xs : List Slot). with_slot (own t) root s (of_preludes s ∷ xs)) (ap (slots_after (new t) (own t) from ss) names ∙ next.slots),
         )
 
     inside_alike : Agree (slots_from_module (old t) asking (own t) from s ss)
-        → (rest (new t) from ss 1 (name_in_module (new t) local asking.sub_ns (shadow_before ss asking.shadow) from s) ≡ rest (old t) from ss 1 (name_in_module (old t) asking.local asking.sub_ns (shadow_before ss asking.shadow) from s))
+        → (rest (new t) from ss 1 (name_in_module (new t) local asking.sub_ns (shadow_before ss asking.shadow) from s)
+        ≡ rest (old t) from ss 1 (name_in_module (old t) asking.local asking.sub_ns (shadow_before ss asking.shadow) from s))
         × (slots_from_module (new t) asked (own t) from s ss ≡ slots_from_module (old t) asking (own t) from s ss)
     inside_alike agree =
         let names_before : PerNs = name_in_module (old t) asking.local asking.sub_ns (shadow_before ss asking.shadow) from s in
         let behind : List Slot = slots_after (old t) (own t) from ss names_before in
-        let found : Looked from s (with_prelude_slot (own t) prelude_before s (of_preludes s ∷ behind)) = look from s (with_prelude_slot (own t) prelude_before s (of_preludes s ∷ behind)) agree in
+        let found : Looked from s (with_prelude_slot (own t) prelude_before s (of_preludes s ∷ behind)) = look from s
+        (with_prelude_slot (own t) prelude_before s (of_preludes s ∷ behind)) agree in
         let prelude = look_prelude prelude_before s (of_preludes s ∷ behind) found.left in
         let same : SameInPreludes t.one asking.local t.other local s = first_agrees (of_preludes s) behind prelude.1 in
         let same_module : prelude_module_of (map_in (new t) from.map) ≡ prelude_before = same_prelude_module t from.map in
@@ -265,10 +278,12 @@ module _ (t : Change) (asking : Asking) (local : Local) (begins : BeginsOutside 
         (unless_block_root from (same_prelude i)) in
         let next : Alike ss 1 names_before =
         rest_alike ss 1 names_before
-        (Fails-in_module (has_other_variants t) (old t) asking.local from s (known_extern s) asking.sub_ns (shadow_before ss asking.shadow) (known from s) (subst Known (sym (prelude_by s)) (known_bound prelude_before s)))
+        (Fails-in_module (has_other_variants t) (old t) asking.local from s (known_extern s) asking.sub_ns (shadow_before ss asking.shadow) (known from s)
+        (subst Known (sym (prelude_by s)) (known_bound prelude_before s)))
         (others_agree (of_preludes s) behind prelude.1) in (
           ap (rest (new t) from ss 1) names ∙ next.answers,
-          λ i. with_slot (own t) from s (with_prelude_slot (own t) (same_module i) s (of_preludes s ∷ (ap (slots_after (new t) (own t) from ss) names ∙ next.slots) i)),
+          λ i. with_slot (own t) from s (with_prelude_slot (own t) (same_module i) s
+              (of_preludes s ∷ (ap (slots_after (new t) (own t) from ss) names ∙ next.slots) i)),
         )
 
     crates_alike : Agree (slots_from_crates (old t) asking (own t) from s ss)
@@ -303,7 +318,9 @@ module _ (t : Change) (asking : Asking) (local : Local) (begins : BeginsOutside 
       elsewhere e = go (is_in (own t) m) refl
         where
           go : (b : Bool) → is_in (own t) m ≡ b → Out t m
-          go true s = either-false (same_block m.map.block from.map.block) (ap (λ (id : MapId). same_block id.block from.map.block) (is_own t m s) ∙ same_block_itself from.map.block) e
+          go true s =
+              either-false (same_block m.map.block from.map.block) (ap (λ (id : MapId). same_block id.block from.map.block) (is_own t m s) ∙ same_block_itself
+              from.map.block) e
           go false s = s
 
       on : (b : Bool) → same_block m.map.block from.map.block ≡ b → rest (new t) from segs 0 (module_bound m) ≡ rest (old t) from segs 0 (module_bound m)
@@ -316,18 +333,21 @@ module _ (t : Change) (asking : Asking) (local : Local) (begins : BeginsOutside 
       → (from_start (new t) asked from kind segs ≡ from_start (old t) asking from kind segs)
       × (slots_of (new t) asked (own t) from kind segs ≡ slots_of (old t) asking (own t) from kind segs)
   start_alike kinds.Crate segs agree =
-      let next : Alike segs 0 (module_bound (crate_root from.map.krate)) = rest_alike segs 0 (module_bound (crate_root from.map.krate)) (known_module (crate_root from.map.krate)) agree in (next.answers, next.slots)
+      let next : Alike segs 0 (module_bound (crate_root from.map.krate)) = rest_alike segs 0 (module_bound (crate_root from.map.krate))
+      (known_module (crate_root from.map.krate)) agree in (next.answers, next.slots)
   start_alike (kinds.DollarCrate c) segs agree =
       let next : Alike segs 0 (module_bound (crate_root c)) = rest_alike segs 0 (module_bound (crate_root c)) (known_module (crate_root c)) agree in
       (λ i. cond (same_reach t from c i) (next.answers i) (unresolved No), next.slots)
   start_alike (kinds.Super n) segs agree =
       let near : AnyModule = nearest_non_block_module (old t) from in
-      let climbed : climb (new t) n (nearest_non_block_module (new t) from) ≡ climb (old t) n near = ap (climb (new t) n) (same_nearest t from) ∙ same_climb t n near (nearest_here t from from_here) in
+      let climbed : climb (new t) n (nearest_non_block_module (new t) from) ≡ climb (old t) n near = ap (climb (new t) n) (same_nearest t from) ∙ same_climb t n
+      near (nearest_here t from from_here) in
       let both = super_alike segs (climb (old t) n near) agree in
       (ap (super_from (new t) from segs) climbed ∙ both.0, ap (slots_under (new t) segs) climbed ∙ both.1)
   start_alike kinds.Plain [] agree = (refl, refl)
   start_alike kinds.Plain (s ∷ ss) agree =
-      let same : (is_in_edition_2015 (map_in (new t) from.map) && is_import asking.mode) ≡ (is_in_edition_2015 (map_in (old t) from.map) && is_import asking.mode) =
+      let same : (is_in_edition_2015 (map_in (new t) from.map) && is_import asking.mode)
+      ≡ (is_in_edition_2015 (map_in (old t) from.map) && is_import asking.mode) =
       ap (λ (b : Bool). b && is_import asking.mode) (same_2015 t from.map) in
       either_alike _ _ same _ _ _ _ _ _ _ _ Agree (root_alike s ss) (inside_alike s ss) agree
   start_alike kinds.Abs [] agree = (refl, refl)
@@ -341,13 +361,17 @@ module _ (t : Change) (asking : Asking) (local : Local) (begins : BeginsOutside 
       let found : Looked (crate_root from.map.krate) s (of_preludes s ∷ behind) = look (crate_root from.map.krate) s (of_preludes s ∷ behind) agree in
       first_agrees (of_preludes s) behind found.left
 
-  inside_first : (s : List ℕ) (ss : List (List ℕ)) → Agree (slots_from_module (old t) asking (own t) from s ss) → SameInPreludes t.one asking.local t.other local s
+  inside_first : (s : List ℕ) (ss : List (List ℕ)) → Agree (slots_from_module (old t) asking (own t) from s ss) → SameInPreludes t.one asking.local t.other
+      local s
   inside_first s ss agree =
-      let behind : List Slot = slots_after (old t) (own t) from ss (name_in_module (old t) asking.local asking.sub_ns (shadow_before ss asking.shadow) from s) in
-      let found : Looked from s (with_prelude_slot (own t) prelude_before s (of_preludes s ∷ behind)) = look from s (with_prelude_slot (own t) prelude_before s (of_preludes s ∷ behind)) agree in
+      let behind : List Slot = slots_after (old t) (own t) from ss (name_in_module (old t) asking.local asking.sub_ns (shadow_before ss asking.shadow) from s)
+      in
+      let found : Looked from s (with_prelude_slot (own t) prelude_before s (of_preludes s ∷ behind)) = look from s
+      (with_prelude_slot (own t) prelude_before s (of_preludes s ∷ behind)) agree in
       first_agrees (of_preludes s) behind (look_prelude prelude_before s (of_preludes s ∷ behind) found.left).1
 
-  crates_first : (s : List ℕ) (ss : List (List ℕ)) → Agree (slots_from_crates (old t) asking (own t) from s ss) → SameInPreludes t.one asking.local t.other local s
+  crates_first : (s : List ℕ) (ss : List (List ℕ)) → Agree (slots_from_crates (old t) asking (own t) from s ss) → SameInPreludes t.one asking.local t.other
+      local s
   crates_first s ss agree = first_agrees (of_preludes s) (slots_after (old t) (own t) from ss (extern_name asking.local s)) agree
 
   first_same : (kind : PathKind) (segs : List (List ℕ)) → Agree (slots_of (old t) asking (own t) from kind segs) → SameFirst t asking local begins kind segs
@@ -355,7 +379,8 @@ module _ (t : Change) (asking : Asking) (local : Local) (begins : BeginsOutside 
   first_same (kinds.DollarCrate c) segs agree = tt
   first_same (kinds.Super n) segs agree = tt
   first_same kinds.Plain [] agree = tt
-  first_same kinds.Plain (s ∷ ss) agree = either_way (is_in_edition_2015 (map_in (old t) from.map) && is_import asking.mode) _ _ Agree (root_first s ss) (inside_first s ss) agree
+  first_same kinds.Plain (s ∷ ss) agree =
+      either_way (is_in_edition_2015 (map_in (old t) from.map) && is_import asking.mode) _ _ Agree (root_first s ss) (inside_first s ss) agree
   first_same kinds.Abs [] agree = tt
   first_same kinds.Abs (s ∷ ss) agree = either_way (is_in_edition_2015 (map_in (old t) from.map)) _ _ Agree (root_first s ss) (crates_first s ss) agree
 
@@ -369,11 +394,13 @@ module _ (t : Change) (asking : Asking) (local : Local) (begins : BeginsOutside 
           × (slots_of (new t) asked (own t) from path.kind path.segments ≡ slots_of (old t) asking (own t) from path.kind path.segments)
       start = start_alike path.kind path.segments agree
 
-      go : (o : Option BlockId) → t.one.id.block ≡ o → from_blocks (new t) asked from path.kind path.segments ≡ from_blocks (old t) asking from path.kind path.segments
+      go : (o : Option BlockId) → t.one.id.block ≡ o → from_blocks (new t) asked from path.kind path.segments ≡ from_blocks (old t) asking from path.kind
+          path.segments
       go None e = start-of_crate (new t) asked from path.kind path.segments e ∙ start.0 ∙ sym (start-of_crate (old t) asking from path.kind path.segments e)
       go (Some b) e =
           ap (inherited (new t) asked path.kind path.segments (from_start (new t) asked from path.kind path.segments) from) (same_holders t from)
-          ∙ inherited_out t asking local begins b e path.kind path.segments (first_same path.kind path.segments agree) (holders_in (old t) from) (holders_out t from)
+          ∙ inherited_out t asking local begins b e path.kind path.segments (first_same path.kind path.segments agree) (holders_in (old t) from)
+          (holders_out t from)
           (from_start (new t) asked from path.kind path.segments) (from_start (old t) asking from path.kind path.segments) start.0 from
 
 pub reads_decide : ReadsDecide

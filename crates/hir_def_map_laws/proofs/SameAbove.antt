@@ -1,9 +1,9 @@
 -- Where a map gains modules, the same lies above those that it had.
-use Rattle.std.proofs.Common.{◌≡◌, ◌∙◌, ap, sym, subst, refl, ℕ, zero, suc, ◌+◌, ◌<◌, ◌≤◌, List, [], ◌∷◌, length, Bool, true, ◌||◌, cond, nat_lt, Option, None, Some, arith}
+use Rattle.std.proofs.Common.{◌≡◌, ◌∙◌, ap, sym, subst, refl, ℕ, zero, suc, ◌+◌, ◌<◌, ◌≤◌, List, [], ◌∷◌, length, Bool, true, ◌||◌, cond, nat_lt, Option, None}
+use Rattle.std.proofs.Common.{Some, arith}
 use Rattle.std.proofs.lemmas.Grind.{common_steps}
 use Rattle.std.specs.Prelude.{slice_get}
-use Rattle.hir_base.specs.declared.ids.MapId.{MapId}
-use Rattle.hir_base.specs.declared.ids.ModuleId.{ModuleId}
+use Rattle.hir_base.specs.Types.{MapId, ModuleId}
 use Rattle.hir_def_map_rules.specs.State.{IsBefore, IsInOrder, Map, ModuleValue, parent_at, parent_of}
 use Rattle.hir_def_map_rules.specs.Overlay.{Maps, Placed, placed_in}
 use Rattle.hir_def_map_rules.specs.Ancestors.{Frame, frame_of, leads_to_root, number_in, numbers_above, step_in, step_to, steps_by, steps_from}
@@ -89,7 +89,8 @@ module _ (one other : Map) (grows : Grows one other) (in_order : IsInOrder one) 
     step-after at low =
         step_listed after at
         ∙ ap (λ (o : Option ModuleId). step_to (frame_of after) at (number_in other.id o)) (same_parent_at at low)
-        ∙ step-known (frame_of after) other.id at (parent_at one at) (subst (λ (id : MapId). IsBefore id at (parent_at one at)) (sym grows.id) (before_at at low))
+        ∙ step-known (frame_of after) other.id at (parent_at one at) (subst (λ (id : MapId). IsBefore id at (parent_at one at)) (sym grows.id)
+        (before_at at low))
 
     pub same_numbers_above : (at : ℕ) → at < length one.modules → numbers_above (frame_of after) at ≡ numbers_above (frame_of before) at
     unfolding numbers_above

@@ -1,13 +1,12 @@
 -- What a segment takes from a module.
 use Rattle.std.proofs.Common.{◌≡◌, ap, refl, ℕ, List, Bool, true, false, cond, Option, None, Some}
-use Rattle.hir_base.specs.declared.ids.ModuleId.{ModuleId}
+use Rattle.hir_base.specs.Types.{ModuleId}
 use Rattle.hir_scope.specs.PerNs.{Item, keep_item, keep_of}
-use Rattle.hir_scope.specs.declared.per_ns.PerNs.{PerNs}
-use Rattle.hir_scope.specs.declared.visibility.Visibility.{Visibility}
+use Rattle.hir_scope.specs.Types.{PerNs, Visibility}
 use Rattle.hir_scope.specs.ModuleTree.{same_crate}
 use Rattle.hir_def_map_rules.specs.Overlay.{Maps, entry_in}
 use Rattle.hir_def_map_rules.specs.Scoping.Segments.{crossing, nearest_non_block_module, seen}
-use Rattle.hir_def_map_rules.specs.declared.path_result.ResolvePathResult.{ResolvePathResult}
+use Rattle.hir_def_map_rules.specs.Types.{ResolvePathResult}
 use Rattle.hir_def_map_laws.specs.Paths.{may_see, AreKept, IsKept, TakesHere, TakesThere}
 
 IsKept-keep_item : {D I : Type 0} (test : Visibility → Bool) (o : Option (Item D I)) → IsKept test o (keep_item test o)
@@ -28,7 +27,9 @@ AreKept-keep_of test p = record {
 
 module _ (maps : Maps) (from m : ModuleId) (s : List ℕ) where
   abbrev on : (ModuleId → PerNs → ResolvePathResult) → Bool → ResolvePathResult
-  on further b = cond b (further from (seen maps from m s)) (crossing (further (nearest_non_block_module maps m) (seen maps (nearest_non_block_module maps m) (nearest_non_block_module maps m) s)))
+  on further b =
+      cond b (further from (seen maps from m s))
+      (crossing (further (nearest_non_block_module maps m) (seen maps (nearest_non_block_module maps m) (nearest_non_block_module maps m) s)))
 
   pub takes_here : same_crate m.map.krate from.map.krate ≡ true → TakesHere maps from m s
   takes_here e = (seen maps from m s, AreKept-keep_of (may_see maps from) (entry_in maps m s), λ further. ap (on further) e)

@@ -12,31 +12,27 @@ use Rattle.std.proofs.lemmas.List.Elements.{All-contains_itself, All-weaker}
 use mathlib.Core.Bool.{true≢false}
 use Rattle.hir_base.specs.contracts.ids.EnumIdOrd.TheImpl as enum_order
 use Rattle.hir_base.specs.contracts.ids.EnumIdOrd.TheImpl.Laws.{total-law as enum_total}
-use Rattle.hir_base.specs.declared.ids.EnumId.{EnumId}
-use Rattle.hir_base.specs.declared.ids.ExternCrateId.{ExternCrateId}
-use Rattle.hir_base.specs.declared.ids.ModuleId.{ModuleId}
-use Rattle.hir_base.specs.declared.macro_kind.MacroId.{MacroId}
+use Rattle.hir_base.specs.Types.{EnumId, ExternCrateId, MacroId, ModuleId}
 use Rattle.hir_scope.specs.Globs.{GlobNames, Place}
 use Rattle.hir_scope.specs.PerNs.{is_nothing}
 use Rattle.hir_scope.specs.Scope.{ScopeValue}
 use Rattle.hir_scope.specs.Scope.Push.{pushed_scope, taken_candidates, with_unresolved, written_scope}
 use Rattle.hir_scope.specs.Scope.Reads.{last_legacy_at}
-use Rattle.hir_scope.specs.declared.imports.ImportOrExternCrate.{ImportOrExternCrate}
-use Rattle.hir_scope.specs.declared.per_ns.PerNs.{PerNs}
-use Rattle.hir_scope.specs.declared.visibility.Visibility.{Visibility}
+use Rattle.hir_scope.specs.Types.{ImportOrExternCrate, PerNs, Visibility}
 use Rattle.hir_def_map_rules.specs.Declaration.{listed}
 use Rattle.hir_def_map_rules.specs.Scoping.FirstSegment.{legacy_of}
-use Rattle.hir_def_map_rules.specs.State.{Local, Map, ModuleValue, Variants, changed_at, entry_at, module_at, new_id, new_module, numbered, parent_at, parent_of, place_at, pushed, pushed_module, variants_at, with_child, with_enum, with_extern, with_macro_use, with_module, with_module_scope, with_scope}
-use Rattle.hir_def_map_rules.specs.declared.declaration.Declaration.{Declaration}
+use Rattle.hir_def_map_rules.specs.State.{Local, Map, ModuleValue, Variants, changed_at, entry_at, module_at, new_id, new_module, numbered, parent_at}
+use Rattle.hir_def_map_rules.specs.State.{parent_of, place_at, pushed, pushed_module, variants_at, with_child, with_enum, with_extern, with_macro_use}
+use Rattle.hir_def_map_rules.specs.State.{with_module, with_module_scope, with_scope}
+use Rattle.hir_def_map_rules.specs.Types.{Declaration, ModuleOrigin}
 use Rattle.hir_def_map_rules.specs.declared.declaration.Declaration.TheVariants as declaration
-use Rattle.hir_def_map_rules.specs.declared.origin.ModuleOrigin.{ModuleOrigin}
 use Rattle.hir_def_map_rules.proofs.Externs.{at_name-with_extern_other}
 use Rattle.hir_def_map_rules.proofs.Grown.{at_name-with_name_other, entry_at-pushed_elsewhere, entry_at-pushed_other, entry_at-with_module, kept}
 use Rattle.hir_def_map_rules.proofs.Listed.{KeepsNames-listed}
 use Rattle.hir_def_map_laws.specs.ReadLaw.{AgreeAt, Grows}
 use Rattle.hir_def_map_laws.proofs.ReadLaw.{reads_decide}
 use Rattle.hir_def_map_laws.specs.SlotChanges.{ChangesOnly, OtherSlotsDoNotMatter}
-use Rattle.hir_def_map.specs.declared.nameres.path_resolution.slots.Slot.{Slot}
+use Rattle.hir_def_map.specs.Types.{Slot}
 use Rattle.hir_def_map.specs.declared.nameres.path_resolution.slots.Slot.TheVariants.{Module as of_module, Preludes as of_preludes}
 use Rattle.hir_def_map.specs.Scoping.Slots.{reads}
 
@@ -56,7 +52,8 @@ Grows-changed map at change keeps = record {
 pub Grows-itself : (map : Map) → Grows map map
 Grows-itself map = record { id = refl; holder = refl; crate_data = refl; prelude = refl; parents = λ k m e. ap parent_of e; enums = λ id variants e. e }
 
-same_preludes : (map : Map) (modules : List ModuleValue) (local : Local) (name : List ℕ) → AgreeAt map local (record map { modules = modules }) local (of_preludes name)
+same_preludes : (map : Map) (modules : List ModuleValue) (local : Local) (name : List ℕ) → AgreeAt map local (record map { modules = modules }) local
+    (of_preludes name)
 same_preludes map modules local name = record { crates = refl; macro_uses = refl }
 
 -- ---- pushes
@@ -66,7 +63,8 @@ legacy_pushed : (globs : GlobNames) (place : Place) (items : PerNs) (import : Op
     → last_legacy_at (pushed_scope globs place items import scope) name ≡ last_legacy_at scope name
 legacy_pushed globs place items import scope name = go (is_nothing items)
   where
-    go : (b : Bool) → last_legacy_at (cond b (with_unresolved scope place.1) (written_scope place.1 (taken_candidates scope globs place items import) scope)) name ≡ last_legacy_at scope name
+    go : (b : Bool) → last_legacy_at (cond b (with_unresolved scope place.1) (written_scope place.1 (taken_candidates scope globs place items import) scope))
+        name ≡ last_legacy_at scope name
     go true = refl
     go false = refl
 
@@ -97,11 +95,7 @@ changes-pushed map local globs at name items import = record {
 
 legacy_listed : (d : Declaration) (scope : ScopeValue) (name : List ℕ) → last_legacy_at (listed d scope) name ≡ last_legacy_at scope name
 legacy_listed (declaration.Def def) scope name = refl
-legacy_listed (declaration.Use use_) scope name = refl
-legacy_listed (declaration.ExternCrate extern_crate) scope name = refl
-legacy_listed (declaration.Impl imp is_trait_impl) scope name = refl
-legacy_listed (declaration.ExternBlock extern_block) scope name = refl
-legacy_listed (declaration.UnnamedConst konst) scope name = refl
+legacy_listed other scope name = refl
 
 pub changes-listed : (map : Map) (local : Local) (at : ℕ) (d : Declaration) → ChangesOnly map local (with_scope map at (listed d)) local None
 changes-listed map local at d = record {
@@ -127,13 +121,15 @@ before_last (z ∷ xs) y x zero e = e
 before_last (z ∷ xs) y x (suc k) e = before_last xs y x k e
 
 -- one more value that is as good as none for a part of it
-as_none : {A B : Type 0} (part : Option A → B) (xs : List A) (y : A) → part (Some y) ≡ part None → (k : ℕ) → part (slice_get (xs ++ y ∷ []) k) ≡ part (slice_get xs k)
+as_none : {A B : Type 0} (part : Option A → B) (xs : List A) (y : A) → part (Some y) ≡ part None → (k : ℕ) → part (slice_get (xs ++ y ∷ []) k)
+    ≡ part (slice_get xs k)
 as_none part [] y e zero = e
 as_none part [] y e (suc k) = refl
 as_none part (x ∷ xs) y e zero = refl
 as_none part (x ∷ xs) y e (suc k) = as_none part xs y e k
 
-changed_there : {A : Type 0} (xs : List A) (at : ℕ) (change : A → A) (k : ℕ) (x : A) → slice_get xs k ≡ Some x → (y : A) × (slice_get (changed_at xs at change) k ≡ Some y)
+changed_there : {A : Type 0} (xs : List A) (at : ℕ) (change : A → A) (k : ℕ) (x : A) → slice_get xs k ≡ Some x → (y : A)
+    × (slice_get (changed_at xs at change) k ≡ Some y)
 changed_there [] at change k x e = absurd cc
 changed_there (z ∷ xs) zero change zero x e = (change z, refl)
 changed_there (z ∷ xs) zero change (suc k) x e = (x, e)
@@ -166,7 +162,8 @@ changes-made map local at name origin visibility parent = record {
     slots (of_module k other) differs = record {
       entries = entry_at-with_module map at name origin visibility parent k other;
       legacy =
-          as_none (λ (o : Option ModuleValue). legacy_of o other) (changed_at map.modules at (with_child name (new_id map))) (new_module origin visibility parent) refl k
+          as_none (λ (o : Option ModuleValue). legacy_of o other) (changed_at map.modules at (with_child name (new_id map)))
+          (new_module origin visibility parent) refl k
           ∙ kept (λ (o : Option ModuleValue). legacy_of o other) map.modules at (with_child name (new_id map)) (λ m. refl) k;
     }
     slots (of_preludes other) differs = same_preludes map _ local other
@@ -209,7 +206,8 @@ module _ {K V : Type 0} (cmp : K → K → Ordering) (total : IsTotalOrder cmp) 
           → lookup (is_at (cmp q)) (match_ordering o ((k, v) ∷ e ∷ es) ((e.0, v) ∷ es) (e ∷ insert_entry cmp es k v)) ≡ Some v
       go Less s below = ap (λ (o : Ordering). cond (is_eq o) (Some v) (lookup (is_at (cmp q)) (e ∷ es))) tied
       go Equal s below = ap (λ (o : Ordering). cond (is_eq o) (Some v) (lookup (is_at (cmp q)) es)) (total.congr q k e.0 tied ∙ s)
-      go Greater s below = ap (λ (o : Ordering). cond (is_eq o) (Some e.1) (lookup (is_at (cmp q)) (insert_entry cmp es k v))) (total.congr q k e.0 tied ∙ s) ∙ below
+      go Greater s below =
+          ap (λ (o : Ordering). cond (is_eq o) (Some e.1) (lookup (is_at (cmp q)) (insert_entry cmp es k v))) (total.congr q k e.0 tied ∙ s) ∙ below
 
   -- what keys have stays where one comes in that had nothing, or had the same
   kept_inserted : (es : List (K × V)) (w : V) → ((u : V) → lookup (is_at (cmp k)) es ≡ Some u → u ≡ v) → lookup (is_at (cmp q)) es ≡ Some w
@@ -223,7 +221,8 @@ module _ {K V : Type 0} (cmp : K → K → Ordering) (total : IsTotalOrder cmp) 
           inserted_here s es ∙ ap Some (sym (known w (sym same ∙ found)))
       go Greater s = inserted_other (ap is_eq s) es ∙ found
 
-pub changes-enum : (map : Map) (local : Local) (id : EnumId) (variants : Variants) → ((before : Variants) → variants_at map id ≡ Some before → before ≡ variants)
+pub changes-enum : (map : Map) (local : Local) (id : EnumId) (variants : Variants) → ((before : Variants) → variants_at map id ≡ Some before → before
+    ≡ variants)
     → ChangesOnly map local (with_enum map id variants) local None
 changes-enum map local id variants known = record {
   grows = record {
@@ -257,7 +256,8 @@ changes-macro_use map local name makro by = record {
       macro_uses = at_name-with_name_other map.macro_use_prelude name other (makro, by) (λ f. differs (λ i. Some (of_preludes (f i))));
     }
 
-pub changes-crate : (map : Map) (local : Local) (name : List ℕ) (entry : ModuleId × Option ExternCrateId) → ChangesOnly map local map (with_extern local name entry) (Some (of_preludes name))
+pub changes-crate : (map : Map) (local : Local) (name : List ℕ) (entry : ModuleId × Option ExternCrateId)
+    → ChangesOnly map local map (with_extern local name entry) (Some (of_preludes name))
 changes-crate map local name entry = record { grows = Grows-itself map; others = slots }
   where
     slots : (slot : Slot) → Some slot ≢ Some (of_preludes name) → AgreeAt map local map (with_extern local name entry) slot
@@ -273,4 +273,5 @@ pub other_slots : OtherSlotsDoNotMatter
 other_slots finished one other asking local changed at path stands begins low changes apart =
     let slots : List Slot = reads finished asking one (numbered one.id at) path in
     reads_decide finished one other asking local at path stands begins low changes.grows
-    (All-weaker (Contains slots) (AgreeAt one asking.local other local) (λ slot there. changes.others slot (λ e. apart slot (sym e) there)) slots (All-contains_itself slots))
+    (All-weaker (Contains slots) (AgreeAt one asking.local other local) (λ slot there. changes.others slot (λ e. apart slot (sym e) there)) slots
+    (All-contains_itself slots))

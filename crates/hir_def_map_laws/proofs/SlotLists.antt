@@ -19,14 +19,19 @@ use Rattle.hir_scope.specs.Scope.{ScopeValue, binding_of}
 use Rattle.hir_textual_scope.proofs.NewMacro.{other_names_keep_theirs}
 use Rattle.hir_scope.specs.Scope.Reads.{last_legacy_at}
 use Rattle.hir_def_map_rules.specs.Scoping.FirstSegment.{legacy_of}
-use Rattle.hir_def_map_rules.specs.State.{Local, Map, ModuleValue, changed_at, entry_at, entry_of, module_at, numbered, parent_at, parent_of, place_at, pushed, pushed_module, with_module_scope, with_scope}
+use Rattle.hir_def_map_rules.specs.State.{Local, Map, ModuleValue, changed_at, entry_at, entry_of, module_at, numbered, parent_at, parent_of, place_at, pushed}
+use Rattle.hir_def_map_rules.specs.State.{pushed_module, with_module_scope, with_scope}
 use Rattle.hir_def_map_rules.proofs.Grown.{kept}
 use Rattle.hir_def_map_laws.specs.ReadLaw.{AgreeAt, DiffersInScopes, Grows}
 use Rattle.hir_def_map_laws.proofs.InScopes.{changed_modules}
 use Rattle.hir_def_map_laws.proofs.ReadLaw.{reads_decide, scopes_read}
 use Rattle.hir_def_map_laws.proofs.SlotChanges.{Grows-changed, Grows-itself, changes-pushed}
-use Rattle.hir_def_map_laws.specs.SlotChanges.{ChangedScopesChangeTheirSlot, ChangesFollowOneAnother, ChangesOnly, NothingChangesNoScope, NothingChangesNoSlot, OneChangeIsAmongItsSlot, OneScopeChangeIsAmongItsSlot, PushesChangeTheirScope, ScopeChangesFollowOneAnother, TextualMacrosChangeTheirSlot, TraitsChangeNoScope, TraitsChangeNoSlot, UnreadScopesDoNotMatter, UnreadSlotsDoNotMatter, UpdatesChangeTheirScope, UpdatesChangeTheirSlot, with_macro, with_macro_vis, with_textual_macro, with_trait, with_type, with_type_vis, with_value, with_value_vis}
-use Rattle.hir_def_map.specs.declared.nameres.path_resolution.slots.Slot.{Slot}
+use Rattle.hir_def_map_laws.specs.SlotChanges.{ChangedScopesChangeTheirSlot, ChangesFollowOneAnother, ChangesOnly, NothingChangesNoScope, NothingChangesNoSlot}
+use Rattle.hir_def_map_laws.specs.SlotChanges.{OneChangeIsAmongItsSlot, OneScopeChangeIsAmongItsSlot, PushesChangeTheirScope, ScopeChangesFollowOneAnother}
+use Rattle.hir_def_map_laws.specs.SlotChanges.{TextualMacrosChangeTheirSlot, TraitsChangeNoScope, TraitsChangeNoSlot, UnreadScopesDoNotMatter}
+use Rattle.hir_def_map_laws.specs.SlotChanges.{UnreadSlotsDoNotMatter, UpdatesChangeTheirScope, UpdatesChangeTheirSlot, with_macro, with_macro_vis}
+use Rattle.hir_def_map_laws.specs.SlotChanges.{with_textual_macro, with_trait, with_type, with_type_vis, with_value, with_value_vis}
+use Rattle.hir_def_map.specs.Types.{Slot}
 use Rattle.hir_def_map.specs.declared.nameres.path_resolution.slots.Slot.TheVariants.{Module as of_module, Preludes as of_preludes}
 use Rattle.hir_def_map.specs.Scoping.Slots.{reads}
 
@@ -38,8 +43,10 @@ agree-itself map local (of_preludes name) = record { crates = refl; macro_uses =
 
 agree-both : (one two three : Map) (one_local two_local three_local : Local) (slot : Slot)
     → AgreeAt one one_local two two_local slot → AgreeAt two two_local three three_local slot → AgreeAt one one_local three three_local slot
-agree-both one two three one_local two_local three_local (of_module at name) first then = record { entries = then.entries ∙ first.entries; legacy = then.legacy ∙ first.legacy }
-agree-both one two three one_local two_local three_local (of_preludes name) first then = record { crates = then.crates ∙ first.crates; macro_uses = then.macro_uses ∙ first.macro_uses }
+agree-both one two three one_local two_local three_local (of_module at name) first then =
+    record { entries = then.entries ∙ first.entries; legacy = then.legacy ∙ first.legacy }
+agree-both one two three one_local two_local three_local (of_preludes name) first then =
+    record { crates = then.crates ∙ first.crates; macro_uses = then.macro_uses ∙ first.macro_uses }
 
 -- what is at a place is below the length
 below : {A : Type 0} (xs : List A) (k : ℕ) (x : A) → slice_get xs k ≡ Some x → k < length xs
@@ -80,7 +87,8 @@ away (Some s) slot apart e = apart (0, omega arith, here s slot e)
     here s slot f = cc
 
 pub one_change : OneChangeIsAmongItsSlot
-one_change old old_local new new_local changed changes long = record { grows = changes.grows; modules = long; others = λ slot apart. changes.others slot (away changed slot apart) }
+one_change old old_local new new_local changed changes long =
+    record { grows = changes.grows; modules = long; others = λ slot apart. changes.others slot (away changed slot apart) }
 
 pub follow : ChangesFollowOneAnother
 follow one two three one_local two_local three_local first then a b = record {
@@ -95,7 +103,8 @@ pub unread : UnreadSlotsDoNotMatter
 unread finished one other asking local slots at path stands begins low changes apart =
     let read : List Slot = reads finished asking one (numbered one.id at) path in
     reads_decide finished one other asking local at path stands begins low changes.grows
-    (All-weaker (Contains read) (AgreeAt one asking.local other local) (λ slot seen. changes.others slot (λ h. apart slot h seen)) read (All-contains_itself read))
+    (All-weaker (Contains read) (AgreeAt one asking.local other local) (λ slot seen. changes.others slot (λ h. apart slot h seen)) read
+    (All-contains_itself read))
 
 -- ---- scopes alone
 
@@ -139,7 +148,8 @@ pub unread_scopes : UnreadScopesDoNotMatter
 unread_scopes finished one other asking slots at path keep begins changes apart =
     let read : List Slot = reads finished asking one (numbered one.id at) path in
     scopes_read finished one other asking at path keep begins changes.differs
-    (All-weaker (Contains read) (AgreeAt one asking.local other asking.local) (λ slot seen. changes.others slot (λ h. apart slot h seen)) read (All-contains_itself read))
+    (All-weaker (Contains read) (AgreeAt one asking.local other asking.local) (λ slot seen. changes.others slot (λ h. apart slot h seen)) read
+    (All-contains_itself read))
 
 -- ---- updates of names
 
@@ -164,7 +174,8 @@ set_other {X} name other w ne (e ∷ es) = go (is_at (slice_cmp nat_cmp name) e.
 
     go : (b : Bool) → is_at (slice_cmp nat_cmp name) e.0 ≡ b
         → lookup (is_at (slice_cmp nat_cmp other)) (set_value (is_at (slice_cmp nat_cmp name)) es w) ≡ lookup (is_at (slice_cmp nat_cmp other)) es
-        → lookup (is_at (slice_cmp nat_cmp other)) (cond b ((e.0, w) ∷ es) (e ∷ set_value (is_at (slice_cmp nat_cmp name)) es w)) ≡ lookup (is_at (slice_cmp nat_cmp other)) (e ∷ es)
+        → lookup (is_at (slice_cmp nat_cmp other)) (cond b ((e.0, w) ∷ es) (e ∷ set_value (is_at (slice_cmp nat_cmp name)) es w))
+        ≡ lookup (is_at (slice_cmp nat_cmp other)) (e ∷ es)
     go true s below_ =
         let apart : is_at (slice_cmp nat_cmp other) e.0 ≡ false = away s (is_at (slice_cmp nat_cmp other) e.0) refl in
         ap (λ (b : Bool). cond b (Some w) (lookup (is_at (slice_cmp nat_cmp other)) es)) apart
@@ -206,17 +217,21 @@ scope_changed map local at name change names legacies = record {
         → legacy_of (module_at (with_scope map at change) k) other ≡ legacy_of (module_at map k) other
     legacy k other differs true e =
         let same : k ≡ at = (unsigned_Decides k at).0 e in
-        kept (λ (o : Option ModuleValue). legacy_of o other) map.modules at (with_module_scope change) (λ m. legacies m.scope other (λ f. differs (λ i. Some (of_module (same i) (f i))))) k
+        kept (λ (o : Option ModuleValue). legacy_of o other) map.modules at (with_module_scope change)
+        (λ m. legacies m.scope other (λ f. differs (λ i. Some (of_module (same i) (f i))))) k
     legacy k other differs false e =
-        ap (λ (o : Option ModuleValue). legacy_of o other) (changed_elsewhere map.modules at (with_module_scope change) k (λ f. true≢false (sym ((unsigned_Decides k at).1 f) ∙ e)))
+        ap (λ (o : Option ModuleValue). legacy_of o other) (changed_elsewhere map.modules at (with_module_scope change) k
+        (λ f. true≢false (sym ((unsigned_Decides k at).1 f) ∙ e)))
 
     entries : (k : ℕ) (other : List ℕ) → Some (of_module k other) ≢ Some (of_module at name) → (b : Bool) → (k == at) ≡ b
         → entry_at (with_scope map at change) k other ≡ entry_at map k other
     entries k other differs true e =
         let same : k ≡ at = (unsigned_Decides k at).0 e in
-        kept (λ (o : Option ModuleValue). entry_of o other) map.modules at (with_module_scope change) (λ m. names m.scope other (λ f. differs (λ i. Some (of_module (same i) (f i))))) k
+        kept (λ (o : Option ModuleValue). entry_of o other) map.modules at (with_module_scope change)
+        (λ m. names m.scope other (λ f. differs (λ i. Some (of_module (same i) (f i))))) k
     entries k other differs false e =
-        ap (λ (o : Option ModuleValue). entry_of o other) (changed_elsewhere map.modules at (with_module_scope change) k (λ f. true≢false (sym ((unsigned_Decides k at).1 f) ∙ e)))
+        ap (λ (o : Option ModuleValue). entry_of o other) (changed_elsewhere map.modules at (with_module_scope change) k
+        (λ f. true≢false (sym ((unsigned_Decides k at).1 f) ∙ e)))
 
     slots : (slot : Slot) → Some slot ≢ Some (of_module at name) → AgreeAt map local (with_scope map at change) local slot
     slots (of_module k other) differs = record { entries = entries k other differs (k == at) refl; legacy = legacy k other differs (k == at) refl }
@@ -225,17 +240,42 @@ scope_changed map local at name change names legacies = record {
 pub updates : (map : Map) (local : Local) (at : ℕ) (name : List ℕ) → UpdatesChangeTheirSlot map local at name
 updates map local at name = record {
   types = λ def vis. scope_changed map local at name (with_type name def vis)
-      (λ scope other ne i. record { types = rewritten_other (with_item_definition def vis) scope.types name other ne i; values = item_at scope.values other; macros = item_at scope.macros other }) (λ scope other ne. refl);
+      (λ scope other ne i. record {
+        types = rewritten_other (with_item_definition def vis) scope.types name other ne i;
+        values = item_at scope.values other;
+        macros = item_at scope.macros other;
+      }) (λ scope other ne. refl);
   values = λ def vis. scope_changed map local at name (with_value name def vis)
-      (λ scope other ne i. record { types = item_at scope.types other; values = rewritten_other (with_item_definition def vis) scope.values name other ne i; macros = item_at scope.macros other }) (λ scope other ne. refl);
+      (λ scope other ne i. record {
+        types = item_at scope.types other;
+        values = rewritten_other (with_item_definition def vis) scope.values name other ne i;
+        macros = item_at scope.macros other;
+      }) (λ scope other ne. refl);
   macros = λ def vis. scope_changed map local at name (with_macro name def vis)
-      (λ scope other ne i. record { types = item_at scope.types other; values = item_at scope.values other; macros = rewritten_other (with_item_definition def vis) scope.macros name other ne i }) (λ scope other ne. refl);
+      (λ scope other ne i. record {
+        types = item_at scope.types other;
+        values = item_at scope.values other;
+        macros = rewritten_other (with_item_definition def vis) scope.macros name other ne i;
+      }) (λ scope other ne. refl);
   type_vis = λ vis. scope_changed map local at name (with_type_vis name vis)
-      (λ scope other ne i. record { types = rewritten_other (with_item_visibility vis) scope.types name other ne i; values = item_at scope.values other; macros = item_at scope.macros other }) (λ scope other ne. refl);
+      (λ scope other ne i. record {
+        types = rewritten_other (with_item_visibility vis) scope.types name other ne i;
+        values = item_at scope.values other;
+        macros = item_at scope.macros other;
+      }) (λ scope other ne. refl);
   value_vis = λ vis. scope_changed map local at name (with_value_vis name vis)
-      (λ scope other ne i. record { types = item_at scope.types other; values = rewritten_other (with_item_visibility vis) scope.values name other ne i; macros = item_at scope.macros other }) (λ scope other ne. refl);
+      (λ scope other ne i. record {
+        types = item_at scope.types other;
+        values = rewritten_other (with_item_visibility vis) scope.values name other ne i;
+        macros = item_at scope.macros other;
+      }) (λ scope other ne. refl);
   macro_vis = λ vis. scope_changed map local at name (with_macro_vis name vis)
-      (λ scope other ne i. record { types = item_at scope.types other; values = item_at scope.values other; macros = rewritten_other (with_item_visibility vis) scope.macros name other ne i }) (λ scope other ne. refl);
+      (λ scope other ne i. record {
+        types = item_at scope.types other;
+        values = item_at scope.values other;
+        macros = rewritten_other (with_item_visibility vis)
+            scope.macros name other ne i;
+      }) (λ scope other ne. refl);
 }
 
 pub textual_macros : TextualMacrosChangeTheirSlot

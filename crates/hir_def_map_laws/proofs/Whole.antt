@@ -4,9 +4,7 @@ use Rattle.std.specs.Option.{option_and_then, option_map}
 use Rattle.std.specs.Prelude.{is_some, not}
 use Rattle.std.proofs.lemmas.List.Elements.{All-weaker}
 use mathlib.Core.Bool.{true≢false}
-use Rattle.hir_base.specs.declared.ids.MapId.{MapId}
-use Rattle.hir_base.specs.declared.ids.ModuleId.{ModuleId}
-use Rattle.hir_base.specs.declared.ids.UseId.{UseId}
+use Rattle.hir_base.specs.Types.{MapId, ModuleId, UseId}
 use Rattle.hir_base.specs.contracts.ids.MapIdPartialEq.TheImpl as map_id
 use Rattle.hir_def_map_rules.specs.Inner.OverlayLaws.{exact_map, same_id}
 use Rattle.hir_def_map_rules.specs.Ancestors.{holders_in}
@@ -15,7 +13,7 @@ use Rattle.hir_def_map_rules.specs.WellFormed.{AreWellFormed, HasNoDanglingRefer
 use Rattle.hir_def_map_rules.specs.References.{any_reference_in, is_missing, is_there, map_of_reference, prelude_reference, test_of}
 use Rattle.hir_def_map_rules.specs.State.{Map, ModuleValue, entry_at, entry_of, module_at, numbered, variants_at}
 use Rattle.hir_def_map_rules.specs.Overlay.{Maps, Placed, overlay, entry_in, module_in, placed_in}
-use Rattle.hir_def_map_rules.specs.declared.reference.Reference.{Reference}
+use Rattle.hir_def_map_rules.specs.Types.{Reference}
 use Rattle.hir_def_map_rules.specs.declared.reference.Reference.TheVariants as named
 use Rattle.hir_def_map_rules.proofs.WellFormed.{IsClosed-well_formed}
 use Rattle.hir_def_map_rules.proofs.StaysWellFormed.{IsClosed-overlay}
@@ -51,14 +49,17 @@ module _ (finished : Maps) (own : MapId) (absent : finished own ≡ None) where
   prelude_apart None names p e = absurd cc
   prelude_apart (Some placed) names p e = go placed.map.prelude (names placed refl) e
     where
-      go : (o : Option (ModuleId × Option UseId)) → test_of (is_missing finished) (prelude_reference o) ≡ false → option_map (λ x. x.0) o ≡ Some p → is_in own p ≡ false
+      go : (o : Option (ModuleId × Option UseId)) → test_of (is_missing finished) (prelude_reference o) ≡ false → option_map (λ x. x.0) o ≡ Some p → is_in own p
+          ≡ false
       go None f g = absurd cc
       go (Some prelude) f g = let same : prelude.0 ≡ p = cc in subst (λ (m : ModuleId). is_in own m ≡ false) same (elsewhere (named.Module prelude.0) f)
 
-  modules_apart : AreWellFormed finished → (m : ModuleId) (value : ModuleValue) → module_in finished m ≡ Some value → any_reference_in (is_named_in own) value ≡ false
+  modules_apart : AreWellFormed finished → (m : ModuleId) (value : ModuleValue) → module_in finished m ≡ Some value → any_reference_in (is_named_in own) value
+      ≡ false
   modules_apart whole m value e = go (finished m.map) refl e
     where
-      go : (o : Option Placed) → finished m.map ≡ o → option_and_then (λ (placed : Placed). module_at placed.map m.index) o ≡ Some value → any_reference_in (is_named_in own) value ≡ false
+      go : (o : Option Placed) → finished m.map ≡ o → option_and_then (λ (placed : Placed). module_at placed.map m.index) o ≡ Some value
+          → any_reference_in (is_named_in own) value ≡ false
       go None s f = absurd cc
       go (Some placed) s f =
           module_less (is_missing finished) (is_named_in own) elsewhere value
@@ -81,13 +82,15 @@ module _ (finished : Maps) (map : Map) (whole : AreWellFormed finished) (absent 
     where
       go : (b : Bool) → map_id.ghosts.eq id.loc.container.map map.id ≡ b → (b && not (is_some (variants_at map id))) ≡ false
       go true s =
-          ap (λ (c : Bool). not (is_some (option_and_then (λ (placed : Placed). variants_at placed.map id) (cond c (Some (placed_in finished map)) (finished id.loc.container.map))))) (sym s) ∙ e
+          ap (λ (c : Bool). not (is_some (option_and_then (λ (placed : Placed). variants_at placed.map id)
+          (cond c (Some (placed_in finished map)) (finished id.loc.container.map))))) (sym s) ∙ e
       go false s = refl
   has_variants (named.Map id) e = refl
 
   entry_own : (at : ℕ) (name : List ℕ) → entry_in (overlay finished map) (numbered map.id at) name ≡ entry_at map at name
   entry_own at name =
-      ap (λ (c : Bool). entry_of (option_and_then (λ (placed : Placed). module_at placed.map at) (cond c (Some (placed_in finished map)) (finished map.id))) name) (same_id map.id)
+      ap (λ (c : Bool). entry_of (option_and_then (λ (placed : Placed). module_at placed.map at) (cond c (Some (placed_in finished map)) (finished map.id)))
+      name) (same_id map.id)
 
   pub StandsBeside-whole : StandsBeside finished map
   StandsBeside-whole =

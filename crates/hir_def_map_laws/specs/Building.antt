@@ -1,16 +1,9 @@
 -- What does building leave of a map?
 use Rattle.std.specs.Prelude.{◌≡◌, ℕ, List, Option, ◌<◌, length, Some, false, true}
-use Rattle.hir_base.specs.declared.ids.EnumId.{EnumId}
-use Rattle.hir_base.specs.declared.ids.ModuleDefId.{ModuleDefId}
-use Rattle.hir_base.specs.declared.ids.ModuleId.{ModuleId}
-use Rattle.hir_base.specs.declared.ids.TraitId.{TraitId}
-use Rattle.hir_base.specs.declared.macro_kind.MacroId.{MacroId}
+use Rattle.hir_base.specs.Types.{EnumId, MacroId, ModuleDefId, ModuleId, TraitId}
 use Rattle.hir_scope.specs.Globs.{GlobNames}
 use Rattle.hir_scope.specs.Scope.{ScopeValue}
-use Rattle.hir_scope.specs.declared.imports.ImportId.{ImportId}
-use Rattle.hir_scope.specs.declared.imports.ImportOrExternCrate.{ImportOrExternCrate}
-use Rattle.hir_scope.specs.declared.per_ns.PerNs.{PerNs}
-use Rattle.hir_scope.specs.declared.visibility.Visibility.{Visibility}
+use Rattle.hir_scope.specs.Types.{ImportId, ImportOrExternCrate, PerNs, Visibility}
 use Rattle.hir_def_map_rules.specs.Ancestors.{above_in, holders_in}
 use Rattle.hir_def_map_rules.specs.Listed.{KeepsNames}
 use Rattle.hir_def_map_rules.specs.Overlay.{Maps, overlay}
@@ -20,8 +13,7 @@ use Rattle.hir_def_map_rules.specs.WellFormed.{HasNoDanglingReference}
 use Rattle.hir_def_map_rules.specs.Sources.{SourceTest, HoldsOfNone, HoldsNowhereIn, on_import, on_some, on_origin, on_values, on_variant}
 use Rattle.hir_def_map_rules.specs.State.{Map, pushed, with_scope, new_module, numbered, with_module, Variants, with_enum}
 use Rattle.hir_def_map_rules.specs.Declaration.{listed}
-use Rattle.hir_def_map_rules.specs.declared.declaration.Declaration.{Declaration}
-use Rattle.hir_def_map_rules.specs.declared.origin.ModuleOrigin.{ModuleOrigin}
+use Rattle.hir_def_map_rules.specs.Types.{Declaration, ModuleOrigin}
 use Rattle.hir_def_map_laws.specs.SlotChanges.{with_macro, with_macro_vis, with_trait, with_type, with_type_vis, with_value, with_value_vis}
 
 -- the same lies above each module, and the same modules hold its map
@@ -52,12 +44,14 @@ PushesNameWhatIsThere = (finished : Maps) (map : Map) (at : ℕ) (globs : GlobNa
 
 abbrev pub DeclarationsNameWhatIsThere : Type 0
 DeclarationsNameWhatIsThere = (finished : Maps) (map : Map) (at : ℕ) (d : Declaration)
-    → HasNoDanglingReference (overlay finished map) map → HasNoDanglingReference (overlay finished (with_scope map at (listed d))) (with_scope map at (listed d))
+    → HasNoDanglingReference (overlay finished map) map → HasNoDanglingReference (overlay finished (with_scope map at (listed d)))
+    (with_scope map at (listed d))
 
 abbrev pub ModulesNameWhatIsThere : Type 0
 ModulesNameWhatIsThere = (finished : Maps) (map : Map) (at : ℕ) → at < length map.modules → (name : List ℕ) (origin : ModuleOrigin) (visibility : Visibility)
     → VisibilityIsThere (overlay finished map) visibility → HasNoDanglingReference (overlay finished map) map
-    → HasNoDanglingReference (overlay finished (with_module map at name (new_module origin visibility (Some (numbered map.id at))))) (with_module map at name (new_module origin visibility (Some (numbered map.id at))))
+    → HasNoDanglingReference (overlay finished (with_module map at name (new_module origin visibility (Some (numbered map.id at)))))
+    (with_module map at name (new_module origin visibility (Some (numbered map.id at))))
 
 -- an enum that gets its own variants
 abbrev pub EnumsNameWhatIsThere : Type 0
@@ -67,14 +61,17 @@ EnumsNameWhatIsThere = (finished : Maps) (map : Map) (id : EnumId) (variants : V
 -- a change of a scope that leaves one which refers only to what is there
 abbrev pub ScopesNameWhatIsThere : Type 0
 ScopesNameWhatIsThere = (finished : Maps) (map : Map) (at : ℕ) (change : ScopeValue → ScopeValue)
-    → ((scope : ScopeValue) → any_reference_in_scope (is_missing (overlay finished map)) scope ≡ false → any_reference_in_scope (is_missing (overlay finished map)) (change scope) ≡ false)
+    → ((scope : ScopeValue) → any_reference_in_scope (is_missing (overlay finished map)) scope ≡ false
+    → any_reference_in_scope (is_missing (overlay finished map)) (change scope) ≡ false)
     → HasNoDanglingReference (overlay finished map) map → HasNoDanglingReference (overlay finished (with_scope map at change)) (with_scope map at change)
 
 -- as updates of what a name stands for and of who may see it, and traits that are kept without a name
 pub record UpdatesNameWhatIsThere (finished : Maps) (map : Map) (at : ℕ) (name : List ℕ) : Type 0 where
-  pub types : (def : ModuleDefId) (vis : Visibility) → IsThere (overlay finished map) def → VisibilityIsThere (overlay finished map) vis → HasNoDanglingReference (overlay finished map) map
+  pub types : (def : ModuleDefId) (vis : Visibility) → IsThere (overlay finished map) def → VisibilityIsThere (overlay finished map) vis
+      → HasNoDanglingReference (overlay finished map) map
       → HasNoDanglingReference (overlay finished (with_scope map at (with_type name def vis))) (with_scope map at (with_type name def vis))
-  pub values : (def : ModuleDefId) (vis : Visibility) → IsThere (overlay finished map) def → VisibilityIsThere (overlay finished map) vis → HasNoDanglingReference (overlay finished map) map
+  pub values : (def : ModuleDefId) (vis : Visibility) → IsThere (overlay finished map) def → VisibilityIsThere (overlay finished map) vis
+      → HasNoDanglingReference (overlay finished map) map
       → HasNoDanglingReference (overlay finished (with_scope map at (with_value name def vis))) (with_scope map at (with_value name def vis))
   pub macros : (def : MacroId) (vis : Visibility) → VisibilityIsThere (overlay finished map) vis → HasNoDanglingReference (overlay finished map) map
       → HasNoDanglingReference (overlay finished (with_scope map at (with_macro name def vis))) (with_scope map at (with_macro name def vis))
@@ -84,7 +81,8 @@ pub record UpdatesNameWhatIsThere (finished : Maps) (map : Map) (at : ℕ) (name
       → HasNoDanglingReference (overlay finished (with_scope map at (with_value_vis name vis))) (with_scope map at (with_value_vis name vis))
   pub macro_vis : (vis : Visibility) → VisibilityIsThere (overlay finished map) vis → HasNoDanglingReference (overlay finished map) map
       → HasNoDanglingReference (overlay finished (with_scope map at (with_macro_vis name vis))) (with_scope map at (with_macro_vis name vis))
-  pub traits : (tr : TraitId) (vis : Visibility) (import : Option ImportId) → VisibilityIsThere (overlay finished map) vis → HasNoDanglingReference (overlay finished map) map
+  pub traits : (tr : TraitId) (vis : Visibility) (import : Option ImportId) → VisibilityIsThere (overlay finished map) vis
+      → HasNoDanglingReference (overlay finished map) map
       → HasNoDanglingReference (overlay finished (with_scope map at (with_trait tr vis import))) (with_scope map at (with_trait tr vis import))
 
 -- ---- where it is written

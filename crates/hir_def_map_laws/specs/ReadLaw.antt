@@ -3,18 +3,12 @@ use Rattle.std.specs.Prelude.{◌≡◌, ℕ, ◌<◌, ◌≤◌, List, length, 
 use Rattle.std.specs.BTreeMap.{BTreeMap}
 use Rattle.std.specs.List.{All}
 use Rattle.hir_base.specs.ModPath.{Path}
-use Rattle.hir_base.specs.declared.ids.AdtId.{AdtId}
+use Rattle.hir_base.specs.Types.{AdtId, Crate, EnumId, ExternCrateId, MapId, ModuleDefId, ModuleId}
 use Rattle.hir_base.specs.declared.ids.AdtId.TheVariants as adts
-use Rattle.hir_base.specs.declared.ids.Crate.{Crate}
-use Rattle.hir_base.specs.declared.ids.EnumId.{EnumId}
-use Rattle.hir_base.specs.declared.ids.ExternCrateId.{ExternCrateId}
-use Rattle.hir_base.specs.declared.ids.MapId.{MapId}
-use Rattle.hir_base.specs.declared.ids.ModuleDefId.{ModuleDefId}
 use Rattle.hir_base.specs.declared.ids.ModuleDefId.TheVariants as definitions
-use Rattle.hir_base.specs.declared.ids.ModuleId.{ModuleId}
 use Rattle.hir_base.specs.contracts.ids.MapIdPartialEq.TheImpl as map_id
 use Rattle.hir_scope.specs.PerNs.{Item}
-use Rattle.hir_scope.specs.declared.imports.ImportOrExternCrate.{ImportOrExternCrate}
+use Rattle.hir_scope.specs.Types.{ImportOrExternCrate}
 use Rattle.hir_def_map_rules.specs.Ancestors.{holders_in}
 use Rattle.hir_def_map_rules.specs.WellFormed.{AreWellFormed, HasNoDanglingReference}
 use Rattle.hir_def_map_rules.specs.References.{map_of_reference, any_reference_in, Fails}
@@ -22,15 +16,14 @@ use Rattle.hir_def_map_rules.specs.Reaches.{by_import}
 use Rattle.hir_def_map_rules.specs.Scoping.{Resolution, resolution_of}
 use Rattle.hir_def_map_rules.specs.Scoping.Asking.{Asking}
 use Rattle.hir_def_map_rules.specs.Scoping.FirstSegment.{legacy_of}
-use Rattle.hir_def_map_rules.specs.State.{IsInOrder, Local, Map, ModuleValue, Variants, at_name, changed_at, entry_at, module_at, numbered, parent_at, variants_at}
+use Rattle.hir_def_map_rules.specs.State.{IsInOrder, Local, Map, ModuleValue, Variants, at_name, changed_at, entry_at, module_at, numbered, parent_at}
+use Rattle.hir_def_map_rules.specs.State.{variants_at}
 use Rattle.hir_def_map_rules.specs.Overlay.{Maps, overlay, map_in, module_in}
 use Rattle.hir_def_map.specs.World.{IsChecked, finished_in}
 use Rattle.hir_def_map.specs.WorldParts.{among, part_of}
-use Rattle.hir_def_map.specs.declared.world.finished.Finished.{Finished}
-use Rattle.hir_def_map.specs.declared.world.part.WorldPart.{WorldPart}
-use Rattle.hir_def_map_rules.specs.declared.reference.Reference.{Reference}
+use Rattle.hir_def_map.specs.Types.{Finished, Slot, WorldPart}
+use Rattle.hir_def_map_rules.specs.Types.{Reference}
 use Rattle.hir_def_map_rules.specs.declared.reference.Reference.TheVariants as named
-use Rattle.hir_def_map.specs.declared.nameres.path_resolution.slots.Slot.{Slot}
 use Rattle.hir_def_map.specs.declared.nameres.path_resolution.slots.Slot.TheVariants.{Module as of_module, Preludes as of_preludes}
 use Rattle.hir_def_map.specs.Scoping.Slots.{is_in, prelude_module_of, reads}
 
@@ -65,7 +58,8 @@ BeginsWithCrates local = (name : List ℕ) (entry : ModuleId × Option ExternCra
 
 -- where a map is that of a block, no path begins with a module of it
 abbrev pub BeginsOutside : MapId → Local → Type 0
-BeginsOutside own local = (name : List ℕ) (entry : ModuleId × Option ExternCrateId) → at_name local name ≡ Some entry → (is_some own.block && is_in own entry.0) ≡ false
+BeginsOutside own local =
+    (name : List ℕ) (entry : ModuleId × Option ExternCrateId) → at_name local name ≡ Some entry → (is_some own.block && is_in own entry.0) ≡ false
 
 -- ---- two times of a map
 
@@ -125,7 +119,8 @@ abbrev pub ImportsReadAlike : Type 0
 ImportsReadAlike = (finished : Maps) (one : Map) (one_local : Local) (other : Map) (other_local : Local) (at : ℕ) (path : Path)
     → StandsBeside finished one → BeginsWithCrates one_local → at < length one.modules → Grows one other
     → All (AgreeAt one one_local other other_local) (reads finished (by_import one_local) one (numbered one.id at) path)
-    → resolution_of (overlay finished other) (by_import other_local) (numbered one.id at) path ≡ resolution_of (overlay finished one) (by_import one_local) (numbered one.id at) path
+    → resolution_of (overlay finished other) (by_import other_local) (numbered one.id at) path ≡ resolution_of (overlay finished one) (by_import one_local)
+    (numbered one.id at) path
 
 -- ---- paths that stop at no enum without variants
 
@@ -181,7 +176,9 @@ CratesAreOutside = (own : MapId) (local : Local) → BeginsWithCrates local → 
 
 -- a map that names only what is there stands beside finished maps that do
 abbrev pub WholeMapsStandBeside : Type 0
-WholeMapsStandBeside = (finished : Maps) (map : Map) → AreWellFormed finished → finished map.id ≡ None → HasNoDanglingReference (overlay finished map) map → StandsBeside finished map
+WholeMapsStandBeside =
+    (finished : Maps) (map : Map) → AreWellFormed finished → finished map.id ≡ None → HasNoDanglingReference (overlay finished map) map
+    → StandsBeside finished map
 
 -- such maps name nothing in a map that isn't among them
 abbrev pub WholeMapsKeepApart : Type 0
@@ -193,7 +190,8 @@ WorldsKeepApart = (maps : BTreeMap MapId Finished) (own : MapId) → IsChecked m
 
 -- nor some of them
 abbrev pub SomeMapsKeepApart : Type 0
-SomeMapsKeepApart = (crates : List Crate) (holders : List ModuleId) (finished : Maps) (own : MapId) → KeepApart finished own → KeepApart (among crates holders finished) own
+SomeMapsKeepApart =
+    (crates : List Crate) (holders : List ModuleId) (finished : Maps) (own : MapId) → KeepApart finished own → KeepApart (among crates holders finished) own
 
 -- nor those of a part of a world
 abbrev pub PartsKeepApart : Type 0

@@ -2,28 +2,20 @@
 use Rattle.std.specs.Prelude.{◌≡◌, ◌≢◌, ℕ, ◌<◌, List, length, Option, None, Some, Contains, ◌≤◌, [], ◌∷◌, ◌++◌}
 use Rattle.std.specs.Option.{option_to_list}
 use Rattle.hir_base.specs.ModPath.{Path}
-use Rattle.hir_base.specs.declared.ids.EnumId.{EnumId}
-use Rattle.hir_base.specs.declared.ids.ExternCrateId.{ExternCrateId}
-use Rattle.hir_base.specs.declared.ids.ModuleDefId.{ModuleDefId}
-use Rattle.hir_base.specs.declared.ids.ModuleId.{ModuleId}
-use Rattle.hir_base.specs.declared.ids.TraitId.{TraitId}
-use Rattle.hir_base.specs.declared.macro_kind.MacroId.{MacroId}
+use Rattle.hir_base.specs.Types.{EnumId, ExternCrateId, MacroId, ModuleDefId, ModuleId, TraitId}
 use Rattle.hir_textual_scope.specs.Macros.{with_macro as with_more}
 use Rattle.hir_scope.specs.Globs.{GlobNames}
 use Rattle.hir_scope.specs.Scope.{ScopeValue}
 use Rattle.hir_scope.specs.Scope.Updates.{with_definition, with_unnamed_trait, with_visibility}
-use Rattle.hir_scope.specs.declared.imports.ImportId.{ImportId}
-use Rattle.hir_scope.specs.declared.imports.ImportOrExternCrate.{ImportOrExternCrate}
-use Rattle.hir_scope.specs.declared.per_ns.PerNs.{PerNs}
-use Rattle.hir_scope.specs.declared.visibility.Visibility.{Visibility}
+use Rattle.hir_scope.specs.Types.{ImportId, ImportOrExternCrate, PerNs, Visibility}
 use Rattle.hir_def_map_rules.specs.Declaration.{listed}
 use Rattle.hir_def_map_rules.specs.Scoping.Asking.{Asking}
-use Rattle.hir_def_map_rules.specs.State.{Local, Map, Variants, new_module, numbered, pushed, variants_at, with_enum, with_extern, with_macro_use, with_module, with_scope}
+use Rattle.hir_def_map_rules.specs.State.{Local, Map, Variants, new_module, numbered, pushed, variants_at, with_enum, with_extern, with_macro_use, with_module}
+use Rattle.hir_def_map_rules.specs.State.{with_scope}
 use Rattle.hir_def_map_rules.specs.Overlay.{Maps}
-use Rattle.hir_def_map_rules.specs.declared.declaration.Declaration.{Declaration}
-use Rattle.hir_def_map_rules.specs.declared.origin.ModuleOrigin.{ModuleOrigin}
+use Rattle.hir_def_map_rules.specs.Types.{Declaration, ModuleOrigin}
 use Rattle.hir_def_map_laws.specs.ReadLaw.{AgreeAt, BeginsOutside, BeginsWithCrates, DiffersInScopes, Grows, IsReadAlike, KeepApart, StandsBeside}
-use Rattle.hir_def_map.specs.declared.nameres.path_resolution.slots.Slot.{Slot}
+use Rattle.hir_def_map.specs.Types.{Slot}
 use Rattle.hir_def_map.specs.declared.nameres.path_resolution.slots.Slot.TheVariants.{Module as of_module, Preludes as of_preludes}
 use Rattle.hir_def_map.specs.Scoping.Slots.{reads}
 
@@ -64,7 +56,8 @@ TextualMacrosChangeTheirSlot = (map : Map) (local : Local) (at : ℕ) (name : Li
 
 -- variants that an enum gets which had none, or had these, change none
 abbrev pub EnumsChangeNoSlot : Type 0
-EnumsChangeNoSlot = (map : Map) (local : Local) (id : EnumId) (variants : Variants) → ((before : Variants) → variants_at map id ≡ Some before → before ≡ variants)
+EnumsChangeNoSlot =
+    (map : Map) (local : Local) (id : EnumId) (variants : Variants) → ((before : Variants) → variants_at map id ≡ Some before → before ≡ variants)
     → ChangesOnly map local (with_enum map id variants) local None
 
 -- a macro that joins the `macro_use` prelude changes the slot of its name there
@@ -92,7 +85,8 @@ NothingChangesNoSlot = (map : Map) (local : Local) → ChangesAmong map local ma
 -- one change of a slot, or of none, is one among it, or among none
 abbrev pub OneChangeIsAmongItsSlot : Type 0
 OneChangeIsAmongItsSlot = (old : Map) (old_local : Local) (new : Map) (new_local : Local) (changed : Option Slot)
-    → ChangesOnly old old_local new new_local changed → length old.modules ≤ length new.modules → ChangesAmong old old_local new new_local (option_to_list changed)
+    → ChangesOnly old old_local new new_local changed → length old.modules ≤ length new.modules → ChangesAmong old old_local new new_local
+    (option_to_list changed)
 
 -- what changes twice changes among the slots of both
 abbrev pub ChangesFollowOneAnother : Type 0

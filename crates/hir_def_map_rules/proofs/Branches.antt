@@ -5,7 +5,7 @@ use Rattle.std.proofs.lemmas.List.{append-nil, append_assoc, reverse-append, rev
 use Rattle.std.proofs.lemmas.List.Concat.{flat_map-append}
 use Rattle.std.proofs.lemmas.List.Folds.{flat_map-map}
 use Rattle.std.proofs.lemmas.List.Sums.{fold-append}
-use Rattle.hir_base.specs.declared.ids.ModuleId.{ModuleId}
+use Rattle.hir_base.specs.Types.{ModuleId}
 use Rattle.hir_def_map_rules.specs.State.{Map, ModuleValue, module_at}
 use Rattle.hir_def_map_rules.specs.Dump.{Page, next_page_text, pages_from, pages_within, path_below, text_of}
 use Rattle.hir_def_map_rules.specs.Inner.Branches.{BranchValue, branch_below, branches_below, own_page, pages_in, pages_left, with_pages}
@@ -41,7 +41,8 @@ module _ (whole : Map) where
     left-pushed : (before : List BranchValue) (branch : BranchValue) → left (before ++ branch ∷ []) ≡ own branch ++ left (before ++ reverse (below branch))
     left-pushed before branch =
         let pushed : left (before ++ reverse (below branch)) ≡ flat_map all (below branch) ++ left before =
-        ap (flat_map all) (reverse-append before (reverse (below branch)) ∙ ap (λ (bs : List BranchValue). bs ++ reverse before) (reverse-reverse (below branch)))
+        ap (flat_map all) (reverse-append before (reverse (below branch)) ∙ ap (λ (bs : List BranchValue). bs ++ reverse before)
+        (reverse-reverse (below branch)))
         ∙ flat_map-append all (below branch) (reverse before) in
         ap (flat_map all) (reverse-append before (branch ∷ []))
         ∙ ap (λ (xs : List X). xs ++ left before) (split branch)
@@ -78,7 +79,8 @@ module _ (whole : Map) where
   with_pages-kept before old new branch text next was is grown =
       ap (λ (bs : List BranchValue). with_pages text (pages_left whole bs)) was
       ∙ with_pages-pushed text before branch
-      ∙ sym (ap (λ (bytes : List ℕ). with_pages bytes (pages_left whole new)) grown ∙ ap (λ (bs : List BranchValue). with_pages (with_pages text (page_of branch)) (pages_left whole bs)) is)
+      ∙ sym (ap (λ (bytes : List ℕ). with_pages bytes (pages_left whole new)) grown ∙ ap
+      (λ (bs : List BranchValue). with_pages (with_pages text (page_of branch)) (pages_left whole bs)) is)
 
   -- ---- all that will be taken from what is left
 
@@ -107,7 +109,9 @@ module _ (whole : Map) where
           → record { path = path; at = at; depth = suc depth } ∷ taken_below (taken_within depth) path o
           ≡ record { path = path; at = at; depth = suc depth } ∷ flat_map taken (branches_below (suc depth) path o)
       go None = refl
-      go (Some m) = ap (λ (bs : List BranchValue). record { path = path; at = at; depth = suc depth } ∷ bs) (sym (flat_map-map taken (branch_below path depth) m.children))
+      go (Some m) =
+          ap (λ (bs : List BranchValue). record { path = path; at = at; depth = suc depth } ∷ bs)
+          (sym (flat_map-map taken (branch_below path depth) m.children))
 
   pub steps_left-falls : (before old new : List BranchValue) (branch : BranchValue)
       → old ≡ before ++ branch ∷ [] → new ≡ before ++ reverse (below branch) → steps_left new < steps_left old

@@ -25,7 +25,8 @@ module _ {K : Type 0} (cmp : K → K → Ordering) (total : IsTotalOrder cmp) wh
       ap (λ (o : Ordering). match_ordering o (k ∷ x ∷ xs) (x ∷ xs) (x ∷ insert_key cmp xs k)) (total.antisymm k x ∙ ap ordering_reverse (above x k xs rest s.0))
       ∙ ap (λ (ks : List K). x ∷ ks) (key_behind xs rest k s.1)
 
-  pub key_copied : (all made left rest new : List K) (k : K) → IsStrictlySortedBy cmp all → made ++ left ≡ all → left ≡ k ∷ rest → new ≡ insert_key cmp made k → new ++ rest ≡ all
+  pub key_copied : (all made left rest new : List K) (k : K) → IsStrictlySortedBy cmp all → made ++ left ≡ all → left ≡ k ∷ rest → new ≡ insert_key cmp made k
+      → new ++ rest ≡ all
   key_copied all made left rest new k s half taken is =
       let whole : made ++ k ∷ rest ≡ all = ap (λ (ks : List K). made ++ ks) (sym taken) ∙ half in
       ap (λ (ks : List K). ks ++ rest) (is ∙ key_behind made rest k (subst (IsStrictlySortedBy cmp) (sym whole) s)) ∙ shift made ∙ whole
@@ -39,14 +40,17 @@ module _ {K : Type 0} (cmp : K → K → Ordering) (total : IsTotalOrder cmp) wh
     keys_split [] e rest = refl
     keys_split (x ∷ es) e rest = ap (λ (ks : List K). x.0 ∷ ks) (keys_split es e rest)
 
-    entry_behind : (es : List (K × V)) (rest : List K) (k : K) (v : V) → IsStrictlySortedBy cmp (keys_of es ++ k ∷ rest) → insert_entry cmp es k v ≡ es ++ (k, v) ∷ []
+    entry_behind : (es : List (K × V)) (rest : List K) (k : K) (v : V) → IsStrictlySortedBy cmp (keys_of es ++ k ∷ rest) → insert_entry cmp es k v
+        ≡ es ++ (k, v) ∷ []
     unfolding IsStrictlySortedBy
     entry_behind [] rest k v s = refl
     entry_behind (e ∷ es) rest k v s =
-        ap (λ (o : Ordering). match_ordering o ((k, v) ∷ e ∷ es) ((e.0, v) ∷ es) (e ∷ insert_entry cmp es k v)) (total.antisymm k e.0 ∙ ap ordering_reverse (above e.0 k (keys_of es) rest s.0))
+        ap (λ (o : Ordering). match_ordering o ((k, v) ∷ e ∷ es) ((e.0, v) ∷ es) (e ∷ insert_entry cmp es k v))
+        (total.antisymm k e.0 ∙ ap ordering_reverse (above e.0 k (keys_of es) rest s.0))
         ∙ ap (λ (xs : List (K × V)). e ∷ xs) (entry_behind es rest k v s.1)
 
-    pub entry_copied : (all made left rest new : List (K × V)) (k : K) (v : V) → IsStrictlySortedBy cmp (keys_of all) → made ++ left ≡ all → left ≡ (k, v) ∷ rest
+    pub entry_copied : (all made left rest new : List (K × V)) (k : K) (v : V) → IsStrictlySortedBy cmp (keys_of all) → made ++ left ≡ all → left
+        ≡ (k, v) ∷ rest
         → new ≡ insert_entry cmp made k v → new ++ rest ≡ all
     entry_copied all made left rest new k v s half taken is =
         let whole : made ++ (k, v) ∷ rest ≡ all = ap (λ (es : List (K × V)). made ++ es) (sym taken) ∙ half in

@@ -4,26 +4,22 @@ use Rattle.std.specs.Option.{option_map}
 use Rattle.std.specs.Prelude.{is_some}
 use Rattle.hir_base.specs.BuiltinType.{builtin_named}
 use Rattle.hir_base.specs.declared.builtin_type.BuiltinType.{BuiltinType as AnyBuiltin}
-use Rattle.hir_base.specs.declared.ids.ExternCrateId.{ExternCrateId}
-use Rattle.hir_base.specs.declared.ids.ModuleDefId.{ModuleDefId}
+use Rattle.hir_base.specs.Types.{BuiltinShadowMode, ExternCrateId, MacroId, MacroSubNs, ModuleDefId, ModuleId}
 use Rattle.hir_base.specs.declared.ids.ModuleDefId.TheVariants.{BuiltinType}
-use Rattle.hir_base.specs.declared.ids.ModuleId.{ModuleId}
-use Rattle.hir_base.specs.declared.macro_kind.MacroId.{MacroId}
-use Rattle.hir_base.specs.declared.resolve_mode.BuiltinShadowMode.{BuiltinShadowMode}
 use Rattle.hir_base.specs.declared.resolve_mode.BuiltinShadowMode.TheVariants as shadow_modes
-use Rattle.hir_base.specs.declared.resolve_mode.MacroSubNs.{MacroSubNs}
 use Rattle.hir_scope.specs.Bindings.{first_of}
 use Rattle.hir_scope.specs.PerNs.{Item, keep_item, keep_of, macros_only, nothing, or_of, types_only}
-use Rattle.hir_scope.specs.declared.imports.ImportOrExternCrate.{ImportOrExternCrate}
+use Rattle.hir_scope.specs.Types.{ImportOrExternCrate, PerNs, Visibility}
 use Rattle.hir_scope.specs.declared.imports.ImportOrExternCrate.TheVariants as ways
-use Rattle.hir_scope.specs.declared.per_ns.PerNs.{PerNs}
-use Rattle.hir_scope.specs.declared.visibility.Visibility.{Visibility}
 use Rattle.hir_scope.specs.declared.visibility.Visibility.TheVariants.{Public}
 use Rattle.hir_def_map_rules.specs.References.{reference_to, test_item, test_of, test_visibility, visibility_reference, Fails, FailsAtItem, FailsAtMacro}
-use Rattle.hir_def_map_rules.specs.Scoping.FirstSegment.{builtin_bound, builtin_name, extern_name, fits, is_block_root, keep_fitting, legacy_bound, legacy_name, legacy_of, macro_use_bound, macro_use_name, macro_use_of, name_in_crate_root_or_extern_prelude, name_in_module, name_in_preludes, names_module, of_style, prelude_name, scope_name, unless_block_root, with_builtin}
+use Rattle.hir_def_map_rules.specs.Scoping.FirstSegment.{builtin_bound, builtin_name, extern_name, fits, is_block_root, keep_fitting, legacy_bound, legacy_name}
+use Rattle.hir_def_map_rules.specs.Scoping.FirstSegment.{legacy_of, macro_use_bound, macro_use_name, macro_use_of, name_in_crate_root_or_extern_prelude}
+use Rattle.hir_def_map_rules.specs.Scoping.FirstSegment.{name_in_module, name_in_preludes, names_module, of_style, prelude_name, scope_name, unless_block_root}
+use Rattle.hir_def_map_rules.specs.Scoping.FirstSegment.{with_builtin}
 use Rattle.hir_def_map_rules.specs.State.{Local, crate_root}
 use Rattle.hir_def_map_rules.specs.Overlay.{Maps, entry_in, map_in, module_in}
-use Rattle.hir_def_map_rules.specs.declared.reference.Reference.{Reference}
+use Rattle.hir_def_map_rules.specs.Types.{Reference}
 use Rattle.hir_def_map_rules.proofs.NoneOf.{neither, not_first, not_second}
 
 -- of nothing a test holds nowhere
@@ -31,7 +27,8 @@ pub Fails-nothing : (test : Reference → Bool) → Fails test nothing
 Fails-nothing test = record { types = tt; values = tt; macros = tt }
 
 -- a type that all may see
-pub Fails-public : (test : Reference → Bool) (def : ModuleDefId) (by : Option ImportOrExternCrate) → test_of test (reference_to def) ≡ false → Fails test (types_only def Public by)
+pub Fails-public : (test : Reference → Bool) (def : ModuleDefId) (by : Option ImportOrExternCrate) → test_of test (reference_to def) ≡ false
+    → Fails test (types_only def Public by)
 Fails-public test def by e = record { types = neither (test_of test (reference_to def)) false e refl; values = tt; macros = tt }
 
 -- so does a macro
@@ -52,7 +49,8 @@ module _ (test less : Reference → Bool) (weaker : (n : Reference) → test n �
   item_less item e =
       let d = test_of test (reference_to item.def) in
       let v = test_visibility test item.vis in
-      neither (test_of less (reference_to item.def)) (test_visibility less item.vis) (of_less (reference_to item.def) (not_first d v e)) (visibility_less item.vis (not_second d v e))
+      neither (test_of less (reference_to item.def)) (test_visibility less item.vis) (of_less (reference_to item.def) (not_first d v e))
+      (visibility_less item.vis (not_second d v e))
 
   at_item : {I : Type 0} (o : Option (Item ModuleDefId I)) → FailsAtItem test o → FailsAtItem less o
   at_item None f = tt
@@ -75,7 +73,8 @@ module _ (test : Reference → Bool) (none : (n : Reference) → test n ≡ fals
 
   no_item : {I : Type 0} (o : Option (Item ModuleDefId I)) → FailsAtItem test o
   no_item None = tt
-  no_item (Some item) = neither (test_of test (reference_to item.def)) (test_visibility test item.vis) (none_of (reference_to item.def)) (none_of (visibility_reference item.vis))
+  no_item (Some item) =
+      neither (test_of test (reference_to item.def)) (test_visibility test item.vis) (none_of (reference_to item.def)) (none_of (visibility_reference item.vis))
 
   no_macro : (o : Option (Item MacroId ImportOrExternCrate)) → FailsAtMacro test o
   no_macro None = tt
@@ -156,13 +155,15 @@ module _ (test : Reference → Bool) where
   Fails-unless : (at : ModuleId) (p : PerNs) → Fails test p → Fails test (unless_block_root at p)
   Fails-unless at p f = Fails-cond (is_block_root at) nothing p (Fails-nothing test) f
 
-  Fails-with_builtin : (shadow : BuiltinShadowMode) (scope builtin : PerNs) → Fails test scope → Fails test builtin → Fails test (with_builtin shadow scope builtin)
+  Fails-with_builtin : (shadow : BuiltinShadowMode) (scope builtin : PerNs) → Fails test scope → Fails test builtin
+      → Fails test (with_builtin shadow scope builtin)
   Fails-with_builtin shadow_modes.Module scope builtin f g = Fails-or scope builtin f g
   Fails-with_builtin shadow_modes.Other scope builtin f g =
       Fails-cond (names_module scope.types) (or_of builtin scope) (or_of scope builtin) (Fails-or builtin scope g f) (Fails-or scope builtin f g)
 
   module _ (maps : Maps) (local : Local) (at : ModuleId) (name : List ℕ) (externs : Fails test (extern_name local name)) where
-    pub Fails-in_module : (sub_ns : Option MacroSubNs) (shadow : BuiltinShadowMode) → Fails test (entry_in maps at name) → Fails test (prelude_name maps at name)
+    pub Fails-in_module : (sub_ns : Option MacroSubNs) (shadow : BuiltinShadowMode) → Fails test (entry_in maps at name)
+        → Fails test (prelude_name maps at name)
         → Fails test (name_in_module maps local sub_ns shadow at name)
     Fails-in_module sub_ns shadow here prelude_ =
         let legacy : PerNs = legacy_name maps sub_ns at name in
@@ -175,7 +176,8 @@ module _ (test : Reference → Bool) where
         (Fails-or (or_of legacy scope) crate_
         (Fails-or legacy scope
         (Fails-legacy sub_ns (legacy_of (module_in maps at) name))
-        (Fails-with_builtin shadow (scope_name maps sub_ns at name) (builtin_name at name) (Fails-style sub_ns (entry_in maps at name) here) (Fails-builtin at name)))
+        (Fails-with_builtin shadow (scope_name maps sub_ns at name) (builtin_name at name) (Fails-style sub_ns (entry_in maps at name) here)
+        (Fails-builtin at name)))
         (Fails-unless at (extern_name local name) externs))
         (Fails-macro_use (macro_use_of (map_in maps at.map) name)))
         (Fails-unless at (prelude_name maps at name) prelude_)

@@ -1,5 +1,6 @@
 -- What do a push and one more module leave of a map?
-use Rattle.std.specs.Prelude.{◌≡◌, ◌≢◌, ℕ, zero, suc, ◌<◌, ◌++◌, List, [], ◌∷◌, length, Bool, true, false, not, ◌&&◌, ◌||◌, cond, Option, None, Some, is_some, map as list_map, option_map, slice_get}
+use Rattle.std.specs.Prelude.{◌≡◌, ◌≢◌, ℕ, zero, suc, ◌<◌, ◌++◌, List, [], ◌∷◌, length, Bool, true, false, not, ◌&&◌, ◌||◌, cond, Option, None, Some, is_some}
+use Rattle.std.specs.Prelude.{map as list_map, option_map, slice_get}
 use Rattle.std.specs.Ordering.{nat_cmp, is_eq, ordering_reverse, match_ordering}
 use Rattle.std.specs.Cmp.Lexicographic.{slice_cmp}
 use Rattle.std.specs.BTreeMap.{is_at}
@@ -9,29 +10,25 @@ use Rattle.std.specs.declared.cmp.Ordering.TheVariants.{Less, Equal, Greater}
 use Rattle.std.proofs.Common.{refl, ap, sym, ◌∙◌, arith}
 use Rattle.std.proofs.lemmas.Cmp.{nat_list_cmp_total}
 use Rattle.std.proofs.lemmas.Map.Lookups.{exact_bytes}
-use Rattle.hir_base.specs.declared.ids.MapId.{MapId}
-use Rattle.hir_base.specs.declared.ids.ModuleId.{ModuleId}
-use Rattle.hir_base.specs.declared.ids.ModuleDefId.{ModuleDefId}
-use Rattle.hir_base.specs.declared.macro_kind.MacroId.{MacroId}
+use Rattle.hir_base.specs.Types.{MacroId, MapId, ModuleDefId, ModuleId}
 use Rattle.hir_base.specs.contracts.ids.MapIdPartialEq.TheImpl as map_id
 use Rattle.hir_base.specs.contracts.ids.ModuleDefIdPartialEq.TheImpl as module_def
 use Rattle.hir_base.specs.contracts.macro_kind.MacroIdPartialEq.TheImpl as makro
 use Rattle.hir_scope.specs.contracts.imports.ImportOrExternCratePartialEq.TheImpl as import_or_extern_crate
 use Rattle.hir_scope.specs.contracts.imports.ImportOrGlobPartialEq.TheImpl as import_or_glob
-use Rattle.hir_scope.specs.declared.imports.ImportOrExternCrate.{ImportOrExternCrate}
-use Rattle.hir_scope.specs.declared.imports.ImportOrGlob.{ImportOrGlob}
-use Rattle.hir_scope.specs.declared.imports.ImportOrDef.{ImportOrDef}
+use Rattle.hir_scope.specs.Types.{ImportOrDef, ImportOrExternCrate, ImportOrGlob, PerNs, Visibility}
 use Rattle.hir_scope.specs.PerNs.{Item, item_of, value_import}
-use Rattle.hir_scope.specs.declared.per_ns.PerNs.{PerNs}
-use Rattle.hir_scope.specs.Bindings.{Candidate, Push, after_push, slot_after, is_reresolved_by, takes, macro_candidate, written_places, written_items, taken, type_candidate, value_candidate}
-use Rattle.hir_scope.specs.declared.visibility.Visibility.{Visibility}
+use Rattle.hir_scope.specs.Bindings.{Candidate, Push, after_push, slot_after, is_reresolved_by, takes, macro_candidate, written_places, written_items, taken}
+use Rattle.hir_scope.specs.Bindings.{type_candidate, value_candidate}
 use Rattle.hir_scope.specs.Globs.{GlobNames, Place}
 use Rattle.hir_scope.specs.Entries.{with_entry, has_key, item_at}
 use Rattle.hir_scope.specs.ImportRecords.{is_glob}
 use Rattle.hir_scope.specs.Scope.{ScopeValue, binding_of}
 use Rattle.hir_scope.specs.Scope.Push.{written_scope, pushed_globs, pushed_scope, taken_candidates}
-use Rattle.hir_def_map_rules.specs.declared.origin.ModuleOrigin.{ModuleOrigin}
-use Rattle.hir_def_map_rules.specs.State.{Map, ModuleValue, at_name, with_name, changed_at, entry_of, entry_at, globs_in, globs_after, module_at, new_id, new_module, no_globs, numbered, place_at, pushed, pushed_module, with_child, with_module, with_module_scope, with_scope}
+use Rattle.hir_def_map_rules.specs.Types.{ModuleOrigin}
+use Rattle.hir_def_map_rules.specs.State.{Map, ModuleValue, at_name, with_name, changed_at, entry_of, entry_at, globs_in, globs_after, module_at, new_id}
+use Rattle.hir_def_map_rules.specs.State.{new_module, no_globs, numbered, place_at, pushed, pushed_module, with_child, with_module, with_module_scope}
+use Rattle.hir_def_map_rules.specs.State.{with_scope}
 use Rattle.hir_def_map_rules.specs.Overlay.{Maps, overlay, holders_or, holders_under, placed_in}
 use Rattle.hir_def_map_rules.specs.Ancestors.{frame_of, frames_of}
 
@@ -73,7 +70,8 @@ module _ {V : Type 0} where
       go : at_name (with_name es name v) other ≡ at_name es other → (o : Ordering) → slice_cmp nat_cmp name e.0 ≡ o
           → at_name (match_ordering o ((name, v) ∷ e ∷ es) ((e.0, v) ∷ es) (e ∷ with_name es name v)) other ≡ at_name (e ∷ es) other
       go below Less s = rw (other_text other name ne) refl
-      go below Equal s = let away : is_at (slice_cmp nat_cmp other) e.0 ≡ false = other_text other e.0 (λ k. ne (k ∙ sym (exact_bytes name e.0 s))) in rw away refl
+      go below Equal s =
+          let away : is_at (slice_cmp nat_cmp other) e.0 ≡ false = other_text other e.0 (λ k. ne (k ∙ sym (exact_bytes name e.0 s))) in rw away refl
       go below Greater s = ap (cond (is_at (slice_cmp nat_cmp other) e.0) (Some e.1)) below
 
 -- ---- a list with one value changed
@@ -92,7 +90,8 @@ module _ {A : Type 0} where
   changed_elsewhere (y ∷ ys) (suc at) change (suc k) ne = changed_elsewhere ys at change k (λ e. ne (ap suc e))
 
   -- what a change keeps of each value, and what is there of none, stays at each place
-  pub kept : {B : Type 0} (part : Option A → B) (xs : List A) (at : ℕ) (change : A → A) → ((x : A) → part (Some (change x)) ≡ part (Some x)) → (k : ℕ) → part (slice_get (changed_at xs at change) k) ≡ part (slice_get xs k)
+  pub kept : {B : Type 0} (part : Option A → B) (xs : List A) (at : ℕ) (change : A → A) → ((x : A) → part (Some (change x)) ≡ part (Some x)) → (k : ℕ)
+      → part (slice_get (changed_at xs at change) k) ≡ part (slice_get xs k)
   kept part [] at change keeps k = refl
   kept part (x ∷ xs) zero change keeps zero = keeps x
   kept part (x ∷ xs) zero change keeps (suc k) = refl
@@ -111,7 +110,8 @@ module _ {A : Type 0} where
   before_last (x ∷ xs) y (suc k) h = before_last xs y k (omega arith)
 
   -- one more value that is as good as none, for a part of it
-  as_none : {B : Type 0} (part : Option A → B) (xs : List A) (y : A) → part (Some y) ≡ part None → (k : ℕ) → part (slice_get (xs ++ y ∷ []) k) ≡ part (slice_get xs k)
+  as_none : {B : Type 0} (part : Option A → B) (xs : List A) (y : A) → part (Some y) ≡ part None → (k : ℕ) → part (slice_get (xs ++ y ∷ []) k)
+      ≡ part (slice_get xs k)
   as_none part [] y e zero = e
   as_none part [] y e (suc k) = refl
   as_none part (x ∷ xs) y e zero = refl
@@ -139,7 +139,8 @@ module _ {V : Type 0} where
       go : item_at (set_value (is_at (slice_cmp nat_cmp name)) es v) other ≡ item_at es other → (o : Ordering) → slice_cmp nat_cmp name e.0 ≡ o
           → item_at (cond (is_eq o) ((e.0, v) ∷ es) (e ∷ set_value (is_at (slice_cmp nat_cmp name)) es v)) other ≡ item_at (e ∷ es) other
       go below Less s = ap (cond (is_at (slice_cmp nat_cmp other) e.0) (Some e.1)) below
-      go below Equal s = let away : is_at (slice_cmp nat_cmp other) e.0 ≡ false = other_text other e.0 (λ k. ne (k ∙ sym (exact_bytes name e.0 s))) in rw away refl
+      go below Equal s =
+          let away : is_at (slice_cmp nat_cmp other) e.0 ≡ false = other_text other e.0 (λ k. ne (k ∙ sym (exact_bytes name e.0 s))) in rw away refl
       go below Greater s = ap (cond (is_at (slice_cmp nat_cmp other) e.0) (Some e.1)) below
 
   -- the name has the value
@@ -234,20 +235,26 @@ binding_of-pushed_other globs place items import scope other ne =
 
 module _ (at : ModuleId) (name : List ℕ) (import : Option ImportOrExternCrate) (scope : ScopeValue) (explicit : is_glob import ≡ false) where
   types_after : (o : Option (Item ModuleDefId ImportOrExternCrate))
-      → item_at (written_items name (taken module_def.ghosts.eq import_or_extern_crate.ghosts.eq scope.types [] (at, name) (type_candidate o import)) scope.types) name
-      ≡ slot_after module_def.ghosts.eq import_or_extern_crate.ghosts.eq (item_at scope.types name) (option_map (λ (i : Item ModuleDefId ImportOrExternCrate). item_of i.def i.vis import) o)
+      → item_at (written_items name (taken module_def.ghosts.eq import_or_extern_crate.ghosts.eq scope.types [] (at, name) (type_candidate o import))
+      scope.types) name
+      ≡ slot_after module_def.ghosts.eq import_or_extern_crate.ghosts.eq (item_at scope.types name)
+      (option_map (λ (i : Item ModuleDefId ImportOrExternCrate). item_of i.def i.vis import) o)
   types_after None = refl
   types_after (Some i) = item_at-offered module_def.ghosts.eq import_or_extern_crate.ghosts.eq scope.types at name _ _ explicit
 
   values_after : (o : Option (Item ModuleDefId ImportOrGlob))
-      → item_at (written_items name (taken module_def.ghosts.eq import_or_glob.ghosts.eq scope.values [] (at, name) (value_candidate o import)) scope.values) name
-      ≡ slot_after module_def.ghosts.eq import_or_glob.ghosts.eq (item_at scope.values name) (option_map (λ (i : Item ModuleDefId ImportOrGlob). item_of i.def i.vis (value_import import)) o)
+      → item_at (written_items name (taken module_def.ghosts.eq import_or_glob.ghosts.eq scope.values [] (at, name) (value_candidate o import)) scope.values)
+      name
+      ≡ slot_after module_def.ghosts.eq import_or_glob.ghosts.eq (item_at scope.values name)
+      (option_map (λ (i : Item ModuleDefId ImportOrGlob). item_of i.def i.vis (value_import import)) o)
   values_after None = refl
   values_after (Some i) = item_at-offered module_def.ghosts.eq import_or_glob.ghosts.eq scope.values at name _ _ explicit
 
   macros_after : (o : Option (Item MacroId ImportOrExternCrate))
-      → item_at (written_items name (taken makro.ghosts.eq import_or_extern_crate.ghosts.eq scope.macros [] (at, name) (macro_candidate o import)) scope.macros) name
-      ≡ slot_after makro.ghosts.eq import_or_extern_crate.ghosts.eq (item_at scope.macros name) (option_map (λ (i : Item MacroId ImportOrExternCrate). item_of i.def i.vis import) o)
+      → item_at (written_items name (taken makro.ghosts.eq import_or_extern_crate.ghosts.eq scope.macros [] (at, name) (macro_candidate o import)) scope.macros)
+      name
+      ≡ slot_after makro.ghosts.eq import_or_extern_crate.ghosts.eq (item_at scope.macros name)
+      (option_map (λ (i : Item MacroId ImportOrExternCrate). item_of i.def i.vis import) o)
   macros_after None = refl
   macros_after (Some i) = item_at-offered makro.ghosts.eq import_or_extern_crate.ghosts.eq scope.macros at name _ _ explicit
 
@@ -312,14 +319,16 @@ entry_at-pushed_other map globs at name other items import k ne =
     (λ m. binding_of-pushed_other globs (place_at map.id at name) items import m.scope other ne) k
 
 -- and so do other modules
-pub entry_at-pushed_elsewhere : (map : Map) (globs : GlobNames) (at : ℕ) (name other : List ℕ) (items : PerNs) (import : Option ImportOrExternCrate) (k : ℕ) → k ≢ at
+pub entry_at-pushed_elsewhere : (map : Map) (globs : GlobNames) (at : ℕ) (name other : List ℕ) (items : PerNs) (import : Option ImportOrExternCrate) (k : ℕ)
+    → k ≢ at
     → entry_at (pushed map globs at name items import) k other ≡ entry_at map k other
 entry_at-pushed_elsewhere map globs at name other items import k ne =
     ap (λ (o : Option ModuleValue). entry_of o other) (changed_elsewhere map.modules at (pushed_module globs (place_at map.id at name) items import) k ne)
 
 -- what each module is in stays
 pub frame_of-changed : (map : Map) (holders : List ModuleId) (at : ℕ) (change : ModuleValue → ModuleValue) → ((m : ModuleValue) → (change m).parent ≡ m.parent)
-    → frame_of (record { map = record map { modules = changed_at map.modules at change }; local = []; holders = holders }) ≡ frame_of (record { map = map; local = []; holders = holders })
+    → frame_of (record { map = record map { modules = changed_at map.modules at change }; local = []; holders = holders })
+    ≡ frame_of (record { map = map; local = []; holders = holders })
 frame_of-changed map holders at change keeps = λ i. record { id = map.id; parents = go map.modules at i; holders = holders }
   where
     go : (ms : List ModuleValue) (k : ℕ) → list_map (λ (m : ModuleValue). m.parent) (changed_at ms k change) ≡ list_map (λ (m : ModuleValue). m.parent) ms
@@ -329,11 +338,13 @@ frame_of-changed map holders at change keeps = λ i. record { id = map.id; paren
 
 -- where two maps of one id and one holder have one frame, the same lies above each module beside finished maps
 pub frames_of-overlay : (finished : Maps) (one other : Map) → one.id ≡ other.id → one.holder ≡ other.holder
-    → ((holders : List ModuleId) → frame_of (record { map = one; local = []; holders = holders }) ≡ frame_of (record { map = other; local = []; holders = holders }))
+    → ((holders : List ModuleId) → frame_of (record { map = one; local = []; holders = holders })
+    ≡ frame_of (record { map = other; local = []; holders = holders }))
     → (id : MapId) → frames_of (overlay finished one) id ≡ frames_of (overlay finished other) id
 unfolding frames_of
 frames_of-overlay finished one other same_id same_place same id =
-    ap (λ (x : MapId). option_map frame_of (cond (map_id.ghosts.eq id x) (Some (placed_in finished one)) (finished id))) same_id ∙ on (map_id.ghosts.eq id other.id)
+    ap (λ (x : MapId). option_map frame_of (cond (map_id.ghosts.eq id x) (Some (placed_in finished one)) (finished id))) same_id ∙ on
+    (map_id.ghosts.eq id other.id)
   where
     held : (placed_in finished one).holders ≡ (placed_in finished other).holders
     held = λ i. holders_or (finished (same_id i)) (holders_under finished (same_id i) (same_place i))
@@ -341,7 +352,8 @@ frames_of-overlay finished one other same_id same_place same id =
     whole : frame_of (placed_in finished one) ≡ frame_of (placed_in finished other)
     whole = ap (λ (hs : List ModuleId). frame_of (record { map = one; local = []; holders = hs })) held ∙ same (placed_in finished other).holders
 
-    on : (b : Bool) → option_map frame_of (cond b (Some (placed_in finished one)) (finished id)) ≡ option_map frame_of (cond b (Some (placed_in finished other)) (finished id))
+    on : (b : Bool) → option_map frame_of (cond b (Some (placed_in finished one)) (finished id))
+        ≡ option_map frame_of (cond b (Some (placed_in finished other)) (finished id))
     on true = ap Some whole
     on false = refl
 
@@ -353,7 +365,8 @@ frames_of-scope finished map at change id =
     (λ holders. frame_of-changed map holders at (with_module_scope change) (λ m. refl)) id
 
 -- so does a push
-pub frames_of-pushed : (finished : Maps) (map : Map) (globs : GlobNames) (at : ℕ) (name : List ℕ) (items : PerNs) (import : Option ImportOrExternCrate) (id : MapId)
+pub frames_of-pushed : (finished : Maps) (map : Map) (globs : GlobNames) (at : ℕ) (name : List ℕ) (items : PerNs) (import : Option ImportOrExternCrate)
+    (id : MapId)
     → frames_of (overlay finished (pushed map globs at name items import)) id ≡ frames_of (overlay finished map) id
 frames_of-pushed finished map globs at name items import id =
     frames_of-scope finished map at (pushed_scope globs (place_at map.id at name) items import) id
@@ -361,7 +374,8 @@ frames_of-pushed finished map globs at name items import id =
 -- ---- one more module
 
 -- each name stands in each module for what it stood for; in a new module without bindings for nothing
-pub entry_at-with_module : (map : Map) (parent : ℕ) (name : List ℕ) (origin : ModuleOrigin) (visibility : Visibility) (above : Option ModuleId) (k : ℕ) (other : List ℕ)
+pub entry_at-with_module : (map : Map) (parent : ℕ) (name : List ℕ) (origin : ModuleOrigin) (visibility : Visibility) (above : Option ModuleId) (k : ℕ)
+    (other : List ℕ)
     → entry_at (with_module map parent name (new_module origin visibility above)) k other ≡ entry_at map k other
 entry_at-with_module map parent name origin visibility above k other =
     let part : Option ModuleValue → PerNs = λ o. entry_of o other in

@@ -1,28 +1,25 @@
 -- What a declaration that is listed leaves of a map.
 use Rattle.std.specs.Prelude.{◌≡◌, ℕ, List, Option}
 use Rattle.std.proofs.Common.{refl}
-use Rattle.hir_base.specs.declared.ids.MapId.{MapId}
+use Rattle.hir_base.specs.Types.{MapId}
 use Rattle.hir_scope.specs.Scope.{ScopeValue, binding_of}
 use Rattle.hir_def_map_rules.specs.Ancestors.{frames_of}
 use Rattle.hir_def_map_rules.specs.Declaration.{listed}
 use Rattle.hir_def_map_rules.specs.Listed.{KeepsNames}
 use Rattle.hir_def_map_rules.specs.State.{Map, ModuleValue, child_of, entry_of, parent_of, with_module_scope, with_scope}
 use Rattle.hir_def_map_rules.specs.Overlay.{Maps, overlay}
-use Rattle.hir_def_map_rules.specs.declared.declaration.Declaration.{Declaration}
+use Rattle.hir_def_map_rules.specs.Types.{Declaration}
 use Rattle.hir_def_map_rules.proofs.Grown.{kept, length-changed, frames_of-scope}
 use Rattle.hir_def_map_rules.specs.declared.declaration.Declaration.TheVariants as declaration
 
 -- no name comes to stand for anything else
 pub binding_of-listed : (d : Declaration) (scope : ScopeValue) (name : List ℕ) → binding_of (listed d scope) name ≡ binding_of scope name
 binding_of-listed (declaration.Def def) scope name = refl
-binding_of-listed (declaration.Use use_) scope name = refl
-binding_of-listed (declaration.ExternCrate extern_crate) scope name = refl
-binding_of-listed (declaration.Impl imp is_trait_impl) scope name = refl
-binding_of-listed (declaration.ExternBlock extern_block) scope name = refl
-binding_of-listed (declaration.UnnamedConst konst) scope name = refl
+binding_of-listed other scope name = refl
 
 -- a change of one scope that leaves its names keeps the modules and their names
-pub KeepsNames-scope : (map : Map) (at : ℕ) (change : ScopeValue → ScopeValue) → ((scope : ScopeValue) (name : List ℕ) → binding_of (change scope) name ≡ binding_of scope name)
+pub KeepsNames-scope : (map : Map) (at : ℕ) (change : ScopeValue → ScopeValue) → ((scope : ScopeValue) (name : List ℕ) → binding_of (change scope) name
+    ≡ binding_of scope name)
     → KeepsNames map (with_scope map at change)
 KeepsNames-scope map at change keeps =
     let on_module : ModuleValue → ModuleValue = with_module_scope change in

@@ -1,10 +1,11 @@
 -- Lists of modules in which one is changed, or one more stands behind the others.
-use Rattle.std.proofs.Common.{◌≡◌, ◌∙◌, ap, sym, subst, refl, ℕ, zero, suc, ◌<◌, ◌≤◌, ◌++◌, List, [], ◌∷◌, length, Some, slice_get, slice_set, ◌⊎◌, inl, inr, arith}
+use Rattle.std.proofs.Common.{◌≡◌, ◌∙◌, ap, sym, subst, refl, ℕ, zero, suc, ◌<◌, ◌≤◌, ◌++◌, List, [], ◌∷◌, length, Some, slice_get, slice_set, ◌⊎◌, inl, inr}
+use Rattle.std.proofs.Common.{arith}
 use Rattle.std.specs.Option.{option_map}
 use Rattle.std.specs.Prelude.{Result, Ok, Err, OnOk, OnErr}
 use Rattle.std.proofs.Common.{get_or}
 use Rattle.std.proofs.lemmas.Option.{slice_get_read}
-use Rattle.hir_base.specs.declared.ids.ModuleId.{ModuleId}
+use Rattle.hir_base.specs.Types.{ModuleId}
 use Rattle.hir_def_map_rules.specs.State.{ModuleValue, changed_at, with_child, IsNumbered}
 
 -- a fact of the state after a call that may fail
@@ -24,7 +25,8 @@ module _ {A : Type 0} where
   changed_at-set (y ∷ ys) (suc at) change x e = ap (λ (zs : List A). y ∷ zs) (changed_at-set ys at change x e)
 
   -- so does a write of it in the place of the value that was read there
-  pub changed_at-write : (xs : List A) (at : ℕ) (change : A → A) (x y : A) → at < length xs → x ≡ get_or xs at x → y ≡ change x → slice_set xs at y ≡ changed_at xs at change
+  pub changed_at-write : (xs : List A) (at : ℕ) (change : A → A) (x y : A) → at < length xs → x ≡ get_or xs at x → y ≡ change x → slice_set xs at y
+      ≡ changed_at xs at change
   changed_at-write xs at change x y h e f = ap (λ (z : A). slice_set xs at z) f ∙ changed_at-set xs at change x (slice_get-read xs at x h e)
 
   -- past the end nothing changes
@@ -45,7 +47,8 @@ module _ {A : Type 0} where
   length-changed_at (x ∷ xs) (suc at) change = ap suc (length-changed_at xs at change)
 
   -- what the change keeps of a value is the same at each place
-  pub kept-changed_at : {B : Type 0} (part : A → B) (xs : List A) (at : ℕ) (change : A → A) → ((x : A) → part (change x) ≡ part x) → (k : ℕ) → option_map part (slice_get (changed_at xs at change) k) ≡ option_map part (slice_get xs k)
+  pub kept-changed_at : {B : Type 0} (part : A → B) (xs : List A) (at : ℕ) (change : A → A) → ((x : A) → part (change x) ≡ part x) → (k : ℕ)
+      → option_map part (slice_get (changed_at xs at change) k) ≡ option_map part (slice_get xs k)
   kept-changed_at part [] at change keeps k = refl
   kept-changed_at part (x ∷ xs) zero change keeps zero = ap Some (keeps x)
   kept-changed_at part (x ∷ xs) zero change keeps (suc k) = refl
@@ -68,7 +71,8 @@ module _ {A : Type 0} where
 pub IsNumbered-changed_at : (ms : List ModuleValue) (at : ℕ) (change : ModuleValue → ModuleValue) → IsNumbered ms → IsNumbered (changed_at ms at change)
 IsNumbered-changed_at ms at change numbered = record {
   root = let e : length (changed_at ms at change) ≡ length ms = length-changed_at ms at change in let r : 0 < length ms = numbered.root in omega arith;
-  numbers = let e : length (changed_at ms at change) ≡ length ms = length-changed_at ms at change in let r : length ms ≤ 2147483647 = numbered.numbers in omega arith;
+  numbers =
+      let e : length (changed_at ms at change) ≡ length ms = length-changed_at ms at change in let r : length ms ≤ 2147483647 = numbered.numbers in omega arith;
 }
 
 -- and so does one more module
@@ -83,7 +87,8 @@ IsNumbered-append ms m room numbered = record {
     length-one (x ∷ xs) y = ap suc (length-one xs y)
 
 -- after a call that leaves the list as it was where it fails, what holds of both outcomes holds
-pub either_way : {T E : Type 0} (P : List ModuleValue → Type 0) (r : Result T E) (now before after : List ModuleValue) → OnOk r (now ≡ after) → OnErr r (now ≡ before) → P before → P after → P now
+pub either_way : {T E : Type 0} (P : List ModuleValue → Type 0) (r : Result T E) (now before after : List ModuleValue) → OnOk r (now ≡ after)
+    → OnErr r (now ≡ before) → P before → P after → P now
 either_way P (Ok x) now before after ok err p q = subst P (sym ok) q
 either_way P (Err e) now before after ok err p q = subst P (sym err) p
 

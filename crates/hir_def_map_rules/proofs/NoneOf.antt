@@ -45,18 +45,22 @@ module _ {A : Type 0} (p : A → Bool) where
 
   pub none_more : (xs : List A) (y : A) → NoneOf xs → p y ≡ false → NoneOf (xs ++ y ∷ [])
   none_more [] y f g = neither (p y) false g refl
-  none_more (x ∷ xs) y f g = neither (p x) (list_any p (xs ++ y ∷ [])) (not_first (p x) (list_any p xs) f) (none_more xs y (not_second (p x) (list_any p xs) f) g)
+  none_more (x ∷ xs) y f g =
+      neither (p x) (list_any p (xs ++ y ∷ [])) (not_first (p x) (list_any p xs) f) (none_more xs y (not_second (p x) (list_any p xs) f) g)
 
   pub none_changed : (change : A → A) → ((x : A) → p x ≡ false → p (change x) ≡ false) → (xs : List A) (at : ℕ) → NoneOf xs → NoneOf (changed_at xs at change)
   none_changed change keeps [] at f = refl
-  none_changed change keeps (x ∷ xs) zero f = neither (p (change x)) (list_any p xs) (keeps x (not_first (p x) (list_any p xs) f)) (not_second (p x) (list_any p xs) f)
+  none_changed change keeps (x ∷ xs) zero f =
+      neither (p (change x)) (list_any p xs) (keeps x (not_first (p x) (list_any p xs) f)) (not_second (p x) (list_any p xs) f)
   none_changed change keeps (x ∷ xs) (suc at) f =
-      neither (p x) (list_any p (changed_at xs at change)) (not_first (p x) (list_any p xs) f) (none_changed change keeps xs at (not_second (p x) (list_any p xs) f))
+      neither (p x) (list_any p (changed_at xs at change)) (not_first (p x) (list_any p xs) f)
+      (none_changed change keeps xs at (not_second (p x) (list_any p xs) f))
 
 -- a test that holds of less holds of none where the other does
 pub none_of_less : {A : Type 0} (p q : A → Bool) → ((x : A) → p x ≡ false → q x ≡ false) → (xs : List A) → list_any p xs ≡ false → list_any q xs ≡ false
 none_of_less p q less [] f = refl
-none_of_less p q less (x ∷ xs) f = neither (q x) (list_any q xs) (less x (not_first (p x) (list_any p xs) f)) (none_of_less p q less xs (not_second (p x) (list_any p xs) f))
+none_of_less p q less (x ∷ xs) f =
+    neither (q x) (list_any q xs) (less x (not_first (p x) (list_any p xs) f)) (none_of_less p q less xs (not_second (p x) (list_any p xs) f))
 
 -- ---- lists of entries
 
@@ -80,7 +84,8 @@ module _ {K V : Type 0} (p : V → Bool) where
   none_inserted cmp [] k v f g = neither (p v) false g refl
   none_inserted cmp (e ∷ es) k v f g = go (cmp k e.0) (none_inserted cmp es k v (not_second (p e.1) (list_any on_value es) f) g)
     where
-      go : (o : Ordering) → NoneOfValues (insert_entry cmp es k v) → NoneOfValues (match_ordering o ((k, v) ∷ e ∷ es) ((e.0, v) ∷ es) (e ∷ insert_entry cmp es k v))
+      go : (o : Ordering) → NoneOfValues (insert_entry cmp es k v)
+          → NoneOfValues (match_ordering o ((k, v) ∷ e ∷ es) ((e.0, v) ∷ es) (e ∷ insert_entry cmp es k v))
       go Less below = neither (p v) (list_any on_value (e ∷ es)) g f
       go Equal below = neither (p v) (list_any on_value es) g (not_second (p e.1) (list_any on_value es) f)
       go Greater below = neither (p e.1) (list_any on_value (insert_entry cmp es k v)) (not_first (p e.1) (list_any on_value es) f) below
@@ -112,7 +117,8 @@ module _ {K V : Type 0} (p : V → Bool) where
 -- ---- a test that holds of all
 
 -- it holds of a value that is found
-pub all_found : {K V : Type 0} (p : V → Bool) (test : K → Bool) (es : List (K × V)) (v : V) → list_all (λ (e : K × V). p e.1) es ≡ true → lookup test es ≡ Some v → p v ≡ true
+pub all_found : {K V : Type 0} (p : V → Bool) (test : K → Bool) (es : List (K × V)) (v : V) → list_all (λ (e : K × V). p e.1) es ≡ true → lookup test es
+    ≡ Some v → p v ≡ true
 all_found p test [] v all e = absurd cc
 all_found {K} {V} p test (x ∷ xs) v all e = go (test x.0) (λ f. all_found p test xs v (second_so (p x.1) (list_all (λ (y : K × V). p y.1) xs) all) f) e
   where

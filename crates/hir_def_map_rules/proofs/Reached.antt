@@ -4,23 +4,16 @@ use Rattle.std.specs.List.{All}
 use Rattle.std.specs.Option.{option_and_then, option_map}
 use Rattle.std.specs.Prelude.{is_some, not}
 use Rattle.std.proofs.lemmas.List.Elements.{All-head, All-tail}
-use Rattle.hir_base.specs.declared.ids.AdtId.{AdtId}
+use Rattle.hir_base.specs.Types.{AdtId, BuiltinShadowMode, Crate, EnumId, ExternCrateId, MacroSubNs, ModuleDefId, PathKind, UseId}
 use Rattle.hir_base.specs.declared.ids.AdtId.TheVariants as adts
-use Rattle.hir_base.specs.declared.ids.Crate.{Crate}
-use Rattle.hir_base.specs.declared.ids.EnumId.{EnumId}
-use Rattle.hir_base.specs.declared.ids.ExternCrateId.{ExternCrateId}
 use Rattle.hir_base.specs.declared.ids.ModuleId.{ModuleId as AnyModule}
-use Rattle.hir_base.specs.declared.ids.ModuleDefId.{ModuleDefId}
-use Rattle.hir_base.specs.declared.ids.ModuleDefId.TheVariants.{ModuleId, FunctionId, AdtId as AnyAdt, EnumVariantId, ConstId, StaticId, TraitId, TypeAliasId, BuiltinType, MacroId}
-use Rattle.hir_base.specs.declared.ids.UseId.{UseId}
-use Rattle.hir_base.specs.declared.mod_path.PathKind.{PathKind}
+use Rattle.hir_base.specs.declared.ids.ModuleDefId.TheVariants.{ModuleId, FunctionId, AdtId as AnyAdt, EnumVariantId, ConstId, StaticId, TraitId, TypeAliasId}
+use Rattle.hir_base.specs.declared.ids.ModuleDefId.TheVariants.{BuiltinType, MacroId}
 use Rattle.hir_base.specs.declared.mod_path.PathKind.TheVariants as kinds
 use Rattle.hir_item_tree.specs.Shape.{has_constructor}
-use Rattle.hir_scope.specs.declared.imports.ImportOrExternCrate.{ImportOrExternCrate}
+use Rattle.hir_scope.specs.Types.{ImportOrExternCrate, PerNs, Visibility}
 use Rattle.hir_scope.specs.declared.imports.ImportOrExternCrate.TheVariants as ways
 use Rattle.hir_scope.specs.PerNs.{Item, item_of, nothing, or_of, with_constructor}
-use Rattle.hir_scope.specs.declared.per_ns.PerNs.{PerNs}
-use Rattle.hir_scope.specs.declared.visibility.Visibility.{Visibility}
 use Rattle.hir_scope.specs.ModuleTree.{same_block, same_crate}
 use Rattle.hir_scope.specs.Visibility.{is_visible}
 use Rattle.hir_def_map_rules.specs.Overlay.{Maps, entry_in, map_in, module_in, parent_in}
@@ -31,15 +24,14 @@ use Rattle.hir_def_map_rules.specs.Closed.{AreThere, IsClosed, LocalIsThere, Map
 use Rattle.hir_def_map_rules.specs.References.{crate_map, is_missing, reference_to, test_item, test_of, test_visibility, FailsAtItem}
 use Rattle.hir_def_map_rules.specs.Scoping.Asking.{Asking}
 use Rattle.hir_def_map_rules.specs.Scoping.Blocks.{from_blocks, in_preludes, inherited, joined, with_preludes}
-use Rattle.hir_def_map_rules.specs.Scoping.FirstSegment.{extern_bound, extern_name, is_block_root, name_in_module, name_in_preludes, name_in_crate_root_or_extern_prelude, prelude_bound, prelude_of, shadow_before}
-use Rattle.hir_def_map_rules.specs.Scoping.Segments.{after_enum, crossing, nearest_non_block_among, nearest_non_block_module, rest, seen, stopped, through, through_adt, through_type, unresolved, variant_bound, variant_in}
-use Rattle.hir_def_map_rules.specs.Scoping.Start.{abs_from, climb, crate_root, from_start, is_dependency, is_import, is_in_reach, module_bound, is_in_edition_2015, settled_in_block, super_from}
-use Rattle.hir_def_map_rules.specs.declared.enum_variants.EnumVariant.{EnumVariant}
-use Rattle.hir_base.specs.declared.resolve_mode.BuiltinShadowMode.{BuiltinShadowMode}
-use Rattle.hir_base.specs.declared.resolve_mode.MacroSubNs.{MacroSubNs}
+use Rattle.hir_def_map_rules.specs.Scoping.FirstSegment.{extern_bound, extern_name, is_block_root, name_in_module, name_in_preludes}
+use Rattle.hir_def_map_rules.specs.Scoping.FirstSegment.{name_in_crate_root_or_extern_prelude, prelude_bound, prelude_of, shadow_before}
+use Rattle.hir_def_map_rules.specs.Scoping.Segments.{after_enum, crossing, nearest_non_block_among, nearest_non_block_module, rest, seen, stopped, through}
+use Rattle.hir_def_map_rules.specs.Scoping.Segments.{through_adt, through_type, unresolved, variant_bound, variant_in}
+use Rattle.hir_def_map_rules.specs.Scoping.Start.{abs_from, climb, crate_root, from_start, is_dependency, is_import, is_in_reach, module_bound}
+use Rattle.hir_def_map_rules.specs.Scoping.Start.{is_in_edition_2015, settled_in_block, super_from}
+use Rattle.hir_def_map_rules.specs.Types.{EnumVariant, Reference, ResolvePathResult}
 use Rattle.hir_def_map_rules.specs.declared.path_result.ReachedFixedPoint.TheVariants.{Yes, No}
-use Rattle.hir_def_map_rules.specs.declared.path_result.ResolvePathResult.{ResolvePathResult}
-use Rattle.hir_def_map_rules.specs.declared.reference.Reference.{Reference}
 use Rattle.hir_def_map_rules.specs.declared.reference.Reference.TheVariants as named
 use Rattle.hir_def_map_rules.proofs.Fails.{Fails-cond, Fails-in_module, Fails-in_preludes, Fails-in_root, Fails-keep, Fails-nothing, Fails-or, Fails-public}
 use Rattle.hir_def_map_rules.proofs.NoneOf.{neither, not_first, not_second}
@@ -83,8 +75,11 @@ module _ (maps : Maps) where
     prelude_there None name = nothing_there
     prelude_there (Some p) name = closed.names p.0 name
 
-    name_there : (sub_ns : Option MacroSubNs) (shadow : BuiltinShadowMode) (at : AnyModule) (name : List ℕ) → There (name_in_module maps asking.local sub_ns shadow at name)
-    name_there sub_ns shadow at name = Fails-in_module missing maps asking.local at name (extern_there name) sub_ns shadow (closed.names at name) (prelude_there (prelude_of (map_in maps at.map)) name)
+    name_there : (sub_ns : Option MacroSubNs) (shadow : BuiltinShadowMode) (at : AnyModule) (name : List ℕ)
+        → There (name_in_module maps asking.local sub_ns shadow at name)
+    name_there sub_ns shadow at name =
+        Fails-in_module missing maps asking.local at name (extern_there name) sub_ns shadow (closed.names at name)
+        (prelude_there (prelude_of (map_in maps at.map)) name)
 
     preludes_there : (at : AnyModule) (name : List ℕ) → There (name_in_preludes maps asking.local at name)
     preludes_there at name = Fails-in_preludes missing maps asking.local at name (extern_there name) (prelude_there (prelude_of (map_in maps at.map)) name)
@@ -101,31 +96,40 @@ module _ (maps : Maps) where
     stopped_there : (i : ℕ) (item : Item ModuleDefId ImportOrExternCrate) → FailsAtItem missing (Some item) → Answers (stopped i item)
     stopped_there i item f = record { types = f; values = tt; macros = tt }
 
-    variant_there : (vis : Visibility) (variant : EnumVariant) → test_item missing (item_of {I = ImportOrExternCrate} (EnumVariantId variant.id) vis None) ≡ false → There (variant_bound vis variant)
+    variant_there : (vis : Visibility) (variant : EnumVariant) → test_item missing (item_of {I = ImportOrExternCrate} (EnumVariantId variant.id) vis None)
+        ≡ false → There (variant_bound vis variant)
     variant_there vis variant f = go (has_constructor variant.shape)
       where
         go : (b : Bool) → There (with_constructor (EnumVariantId variant.id) vis (cond b (Some vis) None) None)
         go true = record { types = f; values = f; macros = tt }
         go false = record { types = f; values = tt; macros = tt }
 
-    enum_there : (ss : List (List ℕ)) (i : ℕ) (item : Item ModuleDefId ImportOrExternCrate) (id : EnumId) (name : List ℕ) → is_missing maps (named.Enum id) ≡ false
+    enum_there : (ss : List (List ℕ)) (i : ℕ) (item : Item ModuleDefId ImportOrExternCrate) (id : EnumId) (name : List ℕ) → is_missing maps (named.Enum id)
+        ≡ false
         → FailsAtItem missing (Some item) → (o : Option EnumVariant) → variant_in maps id name ≡ o → Answers (after_enum ss i item o)
     enum_there ss i item id name there f None e = stopped_there i item f
     enum_there [] i item id name there f (Some v) e =
-        let own : is_missing maps (named.Enum v.id.parent) ≡ false = ap (λ (x : EnumId). is_missing maps (named.Enum x)) (closed.variants id name v e) ∙ there in
+        let own : is_missing maps (named.Enum v.id.parent) ≡ false = ap (λ (x : EnumId). is_missing maps (named.Enum x)) (closed.variants id name v e) ∙ there
+        in
         variant_there item.vis v
-        (neither (is_missing maps (named.Enum v.id.parent)) (test_visibility missing item.vis) own (not_second (test_of missing (reference_to item.def)) (test_visibility missing item.vis) f))
+        (neither (is_missing maps (named.Enum v.id.parent)) (test_visibility missing item.vis) own
+        (not_second (test_of missing (reference_to item.def)) (test_visibility missing item.vis) f))
     enum_there (s ∷ ss) i item id name there f (Some v) e = nothing_there
 
     through_there : (further : AnyModule → PerNs → ResolvePathResult) → ((from : AnyModule) (now : PerNs) → There now → Answers (further from now))
         → (from : AnyModule) (ss : List (List ℕ)) (i : ℕ) (s : List ℕ) (t : Option (Item ModuleDefId ImportOrExternCrate)) → FailsAtItem missing t
         → Answers (through_type further maps from ss i s t)
     through_there further below from ss i s None f = nothing_there
-    through_there further below from ss i s (Some item) f = go item.def (not_first (test_of missing (reference_to item.def)) (test_visibility missing item.vis) f)
+    through_there further below from ss i s (Some item) f =
+        go item.def (not_first (test_of missing (reference_to item.def)) (test_visibility missing item.vis) f)
       where
-        here : (m : AnyModule) (b : Bool) → Answers (cond b (further from (seen maps from m s)) (crossing (further (nearest_non_block_module maps m) (seen maps (nearest_non_block_module maps m) (nearest_non_block_module maps m) s))))
+        here : (m : AnyModule) (b : Bool) → Answers
+            (cond b (further from (seen maps from m s))
+            (crossing (further (nearest_non_block_module maps m) (seen maps (nearest_non_block_module maps m) (nearest_non_block_module maps m) s))))
         here m true = below from (seen maps from m s) (seen_there from m s)
-        here m false = below (nearest_non_block_module maps m) (seen maps (nearest_non_block_module maps m) (nearest_non_block_module maps m) s) (seen_there (nearest_non_block_module maps m) (nearest_non_block_module maps m) s)
+        here m false =
+            below (nearest_non_block_module maps m) (seen maps (nearest_non_block_module maps m) (nearest_non_block_module maps m) s)
+            (seen_there (nearest_non_block_module maps m) (nearest_non_block_module maps m) s)
 
         stops : Answers (stopped i item)
         stops = stopped_there i item f
@@ -138,18 +142,13 @@ module _ (maps : Maps) where
         go : (d : ModuleDefId) → test_of missing (reference_to d) ≡ false → Answers (through further maps from ss i s item d)
         go (ModuleId m) there = here m (same_crate m.map.krate from.map.krate)
         go (AnyAdt a) there = adt a there
-        go (FunctionId x) there = stops
-        go (EnumVariantId x) there = stops
-        go (ConstId x) there = stops
-        go (StaticId x) there = stops
-        go (TraitId x) there = stops
-        go (TypeAliasId x) there = stops
-        go (BuiltinType x) there = stops
-        go (MacroId x) there = stops
+        go other there = stops
 
     rest_there : (from : AnyModule) (ss : List (List ℕ)) (i : ℕ) (now : PerNs) → There now → Answers (rest maps from ss i now)
     rest_there from [] i now f = f
-    rest_there from (s ∷ ss) i now f = through_there (λ next_from next. rest maps next_from ss (i + 1) next) (λ next_from next g. rest_there next_from ss (i + 1) next g) from ss i s now.types f.types
+    rest_there from (s ∷ ss) i now f =
+        through_there (λ next_from next. rest maps next_from ss (i + 1) next) (λ next_from next g. rest_there next_from ss (i + 1) next g) from ss i s now.types
+        f.types
 
     -- ---- roots
 
@@ -159,7 +158,9 @@ module _ (maps : Maps) where
 
     near_there : (hs : List AnyModule) (m : AnyModule) → ModuleIsThere maps m → All (ModuleIsThere maps) hs → ModuleIsThere maps (nearest_non_block_among m hs)
     near_there [] m e all = e
-    near_there (h ∷ hs) m e all = either_module (is_block_root m) (nearest_non_block_among h hs) m (near_there hs h (All-head (ModuleIsThere maps) h hs all) (All-tail (ModuleIsThere maps) h hs all)) e
+    near_there (h ∷ hs) m e all =
+        either_module (is_block_root m) (nearest_non_block_among h hs) m
+        (near_there hs h (All-head (ModuleIsThere maps) h hs all) (All-tail (ModuleIsThere maps) h hs all)) e
 
     nearest_there : (m : AnyModule) → ModuleIsThere maps m → ModuleIsThere maps (nearest_non_block_module maps m)
     unfolding nearest_non_block_module
@@ -170,14 +171,16 @@ module _ (maps : Maps) where
     climb_there (suc n) m e to f = go (λ q there g. climb_there n q there to g) (parent_in maps m) refl f
       where
         go : ((q : AnyModule) → ModuleIsThere maps q → climb maps n q ≡ Some to → ModuleIsThere maps to)
-            → (o : Option AnyModule) → parent_in maps m ≡ o → option_and_then (λ p. climb maps n (nearest_non_block_module maps p)) o ≡ Some to → ModuleIsThere maps to
+            → (o : Option AnyModule) → parent_in maps m ≡ o → option_and_then (λ p. climb maps n (nearest_non_block_module maps p)) o ≡ Some to
+            → ModuleIsThere maps to
         go further None s g = absurd cc
         go further (Some p) s g = further (nearest_non_block_module maps p) (nearest_there p (closed.parents m p s)) g
 
     settled_there : (m : AnyModule) (r : ResolvePathResult) → Answers r → Answers (settled_in_block m r)
     settled_there m r f = either_answer (is_some m.map.block && not (is_block_root m)) (record r { reached_fixedpoint = Yes }) r f f
 
-    super_there : (from : AnyModule) (ss : List (List ℕ)) (o : Option AnyModule) → ((m : AnyModule) → o ≡ Some m → ModuleIsThere maps m) → Answers (super_from maps from ss o)
+    super_there : (from : AnyModule) (ss : List (List ℕ)) (o : Option AnyModule) → ((m : AnyModule) → o ≡ Some m → ModuleIsThere maps m)
+        → Answers (super_from maps from ss o)
     super_there from ss None f = nothing_there
     super_there from ss (Some m) f =
         either_answer (same_block m.map.block from.map.block) (rest maps from ss 0 (module_bound m)) (settled_in_block m (rest maps m ss 0 (module_bound m)))
@@ -199,20 +202,25 @@ module _ (maps : Maps) where
       where
         go : (b : Bool) → same_crate c from.map.krate ≡ b → (d : Bool) → is_dependency (map_in maps from.map) c ≡ d
             → Answers (cond (b || d) (rest maps from ss 0 (module_bound (crate_root c))) (unresolved No))
-        go true s d t = rest_there from ss 0 (module_bound (crate_root c)) (crate_there c (ap (λ (k : Crate). is_some (maps (crate_map k))) (same_crates c from.map.krate s) ∙ closed.crates from e))
+        go true s d t =
+            rest_there from ss 0 (module_bound (crate_root c))
+            (crate_there c (ap (λ (k : Crate). is_some (maps (crate_map k))) (same_crates c from.map.krate s) ∙ closed.crates from e))
         go false s true t = rest_there from ss 0 (module_bound (crate_root c)) (crate_there c (closed.dependencies from.map c t))
         go false s false t = nothing_there
 
     start_there : (from : AnyModule) → ModuleIsThere maps from → (kind : PathKind) (ss : List (List ℕ)) → Answers (from_start maps asking from kind ss)
     start_there from e kinds.Crate ss = rest_there from ss 0 (module_bound (crate_root from.map.krate)) (crate_there from.map.krate (closed.crates from e))
     start_there from e (kinds.DollarCrate c) ss = reach_there from e c ss
-    start_there from e (kinds.Super n) ss = super_there from ss (climb maps n (nearest_non_block_module maps from)) (λ m f. climb_there n (nearest_non_block_module maps from) (nearest_there from e) m f)
+    start_there from e (kinds.Super n) ss =
+        super_there from ss (climb maps n (nearest_non_block_module maps from))
+        (λ m f. climb_there n (nearest_non_block_module maps from) (nearest_there from e) m f)
     start_there from e kinds.Plain [] = nothing_there
     start_there from e kinds.Plain (s ∷ ss) = either_answer (is_in_edition_2015 (map_in maps from.map) && is_import asking.mode)
         (rest maps from ss 1 (name_in_crate_root_or_extern_prelude maps asking.local from s))
         (rest maps from ss 1 (name_in_module maps asking.local asking.sub_ns (shadow_before ss asking.shadow) from s))
         (rest_there from ss 1 (name_in_crate_root_or_extern_prelude maps asking.local from s) (root_there from s))
-        (rest_there from ss 1 (name_in_module maps asking.local asking.sub_ns (shadow_before ss asking.shadow) from s) (name_there asking.sub_ns (shadow_before ss asking.shadow) from s))
+        (rest_there from ss 1 (name_in_module maps asking.local asking.sub_ns (shadow_before ss asking.shadow) from s)
+        (name_there asking.sub_ns (shadow_before ss asking.shadow) from s))
     start_there from e kinds.Abs [] = nothing_there
     start_there from e kinds.Abs (s ∷ ss) = either_answer (is_in_edition_2015 (map_in maps from.map))
         (rest maps from ss 1 (name_in_crate_root_or_extern_prelude maps asking.local from s))
@@ -242,20 +250,26 @@ module _ (maps : Maps) where
     joined_there : (a b : ResolvePathResult) → Answers a → Answers b → Answers (joined a b)
     joined_there a b f g = or_there a.resolved_def b.resolved_def f g
 
-    with_preludes_there : (kind : PathKind) (ss : List (List ℕ)) (r : ResolvePathResult) → Answers r → (m : AnyModule) → Answers (with_preludes maps asking kind ss r m)
+    with_preludes_there : (kind : PathKind) (ss : List (List ℕ)) (r : ResolvePathResult) → Answers r → (m : AnyModule)
+        → Answers (with_preludes maps asking kind ss r m)
     with_preludes_there kind ss r f m = either_answer (is_some m.map.block && not (is_block_root m))
         (joined r (in_preludes maps asking (crate_root m.map.krate) kind ss)) r
         (joined_there r (in_preludes maps asking (crate_root m.map.krate) kind ss) f (in_preludes_there (crate_root m.map.krate) kind ss)) f
 
-    inherited_there : (kind : PathKind) (ss : List (List ℕ)) (r : ResolvePathResult) → Answers r → (m : AnyModule) (hs : List AnyModule) → All (ModuleIsThere maps) hs
+    inherited_there : (kind : PathKind) (ss : List (List ℕ)) (r : ResolvePathResult) → Answers r → (m : AnyModule) (hs : List AnyModule)
+        → All (ModuleIsThere maps) hs
         → Answers (inherited maps asking kind ss r m hs)
     inherited_there kind ss r f m [] all = with_preludes_there kind ss r f m
     inherited_there kind ss r f m (h ∷ hs) all = either_answer (is_block_root m)
         (inherited maps asking kind ss (joined r (from_start maps asking h kind ss)) h hs)
         (with_preludes maps asking kind ss r m)
-        (inherited_there kind ss (joined r (from_start maps asking h kind ss)) (joined_there r (from_start maps asking h kind ss) f (start_there h (All-head (ModuleIsThere maps) h hs all) kind ss)) h hs (All-tail (ModuleIsThere maps) h hs all))
+        (inherited_there kind ss (joined r (from_start maps asking h kind ss))
+        (joined_there r (from_start maps asking h kind ss) f (start_there h (All-head (ModuleIsThere maps) h hs all) kind ss)) h hs
+        (All-tail (ModuleIsThere maps) h hs all))
         (with_preludes_there kind ss r f m)
 
     -- a path leads only to what is there
-    pub paths_lead_there : (from : AnyModule) → ModuleIsThere maps from → (kind : PathKind) (ss : List (List ℕ)) → Answers (from_blocks maps asking from kind ss)
-    paths_lead_there from e kind ss = inherited_there kind ss (from_start maps asking from kind ss) (start_there from e kind ss) from (holders_in maps from) (closed.holders from)
+    pub paths_lead_there : (from : AnyModule) → ModuleIsThere maps from → (kind : PathKind) (ss : List (List ℕ))
+        → Answers (from_blocks maps asking from kind ss)
+    paths_lead_there from e kind ss =
+        inherited_there kind ss (from_start maps asking from kind ss) (start_there from e kind ss) from (holders_in maps from) (closed.holders from)

@@ -2,19 +2,17 @@
 use Rattle.std.specs.Prelude.{◌≡◌, ℕ, ◌++◌, ◌||◌, ◌&&◌, Bool, true, false, List, [], ◌∷◌, Option, None, Some, cond, is_some, map, option_map}
 use Rattle.std.specs.List.{list_any}
 use Rattle.std.proofs.Common.{ap, ap₂, refl, sym, ◌∙◌}
-use Rattle.hir_base.specs.declared.ids.Crate.{Crate}
-use Rattle.hir_base.specs.declared.ids.MapId.{MapId}
-use Rattle.hir_base.specs.declared.ids.ModuleDefId.{ModuleDefId}
-use Rattle.hir_base.specs.declared.ids.ModuleId.{ModuleId}
-use Rattle.hir_base.specs.declared.ids.UseId.{UseId}
-use Rattle.hir_base.specs.declared.ast_id.BlockId.{BlockId}
+use Rattle.hir_base.specs.Types.{BlockId, Crate, MapId, ModuleDefId, ModuleId, UseId}
 use Rattle.hir_scope.specs.PerNs.{Item}
 use Rattle.hir_scope.specs.Scope.{ScopeValue}
-use Rattle.hir_scope.specs.declared.visibility.Visibility.{Visibility}
-use Rattle.hir_def_map_rules.specs.declared.reference.Reference.{Reference}
+use Rattle.hir_scope.specs.Types.{Visibility}
+use Rattle.hir_def_map_rules.specs.Types.{Reference}
 use Rattle.hir_def_map_rules.specs.declared.reference.Reference.TheVariants as reference
-use Rattle.hir_def_map_rules.specs.Inner.ReferenceLists.{any_listed, block_crate, child_reference, crate_before, crate_reference, extern_reference, item_reference, item_visibility, items_before, listed_in, module_before, references_besides, references_in, references_in_scope, visibility_before}
-use Rattle.hir_def_map_rules.specs.References.{any_own_crate, any_reference, any_reference_besides, any_reference_in, any_reference_in_scope, prelude_reference, test_child, test_crate, test_extern, test_item, test_macro, test_of, test_type, test_value, test_visibility}
+use Rattle.hir_def_map_rules.specs.Inner.ReferenceLists.{any_listed, block_crate, child_reference, crate_before, crate_reference, extern_reference}
+use Rattle.hir_def_map_rules.specs.Inner.ReferenceLists.{item_reference, item_visibility, items_before, listed_in, module_before, references_besides}
+use Rattle.hir_def_map_rules.specs.Inner.ReferenceLists.{references_in, references_in_scope, visibility_before}
+use Rattle.hir_def_map_rules.specs.References.{any_own_crate, any_reference, any_reference_besides, any_reference_in, any_reference_in_scope, prelude_reference}
+use Rattle.hir_def_map_rules.specs.References.{test_child, test_crate, test_extern, test_item, test_macro, test_of, test_type, test_value, test_visibility}
 use Rattle.hir_def_map_rules.specs.State.{Local, Map, ModuleValue, crate_map}
 
 or-assoc : (a b c : Bool) → ((a || b) || c) ≡ (a || (b || c))
@@ -37,11 +35,13 @@ module _ (test : Reference → Bool) where
   abbrev holds : List (Option Reference) → Bool
   holds rs = list_any (test_of test) rs
 
-  any-module : (o : Option ModuleId) (rest : List (Option Reference)) → holds (module_before o rest) ≡ (test_of test (option_map reference.Module o) || holds rest)
+  any-module : (o : Option ModuleId) (rest : List (Option Reference)) → holds (module_before o rest)
+      ≡ (test_of test (option_map reference.Module o) || holds rest)
   any-module None rest = refl
   any-module (Some m) rest = refl
 
-  any-part : {A : Type 0} (f : A → Option Reference) (xs : List A) (rest : List (Option Reference)) → holds (map f xs ++ rest) ≡ (list_any (λ (x : A). test_of test (f x)) xs || holds rest)
+  any-part : {A : Type 0} (f : A → Option Reference) (xs : List A) (rest : List (Option Reference)) → holds (map f xs ++ rest)
+      ≡ (list_any (λ (x : A). test_of test (f x)) xs || holds rest)
   any-part f xs rest = any-append (test_of test) (map f xs) rest ∙ ap (λ (b : Bool). b || holds rest) (any-map (test_of test) f xs)
 
   any-own : (id : MapId) → holds (crate_before (block_crate id) []) ≡ any_own_crate test id
@@ -89,7 +89,8 @@ module _ (test : Reference → Bool) where
       (any-part child_reference m.children (references_in_scope m.scope)
       ∙ ap (λ (b : Bool). list_any (test_child test) m.children || b) (any_in_scope m.scope)))
 
-  prelude_is : (o : Option (ModuleId × Option UseId)) → test_of test (option_map reference.Module (option_map (λ (p : ModuleId × Option UseId). p.0) o)) ≡ test_of test (prelude_reference o)
+  prelude_is : (o : Option (ModuleId × Option UseId)) → test_of test (option_map reference.Module (option_map (λ (p : ModuleId × Option UseId). p.0) o))
+      ≡ test_of test (prelude_reference o)
   prelude_is None = refl
   prelude_is (Some p) = refl
 

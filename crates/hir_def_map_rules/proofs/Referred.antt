@@ -4,15 +4,15 @@ use Rattle.std.specs.BTreeMap.{is_at}
 use Rattle.std.specs.Cmp.Lexicographic.{slice_cmp}
 use Rattle.std.specs.List.{list_any}
 use Rattle.std.specs.Ordering.{nat_cmp}
-use Rattle.hir_base.specs.declared.ids.ModuleDefId.{ModuleDefId}
-use Rattle.hir_base.specs.declared.macro_kind.MacroId.{MacroId}
+use Rattle.hir_base.specs.Types.{MacroId, ModuleDefId}
 use Rattle.hir_scope.specs.Entries.{item_at}
 use Rattle.hir_scope.specs.PerNs.{Item}
 use Rattle.hir_scope.specs.Scope.{ScopeValue, binding_of}
-use Rattle.hir_scope.specs.declared.imports.ImportOrExternCrate.{ImportOrExternCrate}
-use Rattle.hir_def_map_rules.specs.References.{any_reference_in, any_reference_in_scope, test_child, test_item, test_macro, test_of, test_trait, test_type, test_value, test_visibility, Fails, FailsAtItem, FailsAtMacro}
+use Rattle.hir_scope.specs.Types.{ImportOrExternCrate}
+use Rattle.hir_def_map_rules.specs.References.{any_reference_in, any_reference_in_scope, test_child, test_item, test_macro, test_of, test_trait, test_type}
+use Rattle.hir_def_map_rules.specs.References.{test_value, test_visibility, Fails, FailsAtItem, FailsAtMacro}
 use Rattle.hir_def_map_rules.specs.State.{ModuleValue, entry_of}
-use Rattle.hir_def_map_rules.specs.declared.reference.Reference.{Reference}
+use Rattle.hir_def_map_rules.specs.Types.{Reference}
 use Rattle.hir_def_map_rules.specs.declared.reference.Reference.TheVariants as named
 use Rattle.hir_def_map_rules.proofs.Fails.{Fails-nothing, item_less, of_less, visibility_less}
 use Rattle.hir_def_map_rules.proofs.NoneOf.{neither, none_found, none_of_less, not_first, not_second}
@@ -78,7 +78,8 @@ module _ (test : Reference → Bool) where
 
   -- ---- what names stand for
 
-  found_item : {I : Type 0} (items : List (List ℕ × Item ModuleDefId I)) (name : List ℕ) → list_any (λ (e : List ℕ × Item ModuleDefId I). test_item test e.1) items ≡ false
+  found_item : {I : Type 0} (items : List (List ℕ × Item ModuleDefId I)) (name : List ℕ) → list_any (λ (e : List ℕ × Item ModuleDefId I). test_item test e.1)
+      items ≡ false
       → FailsAtItem test (item_at items name)
   found_item {I} items name f = go (item_at items name) refl
     where
@@ -86,7 +87,8 @@ module _ (test : Reference → Bool) where
       go None e = tt
       go (Some item) e = none_found (λ (i : Item ModuleDefId I). test_item test i) (is_at (slice_cmp nat_cmp name)) items item f e
 
-  found_macro : (items : List (List ℕ × Item MacroId ImportOrExternCrate)) (name : List ℕ) → list_any (test_macro test) items ≡ false → FailsAtMacro test (item_at items name)
+  found_macro : (items : List (List ℕ × Item MacroId ImportOrExternCrate)) (name : List ℕ) → list_any (test_macro test) items ≡ false
+      → FailsAtMacro test (item_at items name)
   found_macro items name f = go (item_at items name) refl
     where
       go : (o : Option (Item MacroId ImportOrExternCrate)) → item_at items name ≡ o → FailsAtMacro test o
@@ -96,9 +98,15 @@ module _ (test : Reference → Bool) where
   pub binding_fails : (scope : ScopeValue) → any_reference_in_scope test scope ≡ false → (name : List ℕ) → Fails test (binding_of scope name)
   binding_fails scope f name =
       let parts = scope_parts scope f in
-      record { types = found_item scope.types name parts.types; values = found_item scope.values name parts.values; macros = found_macro scope.macros name parts.macros }
+      record {
+        types = found_item scope.types name parts.types;
+        values = found_item scope.values name parts.values;
+        macros = found_macro scope.macros name
+            parts.macros;
+      }
 
-  pub entry_fails : (o : Option ModuleValue) → ((m : ModuleValue) → o ≡ Some m → any_reference_in test m ≡ false) → (name : List ℕ) → Fails test (entry_of o name)
+  pub entry_fails : (o : Option ModuleValue) → ((m : ModuleValue) → o ≡ Some m → any_reference_in test m ≡ false) → (name : List ℕ)
+      → Fails test (entry_of o name)
   entry_fails None names name = Fails-nothing test
   entry_fails (Some m) names name = binding_fails m.scope (module_parts m (names m refl)).scope name
 

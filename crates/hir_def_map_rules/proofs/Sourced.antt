@@ -10,43 +10,41 @@ use Rattle.std.specs.Prelude.{is_some, map as list_map, nat_eq, not, slice_get}
 use Rattle.hir_base.specs.declared.builtin_type.BuiltinType.{BuiltinType as AnyBuiltin}
 use Rattle.hir_base.specs.BuiltinType.{builtin_named}
 use Rattle.hir_base.specs.contracts.ids.EnumIdOrd.TheImpl as enum_order
-use Rattle.hir_base.specs.declared.ids.AdtId.{AdtId}
+use Rattle.hir_base.specs.Types.{AdtId, BuiltinShadowMode, EnumId, ExternCrateId, MacroSubNs, ModuleDefId, PathKind, UseId}
 use Rattle.hir_base.specs.declared.ids.AdtId.TheVariants as adts
-use Rattle.hir_base.specs.declared.ids.EnumId.{EnumId}
-use Rattle.hir_base.specs.declared.ids.ExternCrateId.{ExternCrateId}
 use Rattle.hir_base.specs.declared.ids.ModuleId.{ModuleId as AnyModule}
-use Rattle.hir_base.specs.declared.ids.ModuleDefId.{ModuleDefId}
-use Rattle.hir_base.specs.declared.ids.ModuleDefId.TheVariants.{ModuleId, FunctionId, AdtId as AnyAdt, EnumVariantId, ConstId, StaticId, TraitId, TypeAliasId, BuiltinType, MacroId}
-use Rattle.hir_base.specs.declared.ids.UseId.{UseId}
+use Rattle.hir_base.specs.declared.ids.ModuleDefId.TheVariants.{ModuleId, FunctionId, AdtId as AnyAdt, EnumVariantId, ConstId, StaticId, TraitId, TypeAliasId}
+use Rattle.hir_base.specs.declared.ids.ModuleDefId.TheVariants.{BuiltinType, MacroId}
 use Rattle.hir_base.specs.declared.macro_kind.MacroId.{MacroId as AnyMacro}
-use Rattle.hir_base.specs.declared.mod_path.PathKind.{PathKind}
 use Rattle.hir_base.specs.declared.mod_path.PathKind.TheVariants as kinds
 use Rattle.hir_item_tree.specs.Shape.{has_constructor}
-use Rattle.hir_scope.specs.declared.imports.ImportOrExternCrate.{ImportOrExternCrate}
+use Rattle.hir_scope.specs.Types.{ImportOrExternCrate, PerNs, Visibility}
 use Rattle.hir_scope.specs.PerNs.{Item, keep_item, keep_of, nothing, or_of, with_constructor}
-use Rattle.hir_scope.specs.declared.per_ns.PerNs.{PerNs}
-use Rattle.hir_scope.specs.declared.visibility.Visibility.{Visibility}
 use Rattle.hir_scope.specs.ModuleTree.{same_block, same_crate}
 use Rattle.hir_scope.specs.Bindings.{first_of}
 use Rattle.hir_textual_scope.specs.Macros.{has_name, macros_of}
-use Rattle.hir_textual_scope.specs.declared.textual_scope.TextualMacro.{TextualMacro}
+use Rattle.hir_textual_scope.specs.Types.{TextualMacro}
 use Rattle.hir_scope.specs.Visibility.{is_visible}
 use Rattle.hir_def_map_rules.specs.Overlay.{Maps, Placed, entry_in, map_in, module_in}
 use Rattle.hir_def_map_rules.specs.State.{ModuleValue, Variants, at_name, entry_of, module_at, variants_at}
 use Rattle.hir_def_map_rules.specs.Ancestors.{above_in, holders_in}
 use Rattle.hir_def_map_rules.proofs.NoneOf.{neither, none_at, none_found, not_first, not_second}
-use Rattle.hir_def_map_rules.specs.Sources.{SourceTest, HoldsOfNone, HoldsNowhere, HoldsOfNoExtern, on_some, on_values, on_def, on_macro, on_visibility, on_type, on_value, on_macro_item, on_variant, on_macro_use, on_extern_entry, on_types_in, on_values_in, on_macros_in, on_legacy_in}
+use Rattle.hir_def_map_rules.specs.Sources.{SourceTest, HoldsOfNone, HoldsNowhere, HoldsOfNoExtern, on_some, on_values, on_def, on_macro, on_visibility}
+use Rattle.hir_def_map_rules.specs.Sources.{on_type, on_value, on_macro_item, on_variant, on_macro_use, on_extern_entry, on_types_in, on_values_in}
+use Rattle.hir_def_map_rules.specs.Sources.{on_macros_in, on_legacy_in}
 use Rattle.hir_def_map_rules.specs.Scoping.Asking.{Asking}
 use Rattle.hir_def_map_rules.specs.Scoping.Blocks.{from_blocks, in_preludes, inherited, joined, with_preludes}
-use Rattle.hir_def_map_rules.specs.Scoping.FirstSegment.{builtin_bound, builtin_name, extern_bound, extern_name, fits, is_block_root, keep_fitting, legacy_bound, legacy_name, legacy_of, macro_use_bound, macro_use_name, macro_use_of, name_in_module, name_in_preludes, name_in_crate_root_or_extern_prelude, names_module, of_style, prelude_bound, prelude_name, prelude_of, scope_name, shadow_before, unless_block_root, with_builtin}
-use Rattle.hir_def_map_rules.specs.Scoping.Segments.{after_enum, crossing, nearest_non_block_module, rest, seen, through, through_adt, through_type, unresolved, variant_in}
-use Rattle.hir_def_map_rules.specs.Scoping.Start.{abs_from, climb, crate_root, from_start, is_import, is_in_reach, module_bound, is_in_edition_2015, settled_in_block, super_from}
-use Rattle.hir_def_map_rules.specs.declared.enum_variants.EnumVariant.{EnumVariant}
-use Rattle.hir_base.specs.declared.resolve_mode.BuiltinShadowMode.{BuiltinShadowMode}
+use Rattle.hir_def_map_rules.specs.Scoping.FirstSegment.{builtin_bound, builtin_name, extern_bound, extern_name, fits, is_block_root, keep_fitting}
+use Rattle.hir_def_map_rules.specs.Scoping.FirstSegment.{legacy_bound, legacy_name, legacy_of, macro_use_bound, macro_use_name, macro_use_of, name_in_module}
+use Rattle.hir_def_map_rules.specs.Scoping.FirstSegment.{name_in_preludes, name_in_crate_root_or_extern_prelude, names_module, of_style, prelude_bound}
+use Rattle.hir_def_map_rules.specs.Scoping.FirstSegment.{prelude_name, prelude_of, scope_name, shadow_before, unless_block_root, with_builtin}
+use Rattle.hir_def_map_rules.specs.Scoping.Segments.{after_enum, crossing, nearest_non_block_module, rest, seen, through, through_adt, through_type, unresolved}
+use Rattle.hir_def_map_rules.specs.Scoping.Segments.{variant_in}
+use Rattle.hir_def_map_rules.specs.Scoping.Start.{abs_from, climb, crate_root, from_start, is_import, is_in_reach, module_bound, is_in_edition_2015}
+use Rattle.hir_def_map_rules.specs.Scoping.Start.{settled_in_block, super_from}
+use Rattle.hir_def_map_rules.specs.Types.{EnumVariant, ResolvePathResult}
 use Rattle.hir_base.specs.declared.resolve_mode.BuiltinShadowMode.TheVariants as shadow_modes
-use Rattle.hir_base.specs.declared.resolve_mode.MacroSubNs.{MacroSubNs}
 use Rattle.hir_def_map_rules.specs.declared.path_result.ReachedFixedPoint.TheVariants.{Yes, No}
-use Rattle.hir_def_map_rules.specs.declared.path_result.ResolvePathResult.{ResolvePathResult}
 
 -- ---- of one namespace
 
@@ -59,7 +57,8 @@ module _ {X : Type 0} (test : X → Bool) where
   of_chosen true x f = f
   of_chosen false x f = refl
 
-of_kept : {D I : Type 0} (test : Item D I → Bool) (keep : Visibility → Bool) (o : Option (Item D I)) → on_some test o ≡ false → on_some test (keep_item keep o) ≡ false
+of_kept : {D I : Type 0} (test : Item D I → Bool) (keep : Visibility → Bool) (o : Option (Item D I)) → on_some test o ≡ false → on_some test (keep_item keep o)
+    ≡ false
 of_kept test keep None f = refl
 of_kept test keep (Some i) f = of_chosen test (keep i.vis) i f
 
@@ -148,15 +147,19 @@ module _ (t : SourceTest) where
       go (Some v) e = none_found p test es v f e
 
   -- of the last macro of a name
-  of_last : (name : List ℕ) (ms : List TextualMacro) (o : Option AnyMacro) → list_any (λ (x : TextualMacro). on_macro t x.makro) ms ≡ false → on_some (on_macro t) o ≡ false
+  of_last : (name : List ℕ) (ms : List TextualMacro) (o : Option AnyMacro) → list_any (λ (x : TextualMacro). on_macro t x.makro) ms ≡ false
+      → on_some (on_macro t) o ≡ false
       → on_some (on_macro t) (last_or o (macros_of ms name)) ≡ false
   of_last name [] o f g = g
   of_last name (m ∷ ms) o f g =
-      let left : list_any (λ (x : TextualMacro). on_macro t x.makro) ms ≡ false = not_second (on_macro t m.makro) (list_any (λ (x : TextualMacro). on_macro t x.makro) ms) f in
-      go (has_name name m) (of_last name ms (Some m.makro) left (not_first (on_macro t m.makro) (list_any (λ (x : TextualMacro). on_macro t x.makro) ms) f)) (of_last name ms o left g)
+      let left : list_any (λ (x : TextualMacro). on_macro t x.makro) ms ≡ false = not_second (on_macro t m.makro)
+      (list_any (λ (x : TextualMacro). on_macro t x.makro) ms) f in
+      go (has_name name m) (of_last name ms (Some m.makro) left (not_first (on_macro t m.makro) (list_any (λ (x : TextualMacro). on_macro t x.makro) ms) f))
+      (of_last name ms o left g)
     where
       go : (b : Bool) → on_some (on_macro t) (last_or (Some m.makro) (macros_of ms name)) ≡ false → on_some (on_macro t) (last_or o (macros_of ms name)) ≡ false
-          → on_some (on_macro t) (last_or o (list_map (λ (x : TextualMacro). x.makro) (cond b (m ∷ filter (has_name name) ms) (filter (has_name name) ms)))) ≡ false
+          → on_some (on_macro t) (last_or o (list_map (λ (x : TextualMacro). x.makro) (cond b (m ∷ filter (has_name name) ms) (filter (has_name name) ms))))
+          ≡ false
       go true h k = h
       go false h k = k
 
@@ -180,7 +183,8 @@ module _ (t : SourceTest) where
         (of_modules (on_values_in t) (λ id placed e. (nowhere id placed e).values) m)
         (of_modules (on_macros_in t) (λ id placed e. (nowhere id placed e).macros) m)
       where
-        go : (o : Option ModuleValue) → on_some (on_types_in t) o ≡ false → on_some (on_values_in t) o ≡ false → on_some (on_macros_in t) o ≡ false → HoldsOfNone t (entry_of o name)
+        go : (o : Option ModuleValue) → on_some (on_types_in t) o ≡ false → on_some (on_values_in t) o ≡ false → on_some (on_macros_in t) o ≡ false
+            → HoldsOfNone t (entry_of o name)
         go None f g h = of_nothing
         go (Some v) f g h = record {
           types = found (on_type t) (is_at (slice_cmp nat_cmp name)) v.scope.types f;
@@ -213,11 +217,14 @@ module _ (t : SourceTest) where
     of_unless : (at : AnyModule) (p : PerNs) → HoldsOfNone t p → HoldsOfNone t (unless_block_root at p)
     of_unless at p f = either (is_block_root at) nothing p of_nothing f
 
-    builtin_or : (shadow : BuiltinShadowMode) (scope builtin : PerNs) → HoldsOfNone t scope → HoldsOfNone t builtin → HoldsOfNone t (with_builtin shadow scope builtin)
+    builtin_or : (shadow : BuiltinShadowMode) (scope builtin : PerNs) → HoldsOfNone t scope → HoldsOfNone t builtin
+        → HoldsOfNone t (with_builtin shadow scope builtin)
     builtin_or shadow_modes.Module scope builtin f g = of_or scope builtin f g
-    builtin_or shadow_modes.Other scope builtin f g = either (names_module scope.types) (or_of builtin scope) (or_of scope builtin) (of_or builtin scope g f) (of_or scope builtin f g)
+    builtin_or shadow_modes.Other scope builtin f g =
+        either (names_module scope.types) (or_of builtin scope) (or_of scope builtin) (of_or builtin scope g f) (of_or scope builtin f g)
 
-    of_name : (sub_ns : Option MacroSubNs) (shadow : BuiltinShadowMode) (at : AnyModule) (name : List ℕ) → HoldsOfNone t (name_in_module maps asking.local sub_ns shadow at name)
+    of_name : (sub_ns : Option MacroSubNs) (shadow : BuiltinShadowMode) (at : AnyModule) (name : List ℕ)
+        → HoldsOfNone t (name_in_module maps asking.local sub_ns shadow at name)
     of_name sub_ns shadow at name =
         let legacy : PerNs = legacy_name maps sub_ns at name in
         let scope : PerNs = with_builtin shadow (scope_name maps sub_ns at name) (builtin_name at name) in
@@ -229,7 +236,8 @@ module _ (t : SourceTest) where
         (of_or (or_of legacy scope) crate_
         (of_or legacy scope
         (of_legacy_name sub_ns at name)
-        (builtin_or shadow (scope_name maps sub_ns at name) (builtin_name at name) (of_style_kept sub_ns (entry_in maps at name) (of_entry at name)) (of_builtin at name)))
+        (builtin_or shadow (scope_name maps sub_ns at name) (builtin_name at name) (of_style_kept sub_ns (entry_in maps at name) (of_entry at name))
+        (of_builtin at name)))
         (of_unless at (extern_name asking.local name) (of_extern_name name)))
         (of_macro_use_name at name))
         (of_unless at (prelude_name maps at name) (of_prelude (prelude_of (map_in maps at.map)) name))
@@ -253,16 +261,21 @@ module _ (t : SourceTest) where
     of_variant_in : (id : EnumId) (name : List ℕ) → on_some (on_variant t) (variant_in maps id name) ≡ false
     of_variant_in id name = go (maps id.loc.container.map) refl
       where
-        named : (o : Option Variants) → on_some (λ (vs : Variants). on_values (on_variant t) vs) o ≡ false → on_some (on_variant t) (option_and_then (λ (vs : Variants). at_name vs name) o) ≡ false
+        named : (o : Option Variants) → on_some (λ (vs : Variants). on_values (on_variant t) vs) o ≡ false
+            → on_some (on_variant t) (option_and_then (λ (vs : Variants). at_name vs name) o) ≡ false
         named None f = refl
         named (Some vs) f = found (on_variant t) (is_at (slice_cmp nat_cmp name)) vs f
 
         go : (o : Option Placed) → maps id.loc.container.map ≡ o
-            → on_some (on_variant t) (option_and_then (λ (vs : Variants). at_name vs name) (option_and_then (λ (placed : Placed). variants_at placed.map id) o)) ≡ false
+            → on_some (on_variant t) (option_and_then (λ (vs : Variants). at_name vs name) (option_and_then (λ (placed : Placed). variants_at placed.map id) o))
+            ≡ false
         go None e = refl
-        go (Some placed) e = named (variants_at placed.map id) (found (λ (vs : Variants). on_values (on_variant t) vs) (is_at (enum_order.ghosts.cmp id)) placed.map.enums (nowhere id.loc.container.map placed e).enums)
+        go (Some placed) e =
+            named (variants_at placed.map id) (found (λ (vs : Variants). on_values (on_variant t) vs) (is_at (enum_order.ghosts.cmp id)) placed.map.enums
+            (nowhere id.loc.container.map placed e).enums)
 
-    of_enum : (ss : List (List ℕ)) (i : ℕ) (item : Item ModuleDefId ImportOrExternCrate) → on_type t item ≡ false → (o : Option EnumVariant) → on_some (on_variant t) o ≡ false
+    of_enum : (ss : List (List ℕ)) (i : ℕ) (item : Item ModuleDefId ImportOrExternCrate) → on_type t item ≡ false → (o : Option EnumVariant)
+        → on_some (on_variant t) o ≡ false
         → Answers (after_enum ss i item o)
     of_enum ss i item f None g = of_type item f
     of_enum [] i item f (Some v) g = go (has_constructor v.shape)
@@ -284,9 +297,13 @@ module _ (t : SourceTest) where
     of_through further below from ss i s None f = of_nothing
     of_through further below from ss i s (Some item) f = go item.def
       where
-        here : (m : AnyModule) (b : Bool) → Answers (cond b (further from (seen maps from m s)) (crossing (further (nearest_non_block_module maps m) (seen maps (nearest_non_block_module maps m) (nearest_non_block_module maps m) s))))
+        here : (m : AnyModule) (b : Bool) → Answers
+            (cond b (further from (seen maps from m s))
+            (crossing (further (nearest_non_block_module maps m) (seen maps (nearest_non_block_module maps m) (nearest_non_block_module maps m) s))))
         here m true = below from (seen maps from m s) (of_seen from m s)
-        here m false = below (nearest_non_block_module maps m) (seen maps (nearest_non_block_module maps m) (nearest_non_block_module maps m) s) (of_seen (nearest_non_block_module maps m) (nearest_non_block_module maps m) s)
+        here m false =
+            below (nearest_non_block_module maps m) (seen maps (nearest_non_block_module maps m) (nearest_non_block_module maps m) s)
+            (of_seen (nearest_non_block_module maps m) (nearest_non_block_module maps m) s)
 
         adt : (a : AdtId) → Answers (through_adt maps ss i s item a)
         adt (adts.EnumId id) = of_enum ss i item f (variant_in maps id s) (of_variant_in id s)
@@ -296,18 +313,13 @@ module _ (t : SourceTest) where
         go : (d : ModuleDefId) → Answers (through further maps from ss i s item d)
         go (ModuleId m) = here m (same_crate m.map.krate from.map.krate)
         go (AnyAdt a) = adt a
-        go (FunctionId x) = of_type item f
-        go (EnumVariantId x) = of_type item f
-        go (ConstId x) = of_type item f
-        go (StaticId x) = of_type item f
-        go (TraitId x) = of_type item f
-        go (TypeAliasId x) = of_type item f
-        go (BuiltinType x) = of_type item f
-        go (MacroId x) = of_type item f
+        go other = of_type item f
 
     of_rest : (from : AnyModule) (ss : List (List ℕ)) (i : ℕ) (now : PerNs) → HoldsOfNone t now → Answers (rest maps from ss i now)
     of_rest from [] i now f = f
-    of_rest from (s ∷ ss) i now f = of_through (λ next_from next. rest maps next_from ss (i + 1) next) (λ next_from next g. of_rest next_from ss (i + 1) next g) from ss i s now.types f.types
+    of_rest from (s ∷ ss) i now f =
+        of_through (λ next_from next. rest maps next_from ss (i + 1) next) (λ next_from next g. of_rest next_from ss (i + 1) next g) from ss i s now.types
+        f.types
 
     -- ---- roots
 
@@ -326,14 +338,17 @@ module _ (t : SourceTest) where
 
     of_start : (from : AnyModule) (kind : PathKind) (ss : List (List ℕ)) → Answers (from_start maps asking from kind ss)
     of_start from kinds.Crate ss = of_root_module from ss (crate_root from.map.krate)
-    of_start from (kinds.DollarCrate c) ss = either_answer (is_in_reach maps from c) (rest maps from ss 0 (module_bound (crate_root c))) (unresolved No) (of_root_module from ss (crate_root c)) of_nothing
+    of_start from (kinds.DollarCrate c) ss =
+        either_answer (is_in_reach maps from c) (rest maps from ss 0 (module_bound (crate_root c))) (unresolved No) (of_root_module from ss (crate_root c))
+        of_nothing
     of_start from (kinds.Super n) ss = of_super from ss (climb maps n (nearest_non_block_module maps from))
     of_start from kinds.Plain [] = of_nothing
     of_start from kinds.Plain (s ∷ ss) = either_answer (is_in_edition_2015 (map_in maps from.map) && is_import asking.mode)
         (rest maps from ss 1 (name_in_crate_root_or_extern_prelude maps asking.local from s))
         (rest maps from ss 1 (name_in_module maps asking.local asking.sub_ns (shadow_before ss asking.shadow) from s))
         (of_rest from ss 1 (name_in_crate_root_or_extern_prelude maps asking.local from s) (of_root from s))
-        (of_rest from ss 1 (name_in_module maps asking.local asking.sub_ns (shadow_before ss asking.shadow) from s) (of_name asking.sub_ns (shadow_before ss asking.shadow) from s))
+        (of_rest from ss 1 (name_in_module maps asking.local asking.sub_ns (shadow_before ss asking.shadow) from s)
+        (of_name asking.sub_ns (shadow_before ss asking.shadow) from s))
     of_start from kinds.Abs [] = of_nothing
     of_start from kinds.Abs (s ∷ ss) = either_answer (is_in_edition_2015 (map_in maps from.map))
         (rest maps from ss 1 (name_in_crate_root_or_extern_prelude maps asking.local from s))
@@ -363,12 +378,14 @@ module _ (t : SourceTest) where
     of_joined : (a b : ResolvePathResult) → Answers a → Answers b → Answers (joined a b)
     of_joined a b f g = of_or a.resolved_def b.resolved_def f g
 
-    of_with_preludes : (kind : PathKind) (ss : List (List ℕ)) (r : ResolvePathResult) → Answers r → (m : AnyModule) → Answers (with_preludes maps asking kind ss r m)
+    of_with_preludes : (kind : PathKind) (ss : List (List ℕ)) (r : ResolvePathResult) → Answers r → (m : AnyModule)
+        → Answers (with_preludes maps asking kind ss r m)
     of_with_preludes kind ss r f m = either_answer (is_some m.map.block && not (is_block_root m))
         (joined r (in_preludes maps asking (crate_root m.map.krate) kind ss)) r
         (of_joined r (in_preludes maps asking (crate_root m.map.krate) kind ss) f (of_in_preludes (crate_root m.map.krate) kind ss)) f
 
-    of_inherited : (kind : PathKind) (ss : List (List ℕ)) (r : ResolvePathResult) → Answers r → (m : AnyModule) (hs : List AnyModule) → Answers (inherited maps asking kind ss r m hs)
+    of_inherited : (kind : PathKind) (ss : List (List ℕ)) (r : ResolvePathResult) → Answers r → (m : AnyModule) (hs : List AnyModule)
+        → Answers (inherited maps asking kind ss r m hs)
     of_inherited kind ss r f m [] = of_with_preludes kind ss r f m
     of_inherited kind ss r f m (h ∷ hs) = either_answer (is_block_root m)
         (inherited maps asking kind ss (joined r (from_start maps asking h kind ss)) h hs)

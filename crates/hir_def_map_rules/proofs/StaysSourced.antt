@@ -8,33 +8,28 @@ use Rattle.hir_base.specs.contracts.ids.EnumIdOrd.TheImpl as enum_order
 use Rattle.hir_base.specs.contracts.ids.MapIdPartialEq.TheImpl as map_id
 use Rattle.hir_base.specs.contracts.ids.ModuleDefIdPartialEq.TheImpl as module_def
 use Rattle.hir_base.specs.contracts.macro_kind.MacroIdPartialEq.TheImpl as makro
-use Rattle.hir_base.specs.declared.ids.EnumId.{EnumId}
-use Rattle.hir_base.specs.declared.ids.ModuleDefId.{ModuleDefId}
-use Rattle.hir_base.specs.declared.ids.ModuleId.{ModuleId}
-use Rattle.hir_base.specs.declared.ids.UseId.{UseId}
-use Rattle.hir_base.specs.declared.macro_kind.MacroId.{MacroId}
-use Rattle.hir_textual_scope.specs.declared.textual_scope.TextualMacro.{TextualMacro}
+use Rattle.hir_base.specs.Types.{EnumId, MacroId, ModuleDefId, ModuleId, UseId}
+use Rattle.hir_textual_scope.specs.Types.{TextualMacro}
 use Rattle.hir_scope.specs.contracts.imports.ImportOrExternCratePartialEq.TheImpl as item_import
 use Rattle.hir_scope.specs.contracts.imports.ImportOrGlobPartialEq.TheImpl as glob_import
-use Rattle.hir_scope.specs.declared.imports.ImportOrExternCrate.{ImportOrExternCrate}
+use Rattle.hir_scope.specs.Types.{ImportOrExternCrate, ImportOrGlob, PerNs, Visibility}
 use Rattle.hir_scope.specs.declared.imports.ImportOrExternCrate.TheVariants as import
-use Rattle.hir_scope.specs.declared.imports.ImportOrGlob.{ImportOrGlob}
 use Rattle.hir_scope.specs.PerNs.{Item, is_nothing, value_import}
-use Rattle.hir_scope.specs.declared.per_ns.PerNs.{PerNs}
-use Rattle.hir_scope.specs.declared.visibility.Visibility.{Visibility}
 use Rattle.hir_scope.specs.Globs.{GlobNames, Place, has_place}
 use Rattle.hir_scope.specs.ImportRecords.{is_glob}
 use Rattle.hir_scope.specs.Scope.{ScopeValue}
 use Rattle.hir_scope.specs.Entries.{item_at}
 use Rattle.hir_scope.specs.Bindings.{macro_candidate, written_items, taken, type_candidate, value_candidate, takes}
 use Rattle.hir_scope.specs.Scope.Push.{written_scope, pushed_scope, taken_candidates, with_unresolved}
-use Rattle.hir_def_map_rules.specs.declared.declaration.Declaration.{Declaration}
+use Rattle.hir_def_map_rules.specs.Types.{Declaration, ModuleOrigin}
 use Rattle.hir_def_map_rules.specs.declared.declaration.Declaration.TheVariants as declaration
-use Rattle.hir_def_map_rules.specs.declared.origin.ModuleOrigin.{ModuleOrigin}
 use Rattle.hir_def_map_rules.specs.Declaration.{listed}
 use Rattle.hir_def_map_rules.proofs.NoneOf.{neither, none_changed, none_inserted, none_more, none_with_entry, not_first, not_second}
-use Rattle.hir_def_map_rules.specs.Sources.{SourceTest, HoldsOfNone, HoldsNowhere, HoldsNowhereIn, on_def, on_import, on_legacy_in, on_macro, on_macro_item, on_macros_in, on_origin, on_some, on_type, on_types_in, on_value, on_value_def, on_value_import, on_values, on_values_in, on_variant, on_visibility}
-use Rattle.hir_def_map_rules.specs.State.{Map, ModuleValue, Variants, changed_at, new_id, new_module, place_at, pushed, with_child, with_enum, with_module, with_module_scope, with_prelude, with_scope}
+use Rattle.hir_def_map_rules.specs.Sources.{SourceTest, HoldsOfNone, HoldsNowhere, HoldsNowhereIn, on_def, on_import, on_legacy_in, on_macro, on_macro_item}
+use Rattle.hir_def_map_rules.specs.Sources.{on_macros_in, on_origin, on_some, on_type, on_types_in, on_value, on_value_def, on_value_import, on_values}
+use Rattle.hir_def_map_rules.specs.Sources.{on_values_in, on_variant, on_visibility}
+use Rattle.hir_def_map_rules.specs.State.{Map, ModuleValue, Variants, changed_at, new_id, new_module, place_at, pushed, with_child, with_enum, with_module}
+use Rattle.hir_def_map_rules.specs.State.{with_module_scope, with_prelude, with_scope}
 use Rattle.hir_def_map_rules.specs.Overlay.{Maps, Placed, overlay, placed_in}
 
 -- an item by another import
@@ -55,7 +50,8 @@ module _ (t : SourceTest) where
     pub legacy : (scope : ScopeValue) → on_legacy scope ≡ false → on_legacy (change scope) ≡ false
 
   -- so it leaves such a map
-  pub HoldsNowhereIn-scope : (map : Map) (at : ℕ) (change : ScopeValue → ScopeValue) → KeepsScope change → HoldsNowhereIn t map → HoldsNowhereIn t (with_scope map at change)
+  pub HoldsNowhereIn-scope : (map : Map) (at : ℕ) (change : ScopeValue → ScopeValue) → KeepsScope change → HoldsNowhereIn t map
+      → HoldsNowhereIn t (with_scope map at change)
   HoldsNowhereIn-scope map at change keeps f = record {
     origins = none_changed (λ (m : ModuleValue). on_origin t m.origin) (with_module_scope change) (λ m g. g) map.modules at f.origins;
     types = none_changed (on_types_in t) (with_module_scope change) (λ m g. keeps.types m.scope g) map.modules at f.types;
@@ -75,63 +71,76 @@ module _ (t : SourceTest) where
   of_value_import (Some (import.ExternCrate i)) f = refl
 
   module _ (globs : GlobNames) (place : Place) (items : PerNs) (by : Option ImportOrExternCrate) (none : HoldsOfNone t items) (brought : on_some (on_import t) by ≡ false) where
-    types_pushed : (scope : ScopeValue) → on_values (on_type t) scope.types ≡ false → on_values (on_type t) (pushed_scope globs place items by scope).types ≡ false
+    types_pushed : (scope : ScopeValue) → on_values (on_type t) scope.types ≡ false → on_values (on_type t) (pushed_scope globs place items by scope).types
+        ≡ false
     types_pushed scope f = go (is_nothing items)
       where
-        bound : (i : Item ModuleDefId ImportOrExternCrate) → on_type t i ≡ false → (b : Bool) → on_values (on_type t) (written_items place.1 (cond b (type_candidate (Some i) by) None) scope.types) ≡ false
+        bound : (i : Item ModuleDefId ImportOrExternCrate) → on_type t i ≡ false → (b : Bool)
+            → on_values (on_type t) (written_items place.1 (cond b (type_candidate (Some i) by) None) scope.types) ≡ false
         bound i g true = none_with_entry (on_type t) (slice_cmp nat_cmp) scope.types place.1 (record { def = i.def; vis = i.vis; import = by }) f
             (by_import (on_def t i.def) (on_visibility t i.vis) (on_some (on_import t) i.import) (on_some (on_import t) (by)) g brought)
         bound i g false = f
 
         offered : (o : Option (Item ModuleDefId ImportOrExternCrate)) → on_some (on_type t) o ≡ false
-            → on_values (on_type t) (written_items place.1 (taken module_def.ghosts.eq item_import.ghosts.eq scope.types globs.types place (type_candidate o by)) scope.types) ≡ false
+            → on_values (on_type t) (written_items place.1 (taken module_def.ghosts.eq item_import.ghosts.eq scope.types globs.types place
+            (type_candidate o by)) scope.types) ≡ false
         offered None g = f
         offered (Some i) g = bound i g (takes module_def.ghosts.eq item_import.ghosts.eq (has_place globs.types place) (item_at scope.types place.1) (record {
           item = record { def = i.def; vis = i.vis; import = by };
           is_glob = is_glob by;
         }))
 
-        go : (b : Bool) → on_values (on_type t) (cond b (with_unresolved scope place.1) (written_scope place.1 (taken_candidates scope globs place items by) scope)).types ≡ false
+        go : (b : Bool) → on_values (on_type t) (cond b (with_unresolved scope place.1) (written_scope place.1 (taken_candidates scope globs place items by)
+            scope)).types ≡ false
         go true = f
         go false = offered items.types none.types
 
-    values_pushed : (scope : ScopeValue) → on_values (on_value t) scope.values ≡ false → on_values (on_value t) (pushed_scope globs place items by scope).values ≡ false
+    values_pushed : (scope : ScopeValue) → on_values (on_value t) scope.values ≡ false → on_values (on_value t) (pushed_scope globs place items by scope).values
+        ≡ false
     values_pushed scope f = go (is_nothing items)
       where
-        bound : (i : Item ModuleDefId ImportOrGlob) → on_value t i ≡ false → (b : Bool) → on_values (on_value t) (written_items place.1 (cond b (value_candidate (Some i) by) None) scope.values) ≡ false
+        bound : (i : Item ModuleDefId ImportOrGlob) → on_value t i ≡ false → (b : Bool)
+            → on_values (on_value t) (written_items place.1 (cond b (value_candidate (Some i) by) None) scope.values) ≡ false
         bound i g true = none_with_entry (on_value t) (slice_cmp nat_cmp) scope.values place.1 (record { def = i.def; vis = i.vis; import = value_import by }) f
-            (by_import (on_value_def t i.def) (on_visibility t i.vis) (on_some (on_value_import t) i.import) (on_some (on_value_import t) (value_import by)) g (of_value_import by brought))
+            (by_import (on_value_def t i.def) (on_visibility t i.vis) (on_some (on_value_import t) i.import) (on_some (on_value_import t) (value_import by)) g
+            (of_value_import by brought))
         bound i g false = f
 
         offered : (o : Option (Item ModuleDefId ImportOrGlob)) → on_some (on_value t) o ≡ false
-            → on_values (on_value t) (written_items place.1 (taken module_def.ghosts.eq glob_import.ghosts.eq scope.values globs.values place (value_candidate o by)) scope.values) ≡ false
+            → on_values (on_value t) (written_items place.1 (taken module_def.ghosts.eq glob_import.ghosts.eq scope.values globs.values place
+            (value_candidate o by)) scope.values) ≡ false
         offered None g = f
         offered (Some i) g = bound i g (takes module_def.ghosts.eq glob_import.ghosts.eq (has_place globs.values place) (item_at scope.values place.1) (record {
           item = record { def = i.def; vis = i.vis; import = value_import by };
           is_glob = is_glob by;
         }))
 
-        go : (b : Bool) → on_values (on_value t) (cond b (with_unresolved scope place.1) (written_scope place.1 (taken_candidates scope globs place items by) scope)).values ≡ false
+        go : (b : Bool) → on_values (on_value t)
+            (cond b (with_unresolved scope place.1) (written_scope place.1 (taken_candidates scope globs place items by) scope)).values ≡ false
         go true = f
         go false = offered items.values none.values
 
-    macros_pushed : (scope : ScopeValue) → on_values (on_macro_item t) scope.macros ≡ false → on_values (on_macro_item t) (pushed_scope globs place items by scope).macros ≡ false
+    macros_pushed : (scope : ScopeValue) → on_values (on_macro_item t) scope.macros ≡ false
+        → on_values (on_macro_item t) (pushed_scope globs place items by scope).macros ≡ false
     macros_pushed scope f = go (is_nothing items)
       where
-        bound : (i : Item MacroId ImportOrExternCrate) → on_macro_item t i ≡ false → (b : Bool) → on_values (on_macro_item t) (written_items place.1 (cond b (macro_candidate (Some i) by) None) scope.macros) ≡ false
+        bound : (i : Item MacroId ImportOrExternCrate) → on_macro_item t i ≡ false → (b : Bool)
+            → on_values (on_macro_item t) (written_items place.1 (cond b (macro_candidate (Some i) by) None) scope.macros) ≡ false
         bound i g true = none_with_entry (on_macro_item t) (slice_cmp nat_cmp) scope.macros place.1 (record { def = i.def; vis = i.vis; import = by }) f
             (by_import (on_macro t i.def) (on_visibility t i.vis) (on_some (on_import t) i.import) (on_some (on_import t) (by)) g brought)
         bound i g false = f
 
         offered : (o : Option (Item MacroId ImportOrExternCrate)) → on_some (on_macro_item t) o ≡ false
-            → on_values (on_macro_item t) (written_items place.1 (taken makro.ghosts.eq item_import.ghosts.eq scope.macros globs.macros place (macro_candidate o by)) scope.macros) ≡ false
+            → on_values (on_macro_item t) (written_items place.1 (taken makro.ghosts.eq item_import.ghosts.eq scope.macros globs.macros place
+            (macro_candidate o by)) scope.macros) ≡ false
         offered None g = f
         offered (Some i) g = bound i g (takes makro.ghosts.eq item_import.ghosts.eq (has_place globs.macros place) (item_at scope.macros place.1) (record {
           item = record { def = i.def; vis = i.vis; import = by };
           is_glob = is_glob by;
         }))
 
-        go : (b : Bool) → on_values (on_macro_item t) (cond b (with_unresolved scope place.1) (written_scope place.1 (taken_candidates scope globs place items by) scope)).macros ≡ false
+        go : (b : Bool) → on_values (on_macro_item t)
+            (cond b (with_unresolved scope place.1) (written_scope place.1 (taken_candidates scope globs place items by) scope)).macros ≡ false
         go true = f
         go false = offered items.macros none.macros
 
@@ -146,7 +155,8 @@ module _ (t : SourceTest) where
     keeps_pushed = record { types = types_pushed; values = values_pushed; macros = macros_pushed; legacy = legacy_pushed }
 
   -- a push of what it holds of none of, by an import of which it doesn't hold
-  pub HoldsNowhereIn-pushed : (map : Map) (globs : GlobNames) (at : ℕ) (name : List ℕ) (items : PerNs) (by : Option ImportOrExternCrate) → HoldsOfNone t items → on_some (on_import t) by ≡ false
+  pub HoldsNowhereIn-pushed : (map : Map) (globs : GlobNames) (at : ℕ) (name : List ℕ) (items : PerNs) (by : Option ImportOrExternCrate) → HoldsOfNone t items
+      → on_some (on_import t) by ≡ false
       → HoldsNowhereIn t map → HoldsNowhereIn t (pushed map globs at name items by)
   HoldsNowhereIn-pushed map globs at name items by none brought =
       HoldsNowhereIn-scope map at (pushed_scope globs (place_at map.id at name) items by) (keeps_pushed globs (place_at map.id at name) items by none brought)
@@ -155,11 +165,7 @@ module _ (t : SourceTest) where
 
   keeps_listed : (d : Declaration) → KeepsScope (listed d)
   keeps_listed (declaration.Def def) = record { types = λ s g. g; values = λ s g. g; macros = λ s g. g; legacy = λ s g. g }
-  keeps_listed (declaration.Use use_) = record { types = λ s g. g; values = λ s g. g; macros = λ s g. g; legacy = λ s g. g }
-  keeps_listed (declaration.ExternCrate extern_crate) = record { types = λ s g. g; values = λ s g. g; macros = λ s g. g; legacy = λ s g. g }
-  keeps_listed (declaration.Impl imp is_trait_impl) = record { types = λ s g. g; values = λ s g. g; macros = λ s g. g; legacy = λ s g. g }
-  keeps_listed (declaration.ExternBlock extern_block) = record { types = λ s g. g; values = λ s g. g; macros = λ s g. g; legacy = λ s g. g }
-  keeps_listed (declaration.UnnamedConst konst) = record { types = λ s g. g; values = λ s g. g; macros = λ s g. g; legacy = λ s g. g }
+  keeps_listed other = record { types = λ s g. g; values = λ s g. g; macros = λ s g. g; legacy = λ s g. g }
 
   -- a declaration that is listed
   pub HoldsNowhereIn-listed : (map : Map) (at : ℕ) (d : Declaration) → HoldsNowhereIn t map → HoldsNowhereIn t (with_scope map at (listed d))
@@ -168,7 +174,8 @@ module _ (t : SourceTest) where
   -- ---- modules, enums, preludes
 
   -- a module of which it doesn't hold
-  pub HoldsNowhereIn-made : (map : Map) (at : ℕ) (name : List ℕ) (origin : ModuleOrigin) (visibility : Visibility) (parent : Option ModuleId) → on_origin t origin ≡ false
+  pub HoldsNowhereIn-made : (map : Map) (at : ℕ) (name : List ℕ) (origin : ModuleOrigin) (visibility : Visibility) (parent : Option ModuleId)
+      → on_origin t origin ≡ false
       → HoldsNowhereIn t map → HoldsNowhereIn t (with_module map at name (new_module origin visibility parent))
   HoldsNowhereIn-made map at name origin visibility parent written f =
       let change : ModuleValue → ModuleValue = with_child name (new_id map) in
@@ -186,7 +193,8 @@ module _ (t : SourceTest) where
       }
 
   -- an enum of whose variants it holds of none
-  pub HoldsNowhereIn-enum : (map : Map) (id : EnumId) (variants : Variants) → on_values (on_variant t) variants ≡ false → HoldsNowhereIn t map → HoldsNowhereIn t (with_enum map id variants)
+  pub HoldsNowhereIn-enum : (map : Map) (id : EnumId) (variants : Variants) → on_values (on_variant t) variants ≡ false → HoldsNowhereIn t map
+      → HoldsNowhereIn t (with_enum map id variants)
   HoldsNowhereIn-enum map id variants none f = record {
     origins = f.origins;
     types = f.types;

@@ -1,5 +1,6 @@
 -- Building leaves a map that names only what is there.
-use Rattle.std.specs.Prelude.{◌≡◌, ◌⊎◌, ℕ, zero, suc, ◌<◌, ◌+◌, ◌++◌, List, [], ◌∷◌, length, Bool, true, false, ◌&&◌, not, is_some, Option, None, Some, cond, slice_get, option_and_then, option_map}
+use Rattle.std.specs.Prelude.{◌≡◌, ◌⊎◌, ℕ, zero, suc, ◌<◌, ◌+◌, ◌++◌, List, [], ◌∷◌, length, Bool, true, false, ◌&&◌, not, is_some, Option, None, Some, cond}
+use Rattle.std.specs.Prelude.{slice_get, option_and_then, option_map}
 use Rattle.std.specs.List.{list_all, list_any}
 use Rattle.std.specs.Map.{lookup}
 use Rattle.std.specs.Ordering.{is_eq, match_ordering, nat_cmp}
@@ -10,27 +11,21 @@ use Rattle.std.specs.Cmp.{first_so, second_so}
 use Rattle.std.specs.BTreeMap.{insert_entry, is_at}
 use Rattle.std.proofs.Common.{ap, inl, inr, refl, subst, sym, ◌∙◌, arith}
 use mathlib.Core.Bool.{true≢false}
-use Rattle.hir_base.specs.declared.ids.EnumId.{EnumId}
-use Rattle.hir_base.specs.declared.ids.ExternCrateId.{ExternCrateId}
-use Rattle.hir_base.specs.declared.ids.MapId.{MapId}
-use Rattle.hir_base.specs.declared.ids.ModuleId.{ModuleId}
-use Rattle.hir_base.specs.declared.ids.UseId.{UseId}
+use Rattle.hir_base.specs.Types.{EnumId, ExternCrateId, MapId, ModuleId, UseId}
 use Rattle.hir_base.specs.contracts.ids.EnumIdOrd.TheImpl as enum_order
 use Rattle.hir_base.specs.contracts.ids.EnumIdOrd.TheImpl.Laws.{matches_eq-law as enum_ties}
 use Rattle.hir_base.specs.contracts.ids.MapIdPartialEq.TheImpl as map_id
-use Rattle.hir_scope.specs.declared.imports.ImportOrExternCrate.{ImportOrExternCrate}
-use Rattle.hir_scope.specs.declared.per_ns.PerNs.{PerNs}
-use Rattle.hir_scope.specs.declared.visibility.Visibility.{Visibility}
+use Rattle.hir_scope.specs.Types.{ImportOrExternCrate, PerNs, Visibility}
 use Rattle.hir_scope.specs.Globs.{GlobNames}
 use Rattle.hir_scope.specs.ModuleTree.{same_crate}
 use Rattle.hir_scope.specs.Scope.{ScopeValue}
 use Rattle.hir_scope.specs.Scope.Push.{pushed_scope}
-use Rattle.hir_def_map_rules.specs.declared.declaration.Declaration.{Declaration}
-use Rattle.hir_def_map_rules.specs.declared.origin.ModuleOrigin.{ModuleOrigin}
-use Rattle.hir_def_map_rules.specs.declared.reference.Reference.{Reference}
+use Rattle.hir_def_map_rules.specs.Types.{Declaration, ModuleOrigin, Reference}
 use Rattle.hir_def_map_rules.specs.declared.reference.Reference.TheVariants as named
 use Rattle.hir_def_map_rules.specs.Declaration.{listed}
-use Rattle.hir_def_map_rules.specs.State.{Local, Map, ModuleValue, Variants, at_name, changed_at, module_at, new_id, new_module, numbered, parent_of, place_at, pushed, variants_at, with_child, with_enum, with_module, with_module_scope, with_name, with_prelude, with_scope, IsBefore}
+use Rattle.hir_def_map_rules.specs.State.{Local, Map, ModuleValue, Variants, at_name, changed_at, module_at, new_id, new_module, numbered, parent_of, place_at}
+use Rattle.hir_def_map_rules.specs.State.{pushed, variants_at, with_child, with_enum, with_module, with_module_scope, with_name, with_prelude, with_scope}
+use Rattle.hir_def_map_rules.specs.State.{IsBefore}
 use Rattle.hir_def_map_rules.specs.Overlay.{Maps, Placed, overlay, holders_of, holders_or, holders_under, module_in, placed_in}
 use Rattle.hir_def_map_rules.specs.Inner.OverlayLaws.{exact_map, same_id}
 use Rattle.hir_def_map_rules.proofs.EnumIds.{exact_enum}
@@ -38,7 +33,8 @@ use Rattle.hir_def_map_rules.proofs.Fails.{of_less}
 use Rattle.hir_def_map_rules.proofs.Grown.{kept, length-changed}
 use Rattle.hir_def_map_rules.proofs.Referred.{module_parts, module_whole}
 use Rattle.hir_def_map_rules.proofs.ScopeChanges.{listed_fails, module_scope_fails, pushed_fails}
-use Rattle.hir_def_map_rules.specs.References.{are_variants_of, is_holder_for, is_missing, is_there, any_reference_in, any_reference_in_scope, prelude_reference, test_child, test_of, visibility_reference}
+use Rattle.hir_def_map_rules.specs.References.{are_variants_of, is_holder_for, is_missing, is_there, any_reference_in, any_reference_in_scope}
+use Rattle.hir_def_map_rules.specs.References.{prelude_reference, test_child, test_of, visibility_reference}
 use Rattle.hir_def_map_rules.specs.Closed.{AreThere, IsClosed, LocalIsThere, ModuleIsThere, VisibilityIsThere}
 use Rattle.hir_def_map_rules.specs.WellFormed.{AreWellFormed, HasNoDanglingExtern, Extends, IsWellFormed, HasNoDanglingReference, is_held_outside}
 use Rattle.hir_def_map_rules.proofs.WellFormed.{HasNoDanglingExtern-more, IsClosed-well_formed, HasNoDanglingReference-more, none_missing}
@@ -70,21 +66,29 @@ module _ (finished : Maps) (old new : Map) (same : new.id ≡ old.id) (modules :
     (enums : (e : EnumId) → is_some (variants_at old e) ≡ true → is_some (variants_at new e) ≡ true) where
   -- what was there stays there where a map grows
   pub Extends-grown : Extends (overlay finished old) (overlay finished new)
-  Extends-grown (named.Module m) t = ap (λ (id : MapId). is_some (option_and_then (λ (p : Placed). module_at p.map m.index) (cond (map_id.ghosts.eq m.map id) (Some (placed_in finished new)) (finished m.map)))) same ∙ go (map_id.ghosts.eq m.map old.id) t
+  Extends-grown (named.Module m) t =
+      ap (λ (id : MapId). is_some (option_and_then (λ (p : Placed). module_at p.map m.index) (cond (map_id.ghosts.eq m.map id) (Some (placed_in finished new))
+      (finished m.map)))) same ∙ go (map_id.ghosts.eq m.map old.id) t
     where
       go : (b : Bool) → is_some (option_and_then (λ (p : Placed). module_at p.map m.index) (cond b (Some (placed_in finished old)) (finished m.map))) ≡ true
           → is_some (option_and_then (λ (p : Placed). module_at p.map m.index) (cond b (Some (placed_in finished new)) (finished m.map))) ≡ true
       go true f = modules m.index f
       go false f = f
-  Extends-grown (named.Enum e) t = ap (λ (id : MapId). is_some (option_and_then (λ (p : Placed). variants_at p.map e) (cond (map_id.ghosts.eq e.loc.container.map id) (Some (placed_in finished new)) (finished e.loc.container.map)))) same ∙ go (map_id.ghosts.eq e.loc.container.map old.id) t
+  Extends-grown (named.Enum e) t =
+      ap (λ (id : MapId). is_some (option_and_then (λ (p : Placed). variants_at p.map e)
+      (cond (map_id.ghosts.eq e.loc.container.map id) (Some (placed_in finished new)) (finished e.loc.container.map)))) same ∙ go
+      (map_id.ghosts.eq e.loc.container.map old.id) t
     where
-      go : (b : Bool) → is_some (option_and_then (λ (p : Placed). variants_at p.map e) (cond b (Some (placed_in finished old)) (finished e.loc.container.map))) ≡ true
+      go : (b : Bool) → is_some (option_and_then (λ (p : Placed). variants_at p.map e) (cond b (Some (placed_in finished old)) (finished e.loc.container.map)))
+          ≡ true
           → is_some (option_and_then (λ (p : Placed). variants_at p.map e) (cond b (Some (placed_in finished new)) (finished e.loc.container.map))) ≡ true
       go true f = enums e f
       go false f = f
-  Extends-grown (named.Map k) t = ap (λ (id : MapId). is_some (cond (map_id.ghosts.eq k id) (Some (placed_in finished new)) (finished k))) same ∙ go (map_id.ghosts.eq k old.id) t
+  Extends-grown (named.Map k) t =
+      ap (λ (id : MapId). is_some (cond (map_id.ghosts.eq k id) (Some (placed_in finished new)) (finished k))) same ∙ go (map_id.ghosts.eq k old.id) t
     where
-      go : (b : Bool) → is_some (cond b (Some (placed_in finished old)) (finished k)) ≡ true → is_some (cond b (Some (placed_in finished new)) (finished k)) ≡ true
+      go : (b : Bool) → is_some (cond b (Some (placed_in finished old)) (finished k)) ≡ true → is_some (cond b (Some (placed_in finished new)) (finished k))
+          ≡ true
       go true f = refl
       go false f = f
 
@@ -99,7 +103,8 @@ module _ (finished : Maps) (map : Map) (at : ℕ) where
 
   -- a change of the scope of one module, after which it refers only to what is there
   pub HasNoDanglingReference-scope : (change : ScopeValue → ScopeValue)
-      → ((scope : ScopeValue) → any_reference_in_scope (is_missing (overlay finished map)) scope ≡ false → any_reference_in_scope (is_missing (overlay finished map)) (change scope) ≡ false)
+      → ((scope : ScopeValue) → any_reference_in_scope (is_missing (overlay finished map)) scope ≡ false
+      → any_reference_in_scope (is_missing (overlay finished map)) (change scope) ≡ false)
       → HasNoDanglingReference (overlay finished map) map → HasNoDanglingReference (overlay finished (with_scope map at change)) (with_scope map at change)
   HasNoDanglingReference-scope change keeps f =
       let new : Map = with_scope map at change in
@@ -119,7 +124,8 @@ module _ (finished : Maps) (map : Map) (at : ℕ) where
     where
       in_order : (k : ℕ) (m : ModuleValue) → slice_get (changed_at map.modules at (with_module_scope change)) k ≡ Some m → IsBefore map.id k m.parent
       in_order k m e =
-          let same : parent_of (slice_get map.modules k) ≡ m.parent = sym (kept parent_of map.modules at (with_module_scope change) (λ x. refl) k) ∙ ap parent_of e in
+          let same : parent_of (slice_get map.modules k) ≡ m.parent = sym (kept parent_of map.modules at (with_module_scope change) (λ x. refl) k) ∙ ap
+          parent_of e in
           subst (IsBefore map.id k) same (go (slice_get map.modules k) refl)
         where
           go : (o : Option ModuleValue) → slice_get map.modules k ≡ o → IsBefore map.id k (parent_of o)
@@ -127,14 +133,17 @@ module _ (finished : Maps) (map : Map) (at : ℕ) where
           go (Some x) s = f.in_order k x s
 
   -- a push of items that are there
-  pub HasNoDanglingReference-pushed : (globs : GlobNames) (name : List ℕ) (items : PerNs) (import : Option ImportOrExternCrate) → AreThere (overlay finished map) items
-      → HasNoDanglingReference (overlay finished map) map → HasNoDanglingReference (overlay finished (pushed map globs at name items import)) (pushed map globs at name items import)
+  pub HasNoDanglingReference-pushed : (globs : GlobNames) (name : List ℕ) (items : PerNs) (import : Option ImportOrExternCrate)
+      → AreThere (overlay finished map) items
+      → HasNoDanglingReference (overlay finished map) map → HasNoDanglingReference (overlay finished (pushed map globs at name items import))
+      (pushed map globs at name items import)
   HasNoDanglingReference-pushed globs name items import there f =
       HasNoDanglingReference-scope (pushed_scope globs (place_at map.id at name) items import)
       (λ scope g. pushed_fails (is_missing (overlay finished map)) globs (place_at map.id at name) items import scope there g) f
 
   -- a declaration that is listed
-  pub HasNoDanglingReference-listed : (d : Declaration) → HasNoDanglingReference (overlay finished map) map → HasNoDanglingReference (overlay finished (with_scope map at (listed d))) (with_scope map at (listed d))
+  pub HasNoDanglingReference-listed : (d : Declaration) → HasNoDanglingReference (overlay finished map) map
+      → HasNoDanglingReference (overlay finished (with_scope map at (listed d))) (with_scope map at (listed d))
   HasNoDanglingReference-listed d f = HasNoDanglingReference-scope (listed d) (λ scope g. listed_fails (is_missing (overlay finished map)) d scope g) f
 
 -- ---- one more module
@@ -167,7 +176,8 @@ module _ {A : Type 0} where
 
 -- there is one module more
 pub length-made : (map : Map) (at : ℕ) (name : List ℕ) (new : ModuleValue) → length (with_module map at name new).modules ≡ length map.modules + 1
-length-made map at name new = one_longer (changed_at map.modules at (with_child name (new_id map))) ∙ ap (λ (n : ℕ). n + 1) (length-changed map.modules at (with_child name (new_id map)))
+length-made map at name new =
+    one_longer (changed_at map.modules at (with_child name (new_id map))) ∙ ap (λ (n : ℕ). n + 1) (length-changed map.modules at (with_child name (new_id map)))
   where
     one_longer : (ms : List ModuleValue) → length (ms ++ new ∷ []) ≡ length ms + 1
     one_longer [] = refl
@@ -188,11 +198,15 @@ module _ (finished : Maps) (map : Map) (at : ℕ) (here : at < length map.module
 
   -- a module of the map by its number
   own_there : (k : ℕ) → is_some (module_at grown k) ≡ true → is_missing (overlay finished grown) (named.Module (numbered map.id k)) ≡ false
-  own_there k e = ap (λ (b : Bool). not (is_some (option_and_then (λ (p : Placed). module_at p.map k) (cond b (Some (placed_in finished grown)) (finished map.id))))) (same_id map.id) ∙ ap not e
+  own_there k e =
+      ap (λ (b : Bool). not (is_some (option_and_then (λ (p : Placed). module_at p.map k) (cond b (Some (placed_in finished grown)) (finished map.id)))))
+      (same_id map.id) ∙ ap not e
 
   -- so the new one is there, and the one that holds it
   pub new_there : is_missing (overlay finished grown) (named.Module (new_id map)) ≡ false
-  new_there = own_there (length map.modules) (ap (λ (n : ℕ). is_some (slice_get (older ++ made ∷ []) n)) (sym count) ∙ ap (λ (o : Option ModuleValue). is_some o) (last_some older made))
+  new_there =
+      own_there (length map.modules) (ap (λ (n : ℕ). is_some (slice_get (older ++ made ∷ []) n)) (sym count) ∙ ap (λ (o : Option ModuleValue). is_some o)
+      (last_some older made))
 
   above_there : is_missing (overlay finished grown) (named.Module (numbered map.id at)) ≡ false
   above_there = own_there at (still_some older made at (some_below older at (subst (λ (n : ℕ). at < n) (sym count) here)))
@@ -211,7 +225,8 @@ module _ (finished : Maps) (map : Map) (at : ℕ) (here : at < length map.module
       module_whole missing (with_child name (new_id map) m)
       (record { parent = parts.parent; visibility = parts.visibility; children = go (is_some (at_name m.children name)) parts.children; scope = parts.scope })
     where
-      go : (b : Bool) → list_any (test_child missing) m.children ≡ false → list_any (test_child missing) (cond b m.children (with_name m.children name (new_id map))) ≡ false
+      go : (b : Bool) → list_any (test_child missing) m.children ≡ false → list_any (test_child missing)
+          (cond b m.children (with_name m.children name (new_id map))) ≡ false
       go true g = g
       go false g = none_inserted (λ (x : ModuleId). missing (named.Module x)) (slice_cmp nat_cmp) m.children name (new_id map) g new_there
 
@@ -231,7 +246,9 @@ module _ (finished : Maps) (map : Map) (at : ℕ) (here : at < length map.module
             (none_changed (any_reference_in missing) (with_child name (new_id map)) child_named map.modules at more.modules)
             (module_whole missing made (record {
               parent = above_there;
-              visibility = of_less (is_missing (overlay finished map)) missing (none_missing (overlay finished map) (overlay finished grown) Extends-made) (visibility_reference visibility) seen;
+              visibility =
+                  of_less (is_missing (overlay finished map)) missing (none_missing (overlay finished map) (overlay finished grown) Extends-made)
+                  (visibility_reference visibility) seen;
               children = refl;
               scope = refl;
             }));
@@ -245,7 +262,8 @@ module _ (finished : Maps) (map : Map) (at : ℕ) (here : at < length map.module
 
       old_order : (k : ℕ) (m : ModuleValue) → slice_get older k ≡ Some m → IsBefore map.id k m.parent
       old_order k m e =
-          let same : parent_of (slice_get map.modules k) ≡ m.parent = sym (kept parent_of map.modules at (with_child name (new_id map)) (λ x. refl) k) ∙ ap parent_of e in
+          let same : parent_of (slice_get map.modules k) ≡ m.parent = sym (kept parent_of map.modules at (with_child name (new_id map)) (λ x. refl) k) ∙ ap
+          parent_of e in
           subst (IsBefore map.id k) same (go (slice_get map.modules k) refl)
         where
           go : (o : Option ModuleValue) → slice_get map.modules k ≡ o → IsBefore map.id k (parent_of o)
@@ -264,7 +282,8 @@ module _ (finished : Maps) (map : Map) (at : ℕ) (here : at < length map.module
 -- ---- preludes
 
 -- a prelude module that is there
-pub HasNoDanglingReference-prelude : (finished : Maps) (map : Map) (prelude : Option (ModuleId × Option UseId)) → test_of (is_missing (overlay finished map)) (prelude_reference prelude) ≡ false
+pub HasNoDanglingReference-prelude : (finished : Maps) (map : Map) (prelude : Option (ModuleId × Option UseId)) → test_of (is_missing (overlay finished map))
+    (prelude_reference prelude) ≡ false
     → HasNoDanglingReference (overlay finished map) map → HasNoDanglingReference (overlay finished (with_prelude map prelude)) (with_prelude map prelude)
 HasNoDanglingReference-prelude finished map prelude there f =
     let new : Map = with_prelude map prelude in
@@ -292,11 +311,13 @@ module _ {K V : Type 0} (test : K → Bool) where
   there_with true v w o h = refl
   there_with false v w o h = h
 
-  there_later : (b : Bool) (v : V) (o p : Option V) → (is_some o ≡ true → is_some p ≡ true) → is_some (cond b (Some v) o) ≡ true → is_some (cond b (Some v) p) ≡ true
+  there_later : (b : Bool) (v : V) (o p : Option V) → (is_some o ≡ true → is_some p ≡ true) → is_some (cond b (Some v) o) ≡ true → is_some (cond b (Some v) p)
+      ≡ true
   there_later true v o p f h = refl
   there_later false v o p f h = f h
 
-  still_inserted : (cmp : K → K → Ordering) (es : List (K × V)) (k : K) (v : V) → is_some (lookup test es) ≡ true → is_some (lookup test (insert_entry cmp es k v)) ≡ true
+  still_inserted : (cmp : K → K → Ordering) (es : List (K × V)) (k : K) (v : V) → is_some (lookup test es) ≡ true
+      → is_some (lookup test (insert_entry cmp es k v)) ≡ true
   still_inserted cmp [] k v h = absurd (true≢false (sym h))
   still_inserted cmp (e ∷ es) k v h = go (cmp k e.0) (still_inserted cmp es k v)
     where
@@ -315,26 +336,32 @@ module _ (finished : Maps) (map : Map) (id : EnumId) (variants : Variants) where
   with_variants = with_enum map id variants
 
   pub Extends-enum : Extends (overlay finished map) (overlay finished with_variants)
-  Extends-enum = Extends-grown finished map with_variants refl (λ k t. t) (λ e t. still_inserted (is_at (enum_order.ghosts.cmp e)) enum_order.ghosts.cmp map.enums id variants t)
+  Extends-enum =
+      Extends-grown finished map with_variants refl (λ k t. t) (λ e t. still_inserted (is_at (enum_order.ghosts.cmp e)) enum_order.ghosts.cmp map.enums id
+      variants t)
 
   abbrev has_own : EnumId × Variants → Bool
   has_own e = are_variants_of e.0 e.1
 
-  own_variants : (es : List (EnumId × Variants)) → are_variants_of id variants ≡ true → list_all has_own es ≡ true → list_all has_own (insert_entry enum_order.ghosts.cmp es id variants) ≡ true
+  own_variants : (es : List (EnumId × Variants)) → are_variants_of id variants ≡ true → list_all has_own es ≡ true
+      → list_all has_own (insert_entry enum_order.ghosts.cmp es id variants) ≡ true
   own_variants [] own all = both (are_variants_of id variants) true own refl
   own_variants (e ∷ es) own all =
       let later : list_all has_own es ≡ true = second_so (has_own e) (list_all has_own es) all in
       go (enum_order.ghosts.cmp id e.0) refl later (own_variants es own later)
     where
-      go : (o : Ordering) → enum_order.ghosts.cmp id e.0 ≡ o → list_all has_own es ≡ true → list_all has_own (insert_entry enum_order.ghosts.cmp es id variants) ≡ true
+      go : (o : Ordering) → enum_order.ghosts.cmp id e.0 ≡ o → list_all has_own es ≡ true → list_all has_own (insert_entry enum_order.ghosts.cmp es id variants)
+          ≡ true
           → list_all has_own (match_ordering o ((id, variants) ∷ e ∷ es) ((e.0, variants) ∷ es) (e ∷ insert_entry enum_order.ghosts.cmp es id variants)) ≡ true
       go Less s later below = both (are_variants_of id variants) (list_all has_own (e ∷ es)) own all
       go Equal s later below =
           let same : id ≡ e.0 = exact_enum id e.0 (enum_ties id e.0 ∙ ap is_eq s) in
           both (are_variants_of e.0 variants) (list_all has_own es) (ap (λ (x : EnumId). are_variants_of x variants) (sym same) ∙ own) later
-      go Greater s later below = both (has_own e) (list_all has_own (insert_entry enum_order.ghosts.cmp es id variants)) (first_so (has_own e) (list_all has_own es) all) below
+      go Greater s later below =
+          both (has_own e) (list_all has_own (insert_entry enum_order.ghosts.cmp es id variants)) (first_so (has_own e) (list_all has_own es) all) below
 
-  pub HasNoDanglingReference-enum : are_variants_of id variants ≡ true → HasNoDanglingReference (overlay finished map) map → HasNoDanglingReference (overlay finished with_variants) with_variants
+  pub HasNoDanglingReference-enum : are_variants_of id variants ≡ true → HasNoDanglingReference (overlay finished map) map
+      → HasNoDanglingReference (overlay finished with_variants) with_variants
   HasNoDanglingReference-enum own f =
       let more = HasNoDanglingReference-more (overlay finished map) (overlay finished with_variants) Extends-enum map f in
       record {
@@ -358,20 +385,25 @@ module _ (finished : Maps) (map : Map) (new : finished map.id ≡ None) (whole :
   own_holders (Some h) out = go (map_id.ghosts.eq h.map map.id) out
     where
       go : (b : Bool) → not b ≡ true → cond (same_crate h.map.krate map.id.krate && is_some (finished h.map)) (h ∷ holders_of (finished h.map)) []
-          ≡ cond (same_crate h.map.krate map.id.krate && is_some (cond b (Some (placed_in finished map)) (finished h.map))) (h ∷ holders_of (cond b (Some (placed_in finished map)) (finished h.map))) []
+          ≡ cond (same_crate h.map.krate map.id.krate && is_some (cond b (Some (placed_in finished map)) (finished h.map)))
+          (h ∷ holders_of (cond b (Some (placed_in finished map)) (finished h.map))) []
       go true f = absurd (true≢false (sym f))
       go false f = refl
 
   -- what holds another is as it was
-  other_holders : (id : MapId) (o : Option ModuleId) → is_holder_for finished id o ≡ true → holders_under finished id o ≡ holders_under (overlay finished map) id o
+  other_holders : (id : MapId) (o : Option ModuleId) → is_holder_for finished id o ≡ true → holders_under finished id o ≡ holders_under (overlay finished map)
+      id o
   other_holders id None e = refl
   other_holders id (Some h) e = go (map_id.ghosts.eq h.map map.id) refl
     where
-      go : (b : Bool) → map_id.ghosts.eq h.map map.id ≡ b → cond (same_crate h.map.krate id.krate && is_some (finished h.map)) (h ∷ holders_of (finished h.map)) []
-          ≡ cond (same_crate h.map.krate id.krate && is_some (cond b (Some (placed_in finished map)) (finished h.map))) (h ∷ holders_of (cond b (Some (placed_in finished map)) (finished h.map))) []
+      go : (b : Bool) → map_id.ghosts.eq h.map map.id ≡ b → cond (same_crate h.map.krate id.krate && is_some (finished h.map)) (h ∷ holders_of (finished h.map))
+          []
+          ≡ cond (same_crate h.map.krate id.krate && is_some (cond b (Some (placed_in finished map)) (finished h.map)))
+          (h ∷ holders_of (cond b (Some (placed_in finished map)) (finished h.map))) []
       go true s =
           let gone : finished h.map ≡ None = ap finished (exact_map h.map map.id s) ∙ new in
-          absurd (true≢false (sym (second_so (same_crate h.map.krate id.krate) (is_some (module_in finished h)) e) ∙ ap (λ (o : Option Placed). is_some (option_and_then (λ (p : Placed). module_at p.map h.index) o)) gone))
+          absurd (true≢false (sym (second_so (same_crate h.map.krate id.krate) (is_some (module_in finished h)) e) ∙ ap
+          (λ (o : Option Placed). is_some (option_and_then (λ (p : Placed). module_at p.map h.index) o)) gone))
       go false s = refl
 
   -- a map that names only what is there stands beside maps that do as one of them
@@ -381,7 +413,8 @@ module _ (finished : Maps) (map : Map) (new : finished map.id ≡ None) (whole :
       held : holders_or (finished map.id) (holders_under finished map.id map.holder) ≡ holders_under (overlay finished map) map.id map.holder
       held = ap (λ (o : Option Placed). holders_or o (holders_under finished map.id map.holder)) new ∙ own_holders map.holder names.outside
 
-      go : (b : Bool) → map_id.ghosts.eq id map.id ≡ b → cond b (Some (placed_in finished map)) (finished id) ≡ Some placed → IsWellFormed (overlay finished map) id placed
+      go : (b : Bool) → map_id.ghosts.eq id map.id ≡ b → cond b (Some (placed_in finished map)) (finished id) ≡ Some placed
+          → IsWellFormed (overlay finished map) id placed
       go true s f =
           let same : placed_in finished map ≡ placed = cc in
           let this : map.id ≡ id = sym (exact_map id map.id s) in
@@ -392,20 +425,23 @@ module _ (finished : Maps) (map : Map) (new : finished map.id ≡ None) (whole :
           let more = Extends-overlay finished map new in
           record {
             own = w.own;
-            holders = w.holders ∙ other_holders id placed.map.holder (subst (λ (x : MapId). is_holder_for finished x placed.map.holder ≡ true) w.own w.names.held);
+            holders =
+                w.holders ∙ other_holders id placed.map.holder (subst (λ (x : MapId). is_holder_for finished x placed.map.holder ≡ true) w.own w.names.held);
             names = HasNoDanglingReference-more finished (overlay finished map) more placed.map w.names;
             begins = HasNoDanglingExtern-more finished (overlay finished map) more placed.local w.begins;
           }
 
 -- so all that is named lies among them
-pub IsClosed-overlay : (finished : Maps) (map : Map) → finished map.id ≡ None → AreWellFormed finished → HasNoDanglingReference (overlay finished map) map → IsClosed (overlay finished map)
+pub IsClosed-overlay : (finished : Maps) (map : Map) → finished map.id ≡ None → AreWellFormed finished → HasNoDanglingReference (overlay finished map) map
+    → IsClosed (overlay finished map)
 IsClosed-overlay finished map new whole names = IsClosed-well_formed (overlay finished map) (AreWellFormed-overlay finished map new whole names)
 
 -- the crates that paths begin with are there
 pub LocalIsThere-begins : (maps : Maps) (local : Local) → HasNoDanglingExtern maps local → LocalIsThere maps local
 LocalIsThere-begins maps local begins = record {
   modules = λ name entry e.
-      shown (is_there maps (named.Module entry.0)) (none_found (λ (x : ModuleId × Option ExternCrateId). is_missing maps (named.Module x.0)) (is_at (slice_cmp nat_cmp name)) local entry begins e);
+      shown (is_there maps (named.Module entry.0)) (none_found (λ (x : ModuleId × Option ExternCrateId). is_missing maps (named.Module x.0))
+      (is_at (slice_cmp nat_cmp name)) local entry begins e);
 }
   where
     shown : (b : Bool) → not b ≡ false → b ≡ true
@@ -415,5 +451,6 @@ LocalIsThere-begins maps local begins = record {
 -- a module of the map is there by its number
 pub module_there : (finished : Maps) (map : Map) (at : ℕ) → at < length map.modules → ModuleIsThere (overlay finished map) (numbered map.id at)
 module_there finished map at low =
-    ap (λ (b : Bool). is_some (option_and_then (λ (p : Placed). module_at p.map at) (cond b (Some (placed_in finished map)) (finished map.id)))) (same_id map.id)
+    ap (λ (b : Bool). is_some (option_and_then (λ (p : Placed). module_at p.map at) (cond b (Some (placed_in finished map)) (finished map.id))))
+    (same_id map.id)
     ∙ some_below map.modules at low

@@ -1,5 +1,6 @@
 -- A map that names only what is there.
-use Rattle.std.specs.Prelude.{◌≡◌, Bool, true, false, not, ◌||◌, Option, None, Some, option_map, ℕ, List, map as list_map, slice_get, option_and_then, zero, suc, ◌<◌, ◌≤◌, [], ◌∷◌, length, ◌&&◌, is_some, cond}
+use Rattle.std.specs.Prelude.{◌≡◌, Bool, true, false, not, ◌||◌, Option, None, Some, option_map, ℕ, List, map as list_map, slice_get, option_and_then, zero}
+use Rattle.std.specs.Prelude.{suc, ◌<◌, ◌≤◌, [], ◌∷◌, length, ◌&&◌, is_some, cond}
 use Rattle.std.specs.BTreeMap.{is_at}
 use Rattle.std.specs.Cmp.Lexicographic.{slice_cmp}
 use Rattle.std.specs.Cmp.{first_so, second_so}
@@ -11,23 +12,21 @@ use Rattle.std.proofs.lemmas.List.{length-map}
 use Rattle.std.proofs.lemmas.List.Elements.{All-cons, All-nil}
 use Rattle.std.proofs.lemmas.Option.{slice_get-map}
 use mathlib.Core.Bool.{true≢false}
-use Rattle.hir_base.specs.declared.ast_id.BlockId.{BlockId}
-use Rattle.hir_base.specs.declared.ids.Crate.{Crate}
-use Rattle.hir_base.specs.declared.ids.EnumId.{EnumId}
-use Rattle.hir_base.specs.declared.ids.MapId.{MapId}
-use Rattle.hir_base.specs.declared.ids.ModuleId.{ModuleId}
+use Rattle.hir_base.specs.Types.{BlockId, Crate, EnumId, MapId, ModuleId}
 use Rattle.hir_scope.specs.ModuleTree.{same_crate}
 use Rattle.hir_def_map_rules.specs.Inner.OverlayLaws.{same_id, exact_crate, frame_holders}
 use Rattle.hir_def_map_rules.specs.Ancestors.{ends_from, ends_within, leads_to_root, number_in, own_frame, parent_number, frames_of}
 use Rattle.hir_def_map_rules.specs.Closed.{AreThere, IsClosed, MapIsThere, ModuleIsThere}
 use Rattle.hir_def_map_rules.specs.WellFormed.{HasNoDanglingReference, HasNoDanglingExtern, Extends, AreWellFormed, is_held_outside}
-use Rattle.hir_def_map_rules.specs.References.{are_variants_of, is_missing, is_there, any_reference_in, prelude_reference, test_crate, test_extern, test_of, all_below, has_its_parents, is_parent_in, each_leads_to_root, is_well_formed, is_holder_for, any_own_crate, any_reference}
+use Rattle.hir_def_map_rules.specs.References.{are_variants_of, is_missing, is_there, any_reference_in, prelude_reference, test_crate, test_extern, test_of}
+use Rattle.hir_def_map_rules.specs.References.{all_below, has_its_parents, is_parent_in, each_leads_to_root, is_well_formed, is_holder_for, any_own_crate}
+use Rattle.hir_def_map_rules.specs.References.{any_reference}
 use Rattle.hir_def_map_rules.specs.Scoping.Segments.{variant_in}
 use Rattle.hir_def_map_rules.specs.Scoping.Start.{is_dependency}
-use Rattle.hir_def_map_rules.specs.State.{Local, Map, ModuleValue, Variants, at_name, crate_map, variants_at, parent_of, module_at, parent_at, IsBefore, IsInOrder, entry_of, root_of}
+use Rattle.hir_def_map_rules.specs.State.{Local, Map, ModuleValue, Variants, at_name, crate_map, variants_at, parent_of, module_at, parent_at, IsBefore}
+use Rattle.hir_def_map_rules.specs.State.{IsInOrder, entry_of, root_of}
 use Rattle.hir_def_map_rules.specs.Overlay.{Maps, overlay, Placed, entry_in, holders_of, holders_under, map_in, module_in, parent_in, placed_in}
-use Rattle.hir_def_map_rules.specs.declared.reference.Reference.{Reference}
-use Rattle.hir_def_map_rules.specs.declared.enum_variants.EnumVariant.{EnumVariant}
+use Rattle.hir_def_map_rules.specs.Types.{EnumVariant, Reference}
 use Rattle.hir_def_map_rules.proofs.EnumIds.{exact_enum}
 use Rattle.hir_def_map_rules.proofs.Fails.{of_less}
 use Rattle.hir_def_map_rules.proofs.Referred.{entry_fails, module_less, module_parts}
@@ -78,14 +77,18 @@ module _ (one other : Maps) (more : Extends one other) where
     variants = f.variants;
     modules = none_of_less (any_reference_in (is_missing one)) (any_reference_in (is_missing other)) in_module map.modules f.modules;
     prelude = of_none (prelude_reference map.prelude) f.prelude;
-    dependencies = none_of_less (test_crate (is_missing one)) (test_crate (is_missing other)) (λ c g. none_missing (named.Map (crate_map c)) g) map.crate_data.dependencies f.dependencies;
+    dependencies =
+        none_of_less (test_crate (is_missing one)) (test_crate (is_missing other)) (λ c g. none_missing (named.Map (crate_map c)) g) map.crate_data.dependencies
+        f.dependencies;
   }
 
   pub HasNoDanglingExtern-more : (local : Local) → HasNoDanglingExtern one local → HasNoDanglingExtern other local
-  HasNoDanglingExtern-more local f = none_of_less (test_extern (is_missing one)) (test_extern (is_missing other)) (λ e g. none_missing (named.Module e.1.0) g) local f
+  HasNoDanglingExtern-more local f =
+      none_of_less (test_extern (is_missing one)) (test_extern (is_missing other)) (λ e g. none_missing (named.Module e.1.0) g) local f
 
 -- the parent of a number is that of the module of the number
-pub parent_listed : (ms : List ModuleValue) (at : ℕ) → option_and_then (λ (p : Option ModuleId). p) (slice_get (list_map (λ (m : ModuleValue). m.parent) ms) at) ≡ parent_of (slice_get ms at)
+pub parent_listed : (ms : List ModuleValue) (at : ℕ) → option_and_then (λ (p : Option ModuleId). p) (slice_get (list_map (λ (m : ModuleValue). m.parent) ms) at)
+    ≡ parent_of (slice_get ms at)
 parent_listed ms at = ap (option_and_then (λ (p : Option ModuleId). p)) (slice_get-map (λ (m : ModuleValue). m.parent) ms at) ∙ go (slice_get ms at)
   where
     go : (o : Option ModuleValue) → option_and_then (λ (p : Option ModuleId). p) (option_map (λ (m : ModuleValue). m.parent) o) ≡ parent_of o
@@ -145,7 +148,8 @@ module _ (map : Map) (in_order : IsInOrder map) where
       in_order_parent : (k : ℕ) (m : ModuleValue) → slice_get map.modules k ≡ Some m → is_parent_in map.id m.parent ≡ true
       in_order_parent k m e = inside m.parent k (in_order k m e)
 
-      go : (ms : List ModuleValue) → ((k : ℕ) (m : ModuleValue) → slice_get ms k ≡ Some m → is_parent_in map.id m.parent ≡ true) → list_all (λ (m : ModuleValue). is_parent_in map.id m.parent) ms ≡ true
+      go : (ms : List ModuleValue) → ((k : ℕ) (m : ModuleValue) → slice_get ms k ≡ Some m → is_parent_in map.id m.parent ≡ true)
+          → list_all (λ (m : ModuleValue). is_parent_in map.id m.parent) ms ≡ true
       go [] f = refl
       go (m ∷ ms) f = ap (λ (b : Bool). b && list_all (λ (x : ModuleValue). is_parent_in map.id x.parent) ms) (f zero m refl) ∙ go ms (λ k x e. f (suc k) x e)
 
@@ -155,18 +159,21 @@ holder_there maps id None e = refl
 holder_there maps id (Some h) e = ap not (second_so (same_crate h.map.krate id.krate) (is_some (module_in maps h)) e)
 
 -- a holder outside of a map is there without it
-pub held_before : (finished : Maps) (map : Map) (o : Option ModuleId) → is_held_outside map.id o ≡ true → is_holder_for (overlay finished map) map.id o ≡ true → is_holder_for finished map.id o ≡ true
+pub held_before : (finished : Maps) (map : Map) (o : Option ModuleId) → is_held_outside map.id o ≡ true → is_holder_for (overlay finished map) map.id o ≡ true
+    → is_holder_for finished map.id o ≡ true
 held_before finished map None out e = refl
 held_before finished map (Some h) out e = go (map_id.ghosts.eq h.map map.id) out e
   where
     go : (b : Bool) → not b ≡ true
-        → (same_crate h.map.krate map.id.krate && is_some (option_and_then (λ (p : Placed). module_at p.map h.index) (cond b (Some (placed_in finished map)) (finished h.map)))) ≡ true
+        → (same_crate h.map.krate map.id.krate && is_some
+        (option_and_then (λ (p : Placed). module_at p.map h.index) (cond b (Some (placed_in finished map)) (finished h.map)))) ≡ true
         → is_holder_for finished map.id (Some h) ≡ true
     go true f g = absurd (true≢false (sym f))
     go false f g = g
 
 -- a map that names only what is there is complete
-pub complete : (finished : Maps) (map : Map) (local : Local) → HasNoDanglingReference (overlay finished map) map → HasNoDanglingExtern (overlay finished map) local → is_well_formed finished map local ≡ true
+pub complete : (finished : Maps) (map : Map) (local : Local) → HasNoDanglingReference (overlay finished map) map → HasNoDanglingExtern (overlay finished map)
+    local → is_well_formed finished map local ≡ true
 complete finished map local f begins =
     let maps = overlay finished map in
     let holder : test_of (is_missing maps) (option_map named.Module map.holder) ≡ false = holder_there maps map.id map.holder f.held in
@@ -196,7 +203,8 @@ module _ (maps : Maps) (whole : AreWellFormed maps) where
       go true f = refl
       go false f = absurd (true≢false f)
 
-  module_named : (o : Option Placed) (at : ℕ) (m : ModuleValue) → option_and_then (λ (placed : Placed). module_at placed.map at) o ≡ Some m → (placed : Placed) × (o ≡ Some placed) × (module_at placed.map at ≡ Some m)
+  module_named : (o : Option Placed) (at : ℕ) (m : ModuleValue) → option_and_then (λ (placed : Placed). module_at placed.map at) o ≡ Some m → (placed : Placed)
+      × (o ≡ Some placed) × (module_at placed.map at ≡ Some m)
   module_named None at m e = absurd cc
   module_named (Some placed) at m e = (placed, refl, e)
 
@@ -211,13 +219,16 @@ module _ (maps : Maps) (whole : AreWellFormed maps) where
     where
       go : (o : Option ModuleValue) → module_in maps m ≡ o → parent_of o ≡ Some p → ModuleIsThere maps p
       go None s f = absurd cc
-      go (Some v) s f = is_in (named.Module p) (ap (λ (x : Option ModuleId). test_of missing (option_map named.Module x)) (sym f) ∙ (module_parts missing v (names_of m v s)).parent)
+      go (Some v) s f =
+          is_in (named.Module p) (ap (λ (x : Option ModuleId). test_of missing (option_map named.Module x)) (sym f) ∙
+          (module_parts missing v (names_of m v s)).parent)
 
   closed_names : (m : ModuleId) (name : List ℕ) → AreThere maps (entry_in maps m name)
   closed_names m name = entry_fails missing (module_in maps m) (names_of m) name
 
   -- a variant is that of its enum
-  own_variant : (vs : Variants) (id : EnumId) (name : List ℕ) (variant : EnumVariant) → are_variants_of id vs ≡ true → at_name vs name ≡ Some variant → variant.id.parent ≡ id
+  own_variant : (vs : Variants) (id : EnumId) (name : List ℕ) (variant : EnumVariant) → are_variants_of id vs ≡ true → at_name vs name ≡ Some variant
+      → variant.id.parent ≡ id
   own_variant vs id name variant all e =
       exact_enum variant.id.parent id (all_found (λ (v : EnumVariant). enum_id.ghosts.eq v.id.parent id) (is_at (slice_cmp nat_cmp name)) vs variant all e)
 
@@ -226,7 +237,8 @@ module _ (maps : Maps) (whole : AreWellFormed maps) where
     where
       here : (x : EnumId × Variants) (xs : List (EnumId × Variants)) (b : Bool) → is_at (enum_order.ghosts.cmp id) x.0 ≡ b → are_variants_of x.0 x.1 ≡ true
           → (option_and_then (λ (vs : Variants). at_name vs name) (lookup (is_at (enum_order.ghosts.cmp id)) xs) ≡ Some variant → variant.id.parent ≡ id)
-          → option_and_then (λ (vs : Variants). at_name vs name) (cond b (Some x.1) (lookup (is_at (enum_order.ghosts.cmp id)) xs)) ≡ Some variant → variant.id.parent ≡ id
+          → option_and_then (λ (vs : Variants). at_name vs name) (cond b (Some x.1) (lookup (is_at (enum_order.ghosts.cmp id)) xs)) ≡ Some variant
+          → variant.id.parent ≡ id
       here x xs true s own below g = own_variant x.1 x.0 name variant own g ∙ sym (exact_enum id x.0 (enum_ties id x.0 ∙ s))
       here x xs false s own below g = below g
 
@@ -235,10 +247,12 @@ module _ (maps : Maps) (whole : AreWellFormed maps) where
       of_enum [] all f = absurd cc
       of_enum (x ∷ xs) all f =
           let others = list_all (λ (y : EnumId × Variants). are_variants_of y.0 y.1) xs in
-          here x xs (is_at (enum_order.ghosts.cmp id) x.0) refl (first_so (are_variants_of x.0 x.1) others all) (λ g. of_enum xs (second_so (are_variants_of x.0 x.1) others all) g) f
+          here x xs (is_at (enum_order.ghosts.cmp id) x.0) refl (first_so (are_variants_of x.0 x.1) others all)
+          (λ g. of_enum xs (second_so (are_variants_of x.0 x.1) others all) g) f
 
       go : (o : Option Placed) → maps id.loc.container.map ≡ o
-          → option_and_then (λ (vs : Variants). at_name vs name) (option_and_then (λ (placed : Placed). variants_at placed.map id) o) ≡ Some variant → variant.id.parent ≡ id
+          → option_and_then (λ (vs : Variants). at_name vs name) (option_and_then (λ (placed : Placed). variants_at placed.map id) o) ≡ Some variant
+          → variant.id.parent ≡ id
       go None s f = absurd cc
       go (Some placed) s f = of_enum placed.map.enums (whole id.loc.container.map placed s).names.variants f
 
@@ -246,8 +260,11 @@ module _ (maps : Maps) (whole : AreWellFormed maps) where
   listed_there [] f c e = absurd (true≢false (sym e))
   listed_there (k ∷ ks) f c e = go (same_crate c k) refl e (λ g. listed_there ks (not_second (test_crate missing k) (list_any (test_crate missing) ks) f) c g)
     where
-      go : (b : Bool) → same_crate c k ≡ b → (b || list_any (same_crate c) ks) ≡ true → (list_any (same_crate c) ks ≡ true → MapIsThere maps (crate_map c)) → MapIsThere maps (crate_map c)
-      go true s g below = ap (λ (x : Crate). is_some (maps (crate_map x))) (exact_crate c k s) ∙ is_in (named.Map (crate_map k)) (not_first (test_crate missing k) (list_any (test_crate missing) ks) f)
+      go : (b : Bool) → same_crate c k ≡ b → (b || list_any (same_crate c) ks) ≡ true → (list_any (same_crate c) ks ≡ true → MapIsThere maps (crate_map c))
+          → MapIsThere maps (crate_map c)
+      go true s g below =
+          ap (λ (x : Crate). is_some (maps (crate_map x))) (exact_crate c k s) ∙ is_in (named.Map (crate_map k))
+          (not_first (test_crate missing k) (list_any (test_crate missing) ks) f)
       go false s g below = below g
 
   is_some_slice_get : (ms : List ModuleValue) → 0 < length ms → is_some (slice_get ms 0) ≡ true
@@ -272,7 +289,8 @@ module _ (maps : Maps) (whole : AreWellFormed maps) where
           let first : 0 < length placed.map.modules = (whole id placed s).names.root in
           ap (λ (x : Option Placed). is_some (option_and_then (λ (y : Placed). module_at y.map 0) x)) s ∙ is_some_slice_get placed.map.modules first
 
-      at_home : (k : Crate) (b : Option BlockId) → any_own_crate missing (record { krate = k; block = b }) ≡ false → is_some (maps (record { krate = k; block = b })) ≡ true → MapIsThere maps (crate_map k)
+      at_home : (k : Crate) (b : Option BlockId) → any_own_crate missing (record { krate = k; block = b }) ≡ false
+          → is_some (maps (record { krate = k; block = b })) ≡ true → MapIsThere maps (crate_map k)
       at_home k None f t = t
       at_home k (Some b) f t = is_in (named.Map (crate_map k)) f
 
@@ -280,7 +298,8 @@ module _ (maps : Maps) (whole : AreWellFormed maps) where
       crate_there m None s e = absurd (true≢false (sym e ∙ ap (λ (x : Option Placed). is_some (option_and_then (λ (y : Placed). module_at y.map m.index) x)) s))
       crate_there m (Some placed) s e =
           let w = whole m.map placed s in
-          at_home m.map.krate m.map.block (subst (λ (x : MapId). any_own_crate missing x ≡ false) w.own w.names.own_crate) (ap (λ (x : Option Placed). is_some x) s)
+          at_home m.map.krate m.map.block (subst (λ (x : MapId). any_own_crate missing x ≡ false) w.own w.names.own_crate)
+          (ap (λ (x : Option Placed). is_some x) s)
 
       depends : (id : MapId) (c : Crate) (o : Option Placed) → maps id ≡ o → is_dependency (map_in maps id) c ≡ true → MapIsThere maps (crate_map c)
       depends id c None s e = absurd (true≢false (sym e ∙ ap (λ (x : Option Placed). is_dependency (option_map (λ (y : Placed). y.map) x) c) s))
@@ -300,7 +319,8 @@ module _ (maps : Maps) (whole : AreWellFormed maps) where
       held (h ∷ hs) id None s e = absurd cc
       held (h ∷ hs) id (Some placed) s e =
           let w = whole id placed s in
-          go placed.map.holder (subst (λ (x : MapId). is_holder_for maps x placed.map.holder ≡ true) w.own w.names.held) (sym w.holders ∙ e) (λ k f. held hs k.map (maps k.map) refl f)
+          go placed.map.holder (subst (λ (x : MapId). is_holder_for maps x placed.map.holder ≡ true) w.own w.names.held) (sym w.holders ∙ e)
+          (λ k f. held hs k.map (maps k.map) refl f)
         where
           go : (o : Option ModuleId) → is_holder_for maps id o ≡ true → holders_under maps id o ≡ h ∷ hs
               → ((k : ModuleId) → holders_of (maps k.map) ≡ hs → All (ModuleIsThere maps) hs) → All (ModuleIsThere maps) (h ∷ hs)
@@ -308,7 +328,8 @@ module _ (maps : Maps) (whole : AreWellFormed maps) where
           go (Some k) f g rest =
               let inside : is_some (module_in maps k) ≡ true = second_so (same_crate k.map.krate id.krate) (is_some (module_in maps k)) f in
               let near : same_crate k.map.krate id.krate ≡ true = first_so (same_crate k.map.krate id.krate) (is_some (module_in maps k)) f in
-              let under : k ∷ holders_of (maps k.map) ≡ h ∷ hs = (λ i. cond (sym near i && sym (first_there k inside) i) (k ∷ holders_of (maps k.map)) []) ∙ g in
+              let under : k ∷ holders_of (maps k.map) ≡ h ∷ hs = (λ i. cond (sym near i && sym (first_there k inside) i) (k ∷ holders_of (maps k.map)) []) ∙ g
+              in
               let first : k ≡ h = cc in
               let others : holders_of (maps k.map) ≡ hs = cc in
               All-cons (ModuleIsThere maps) h hs (subst (ModuleIsThere maps) first inside) (rest k others)

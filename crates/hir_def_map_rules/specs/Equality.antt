@@ -11,9 +11,7 @@ use Rattle.hir_base.specs.contracts.edition.EditionPartialEq.TheImpl as edition
 use Rattle.hir_base.specs.contracts.edition.EditionEq.TheImpl.Laws.{laws-law as edition_laws}
 use Rattle.hir_base.specs.contracts.ids.CratePartialEq.TheImpl as krate
 use Rattle.hir_base.specs.contracts.ids.CrateEq.TheImpl.Laws.{laws-law as krate_laws}
-use Rattle.hir_base.specs.declared.ids.ExternCrateId.{ExternCrateId}
-use Rattle.hir_base.specs.declared.ids.ModuleId.{ModuleId}
-use Rattle.hir_base.specs.declared.ids.UseId.{UseId}
+use Rattle.hir_base.specs.Types.{ExternCrateId, ModuleId, UseId}
 use Rattle.hir_base.specs.contracts.ids.EnumIdPartialEq.TheImpl as enum_id
 use Rattle.hir_base.specs.contracts.ids.EnumIdEq.TheImpl.Laws.{laws-law as enum_id_laws}
 use Rattle.hir_base.specs.contracts.ids.ExternCrateIdPartialEq.TheImpl as extern_crate
@@ -37,7 +35,8 @@ use Rattle.hir_def_map_rules.specs.contracts.enum_variants.EnumVariantPartialEq.
 use Rattle.hir_def_map_rules.specs.contracts.enum_variants.EnumVariantEq.TheImpl.Laws.{laws-law as enum_variant_laws}
 use Rattle.hir_def_map_rules.specs.contracts.origin.ModuleOriginPartialEq.TheImpl as origin
 use Rattle.hir_def_map_rules.specs.contracts.origin.ModuleOriginEq.TheImpl.Laws.{laws-law as origin_laws}
-use Rattle.hir_def_map_rules.specs.Inner.MacroEquality.{same_diagnostics, same_diagnostics_equiv, same_helpers, same_helpers_equiv, same_macro_data, same_macro_data_equiv}
+use Rattle.hir_def_map_rules.specs.Inner.MacroEquality.{same_diagnostics, same_diagnostics_equiv, same_helpers, same_helpers_equiv, same_macro_data}
+use Rattle.hir_def_map_rules.specs.Inner.MacroEquality.{same_macro_data_equiv}
 use Rattle.hir_def_map_rules.specs.State.{CrateData, Local, Map, Modules, ModuleValue, Variants}
 
 -- a test of two values

@@ -30,3 +30,4 @@ pub mod Equality
 pub mod Sources
 -- ---- words of private code
 pub mod Inner
+pub mod Types

@@ -3,15 +3,13 @@ use Rattle.std.proofs.Common.{◌≡◌, ◌∙◌, ap, sym, subst, refl, ℕ, �
 use mathlib.Core.Bool.{true≢false}
 use Rattle.std.specs.Prelude.{Contains}
 use Rattle.std.proofs.lemmas.List.Elements.{Contains-append_left, Contains-push, Contains-push_cases}
-use Rattle.hir_glob_imports.specs.declared.edge.Brought.{Brought}
-use Rattle.hir_glob_imports.specs.declared.edge.Edge.{Edge}
-use Rattle.hir_glob_imports.specs.declared.edge.Key.{Key}
-use Rattle.hir_glob_imports.specs.declared.edge.Slot.{Slot}
+use Rattle.hir_glob_imports.specs.Types.{Brought, Edge, Key, Slot}
 use Rattle.hir_glob_imports.specs.declared.edge.Update.TheVariants.{Nothing}
 use Rattle.hir_glob_imports.specs.Inner.{IsKeptBeside, IsKeptBut, Looks, StepIn, Takes, pair}
 use Rattle.hir_glob_imports.specs.Keys.{slot_at}
 use Rattle.hir_glob_imports.specs.Moves.{shown, update_of}
-use Rattle.hir_glob_imports.specs.Rules.{GlobState, IsSpent, May, Rule, Steps, StepsIn, copies_along, follows_along, more, more_in, none, none_in, raises_along, slot_of}
+use Rattle.hir_glob_imports.specs.Rules.{GlobState, IsSpent, May, Rule, Steps, StepsIn, copies_along, follows_along, more, more_in, none, none_in, raises_along}
+use Rattle.hir_glob_imports.specs.Rules.{slot_of}
 use Rattle.hir_glob_imports.specs.View.{View, NameTable, bound_in}
 use Rattle.hir_glob_imports.specs.Waves.{GlobsValue, brought_of, update_in, state_of, IsPendingOrSettled, IsKept}
 use Rattle.hir_glob_imports.proofs.Taking.{brought_by_list}
@@ -56,7 +54,8 @@ module _ (v : View) (m : GlobsValue) (j : ℕ) (key : Key) (kept : IsKeptBeside 
     stands = kept.stands;
   }
     where
-      go : (k : ℕ) (d : Edge) (other : Key) → slice_get m.edges k ≡ Some d → IsPendingOrSettled v m k d other ⊎ (pair j key ≡ pair k other) → IsPendingOrSettled v m k d other
+      go : (k : ℕ) (d : Edge) (other : Key) → slice_get m.edges k ≡ Some d → IsPendingOrSettled v m k d other ⊎ (pair j key ≡ pair k other)
+          → IsPendingOrSettled v m k d other
       go k d other is (inl h) = h
       go k d other is (inr same) =
           let no : None ≡ Some d = sym missing ∙ ap (λ (p : ℕ × Key). slice_get m.edges p.0) same ∙ is in
@@ -136,7 +135,12 @@ module _ {S : Type 0} (t : NameTable S) where
   pub looks_taken : (s : Slot) (n n' : S) (g g' : GlobsValue) (count count' : ℕ) (xs ys : List Slot) → Takes t s n g count n' g' count' → ys ≡ xs ++ s ∷ []
       → Looks t true n g count xs n' g' count' ys
   looks_taken s n n' g g' count count' xs ys takes is = record {
-    step = λ f. record { step = takes.step; among = subst (λ (q : Slot). Contains ys q) (sym takes.slot_is) (subst (λ (zs : List Slot). Contains zs s) (sym is) (Contains-push xs s)) };
+    step =
+        λ f. record {
+          step = takes.step;
+          among = subst (λ (q : Slot). Contains ys q) (sym takes.slot_is)
+              (subst (λ (zs : List Slot). Contains zs s) (sym is) (Contains-push xs s));
+        };
     counted = λ f. takes.counted;
     stays = λ f. absurd (true≢false f);
     reported = λ q h. subst (λ (zs : List Slot). Contains zs q) (sym is) (Contains-append_left xs (s ∷ []) q h);

@@ -7,7 +7,7 @@ use Rattle.std.specs.declared.vec.Vec.{Vec}
 use Rattle.std.specs.declared.alloc.Global.{Global}
 use Rattle.std.proofs.lemmas.Cmp.{nat_cmp_total, tied_itself}
 use Rattle.std.specs.Ordering.{is_eq}
-use Rattle.hir_glob_imports.specs.declared.index.EdgesByModule.{EdgesByModule}
+use Rattle.hir_glob_imports.specs.Types.{EdgesByModule}
 use Rattle.hir_glob_imports.specs.Inner.{edges_at, items_or_none}
 use Rattle.hir_glob_imports.proofs.Exact.{exact_nat}
 

@@ -1,17 +1,13 @@
 -- An edge that is recorded, with all that its source has to be looked at, leaves everything pending or settled.
-use Rattle.std.proofs.Common.{◌≡◌, ◌∙◌, ap, sym, subst, refl, ℕ, zero, suc, ◌++◌, Bool, true, false, ◌&&◌, ◌==◌, ◌⊎◌, inl, inr, List, [], ◌∷◌, length, Option, None, Some, slice_get, arith}
+use Rattle.std.proofs.Common.{◌≡◌, ◌∙◌, ap, sym, subst, refl, ℕ, zero, suc, ◌++◌, Bool, true, false, ◌&&◌, ◌==◌, ◌⊎◌, inl, inr, List, [], ◌∷◌, length, Option}
+use Rattle.std.proofs.Common.{None, Some, slice_get, arith}
 use Rattle.std.specs.Prelude.{Contains, IsSome, IfSome, IfNone, slice_set, if◌then◌else◌}
 use Rattle.hir_scope.specs.Bindings.{first_of}
 use Rattle.std.specs.Cmp.{unsigned_Decides}
 use Rattle.std.proofs.lemmas.List.Elements.{Contains-append_cases, Contains-push_cases}
-use Rattle.hir_glob_imports.specs.declared.edge.Bound.{Bound}
-use Rattle.hir_glob_imports.specs.declared.edge.Brought.{Brought}
-use Rattle.hir_glob_imports.specs.declared.edge.Edge.{Edge}
-use Rattle.hir_glob_imports.specs.declared.edge.Key.{Key}
-use Rattle.hir_glob_imports.specs.declared.edge.Slot.{Slot}
+use Rattle.hir_glob_imports.specs.Types.{Bound, Brought, Edge, EdgesByModule, Key, Slot}
 use Rattle.hir_glob_imports.specs.declared.edge.Target.TheVariants.{Own}
-use Rattle.hir_glob_imports.specs.declared.index.EdgesByModule.{EdgesByModule}
-use Rattle.hir_scope.specs.declared.visibility.Visibility.{Visibility}
+use Rattle.hir_scope.specs.Types.{Visibility}
 use Rattle.hir_glob_imports.specs.Inner.{Linked, IsIndexed, edges_at, first_matching, matching}
 use Rattle.hir_glob_imports.specs.Keys.{slot_at}
 use Rattle.hir_glob_imports.specs.Moves.{seen_by, shown, update_of}
@@ -32,7 +28,8 @@ module _ {A : Type 0} where
       go (inr f) = inr (ap suc f.0, f.1)
 
   -- a value of a list where one was written is that, or one that was there
-  pub one_or_written : (xs : List A) (at : ℕ) (y : A) (k : ℕ) (x : A) → slice_get (slice_set xs at y) k ≡ Some x → (slice_get xs k ≡ Some x) ⊎ ((k ≡ at) × (x ≡ y))
+  pub one_or_written : (xs : List A) (at : ℕ) (y : A) (k : ℕ) (x : A) → slice_get (slice_set xs at y) k ≡ Some x → (slice_get xs k ≡ Some x)
+      ⊎ ((k ≡ at) × (x ≡ y))
   one_or_written [] zero y k x e = inl e
   one_or_written [] (suc at) y k x e = inl e
   one_or_written (z ∷ zs) zero y zero x e = let same : x ≡ y = cc in inr (refl, same)
@@ -51,7 +48,8 @@ module _ (v : View) (at : ℕ) (e : Edge) (g h : GlobsValue) (linked : Linked v 
   -- along the edge each key is to be looked at where its source has something
   opened : (key : Key) (o : Option Bound) → v.bound e.source key ≡ o → IsPendingOrSettled v h at e key
   opened key None none =
-      inr (ap (λ (o : Option Bound). update_of v at e key (seen_by (v.sees e.importer) o) (bound_in v (slot_at e.importer key)) (brought_of h (slot_at e.importer key))) none)
+      inr (ap (λ (o : Option Bound). update_of v at e key (seen_by (v.sees e.importer) o) (bound_in v (slot_at e.importer key))
+      (brought_of h (slot_at e.importer key))) none)
   opened key (Some b) some = inl (linked.open_keys key (subst (λ (o : Option Bound). IsSome o) (sym some) refl))
 
   pub linked_keeps : v.has e.importer ≡ true → IsKept v g → IsKept v h
@@ -70,7 +68,8 @@ module _ (v : View) (at : ℕ) (e : Edge) (g h : GlobsValue) (linked : Linked v 
           still : IsPendingOrSettled v g j d key → IsPendingOrSettled v h j d key
           still (inl p) = inl (linked.kept j key p)
           still (inr nothing) =
-              inr (ap (λ (by : Option Brought). update_of v j d key (shown v d key) (bound_in v (slot_at d.importer key)) by) (same_brought (slot_at d.importer key)) ∙ nothing)
+              inr (ap (λ (by : Option Brought). update_of v j d key (shown v d key) (bound_in v (slot_at d.importer key)) by)
+              (same_brought (slot_at d.importer key)) ∙ nothing)
 
           on : (slice_get g.edges j ≡ Some d) ⊎ ((j ≡ at) × (d ≡ e)) → IsPendingOrSettled v h j d key
           on (inl old) = still (kept.settled j d key old)
@@ -154,7 +153,8 @@ pub ends_absent : (e : Edge) (edges edges0 : List Edge) (out_of into : EdgesByMo
     → IsIndexed edges0 out_of into → listed ≡ edges_at into e.importer → r ≡ first_matching e edges0 listed
     → IfNone r ((j : ℕ) (d : Edge) → slice_get edges j ≡ Some d → has_same_ends d e ≡ false)
 ends_absent e edges edges0 out_of into listed (Some p) same indexed here is = tt
-ends_absent e edges edges0 out_of into listed None same indexed here is = λ j d found. go j d (subst (λ (es : List Edge). slice_get es j ≡ Some d) (sym same) found) (d.importer == e.importer) refl
+ends_absent e edges edges0 out_of into listed None same indexed here is =
+    λ j d found. go j d (subst (λ (es : List Edge). slice_get es j ≡ Some d) (sym same) found) (d.importer == e.importer) refl
   where
     go : (j : ℕ) (d : Edge) → slice_get edges0 j ≡ Some d → (b : Bool) → (d.importer == e.importer) ≡ b → has_same_ends d e ≡ false
     go j d found true at =
@@ -192,13 +192,15 @@ indexed_push edges new e at out out' into into' more_out more_in out_here in_her
     on_in : (j : ℕ) (d : Edge) → (slice_get edges j ≡ Some d) ⊎ ((j ≡ length edges) × (d ≡ e)) → Contains (edges_at into' d.importer) j
     on_in j d (inl old) = more_in d.importer j (indexed.inward j d old)
     on_in j d (inr new) =
-        subst (λ (x : Edge). Contains (edges_at into' x.importer) j) (sym new.1) (subst (λ (k : ℕ). Contains (edges_at into' e.importer) k) (last ∙ sym new.0) in_here)
+        subst (λ (x : Edge). Contains (edges_at into' x.importer) j) (sym new.1) (subst (λ (k : ℕ). Contains (edges_at into' e.importer) k) (last ∙ sym new.0)
+        in_here)
 
 -- an edge that only takes another visibility is listed as before
 pub indexed_set : (edges new : List Edge) (d : Edge) (at : ℕ) (vis : Visibility) (out into : EdgesByModule) → slice_get edges at ≡ Some d
     → new ≡ slice_set edges at (edge_with_vis d vis) → IsIndexed edges out into → IsIndexed new out into
 indexed_set edges new d at vis out into there is indexed = record {
-  out = λ j m e found from. on_out j m e from (one_or_written edges at (edge_with_vis d vis) j e (subst (λ (es : List Edge). slice_get es j ≡ Some e) is found));
+  out =
+      λ j m e found from. on_out j m e from (one_or_written edges at (edge_with_vis d vis) j e (subst (λ (es : List Edge). slice_get es j ≡ Some e) is found));
   inward = λ j e found. on_in j e (one_or_written edges at (edge_with_vis d vis) j e (subst (λ (es : List Edge). slice_get es j ≡ Some e) is found));
 }
   where
@@ -210,7 +212,8 @@ indexed_set edges new d at vis out into there is indexed = record {
     on_in : (j : ℕ) (e : Edge) → (slice_get edges j ≡ Some e) ⊎ ((j ≡ at) × (e ≡ edge_with_vis d vis)) → Contains (edges_at into e.importer) j
     on_in j e (inl old) = indexed.inward j e old
     on_in j e (inr new) =
-        subst (λ (x : Edge). Contains (edges_at into x.importer) j) (sym new.1) (subst (λ (k : ℕ). Contains (edges_at into d.importer) k) (sym new.0) (indexed.inward at d there))
+        subst (λ (x : Edge). Contains (edges_at into x.importer) j) (sym new.1) (subst (λ (k : ℕ). Contains (edges_at into d.importer) k) (sym new.0)
+        (indexed.inward at d there))
 
 pub linked_from : (v : View) (at : ℕ) (e : Edge) (g g0 h : GlobsValue) → g0 ≡ g → h.brought ≡ g0.brought
     → ((j : ℕ) (d : Edge) → slice_get h.edges j ≡ Some d → (slice_get g0.edges j ≡ Some d) ⊎ ((j ≡ at) × (d ≡ e)))

@@ -1,24 +1,22 @@
 -- Visibilities of edges, of what globs brought, and of traits without names stay of a kind.
-use Rattle.std.proofs.Common.{◌≡◌, ◌∙◌, ap, sym, subst, refl, ℕ, Bool, true, false, ◌⊎◌, inl, inr, List, [], ◌∷◌, length, map as list_map, Option, None, Some, slice_get, if◌then◌else◌, arith}
+use Rattle.std.proofs.Common.{◌≡◌, ◌∙◌, ap, sym, subst, refl, ℕ, Bool, true, false, ◌⊎◌, inl, inr, List, [], ◌∷◌, length, map as list_map, Option, None, Some}
+use Rattle.std.proofs.Common.{slice_get, if◌then◌else◌, arith}
 use Rattle.std.proofs.lemmas.List.Elements.{Contains-append_right}
 use Rattle.std.proofs.lemmas.Map.Entries.{lookup_tail}
 use Rattle.std.specs.BTreeMap.{is_at}
 use Rattle.std.specs.Map.{lookup}
 use mathlib.Core.Bool.{true≢false}
 use Rattle.std.specs.Prelude.{Contains, IsSome, is_some}
-use Rattle.hir_base.specs.declared.ids.TraitId.{TraitId}
-use Rattle.hir_scope.specs.declared.visibility.Visibility.{Visibility}
-use Rattle.hir_glob_imports.specs.declared.edge.Bound.{Bound}
-use Rattle.hir_glob_imports.specs.declared.edge.Brought.{Brought}
-use Rattle.hir_glob_imports.specs.declared.edge.Edge.{Edge}
-use Rattle.hir_glob_imports.specs.declared.edge.Key.{Key}
+use Rattle.hir_base.specs.Types.{TraitId}
+use Rattle.hir_scope.specs.Types.{Visibility}
+use Rattle.hir_glob_imports.specs.Types.{Bound, Brought, Edge, Key, Slot}
 use Rattle.hir_glob_imports.specs.declared.edge.Key.TheVariants.{Types, Values, Macros, Unnamed}
-use Rattle.hir_glob_imports.specs.declared.edge.Slot.{Slot}
 use Rattle.hir_glob_imports.specs.contracts.edge.SlotOrd.TheImpl as slot_order
 use Rattle.hir_glob_imports.specs.declared.edge.Target.TheVariants.{Own}
 use Rattle.hir_glob_imports.specs.Keys.{is_unnamed, same_slot, slot_at}
 use Rattle.hir_glob_imports.specs.Moves.{brought_vis, may_raise, same_vis, seen_by}
-use Rattle.hir_glob_imports.specs.Rules.{BroughtBy, GlobState, May, Rule, Shows, Step, StepsIn, after, as_seen, copies_along, follows_along, more_in, none_in, noted, raises_along}
+use Rattle.hir_glob_imports.specs.Rules.{BroughtBy, GlobState, May, Rule, Shows, Step, StepsIn, after, as_seen, copies_along, follows_along, more_in, none_in}
+use Rattle.hir_glob_imports.specs.Rules.{noted, raises_along}
 use Rattle.hir_glob_imports.specs.View.{Binds, ChangesOnly, IsNameTable, NameTable, View, bound_in, with_vis}
 use Rattle.hir_glob_imports.specs.Waves.{AreOfKind, FindsKind, GlobsValue, Records, Stands, adds, brought_of, edge_with_vis, stays, wider_of, widens}
 use Rattle.hir_glob_imports.proofs.Exact.{exact_slot}
@@ -38,10 +36,8 @@ sees_from_seen sees (Some x) b e = go (sees x.vis) refl e
 
 -- a key without a name is that of a trait
 pub unnamed_key : (key : Key) → is_unnamed key ≡ true → (id : TraitId) × (key ≡ Unnamed id)
-unnamed_key (Types name) e = absurd (true≢false (sym e))
-unnamed_key (Values name) e = absurd (true≢false (sym e))
-unnamed_key (Macros name) e = absurd (true≢false (sym e))
 unnamed_key (Unnamed id) e = (id, refl)
+unnamed_key other e = absurd (true≢false (sym e))
 
 some_there : (o : Option Bound) → IsSome o → (c : Bound) × (o ≡ Some c)
 some_there None e = absurd (true≢false (sym e))
@@ -72,7 +68,8 @@ module _ (P : Visibility → Type 0) where
     brought_still q by c is there true m = here q c m there
     brought_still q by c is there false m = kinds.brought q by c (sym (others q m) ∙ is) (sym (binds.changes.bound (Own q.at) q.key m) ∙ there)
 
-    trait_still : (at : ℕ) (id : TraitId) (c : Bound) → w.bound (Own at) (Unnamed id) ≡ Some c → (m : Bool) → same_slot s (slot_at at (Unnamed id)) ≡ m → P c.vis
+    trait_still : (at : ℕ) (id : TraitId) (c : Bound) → w.bound (Own at) (Unnamed id) ≡ Some c → (m : Bool) → same_slot s (slot_at at (Unnamed id)) ≡ m
+        → P c.vis
     trait_still at id c there true m = here (slot_at at (Unnamed id)) c m there
     trait_still at id c there false m = kinds.traits at id c (sym (binds.changes.bound (Own at) (Unnamed id) m) ∙ there)
 
@@ -94,7 +91,8 @@ module _ (P : Visibility → Type 0) where
       kinds : AreOfKind P (t.view g.names) g.edges g.brought
 
     written : (s : Slot) (b : Bound) (g : GlobState S) (n : S) (brought : BroughtBy) (count : ℕ) → Binds s b (t.view g.names) (t.view n) → P b.vis
-        → ((q : Slot) → same_slot s q ≡ false → brought q ≡ g.brought q) → IsOfKind g → IsOfKind (record { names = n; edges = g.edges; brought = brought; count = count })
+        → ((q : Slot) → same_slot s q ≡ false → brought q ≡ g.brought q) → IsOfKind g
+        → IsOfKind (record { names = n; edges = g.edges; brought = brought; count = count })
     written s b g n brought count binds of_kind others holds = record {
       finds = finds_still s (t.view g.names) (t.view n) binds.changes holds.finds;
       there = λ j e is. binds.changes.has e.importer ∙ holds.there j e is;
@@ -107,7 +105,8 @@ module _ (P : Visibility → Type 0) where
         on q by is false m = ap is_some (binds.changes.bound (Own q.at) q.key m) ∙ holds.some q by (sym (others q m) ∙ is)
 
     -- the visibility under which an edge brings what its source shows
-    along : (g : GlobState S) (j : ℕ) (e : Edge) (s : Slot) (b : Bound) → IsOfKind g → Shows (t.view g.names) g.edges j e s b → P (brought_vis (t.view g.names) e b)
+    along : (g : GlobState S) (j : ℕ) (e : Edge) (s : Slot) (b : Bound) → IsOfKind g → Shows (t.view g.names) g.edges j e s b
+        → P (brought_vis (t.view g.names) e b)
     along g j e s b holds shows =
         let source : P b.vis =
         holds.finds.seen e.importer b.vis (holds.there j e shows.recorded)
@@ -115,7 +114,8 @@ module _ (P : Visibility → Type 0) where
         holds.finds.lesser e.vis b.vis (holds.kinds.edges j e shows.recorded) source
 
     -- what may be raised is a trait without a name, or a glob brought it
-    raised : (g : GlobState S) (j : ℕ) (s : Slot) (c : Bound) → IsOfKind g → bound_in (t.view g.names) s ≡ Some c → may_raise j s.key (g.brought s) ≡ true → P c.vis
+    raised : (g : GlobState S) (j : ℕ) (s : Slot) (c : Bound) → IsOfKind g → bound_in (t.view g.names) s ≡ Some c → may_raise j s.key (g.brought s) ≡ true
+        → P c.vis
     raised g j s c holds stands may = on (g.brought s) refl may
       where
         unnamed : is_unnamed s.key ≡ true → P c.vis
@@ -130,7 +130,8 @@ module _ (P : Visibility → Type 0) where
     ruled : (g : GlobState S) (rule : Rule) → May t g rule → IsOfKind g → IsOfKind (after t g rule)
     ruled g (copies_along j e s b) may holds =
         written s (with_vis b vis) g (t.copied g.names s e.source vis e.id) (noted g.brought s (as_seen j e b)) _
-        (writes.copies g.names s e.source b vis e.id (subst (λ (k : ℕ). (t.view g.names).has k ≡ true) may.shows.at (holds.there j e may.shows.recorded)) may.vacant
+        (writes.copies g.names s e.source b vis e.id (subst (λ (k : ℕ). (t.view g.names).has k ≡ true) may.shows.at (holds.there j e may.shows.recorded))
+        may.vacant
         (there_from_seen ((t.view g.names).sees e.importer) ((t.view g.names).bound e.source s.key) b may.shows.shown))
         (along g j e s b holds may.shows) (noted-other g.brought s (as_seen j e b)) holds
       where
@@ -149,7 +150,8 @@ module _ (P : Visibility → Type 0) where
         stands = some_there (bound_in (t.view g.names) s) (holds.some s may.last may.brought_last)
     ruled g (raises_along j e s vis) may holds =
         written s (with_vis may.c vis) g (t.raised g.names s vis) g.brought _ (writes.raises g.names s may.c vis may.stands)
-        (holds.finds.greater may.c.vis (brought_vis (t.view g.names) e may.b) vis (raised g j s may.c holds may.stands may.may) (along g j e s may.b holds may.shows) may.greater)
+        (holds.finds.greater may.c.vis (brought_vis (t.view g.names) e may.b) vis (raised g j s may.c holds may.stands may.may)
+        (along g j e s may.b holds may.shows) may.greater)
         (λ q apart. refl) holds
 
     stepped : (old new : GlobState S) → Step t old new → IsOfKind old → IsOfKind new
@@ -178,7 +180,8 @@ module _ (P : Visibility → Type 0) where
       go false f = f
 
   -- so does an edge of the kind that is recorded
-  pub kind_linked : (v : View) (old new : List Edge) (e : Edge) (brought : BroughtBy) → Records v old new e → P e.vis → FindsKind P v → AreOfKind P v old brought → AreOfKind P v new brought
+  pub kind_linked : (v : View) (old new : List Edge) (e : Edge) (brought : BroughtBy) → Records v old new e → P e.vis → FindsKind P v
+      → AreOfKind P v old brought → AreOfKind P v new brought
   kind_linked v old new e brought records of_kind finds kinds = record { edges = each records; brought = kinds.brought; traits = kinds.traits }
     where
       one_more : (x : Edge) (k : ℕ) → P x.vis → (j : ℕ) (d : Edge) → (slice_get old j ≡ Some d) ⊎ ((j ≡ k) × (d ≡ x)) → P d.vis
@@ -187,7 +190,8 @@ module _ (P : Visibility → Type 0) where
 
       each : Records v old new e → (j : ℕ) (d : Edge) → slice_get new j ≡ Some d → P d.vis
       each (widens k x wide there ends wider is) j d found =
-          one_more (edge_with_vis x wide) k (finds.greater x.vis e.vis wide (kinds.edges k x there) of_kind (wider_there x.vis wide (v.greater x.vis e.vis) wider)) j d
+          one_more (edge_with_vis x wide) k (finds.greater x.vis e.vis wide (kinds.edges k x there) of_kind
+          (wider_there x.vis wide (v.greater x.vis e.vis) wider)) j d
           (one_or_written old k (edge_with_vis x wide) j d (subst (λ (es : List Edge). slice_get es j ≡ Some d) is found))
       each (stays k x there ends wider is) j d found = kinds.edges j d (subst (λ (es : List Edge). slice_get es j ≡ Some d) is found)
       each (adds apart is) j d found =
@@ -195,7 +199,8 @@ module _ (P : Visibility → Type 0) where
 
 -- ---- what is brought is listed
 
-looked_up : (s : Slot) (es : List (Slot × Brought)) (by : Brought) → lookup (is_at (slot_order.ghosts.cmp s)) es ≡ Some by → Contains (list_map (λ (e : Slot × Brought). e.0) es) s
+looked_up : (s : Slot) (es : List (Slot × Brought)) (by : Brought) → lookup (is_at (slot_order.ghosts.cmp s)) es ≡ Some by
+    → Contains (list_map (λ (e : Slot × Brought). e.0) es) s
 looked_up s [] by is = absurd cc
 looked_up s (e ∷ es) by is = go (looked_up s es by) (same_slot s e.0) refl is
   where
@@ -203,7 +208,8 @@ looked_up s (e ∷ es) by is = go (looked_up s es by) (same_slot s e.0) refl is
     later h = Contains-append_right (e.0 ∷ []) (list_map (λ (x : Slot × Brought). x.0) es) s h
 
     go : (lookup (is_at (slot_order.ghosts.cmp s)) es ≡ Some by → Contains (list_map (λ (x : Slot × Brought). x.0) es) s)
-        → (t : Bool) → same_slot s e.0 ≡ t → lookup (is_at (slot_order.ghosts.cmp s)) (e ∷ es) ≡ Some by → Contains (list_map (λ (x : Slot × Brought). x.0) (e ∷ es)) s
+        → (t : Bool) → same_slot s e.0 ≡ t → lookup (is_at (slot_order.ghosts.cmp s)) (e ∷ es) ≡ Some by
+        → Contains (list_map (λ (x : Slot × Brought). x.0) (e ∷ es)) s
     go rest true same found = (0, omega arith, sym (exact_slot s e.0 same))
     go rest false other found = later (rest (sym (lookup_tail (is_at (slot_order.ghosts.cmp s)) e es other) ∙ found))
 

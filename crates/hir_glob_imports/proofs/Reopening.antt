@@ -1,11 +1,7 @@
 -- Where all edges are to be looked at again, globs are kept.
 use Rattle.std.proofs.Common.{◌≡◌, ap, sym, subst, refl, ℕ, ◌<◌, ◌≤◌, ◌-◌, ◌⊎◌, inl, inr, true, List, Option, None, Some, slice_get}
 use Rattle.std.specs.Prelude.{Contains, IsSome}
-use Rattle.hir_glob_imports.specs.declared.edge.Bound.{Bound}
-use Rattle.hir_glob_imports.specs.declared.edge.Brought.{Brought}
-use Rattle.hir_glob_imports.specs.declared.edge.Edge.{Edge}
-use Rattle.hir_glob_imports.specs.declared.edge.Key.{Key}
-use Rattle.hir_glob_imports.specs.declared.edge.Slot.{Slot}
+use Rattle.hir_glob_imports.specs.Types.{Bound, Brought, Edge, Key, Slot}
 use Rattle.hir_glob_imports.specs.Keys.{slot_at}
 use Rattle.hir_glob_imports.specs.Moves.{seen_by, update_of}
 use Rattle.hir_glob_imports.specs.View.{View, bound_in}
@@ -20,7 +16,8 @@ reopened v g there stands each = record { there = there; settled = λ j e key is
   where
     on : (j : ℕ) (e : Edge) (key : Key) → slice_get g.edges j ≡ Some e → (o : Option Bound) → v.bound e.source key ≡ o → IsPendingOrSettled v g j e key
     on j e key is None none =
-        inr (ap (λ (o : Option Bound). update_of v j e key (seen_by (v.sees e.importer) o) (bound_in v (slot_at e.importer key)) (brought_of g (slot_at e.importer key))) none)
+        inr (ap (λ (o : Option Bound). update_of v j e key (seen_by (v.sees e.importer) o) (bound_in v (slot_at e.importer key))
+        (brought_of g (slot_at e.importer key))) none)
     on j e key is (Some b) some = inl (each j e key is (subst (λ (o : Option Bound). IsSome o) (sym some) refl))
 
 -- the same where what is kept was seen otherwise

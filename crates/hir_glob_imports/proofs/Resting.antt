@@ -1,12 +1,10 @@
 -- Where nothing is pending, edges are closed, followed and raised.
-use Rattle.std.proofs.Common.{◌≡◌, ◌∙◌, ap, sym, subst, refl, ℕ, Bool, true, false, not, ◌||◌, ◌==◌, inl, inr, List, [], Option, None, Some, slice_get, if◌then◌else◌, arith}
+use Rattle.std.proofs.Common.{◌≡◌, ◌∙◌, ap, sym, subst, refl, ℕ, Bool, true, false, not, ◌||◌, ◌==◌, inl, inr, List, [], Option, None, Some, slice_get}
+use Rattle.std.proofs.Common.{if◌then◌else◌, arith}
 use mathlib.Core.Bool.{true≢false}
 use Rattle.std.specs.Prelude.{Contains, IsSome}
-use Rattle.hir_scope.specs.declared.visibility.Visibility.{Visibility}
-use Rattle.hir_glob_imports.specs.declared.edge.Bound.{Bound}
-use Rattle.hir_glob_imports.specs.declared.edge.Brought.{Brought}
-use Rattle.hir_glob_imports.specs.declared.edge.Edge.{Edge}
-use Rattle.hir_glob_imports.specs.declared.edge.Key.{Key}
+use Rattle.hir_scope.specs.Types.{Visibility}
+use Rattle.hir_glob_imports.specs.Types.{Bound, Brought, Edge, Key}
 use Rattle.hir_glob_imports.specs.declared.edge.Update.TheVariants.{Nothing, Follow, Raise}
 use Rattle.hir_glob_imports.specs.Keys.{slot_at, is_unnamed}
 use Rattle.hir_glob_imports.specs.Moves.{same_def, same_vis, shown, brought_vis, is_as_seen, may_raise, raise_to, raise_of, update_of_brought, update_of}
@@ -52,7 +50,8 @@ module _ (v : View) (j : ℕ) (e : Edge) (key : Key) where
       on_edge last true i other f = absurd (true≢false (sym other))
       on_edge last false i other f = on_raise b c wide same greater f
 
-      on_brought : is_unnamed key ≡ false → (o : Option Brought) → may_raise j key o ≡ true → update_of_brought v j e b c o ≡ Nothing → same_vis wide c.vis ≡ true
+      on_brought : is_unnamed key ≡ false → (o : Option Brought) → may_raise j key o ≡ true → update_of_brought v j e b c o ≡ Nothing → same_vis wide c.vis
+          ≡ true
       on_brought named None m f = absurd (true≢false (sym m ∙ named))
       on_brought named (Some last) m f =
           on_edge last (last.edge == j) refl (sym (ap (λ (t : Bool). t || not (last.edge == j)) named) ∙ m) f
@@ -92,4 +91,5 @@ module _ (v : View) (g : GlobsValue) (kept : IsKept v g) (none : g.pending ≡ [
     where
       at : (j : ℕ) (e : Edge) (key : Key) → slice_get g.edges j ≡ Some e → (o : Option Bound) → shown v e key ≡ o
           → update_of v j e key o (bound_in v (slot_at e.importer key)) (brought_of g (slot_at e.importer key)) ≡ Nothing
-      at j e key is o shows = sym (λ i. update_of v j e key (shows i) (bound_in v (slot_at e.importer key)) (brought_of g (slot_at e.importer key))) ∙ nothing_along j e key is
+      at j e key is o shows =
+          sym (λ i. update_of v j e key (shows i) (bound_in v (slot_at e.importer key)) (brought_of g (slot_at e.importer key))) ∙ nothing_along j e key is

@@ -4,16 +4,10 @@ use mathlib.Core.Bool.{true≢false}
 use Rattle.std.specs.Prelude.{Contains}
 use Rattle.std.specs.Ordering.{is_eq}
 use Rattle.std.proofs.lemmas.Cmp.{tied_itself}
-use Rattle.hir_scope.specs.declared.visibility.Visibility.{Visibility}
+use Rattle.hir_scope.specs.Types.{Visibility}
 use Rattle.hir_glob_imports.specs.contracts.edge.SlotOrd.TheImpl.Laws.{total-law as slot_total}
-use Rattle.hir_glob_imports.specs.declared.edge.Bound.{Bound}
-use Rattle.hir_glob_imports.specs.declared.edge.Brought.{Brought}
-use Rattle.hir_glob_imports.specs.declared.edge.Edge.{Edge}
-use Rattle.hir_glob_imports.specs.declared.edge.Key.{Key}
-use Rattle.hir_glob_imports.specs.declared.edge.Slot.{Slot}
-use Rattle.hir_glob_imports.specs.declared.edge.Target.{Target}
+use Rattle.hir_glob_imports.specs.Types.{Bound, Brought, Edge, Key, Slot, Target, Update}
 use Rattle.hir_glob_imports.specs.declared.edge.Target.TheVariants as target
-use Rattle.hir_glob_imports.specs.declared.edge.Update.{Update}
 use Rattle.hir_glob_imports.specs.declared.edge.Update.TheVariants.{Nothing, Follow}
 use Rattle.hir_glob_imports.specs.Keys.{slot_at, same_slot, is_slot, is_unnamed}
 use Rattle.hir_glob_imports.specs.Moves.{same_def, seen_by, shown, brought_vis, is_as_seen, raise_to, raise_of, update_of_brought, update_of}

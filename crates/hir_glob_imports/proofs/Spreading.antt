@@ -1,17 +1,14 @@
 -- What is pending, once edges are to be looked at.
-use Rattle.std.proofs.Common.{◌≡◌, ◌∙◌, ap, sym, subst, refl, ℕ, zero, suc, ◌<◌, ◌≤◌, ◌-◌, ◌==◌, Bool, true, false, ◌⊎◌, inl, inr, List, [], ◌∷◌, ◌++◌, length, Option, None, Some, Result, Ok, Err, OnOk, slice_get, slice_index, if◌then◌else◌, arith}
+use Rattle.std.proofs.Common.{◌≡◌, ◌∙◌, ap, sym, subst, refl, ℕ, zero, suc, ◌<◌, ◌≤◌, ◌-◌, ◌==◌, Bool, true, false, ◌⊎◌, inl, inr, List, [], ◌∷◌, ◌++◌, length}
+use Rattle.std.proofs.Common.{Option, None, Some, Result, Ok, Err, OnOk, slice_get, slice_index, if◌then◌else◌, arith}
 use mathlib.Core.Bool.{true≢false}
 use Rattle.std.specs.Prelude.{Contains, IsSome, slice_index_or}
 use Rattle.std.specs.Cmp.{unsigned_Decides}
 use Rattle.std.proofs.lemmas.List.Elements.{Contains-append_cases, Contains-append_left, Contains-push}
 use Rattle.std.proofs.lemmas.Option.{slice_get_read, get_or_from_slice_get}
 use Rattle.std.proofs.lemmas.Result.{on_ok_weaker}
-use Rattle.hir_glob_imports.specs.declared.edge.Bound.{Bound}
-use Rattle.hir_glob_imports.specs.declared.edge.Edge.{Edge}
-use Rattle.hir_glob_imports.specs.declared.edge.Key.{Key}
-use Rattle.hir_glob_imports.specs.declared.edge.Slot.{Slot}
+use Rattle.hir_glob_imports.specs.Types.{Bound, Edge, EdgesByModule, Key, Slot}
 use Rattle.hir_glob_imports.specs.declared.edge.Update.TheVariants.{Nothing}
-use Rattle.hir_glob_imports.specs.declared.index.EdgesByModule.{EdgesByModule}
 use Rattle.hir_glob_imports.specs.Inner.{IsIndexed, Spreads, edges_at, pair}
 use Rattle.hir_glob_imports.specs.Keys.{slot_at, is_unnamed}
 use Rattle.hir_glob_imports.specs.Moves.{shown, raise_of, update_of}
@@ -89,7 +86,8 @@ module _ {T E : Type 0} where
   on_ok_both (Ok x) f p q = f p q
   on_ok_both (Err e) f p q = tt
 
-  pub on_spread : (r : Result T E) (s : Slot) (moved : Bool) (g g0 : GlobsValue) (mid pending : List (ℕ × Key)) (inward outward : List ℕ) (out_of into : EdgesByModule)
+  pub on_spread : (r : Result T E) (s : Slot) (moved : Bool) (g g0 : GlobsValue) (mid pending : List (ℕ × Key)) (inward outward : List ℕ)
+      (out_of into : EdgesByModule)
       → g0 ≡ g → IsIndexed g0.edges out_of into → (moved ≡ true → inward ≡ edges_at into s.at) → outward ≡ edges_at out_of s.at
       → ((j : ℕ) (k : Key) → Contains g0.pending (j, k) → Contains mid (j, k)) → ((j : ℕ) → Contains inward j → Contains mid (j, s.key))
       → OnOk r ((j : ℕ) (k : Key) → Contains mid (j, k) → Contains pending (j, k))
@@ -105,7 +103,8 @@ module _ {T E : Type 0} where
         brought = ap (λ (x : GlobsValue). x.brought) same;
         kept = λ j k h. kept j k (kept_first j k (subst (λ (x : GlobsValue). Contains x.pending (j, k)) (sym same) h));
         out = λ j e is from.
-            let listed : Contains (edges_at out_of s.at) j = indexed.out j s.at e (subst (λ (x : GlobsValue). slice_get x.edges j ≡ Some e) (sym same) is) from in
+            let listed : Contains (edges_at out_of s.at) j = indexed.out j s.at e (subst (λ (x : GlobsValue). slice_get x.edges j ≡ Some e) (sym same) is) from
+            in
             each j (subst (λ (xs : List ℕ). Contains xs j) (sym out_is) listed);
         inward = λ m j e is to.
             let listed : Contains (edges_at into e.importer) j = indexed.inward j e (subst (λ (x : GlobsValue). slice_get x.edges j ≡ Some e) (sym same) is) in

@@ -1,5 +1,6 @@
 -- A step along an edge leaves what is kept of globs as it has to be.
-use Rattle.std.proofs.Common.{◌≡◌, ◌∙◌, ap, sym, subst, refl, ℕ, ◌+◌, Bool, true, false, ◌==◌, ◌⊎◌, inl, inr, List, Option, None, Some, slice_get, if◌then◌else◌}
+use Rattle.std.proofs.Common.{◌≡◌, ◌∙◌, ap, sym, subst, refl, ℕ, ◌+◌, Bool, true, false, ◌==◌, ◌⊎◌, inl, inr, List, Option, None, Some, slice_get}
+use Rattle.std.proofs.Common.{if◌then◌else◌}
 use mathlib.Core.Bool.{true≢false}
 use Rattle.std.specs.Prelude.{Contains}
 use Rattle.std.specs.Cmp.{unsigned_Decides}
@@ -7,20 +8,17 @@ use Rattle.std.specs.Cmp.Derive.{both_true}
 use Rattle.std.specs.BTreeMap.{is_at}
 use Rattle.std.specs.Map.{lookup}
 use Rattle.hir_scope.specs.contracts.visibility.VisibilityEq.TheImpl.Laws.{laws-law as vis_laws}
-use Rattle.hir_scope.specs.declared.visibility.Visibility.{Visibility}
+use Rattle.hir_scope.specs.Types.{Visibility}
 use Rattle.hir_glob_imports.specs.contracts.edge.BoundEq.TheImpl.Laws.{laws-law as bound_laws}
 use Rattle.hir_glob_imports.specs.contracts.edge.SlotOrd.TheImpl as slot_order
-use Rattle.hir_glob_imports.specs.declared.edge.Bound.{Bound}
-use Rattle.hir_glob_imports.specs.declared.edge.Brought.{Brought}
-use Rattle.hir_glob_imports.specs.declared.edge.Edge.{Edge}
-use Rattle.hir_glob_imports.specs.declared.edge.Key.{Key}
-use Rattle.hir_glob_imports.specs.declared.edge.Slot.{Slot}
+use Rattle.hir_glob_imports.specs.Types.{Bound, Brought, Edge, Key, Slot}
 use Rattle.hir_glob_imports.specs.declared.edge.Update.TheVariants.{Nothing, Copy, Follow, Raise}
 use Rattle.hir_glob_imports.specs.declared.step.TheConstants.{MAX_STEPS}
 use Rattle.hir_glob_imports.specs.Inner.{IsKeptBut, Spreads, Takes}
 use Rattle.hir_glob_imports.specs.Keys.{slot_at, same_slot, is_unnamed}
 use Rattle.hir_glob_imports.specs.Moves.{shown, brought_vis, is_as_seen, raise_of, update_of_brought, update_of}
-use Rattle.hir_glob_imports.specs.Rules.{GlobState, BroughtBy, with_brought, noted, as_seen, after, copies_along, follows_along, raises_along, IsSpent, May, Rule, none, slot_of}
+use Rattle.hir_glob_imports.specs.Rules.{GlobState, BroughtBy, with_brought, noted, as_seen, after, copies_along, follows_along, raises_along, IsSpent, May}
+use Rattle.hir_glob_imports.specs.Rules.{Rule, none, slot_of}
 use Rattle.hir_glob_imports.specs.View.{View, NameTable, IsNameTable, Binds, bound_in, with_vis}
 use Rattle.hir_glob_imports.specs.Waves.{GlobsValue, brought_of, update_in, update_at, state_of, IsKept, IsPendingOrSettled, Stands}
 use Rattle.hir_glob_imports.proofs.Settling.{same_itself, kept_after}
@@ -74,7 +72,15 @@ module _ {S : Type 0} (t : NameTable S) (n : S) (g : GlobsValue) (count : ℕ) (
   copies_there b update = there_from_seen ((t.view n).sees e.importer) ((t.view n).bound e.source s.key) b (may_copy b update).shows.shown
 
   pub may_follow : (b : Bound) → update_in (t.view n) (brought_of g) j e s ≡ Follow b → May t (state_of n g count) (follows_along j e s b)
-  may_follow b update = record { last = why.last; shows = record { recorded = recorded; at = at; shown = why.shown }; named = why.named; brought_last = why.brought; by_it = why.by_it; differs = why.differs }
+  may_follow b update =
+      record {
+        last = why.last;
+        shows = record { recorded = recorded; at = at; shown = why.shown };
+        named = why.named;
+        brought_last = why.brought;
+        by_it = why.by_it;
+        differs = why.differs;
+      }
     where
       why : IsFollow j e s.key b (shown (t.view n) e s.key) (bound_in (t.view n) s) (brought_of g s)
       why = follow_from (t.view n) j e s.key b (shown (t.view n) e s.key) (bound_in (t.view n) s) (brought_of g s) update
@@ -83,7 +89,17 @@ module _ {S : Type 0} (t : NameTable S) (n : S) (g : GlobsValue) (count : ℕ) (
   follows_there b update = there_from_seen ((t.view n).sees e.importer) ((t.view n).bound e.source s.key) b (may_follow b update).shows.shown
 
   pub may_raise_to : (vis : Visibility) → update_in (t.view n) (brought_of g) j e s ≡ Raise vis → May t (state_of n g count) (raises_along j e s vis)
-  may_raise_to vis update = record { b = why.b; c = why.c; shows = record { recorded = recorded; at = at; shown = why.shown }; stands = why.stands_there; may = why.may; same = why.raise.same; greater = why.raise.greater; differs = why.raise.differs }
+  may_raise_to vis update =
+      record {
+        b = why.b;
+        c = why.c;
+        shows = record { recorded = recorded; at = at; shown = why.shown };
+        stands = why.stands_there;
+        may = why.may;
+        same = why.raise.same;
+        greater = why.raise.greater;
+        differs = why.raise.differs;
+      }
     where
       why : IsRaising (t.view n) j e s.key vis (shown (t.view n) e s.key) (bound_in (t.view n) s) (brought_of g s)
       why = raising_from (t.view n) j e s.key vis (shown (t.view n) e s.key) (bound_in (t.view n) s) (brought_of g s) update
@@ -197,9 +213,11 @@ module _ {S : Type 0} (t : NameTable S) (writes : IsNameTable t) (n n' : S) (g m
 
           on : (o : Option Bound) → shown (t.view n) d s.key ≡ o → IsPendingOrSettled (t.view n') h k d s.key
           on None hidden =
-              inr (ap (λ (o : Option Bound). update_of (t.view n') k d s.key o (bound_in (t.view n') (slot_at d.importer s.key)) (brought_of h (slot_at d.importer s.key))) (same ∙ hidden))
+              inr (ap (λ (o : Option Bound). update_of (t.view n') k d s.key o (bound_in (t.view n') (slot_at d.importer s.key))
+              (brought_of h (slot_at d.importer s.key))) (same ∙ hidden))
           on (Some x) seen =
-              let vacant : bound_in (t.view n) (slot_at d.importer s.key) ≡ None = subst (λ (q : Slot). bound_in (t.view n) q ≡ None) (sym slot_of) why.vacant in
+              let vacant : bound_in (t.view n) (slot_at d.importer s.key) ≡ None = subst (λ (q : Slot). bound_in (t.view n) q ≡ None) (sym slot_of) why.vacant
+              in
               let copies : Copy x ≡ Nothing =
               sym (λ i. update_of (t.view n) k d s.key (seen i) (vacant i) (brought_of g (slot_at d.importer s.key))) ∙ old in
               absurd cc
@@ -257,7 +275,8 @@ module _ {S : Type 0} (t : NameTable S) (writes : IsNameTable t) (n n' : S) (g m
 
       binds : Binds s (with_vis b vis) (t.view n) (t.view n')
       binds = subst (λ (x : S). Binds s (with_vis b vis) (t.view n) (t.view x)) (sym names)
-          (writes.follows n s e.source b why.bound vis why.stands_there (there_from_seen ((t.view n).sees e.importer) ((t.view n).bound e.source s.key) b why.shown))
+          (writes.follows n s e.source b why.bound vis why.stands_there (there_from_seen ((t.view n).sees e.importer) ((t.view n).bound e.source s.key) b
+          why.shown))
 
       brought_at : (q : Slot) → brought_of h q ≡ noted (brought_of g) s (as_seen j e b) q
       brought_at q = λ i. (brought_by_list h m spreads.brought ∙ ap (λ (x : GlobState S). x.brought) is) i q

@@ -1,15 +1,12 @@
 -- What an update that is to be made says of the edge and the slot.
 use Rattle.std.proofs.Common.{◌≡◌, ◌∙◌, ap, sym, subst, refl, ℕ, Bool, true, false, not, ◌||◌, ◌==◌, Option, None, Some, if◌then◌else◌}
 use mathlib.Core.Bool.{true≢false}
-use Rattle.hir_scope.specs.declared.visibility.Visibility.{Visibility}
-use Rattle.hir_glob_imports.specs.declared.edge.Bound.{Bound}
-use Rattle.hir_glob_imports.specs.declared.edge.Brought.{Brought}
-use Rattle.hir_glob_imports.specs.declared.edge.Edge.{Edge}
-use Rattle.hir_glob_imports.specs.declared.edge.Key.{Key}
-use Rattle.hir_glob_imports.specs.declared.edge.Update.{Update}
+use Rattle.hir_scope.specs.Types.{Visibility}
+use Rattle.hir_glob_imports.specs.Types.{Bound, Brought, Edge, Key, Update}
 use Rattle.hir_glob_imports.specs.declared.edge.Update.TheVariants.{Nothing, Copy, Follow, Raise}
 use Rattle.hir_glob_imports.specs.Keys.{is_unnamed}
-use Rattle.hir_glob_imports.specs.Moves.{same_def, same_vis, seen_by, brought_vis, is_as_seen, may_raise, raise_to, raise_of, update_of_brought, update_of_bound, update_of}
+use Rattle.hir_glob_imports.specs.Moves.{same_def, same_vis, seen_by, brought_vis, is_as_seen, may_raise, raise_to, raise_of, update_of_brought}
+use Rattle.hir_glob_imports.specs.Moves.{update_of_bound, update_of}
 use Rattle.hir_glob_imports.specs.View.{View}
 
 -- what one sees is there
@@ -45,11 +42,13 @@ module _ (v : View) (e : Edge) (b c : Bound) where
           let is_wide : wide ≡ vis = cc in
           record { same = d; greater = g ∙ ap Some is_wide; differs = subst (λ (x : Visibility). same_vis x c.vis ≡ false) is_wide s }
 
-      on_greater : same_def c.def b.def ≡ true → (o : Option Visibility) → v.greater c.vis (brought_vis v e b) ≡ o → raise_to c.vis o ≡ Raise vis → IsRaise v e b c vis
+      on_greater : same_def c.def b.def ≡ true → (o : Option Visibility) → v.greater c.vis (brought_vis v e b) ≡ o → raise_to c.vis o ≡ Raise vis
+          → IsRaise v e b c vis
       on_greater d None g f = absurd cc
       on_greater d (Some wide) g f = on_vis wide g d (same_vis wide c.vis) refl f
 
-      on_def : (t : Bool) → same_def c.def b.def ≡ t → (if t then raise_to c.vis (v.greater c.vis (brought_vis v e b)) else Nothing) ≡ Raise vis → IsRaise v e b c vis
+      on_def : (t : Bool) → same_def c.def b.def ≡ t → (if t then raise_to c.vis (v.greater c.vis (brought_vis v e b)) else Nothing) ≡ Raise vis
+          → IsRaise v e b c vis
       on_def true d f = on_greater d (v.greater c.vis (brought_vis v e b)) refl f
       on_def false d f = absurd cc
 
@@ -121,7 +120,8 @@ module _ (v : View) (j : ℕ) (e : Edge) (key : Key) where
   copy_from b (Some x) None by is = let same : x ≡ b = cc in record { shown = ap Some same; vacant = refl }
   copy_from b (Some x) (Some c) by is = absurd (no_copy x c b by is)
 
-  pub follow_from : (b : Bound) (shows stands : Option Bound) (by : Option Brought) → update_of v j e key shows stands by ≡ Follow b → IsFollow j e key b shows stands by
+  pub follow_from : (b : Bound) (shows stands : Option Bound) (by : Option Brought) → update_of v j e key shows stands by ≡ Follow b
+      → IsFollow j e key b shows stands by
   follow_from b None stands by is = absurd cc
   follow_from b (Some x) None by is = absurd cc
   follow_from b (Some x) (Some c) by is = on_name (is_unnamed key) refl is
@@ -154,7 +154,8 @@ module _ (v : View) (j : ℕ) (e : Edge) (key : Key) where
       on_brought n None y f = absurd cc
       on_brought n (Some last) y f = on_edge last n y (last.edge == j) refl f
 
-      on_name : (t : Bool) → is_unnamed key ≡ t → (if t then raise_of v e x c else update_of_brought v j e x c by) ≡ Follow b → IsFollow j e key b (Some x) (Some c) by
+      on_name : (t : Bool) → is_unnamed key ≡ t → (if t then raise_of v e x c else update_of_brought v j e x c by) ≡ Follow b
+          → IsFollow j e key b (Some x) (Some c) by
       on_name true n f = absurd (of_raise f)
       on_name false n f = on_brought n by refl f
 
@@ -170,7 +171,8 @@ module _ (v : View) (j : ℕ) (e : Edge) (key : Key) where
       on true = refl
       on false = ap not i
 
-  pub raising_from : (vis : Visibility) (shows stands : Option Bound) (by : Option Brought) → update_of v j e key shows stands by ≡ Raise vis → IsRaising v j e key vis shows stands by
+  pub raising_from : (vis : Visibility) (shows stands : Option Bound) (by : Option Brought) → update_of v j e key shows stands by ≡ Raise vis
+      → IsRaising v j e key vis shows stands by
   raising_from vis None stands by is = absurd cc
   raising_from vis (Some x) None by is = absurd cc
   raising_from vis (Some x) (Some c) by is = on_name (is_unnamed key) refl is
@@ -191,6 +193,7 @@ module _ (v : View) (j : ℕ) (e : Edge) (key : Key) where
       on_brought None y f = absurd cc
       on_brought (Some last) y f = on_edge last y (last.edge == j) refl f
 
-      on_name : (t : Bool) → is_unnamed key ≡ t → (if t then raise_of v e x c else update_of_brought v j e x c by) ≡ Raise vis → IsRaising v j e key vis (Some x) (Some c) by
+      on_name : (t : Bool) → is_unnamed key ≡ t → (if t then raise_of v e x c else update_of_brought v j e x c by) ≡ Raise vis
+          → IsRaising v j e key vis (Some x) (Some c) by
       on_name true n f = made (may_unnamed by n) f
       on_name false n f = on_brought by refl f

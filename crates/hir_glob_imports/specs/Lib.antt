@@ -8,3 +8,4 @@ pub mod Rules
 pub mod Waves
 -- ---- words of private code
 pub mod Inner
+pub mod Types

@@ -7,8 +7,11 @@ use Rattle.hir_def_map_rules.specs.State.{Local}
 use Rattle.hir_def_map.specs.declared.nameres.path_resolution.slots.Slot.{Slot as PathSlot}
 use Rattle.hir_def_map_laws.specs.SlotChanges.{ScopesChangeAmong}
 use Rattle.hir_glob_imports.specs.Keys.{name_of}
-use Rattle.hir_glob_imports.specs.Rules.{Act, GlobState, May as MayAlong, IsSpent as IsSpentAlong, Rule as GlobRule, Step as StepAlong, Steps as StepsAlong, StepsIn, act as act_along, acts as acts_along, after as after_along, copies, brings, follows, raises, copies_along, follows_along, raises_along, more as more_along, more_in, none as none_along, none_in, perform as perform_along, slot_of, ticked as ticked_along}
-use Rattle.hir_glob_imports.specs.declared.edge.Slot.{Slot}
+use Rattle.hir_glob_imports.specs.Rules.{Act, GlobState, May as MayAlong, IsSpent as IsSpentAlong, Rule as GlobRule, Step as StepAlong, Steps as StepsAlong}
+use Rattle.hir_glob_imports.specs.Rules.{StepsIn, act as act_along, acts as acts_along, after as after_along, copies, brings, follows, raises, copies_along}
+use Rattle.hir_glob_imports.specs.Rules.{follows_along, raises_along, more as more_along, more_in, none as none_along, none_in, perform as perform_along}
+use Rattle.hir_glob_imports.specs.Rules.{slot_of, ticked as ticked_along}
+use Rattle.hir_glob_imports.specs.Types.{Slot}
 use Rattle.hir_import_resolution.specs.Changes.{along, perform}
 use Rattle.hir_import_resolution.specs.Inner.State.{path_slots, slots_named}
 use Rattle.hir_import_resolution.specs.Names.{ScopesValue, scope_table, view_of}
@@ -16,7 +19,7 @@ use Rattle.hir_import_resolution.specs.Rest.{IsSpent}
 use Rattle.hir_import_resolution.specs.Rules.{Step, Steps, goes_along, more, none}
 use Rattle.hir_import_resolution.specs.Scopes.{open_table, value_of}
 use Rattle.hir_import_resolution.specs.State.{ImportState, glob_state, scopes_of, ticked, with_glob_state}
-use Rattle.hir_import_resolution.specs.declared.scopes.OpenScopes.{OpenScopes}
+use Rattle.hir_import_resolution.specs.Types.{OpenScopes}
 use Rattle.hir_import_resolution.proofs.Writes.{Writes, again, copies_write, follows_write, raises_write, stays, wider}
 use Rattle.hir_import_resolution.specs.Inner.OpenLaws.{copies_kept, follows_kept}
 
@@ -85,9 +88,7 @@ spent_shown from spent = record {
 -- the part of a world stays
 act_world : (g : GlobState OpenScopes) (a : Act) → (act_along open_table g a).names.world ≡ g.names.world
 act_world g (copies s of vis by) = refl
-act_world g (brings s by) = refl
-act_world g (follows s of vis) = refl
-act_world g (raises s vis) = refl
+act_world g other = refl
 
 perform_world : (g : GlobState OpenScopes) (changes : List Act) → (perform_along open_table g changes).names.world ≡ g.names.world
 perform_world g [] = refl
@@ -96,7 +97,8 @@ perform_world g (a ∷ changes) = perform_world (act_along open_table g a) chang
 pub world_stays : (slots : List Slot) (from to : GlobState OpenScopes) → StepsIn open_table slots from to → to.names.world ≡ from.names.world
 world_stays slots from to none_in = refl
 world_stays slots from to (more_in old new before step is_among) =
-    ap (λ (x : GlobState OpenScopes). x.names.world) step.is ∙ perform_world old (acts_along (view_of (value_of old.names)) step.rule) ∙ world_stays slots from old before
+    ap (λ (x : GlobState OpenScopes). x.names.world) step.is ∙ perform_world old (acts_along (view_of (value_of old.names)) step.rule) ∙ world_stays slots from
+    old before
 
 -- ---- as a step of imports
 
@@ -109,9 +111,11 @@ module _ (finished : Maps) where
 
   -- the state of globs, of a state with another such part
   inside : (s : ImportState) (g : GlobState ScopesValue) → g.names.finished ≡ finished → glob_state finished (with_glob_state s g) ≡ g
-  inside s g same = λ i. record { names = record { finished = sym same i; map = g.names.map; globs = g.names.globs }; edges = g.edges; brought = g.brought; count = g.count }
+  inside s g same =
+      λ i. record { names = record { finished = sym same i; map = g.names.map; globs = g.names.globs }; edges = g.edges; brought = g.brought; count = g.count }
 
-  pub performed : (s : ImportState) (changes : List Act) → perform s (list_map (along finished) changes) ≡ with_glob_state s (perform_along scope_table (glob_state finished s) changes)
+  pub performed : (s : ImportState) (changes : List Act) → perform s (list_map (along finished) changes)
+      ≡ with_glob_state s (perform_along scope_table (glob_state finished s) changes)
   performed s [] = refl
   performed s (a ∷ changes) =
       let next : GlobState ScopesValue = act_along scope_table (glob_state finished s) a in
@@ -135,22 +139,26 @@ module _ (finished : Maps) where
       pub steps : Steps finished s (with_glob_state s g)
 
     -- the slot of a name is among those of the slots
-    slot_among : (slots : List Slot) (q : Slot) → Contains slots q → (p : PathSlot) → Contains (slots_named q.at (name_of q.key)) p → Contains (path_slots slots) p
+    slot_among : (slots : List Slot) (q : Slot) → Contains slots q → (p : PathSlot) → Contains (slots_named q.at (name_of q.key)) p
+        → Contains (path_slots slots) p
     slot_among [] q h p named = absurd (omega (arith, h.1))
     slot_among (x ∷ slots) q h p named = go h.0 h.1 h.2 (λ further. slot_among slots q further p named)
       where
-        go : (k : ℕ) → k < length (x ∷ slots) → slice_index_or (x ∷ slots) k q ≡ q → (Contains slots q → Contains (path_slots slots) p) → Contains (path_slots (x ∷ slots)) p
+        go : (k : ℕ) → k < length (x ∷ slots) → slice_index_or (x ∷ slots) k q ≡ q → (Contains slots q → Contains (path_slots slots) p)
+            → Contains (path_slots (x ∷ slots)) p
         go zero low is below = Contains-append_left (slots_named x.at (name_of x.key)) (path_slots slots) p
             (subst (λ (y : Slot). Contains (slots_named y.at (name_of y.key)) p) (sym is) named)
         go (suc k) low is below = Contains-append_right (slots_named x.at (name_of x.key)) (path_slots slots) p (below (k, omega arith, is))
 
-    one_more : (slots : List Slot) (old new : GlobState ScopesValue) (step : StepAlong scope_table old new) → Contains slots (slot_of step.rule) → Goes slots old → Goes slots new
+    one_more : (slots : List Slot) (old new : GlobState ScopesValue) (step : StepAlong scope_table old new) → Contains slots (slot_of step.rule)
+        → Goes slots old → Goes slots new
     one_more slots old new step is_among goes = record {
       finished_stays = ap (λ (g : GlobState ScopesValue). g.names.finished) step.is ∙ writes.finished ∙ goes.finished_stays;
       edges = ap (λ (g : GlobState ScopesValue). g.edges) step.is ∙ step_edges old step.rule ∙ goes.edges;
       among = λ local. again s.map old.names.map new.names.map local (path_slots slots) (goes.among local) (changes local);
       steps = more (with_glob_state s old) (with_glob_state s new) goes.steps
-          (gone_along (with_glob_state s old) new (subst (λ (g : GlobState ScopesValue). StepAlong scope_table g new) (sym (inside s old goes.finished_stays)) step));
+          (gone_along (with_glob_state s old) new (subst (λ (g : GlobState ScopesValue). StepAlong scope_table g new) (sym (inside s old goes.finished_stays))
+          step));
     }
       where
         writes : Writes (slot_of step.rule).at (slot_of step.rule).key old.names (after_along scope_table old step.rule).names
@@ -158,7 +166,8 @@ module _ (finished : Maps) where
 
         changes : (local : Local) → ScopesChangeAmong old.names.map new.names.map local (path_slots slots)
         changes local = subst (λ (g : GlobState ScopesValue). ScopesChangeAmong old.names.map g.names.map local (path_slots slots)) (sym step.is)
-            (wider old.names.map (after_along scope_table old step.rule).names.map local (slots_named (slot_of step.rule).at (name_of (slot_of step.rule).key)) (path_slots slots)
+            (wider old.names.map (after_along scope_table old step.rule).names.map local (slots_named (slot_of step.rule).at (name_of (slot_of step.rule).key))
+            (path_slots slots)
             (slot_among slots (slot_of step.rule) is_among) (writes.among local))
 
     pub goes : (slots : List Slot) (to : GlobState ScopesValue) → StepsIn scope_table slots (glob_state finished s) to → Goes slots to
@@ -174,7 +183,8 @@ module _ (finished : Maps) where
     one_further old new step on = record {
       finished_stays = ap (λ (g : GlobState ScopesValue). g.names.finished) step.is ∙ (step_writes old step.rule).finished ∙ on.finished_stays;
       steps = more (with_glob_state s old) (with_glob_state s new) on.steps
-          (gone_along (with_glob_state s old) new (subst (λ (g : GlobState ScopesValue). StepAlong scope_table g new) (sym (inside s old on.finished_stays)) step));
+          (gone_along (with_glob_state s old) new (subst (λ (g : GlobState ScopesValue). StepAlong scope_table g new) (sym (inside s old on.finished_stays))
+          step));
     }
 
     goes_on : (to : GlobState ScopesValue) → StepsAlong scope_table (glob_state finished s) to → GoesOn to
@@ -189,6 +199,8 @@ module _ (finished : Maps) where
           at = with_glob_state s spent.at;
           steps = on.steps;
           next = with_glob_state s spent.next;
-          step = gone_along (with_glob_state s spent.at) spent.next (subst (λ (g : GlobState ScopesValue). StepAlong scope_table g spent.next) (sym (inside s spent.at on.finished_stays)) spent.step);
+          step =
+              gone_along (with_glob_state s spent.at) spent.next (subst (λ (g : GlobState ScopesValue). StepAlong scope_table g spent.next)
+              (sym (inside s spent.at on.finished_stays)) spent.step);
           full = omega (arith, spent.full);
         }

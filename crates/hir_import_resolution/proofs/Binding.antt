@@ -1,22 +1,16 @@
 -- What imports bind is bound explicitly.
-use Rattle.std.proofs.Common.{◌≡◌, ◌≢◌, ◌∙◌, ap, sym, refl, ℕ, zero, suc, ◌<◌, Bool, true, false, List, [], ◌∷◌, length, Option, None, Some, is_some, cond, arith}
+use Rattle.std.proofs.Common.{◌≡◌, ◌≢◌, ◌∙◌, ap, sym, refl, ℕ, zero, suc, ◌<◌, Bool, true, false, List, [], ◌∷◌, length, Option, None, Some, is_some, cond}
+use Rattle.std.proofs.Common.{arith}
 use Rattle.std.proofs.lemmas.Bool.{ltb-true}
 use Rattle.std.specs.Prelude.{IsSome, nat_lt, slice_get}
 use mathlib.Core.Bool.{true≢false}
 use Rattle.hir_base.specs.contracts.ids.ModuleDefIdPartialEq.TheImpl as module_def
 use Rattle.hir_base.specs.contracts.macro_kind.MacroIdPartialEq.TheImpl as makro
-use Rattle.hir_base.specs.declared.ids.ModuleDefId.{ModuleDefId}
-use Rattle.hir_base.specs.declared.ids.TraitId.{TraitId}
-use Rattle.hir_base.specs.declared.macro_kind.MacroId.{MacroId}
+use Rattle.hir_base.specs.Types.{MacroId, ModuleDefId, TraitId}
 use Rattle.hir_scope.specs.contracts.imports.ImportOrExternCratePartialEq.TheImpl as item_import
 use Rattle.hir_scope.specs.contracts.imports.ImportOrGlobPartialEq.TheImpl as value_import
-use Rattle.hir_scope.specs.declared.imports.ImportId.{ImportId}
-use Rattle.hir_scope.specs.declared.imports.ImportOrExternCrate.{ImportOrExternCrate}
-use Rattle.hir_scope.specs.declared.imports.ImportOrGlob.{ImportOrGlob}
-use Rattle.hir_scope.specs.declared.item_in_ns.ItemInNs.{ItemInNs}
+use Rattle.hir_scope.specs.Types.{ImportId, ImportOrExternCrate, ImportOrGlob, ItemInNs, PerNs, Visibility}
 use Rattle.hir_scope.specs.declared.item_in_ns.ItemInNs.TheVariants as in_ns
-use Rattle.hir_scope.specs.declared.per_ns.PerNs.{PerNs}
-use Rattle.hir_scope.specs.declared.visibility.Visibility.{Visibility}
 use Rattle.hir_scope.specs.Bindings.{Candidate, macro_candidate, taken, takes, type_candidate, value_candidate, written_items}
 use Rattle.hir_scope.specs.Entries.{item_at}
 use Rattle.hir_scope.specs.Globs.{GlobNames, Place, has_place}
@@ -31,7 +25,7 @@ use Rattle.hir_def_map_rules.specs.State.{ModuleValue, globs_after, module_at, p
 use Rattle.hir_glob_imports.specs.Keys.{slot_at}
 use Rattle.hir_glob_imports.specs.View.{bound_in}
 use Rattle.hir_glob_imports.specs.Waves.{IsExplicit}
-use Rattle.hir_glob_imports.specs.declared.edge.Key.{Key}
+use Rattle.hir_glob_imports.specs.Types.{Key}
 use Rattle.hir_glob_imports.specs.declared.edge.Key.TheVariants.{Types, Values, Macros, Unnamed}
 use Rattle.hir_import_resolution.specs.Inner.Steps.{IsBound}
 use Rattle.hir_import_resolution.specs.Names.{ScopesValue, bound_by, bound_trait, view_of, with_trait}
@@ -59,12 +53,14 @@ module _ {D I : Type 0} (same_def : D → D → Bool) (same_import : I → I →
       → IsSome (bound_by in_namespace (item_at (written_items place.1 (taken same_def same_import es globs place (Some c)) es) place.1))
   bound_after in_namespace es globs place c = go (item_at es place.1) refl
     where
-      on : (b : Item D I) → item_at es place.1 ≡ Some b → (t : Bool) → IsSome (bound_by in_namespace (item_at (written_items place.1 (cond t (Some c) None) es) place.1))
+      on : (b : Item D I) → item_at es place.1 ≡ Some b → (t : Bool)
+          → IsSome (bound_by in_namespace (item_at (written_items place.1 (cond t (Some c) None) es) place.1))
       on b e true = ap (λ (o : Option (Item D I)). is_some (bound_by in_namespace o)) (item_at-with_entry es place.1 c.push.item)
       on b e false = ap (λ (o : Option (Item D I)). is_some (bound_by in_namespace o)) e
 
       go : (o : Option (Item D I)) → item_at es place.1 ≡ o
-          → IsSome (bound_by in_namespace (item_at (written_items place.1 (cond (takes same_def same_import (has_place globs place) o c.push) (Some c) None) es) place.1))
+          → IsSome (bound_by in_namespace (item_at (written_items place.1 (cond (takes same_def same_import (has_place globs place) o c.push) (Some c) None) es)
+          place.1))
       go None e = ap (λ (o : Option (Item D I)). is_some (bound_by in_namespace o)) (item_at-with_entry es place.1 c.push.item)
       go (Some b) e = on b e (takes same_def same_import (has_place globs place) (Some b) c.push)
 
@@ -102,16 +98,12 @@ module _ (n : ScopesValue) (home : ℕ) (name : List ℕ) (items : PerNs) (impor
   types_apart : (s : ScopeValue) (key : Key) → key ≢ Types name → bound_scope (with_types s) key ≡ bound_scope s key
   types_apart s (Types other) ne = ap (bound_by in_ns.Types)
       (written_other module_def.ghosts.eq item_import.ghosts.eq s.types name other (taken_type s n.globs here items import) (λ e. ne (ap Types e)))
-  types_apart s (Values other) ne = refl
-  types_apart s (Macros other) ne = refl
-  types_apart s (Unnamed id) ne = refl
+  types_apart s otherwise ne = refl
 
   values_apart : (s : ScopeValue) (key : Key) → key ≢ Values name → bound_scope (with_values s) key ≡ bound_scope (with_types s) key
-  values_apart s (Types other) ne = refl
   values_apart s (Values other) ne = ap (bound_by in_ns.Values)
       (written_other module_def.ghosts.eq value_import.ghosts.eq s.values name other (taken_value s n.globs here items import) (λ e. ne (ap Values e)))
-  values_apart s (Macros other) ne = refl
-  values_apart s (Unnamed id) ne = refl
+  values_apart s otherwise ne = refl
 
   macros_apart : (s : ScopeValue) (key : Key) → key ≢ Macros name → bound_scope (with_all s) key ≡ bound_scope (with_values s) key
   macros_apart s (Types other) ne =
@@ -120,7 +112,8 @@ module _ (n : ScopesValue) (home : ℕ) (name : List ℕ) (items : PerNs) (impor
       ap (λ (es : List (List ℕ × Item ModuleDefId ImportOrGlob)). bound_by in_ns.Values (item_at es other)) (pushed-values s n.globs here import items)
   macros_apart s (Macros other) ne =
       ap (λ (es : List (List ℕ × Item MacroId ImportOrExternCrate)). bound_by in_ns.Macros (item_at es other)) (pushed-macros s n.globs here import items)
-      ∙ ap (bound_by in_ns.Macros) (written_other makro.ghosts.eq item_import.ghosts.eq s.macros name other (taken_macro s n.globs here items import) (λ e. ne (ap Macros e)))
+      ∙ ap (bound_by in_ns.Macros) (written_other makro.ghosts.eq item_import.ghosts.eq s.macros name other (taken_macro s n.globs here items import)
+      (λ e. ne (ap Macros e)))
   macros_apart s (Unnamed id) ne =
       ap (λ (ts : List (TraitId × Item (Unit {0}) ImportId)). bound_trait id (unnamed_vis (record s { unnamed_traits = ts }) id))
       (declarations_stay n.globs here import s items).unnamed_traits
@@ -145,7 +138,8 @@ module _ (n : ScopesValue) (home : ℕ) (name : List ℕ) (items : PerNs) (impor
   macros_stay none s (Types other) = macros_apart s (Types other) (λ e. absurd cc)
   macros_stay none s (Values other) = macros_apart s (Values other) (λ e. absurd cc)
   macros_stay none s (Macros other) =
-      ap (λ (es : List (List ℕ × Item MacroId ImportOrExternCrate)). bound_by in_ns.Macros (item_at es other)) (pushed-macros s n.globs here import items ∙ macros_none none s)
+      ap (λ (es : List (List ℕ × Item MacroId ImportOrExternCrate)). bound_by in_ns.Macros (item_at es other))
+      (pushed-macros s n.globs here import items ∙ macros_none none s)
   macros_stay none s (Unnamed id) = macros_apart s (Unnamed id) (λ e. absurd cc)
 
   module _ (m : ModuleValue) (there : module_at n.map home ≡ Some m) where
@@ -153,22 +147,29 @@ module _ (n : ScopesValue) (home : ℕ) (name : List ℕ) (items : PerNs) (impor
     types_bound some =
         let item = some_of items.types some in
         ap is_some (changed_here n home with_types n.globs m there (Types name))
-        ∙ ap (λ (o : Option (Item ModuleDefId ImportOrExternCrate)). is_some (bound_by in_ns.Types (item_at (written_items name (taken module_def.ghosts.eq item_import.ghosts.eq m.scope.types n.globs.types here (type_candidate o import)) m.scope.types) name))) item.1
+        ∙ ap (λ (o : Option (Item ModuleDefId ImportOrExternCrate)). is_some
+        (bound_by in_ns.Types (item_at (written_items name (taken module_def.ghosts.eq item_import.ghosts.eq m.scope.types n.globs.types here
+        (type_candidate o import)) m.scope.types) name))) item.1
         ∙ bound_after module_def.ghosts.eq item_import.ghosts.eq in_ns.Types m.scope.types n.globs.types here _
 
     values_bound : is_some items.values ≡ true → IsSome (bound_in (view_of (once n.globs with_values)) (slot_at home (Values name)))
     values_bound some =
         let item = some_of items.values some in
         ap is_some (changed_here n home with_values n.globs m there (Values name))
-        ∙ ap (λ (o : Option (Item ModuleDefId ImportOrGlob)). is_some (bound_by in_ns.Values (item_at (written_items name (taken module_def.ghosts.eq value_import.ghosts.eq m.scope.values n.globs.values here (value_candidate o import)) m.scope.values) name))) item.1
+        ∙ ap (λ (o : Option (Item ModuleDefId ImportOrGlob)). is_some
+        (bound_by in_ns.Values (item_at (written_items name (taken module_def.ghosts.eq value_import.ghosts.eq m.scope.values n.globs.values here
+        (value_candidate o import)) m.scope.values) name))) item.1
         ∙ bound_after module_def.ghosts.eq value_import.ghosts.eq in_ns.Values m.scope.values n.globs.values here _
 
     macros_bound : is_some items.macros ≡ true → IsSome (bound_in (view_of (once after_all with_all)) (slot_at home (Macros name)))
     macros_bound some =
         let item = some_of items.macros some in
         ap is_some (changed_here n home with_all after_all m there (Macros name))
-        ∙ ap (λ (es : List (List ℕ × Item MacroId ImportOrExternCrate)). is_some (bound_by in_ns.Macros (item_at es name))) (pushed-macros m.scope n.globs here import items)
-        ∙ ap (λ (o : Option (Item MacroId ImportOrExternCrate)). is_some (bound_by in_ns.Macros (item_at (written_items name (taken makro.ghosts.eq item_import.ghosts.eq m.scope.macros n.globs.macros here (macro_candidate o import)) m.scope.macros) name))) item.1
+        ∙ ap (λ (es : List (List ℕ × Item MacroId ImportOrExternCrate)). is_some (bound_by in_ns.Macros (item_at es name)))
+        (pushed-macros m.scope n.globs here import items)
+        ∙ ap (λ (o : Option (Item MacroId ImportOrExternCrate)). is_some
+        (bound_by in_ns.Macros (item_at (written_items name (taken makro.ghosts.eq item_import.ghosts.eq m.scope.macros n.globs.macros here
+        (macro_candidate o import)) m.scope.macros) name))) item.1
         ∙ bound_after makro.ghosts.eq item_import.ghosts.eq in_ns.Macros m.scope.macros n.globs.macros here _
 
   -- where the module is there
@@ -208,7 +209,8 @@ module _ (n : ScopesValue) (home : ℕ) (name : List ℕ) (items : PerNs) (impor
 
 -- a push to a name of a module
 pub push_binds : (n : ScopesValue) (home : ℕ) (name : List ℕ) (items : PerNs) (import : Option ImportOrExternCrate)
-    → IsBound home name items (view_of n) (view_of (record n { map = pushed n.map n.globs home name items import; globs = globs_after n.map n.globs home name items import }))
+    → IsBound home name items (view_of n) (view_of
+    (record n { map = pushed n.map n.globs home name items import; globs = globs_after n.map n.globs home name items import }))
 push_binds n home name items import = is_bound n home name items import
 
 -- a trait that is kept without a name

@@ -1,10 +1,7 @@
 -- What stands in a resolver once an import has bound something.
 use Rattle.std.proofs.Common.{◌≡◌, ◌∙◌, ap, sym, subst, ℕ, Bool, List, Option, None, Some, is_some, Result, Ok, Err, OnOk}
-use Rattle.hir_base.specs.declared.ids.TraitId.{TraitId}
-use Rattle.hir_scope.specs.declared.imports.ImportId.{ImportId}
-use Rattle.hir_scope.specs.declared.imports.ImportOrExternCrate.{ImportOrExternCrate}
-use Rattle.hir_scope.specs.declared.per_ns.PerNs.{PerNs}
-use Rattle.hir_scope.specs.declared.visibility.Visibility.{Visibility}
+use Rattle.hir_base.specs.Types.{TraitId}
+use Rattle.hir_scope.specs.Types.{ImportId, ImportOrExternCrate, PerNs, Visibility}
 use Rattle.hir_def_map_rules.specs.State.{globs_after, module_at, pushed, with_scope}
 use Rattle.hir_glob_imports.specs.Keys.{slot_at}
 use Rattle.hir_glob_imports.specs.Rules.{BroughtBy, with_brought}
@@ -17,9 +14,7 @@ use Rattle.hir_import_resolution.specs.Inner.State.{finished_by, state_by}
 use Rattle.hir_import_resolution.specs.Inner.Steps.{IsBound, MayBind}
 use Rattle.hir_import_resolution.specs.Names.{trait_vis, view_of, with_trait}
 use Rattle.hir_import_resolution.specs.Scopes.{value_of}
-use Rattle.hir_import_resolution.specs.declared.directive.ImportSource.{ImportSource}
-use Rattle.hir_import_resolution.specs.declared.resolver.Resolver.{Resolver}
-use Rattle.hir_import_resolution.specs.declared.scopes.OpenScopes.{OpenScopes}
+use Rattle.hir_import_resolution.specs.Types.{ImportSource, OpenScopes, Resolver}
 use Rattle.hir_import_resolution.proofs.Binding.{keep_binds, push_binds}
 
 -- two facts of the state after a call that may fail
@@ -38,7 +33,8 @@ module _ (home : ℕ) (name n1 n2 n3 : List ℕ) (items : PerNs) (b1 b2 b3 : Boo
       ((second ∙ (λ j. forgotten_in home (Values (is2 j)) (binds2 j) ((first ∙ (λ k. forgotten_in home (Types (is1 k)) (binds1 k) f0)) j))) i))
 
   pub kept_thrice : (g0 g1 g2 g3 : GlobsValue) → ((v w : View) → IsKept v g0 → MayBind home (Types n1) b1 v w → IsKept w g1)
-      → ((v w : View) → IsKept v g1 → MayBind home (Values n2) b2 v w → IsKept w g2) → ((v w : View) → IsKept v g2 → MayBind home (Macros n3) b3 v w → IsKept w g3)
+      → ((v w : View) → IsKept v g1 → MayBind home (Values n2) b2 v w → IsKept w g2) → ((v w : View) → IsKept v g2 → MayBind home (Macros n3) b3 v w
+      → IsKept w g3)
       → (v w : View) → IsKept v g0 → IsBound home name items v w → IsKept w g3
   kept_thrice g0 g1 g2 g3 first second third v w kept bound =
       third bound.with_values w
@@ -49,7 +45,8 @@ module _ (home : ℕ) (name n1 n2 n3 : List ℕ) (items : PerNs) (b1 b2 b3 : Boo
       types h = subst (λ (b : Bool). MayBind home (Types n1) b v bound.with_types) (sym binds1)
           (subst (λ (n : List ℕ). MayBind home (Types n) (is_some items.types) v bound.with_types) (sym is1) h)
 
-      values : MayBind home (Values name) (is_some items.values) bound.with_types bound.with_values → MayBind home (Values n2) b2 bound.with_types bound.with_values
+      values : MayBind home (Values name) (is_some items.values) bound.with_types bound.with_values → MayBind home (Values n2) b2 bound.with_types
+          bound.with_values
       values h = subst (λ (b : Bool). MayBind home (Values n2) b bound.with_types bound.with_values) (sym binds2)
           (subst (λ (n : List ℕ). MayBind home (Values n) (is_some items.values) bound.with_types bound.with_values) (sym is2) h)
 
@@ -61,7 +58,8 @@ module _ (home : ℕ) (name n1 n2 n3 : List ℕ) (items : PerNs) (b1 b2 b3 : Boo
 
 -- the scopes once items are pushed
 abbrev pub pushed_to : OpenScopes → ℕ → List ℕ → PerNs → ImportOrExternCrate → OpenScopes
-pushed_to s home name items way = record s { map = pushed s.map s.globs home name items (Some way); globs = globs_after s.map s.globs home name items (Some way) }
+pushed_to s home name items way =
+    record s { map = pushed s.map s.globs home name items (Some way); globs = globs_after s.map s.globs home name items (Some way) }
 
 module _ (r : Resolver) (o : OpenScopes) (g : GlobsValue) (home : ℕ) (name n1 : List ℕ) (items : PerNs) (source : ImportSource) (way : ImportOrExternCrate)
     (named : n1 ≡ name) (by : way ≡ way_of source) (is : o ≡ pushed_to r.scopes home n1 items way) where

@@ -40,7 +40,8 @@ step_first finished a b c step steps = steps_append finished a b c (more a b non
 
 -- steps that lead to where as many as are counted lead on
 pub spent_after : (finished : Maps) (a b : ImportState) → Steps finished a b → IsSpent finished b → IsSpent finished a
-spent_after finished a b steps spent = record { at = spent.at; steps = steps_append finished a b spent.at steps spent.steps; next = spent.next; step = spent.step; full = spent.full }
+spent_after finished a b steps spent =
+    record { at = spent.at; steps = steps_append finished a b spent.at steps spent.steps; next = spent.next; step = spent.step; full = spent.full }
 
 pub spent_first : (finished : Maps) (a b : ImportState) → Step finished a b → IsSpent finished b → IsSpent finished a
 spent_first finished a b step spent = spent_after finished a b (more a b none step) spent

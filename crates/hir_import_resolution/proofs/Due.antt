@@ -2,17 +2,13 @@
 use Rattle.std.proofs.Common.{◌≡◌, ap, subst, refl, ℕ, ◌≤◌, Bool, true, false, List, Option, None, Some, cond}
 use Rattle.std.specs.Prelude.{slice_get}
 use Rattle.std.specs.Option.{option_and_then}
-use Rattle.hir_base.specs.declared.ids.TraitId.{TraitId}
-use Rattle.hir_scope.specs.declared.imports.ImportId.{ImportId}
-use Rattle.hir_scope.specs.declared.per_ns.PerNs.{PerNs}
-use Rattle.hir_scope.specs.declared.visibility.Visibility.{Visibility}
+use Rattle.hir_base.specs.Types.{TraitId}
+use Rattle.hir_scope.specs.Types.{ImportId, PerNs, Visibility}
 use Rattle.hir_def_map_rules.specs.Overlay.{Maps}
 use Rattle.hir_glob_imports.specs.Waves.{Records}
-use Rattle.hir_glob_imports.specs.declared.edge.Edge.{Edge}
+use Rattle.hir_glob_imports.specs.Types.{Edge}
 use Rattle.hir_glob_imports.specs.declared.step.TheConstants.{MAX_STEPS}
-use Rattle.hir_import_resolution.specs.declared.directive.ImportDirective.{ImportDirective}
-use Rattle.hir_import_resolution.specs.declared.directive.ImportSource.{ImportSource}
-use Rattle.hir_import_resolution.specs.declared.resolver.steps.Taking.{Taking}
+use Rattle.hir_import_resolution.specs.Types.{ImportDirective, ImportSource, Taking}
 use Rattle.hir_import_resolution.specs.Changes.{bound_as, with_kept}
 use Rattle.hir_import_resolution.specs.Directives.{TakenValue, edge_to, goes_beyond, leaf_of, namespaces_of, reached_by, taken_after, taken_for}
 use Rattle.hir_import_resolution.specs.Inner.Steps.{IsLinking, taking_at, taking_for, taking_of}
@@ -50,7 +46,8 @@ due finished s i taking e = go (slice_get s.imports i) refl (slice_get s.taken i
 -- the state in which the import is taken
 abbrev pub taken_to : Maps → ImportState → ℕ → Taking → TakenValue → ImportState
 taken_to finished s i taking t =
-    ticked (with_taken (with_kept finished (bound_as s taking.home taking.name taking.items (Some taking.source)) taking.home taking.kept taking.vis (leaf_of taking.source)) i t)
+    ticked (with_taken (with_kept finished (bound_as s taking.home taking.name taking.items (Some taking.source)) taking.home taking.kept taking.vis
+    (leaf_of taking.source)) i t)
 
 pub taking_steps : (finished : Maps) (s : ImportState) (i : ℕ) (taking : Taking) (d : Due finished s i taking)
     → Step finished s (taken_to finished s i taking (taken_after d.t taking.answer))
@@ -68,7 +65,8 @@ taking_spent finished s i taking e full =
     record { at = s; steps = none; next = taken_to finished s i taking (taken_after d.t taking.answer); step = taking_steps finished s i taking d; full = full }
 
 -- what is noted of the takings, and counted, has no part in what is bound
-pub noted_apart : (finished : Maps) (s : ImportState) (i : ℕ) (t : TakenValue) (home : ℕ) (name : Option (List ℕ)) (items : PerNs) (source : Option ImportSource)
+pub noted_apart : (finished : Maps) (s : ImportState) (i : ℕ) (t : TakenValue) (home : ℕ) (name : Option (List ℕ)) (items : PerNs)
+    (source : Option ImportSource)
     (kept : Option TraitId) (vis : Visibility) (leaf : Option ImportId)
     → with_kept finished (bound_as (ticked (with_taken s i t)) home name items source) home kept vis leaf
     ≡ ticked (with_taken (with_kept finished (bound_as s home name items source) home kept vis leaf) i t)
@@ -97,4 +95,10 @@ linking_steps finished s i edge edges d recorded = record {
 pub linking_spent : (finished : Maps) (s : ImportState) (i : ℕ) (edge : Edge) (edges : List Edge) → IsLinking finished s i edge
     → Records (view_of (scopes_of finished s)) s.edges edges edge → MAX_STEPS ≤ s.count → IsSpent finished s
 linking_spent finished s i edge edges d recorded full =
-    record { at = s; steps = none; next = linked_to s i (taken_for d.t edge.source) edges; step = linking_steps finished s i edge edges d recorded; full = full }
+    record {
+      at = s;
+      steps = none;
+      next = linked_to s i (taken_for d.t edge.source) edges;
+      step = linking_steps finished s i edge edges d recorded;
+      full = full;
+    }

@@ -6,12 +6,12 @@ use Rattle.std.specs.Option.{option_and_then}
 use Rattle.std.specs.Prelude.{is_some, slice_get}
 use Rattle.hir_base.specs.contracts.ids.MapIdPartialEq.TheImpl as map_id
 use Rattle.hir_base.specs.declared.ids.AdtId.TheVariants as adts
-use Rattle.hir_base.specs.declared.ids.MapId.{MapId}
-use Rattle.hir_base.specs.declared.ids.ModuleDefId.{ModuleDefId}
-use Rattle.hir_base.specs.declared.ids.ModuleDefId.TheVariants.{ModuleId, FunctionId, AdtId as AnyAdt, EnumVariantId, ConstId, StaticId, TraitId, TypeAliasId, BuiltinType, MacroId}
+use Rattle.hir_base.specs.Types.{MapId, ModuleDefId}
+use Rattle.hir_base.specs.declared.ids.ModuleDefId.TheVariants.{ModuleId, FunctionId, AdtId as AnyAdt, EnumVariantId, ConstId, StaticId, TraitId, TypeAliasId}
+use Rattle.hir_base.specs.declared.ids.ModuleDefId.TheVariants.{BuiltinType, MacroId}
 use Rattle.hir_base.specs.declared.ids.ModuleId.{ModuleId as AnyModule}
 use Rattle.hir_scope.specs.PerNs.{Item}
-use Rattle.hir_scope.specs.declared.imports.ImportOrExternCrate.{ImportOrExternCrate}
+use Rattle.hir_scope.specs.Types.{ImportOrExternCrate}
 use Rattle.hir_def_map_rules.specs.Overlay.{Maps, holders_or, holders_under, placed_in}
 use Rattle.hir_def_map_rules.specs.Scoping.{Resolution}
 use Rattle.hir_def_map.specs.Scoping.Slots.{is_in}
@@ -19,10 +19,10 @@ use Rattle.hir_def_map_rules.proofs.WellFormed.{parent_listed}
 use Rattle.hir_def_map_rules.specs.State.{IsBefore, IsInOrder, Map, ModuleValue, Variants, module_at, parent_of, variants_at}
 use Rattle.hir_def_map.specs.declared.nameres.path_resolution.slots.Slot.{Slot as PathSlot}
 use Rattle.hir_def_map.specs.declared.nameres.path_resolution.slots.Slot.TheVariants.{Module as of_module, Preludes as of_preludes}
-use Rattle.hir_def_map_rules.specs.declared.reference.Reference.{Reference}
+use Rattle.hir_def_map_rules.specs.Types.{Reference}
 use Rattle.hir_def_map_rules.specs.declared.reference.Reference.TheVariants as named
 use Rattle.hir_def_map_laws.specs.ReadLaw.{DiffersInScopes, Grows, has_no_variants, is_bare, is_bare_def, stops_bare}
-use Rattle.hir_glob_imports.specs.declared.edge.Target.{Target}
+use Rattle.hir_glob_imports.specs.Types.{Target}
 use Rattle.hir_glob_imports.specs.declared.edge.Target.TheVariants as targets
 use Rattle.hir_import_resolution.specs.Lasting.{HasVariants, IsOrdered, IsThere}
 
@@ -53,7 +53,9 @@ module _ (s t : Map) (keeps : (n : Reference) → has_no_variants s n ≡ false 
   still_filled_type (Some item) e = still_filled item.def e
 
   pub still_unstopped : (a : Resolution) → stops_bare s a ≡ false → stops_bare t a ≡ false
-  still_unstopped a e = either_no (is_some a.segment_index) (is_bare s a.resolved_def.types) (is_some a.segment_index) (is_bare t a.resolved_def.types) e (still_filled_type a.resolved_def.types) refl
+  still_unstopped a e =
+      either_no (is_some a.segment_index) (is_bare s a.resolved_def.types) (is_some a.segment_index) (is_bare t a.resolved_def.types) e
+      (still_filled_type a.resolved_def.types) refl
 
   -- a target that had its variants has them
   pub still_has : (of : Target) → HasVariants s of → HasVariants t of
@@ -104,7 +106,8 @@ module _ (s t : Map) (grows : Grows s t) where
   pub more_variants : (n : Reference) → has_no_variants s n ≡ false → has_no_variants t n ≡ false
   more_variants (named.Module m) e = refl
   more_variants (named.Enum id) e =
-      either_no (map_id.ghosts.eq id.loc.container.map s.id) (not (is_some (variants_at s id))) (map_id.ghosts.eq id.loc.container.map t.id) (not (is_some (variants_at t id))) e
+      either_no (map_id.ghosts.eq id.loc.container.map s.id) (not (is_some (variants_at s id))) (map_id.ghosts.eq id.loc.container.map t.id)
+      (not (is_some (variants_at t id))) e
       (stays (variants_at s id) refl) (ap (map_id.ghosts.eq id.loc.container.map) grows.id)
     where
       stays : (o : Option Variants) → variants_at s id ≡ o → not (is_some (variants_at s id)) ≡ false → not (is_some (variants_at t id)) ≡ false

@@ -1,13 +1,11 @@
 -- What look-ups find in a map among several.
 use Rattle.std.proofs.Common.{◌≡◌, ◌∙◌, ap, refl, ℕ, Option, None, Some}
 use Rattle.std.specs.Option.{option_and_then, option_map}
-use Rattle.hir_base.specs.declared.ids.EnumId.{EnumId}
-use Rattle.hir_base.specs.declared.ids.ModuleId.{ModuleId}
-use Rattle.hir_base.specs.declared.ids.TraitId.{TraitId}
+use Rattle.hir_base.specs.Types.{EnumId, ModuleId, TraitId}
 use Rattle.hir_scope.specs.Scope.{ScopeValue}
 use Rattle.hir_def_map_rules.specs.Overlay.{Maps, Placed, map_in, module_in, variants_in}
 use Rattle.hir_def_map_rules.specs.State.{Map, ModuleValue, module_at, scope_at, variants_at}
-use Rattle.hir_glob_imports.specs.declared.edge.Key.{Key}
+use Rattle.hir_glob_imports.specs.Types.{Key}
 use Rattle.hir_glob_imports.specs.declared.edge.Key.TheVariants.{Types, Values, Macros, Unnamed}
 use Rattle.hir_import_resolution.specs.KeyLists.{scope_in}
 use Rattle.hir_import_resolution.specs.Names.{trait_vis}
@@ -18,7 +16,8 @@ module _ (maps : Maps) where
   module-found : (m : ModuleId) (map : Map) → map_in maps m.map ≡ Some map → module_in maps m ≡ module_at map m.index
   module-found m map e = go (maps m.map) e
     where
-      go : (o : Option Placed) → option_map (λ (p : Placed). p.map) o ≡ Some map → option_and_then (λ (p : Placed). module_at p.map m.index) o ≡ module_at map m.index
+      go : (o : Option Placed) → option_map (λ (p : Placed). p.map) o ≡ Some map → option_and_then (λ (p : Placed). module_at p.map m.index) o
+          ≡ module_at map m.index
       go None f = absurd cc
       go (Some p) f = let same : p.map ≡ map = cc in ap (λ (x : Map). module_at x m.index) same
 
@@ -29,7 +28,8 @@ module _ (maps : Maps) where
       go None f = refl
       go (Some p) f = absurd cc
 
-  pub trait-found : (m : ModuleId) (id : TraitId) (map : Map) → map_in maps m.map ≡ Some map → trait_vis (module_in maps m) id ≡ trait_vis (module_at map m.index) id
+  pub trait-found : (m : ModuleId) (id : TraitId) (map : Map) → map_in maps m.map ≡ Some map → trait_vis (module_in maps m) id
+      ≡ trait_vis (module_at map m.index) id
   trait-found m id map e = ap (λ (o : Option ModuleValue). trait_vis o id) (module-found m map e)
 
   pub trait-none : (m : ModuleId) (id : TraitId) → map_in maps m.map ≡ None → trait_vis (module_in maps m) id ≡ None
@@ -71,9 +71,7 @@ module _ (map : Map) (at : ℕ) (key : Key) where
     where
       vacant : (k : Key) → bound_inside k None ≡ None
       vacant (Types name) = refl
-      vacant (Values name) = refl
-      vacant (Macros name) = refl
-      vacant (Unnamed id) = refl
+      vacant other = refl
 
       go : (o : Option ModuleValue) → option_map (λ (m : ModuleValue). m.scope) o ≡ None → bound_inside key o ≡ None
       go None f = vacant key

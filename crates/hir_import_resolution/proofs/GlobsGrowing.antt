@@ -4,11 +4,11 @@ use Rattle.std.proofs.lemmas.Bool.Decides.{nat_tests}
 use Rattle.std.proofs.lemmas.Grind.{common_steps}
 use Rattle.std.specs.List.{list_any}
 use Rattle.std.specs.Prelude.{nat_lt, unwrap_or, if◌then◌else◌}
-use Rattle.hir_base.specs.declared.ids.ModuleId.{ModuleId}
+use Rattle.hir_base.specs.Types.{ModuleId}
 use Rattle.hir_scope.specs.Globs.{GlobNames}
 use Rattle.hir_scope.specs.ModuleTree.{same_crate, same_module}
 use Rattle.hir_scope.specs.Visibility.{both_in, greater_of, is_visible, lesser_of}
-use Rattle.hir_scope.specs.declared.visibility.Visibility.{Visibility}
+use Rattle.hir_scope.specs.Types.{Visibility}
 use Rattle.hir_scope.specs.declared.visibility.Visibility.TheVariants.{Module, PubCrate, Public}
 use Rattle.hir_def_map_rules.specs.Ancestors.{above_in, holders_in}
 use Rattle.hir_def_map_rules.specs.Inner.OverlayLaws.{same_id}
@@ -18,13 +18,8 @@ use Rattle.hir_def_map_laws.specs.ReadLaw.{Grows}
 use Rattle.hir_glob_imports.specs.Keys.{is_unnamed}
 use Rattle.hir_glob_imports.specs.Moves.{brought_vis, is_as_seen, raise_of, raise_to, same_def, seen_by, shown, update_of, update_of_brought}
 use Rattle.hir_glob_imports.specs.View.{View}
-use Rattle.hir_glob_imports.specs.declared.edge.Bound.{Bound}
-use Rattle.hir_glob_imports.specs.declared.edge.Brought.{Brought}
-use Rattle.hir_glob_imports.specs.declared.edge.Edge.{Edge}
-use Rattle.hir_glob_imports.specs.declared.edge.Key.{Key}
-use Rattle.hir_glob_imports.specs.declared.edge.Target.{Target}
+use Rattle.hir_glob_imports.specs.Types.{Bound, Brought, Edge, Key, Target, Update}
 use Rattle.hir_glob_imports.specs.declared.edge.Target.TheVariants as targets
-use Rattle.hir_glob_imports.specs.declared.edge.Update.{Update}
 use Rattle.hir_glob_imports.specs.declared.edge.Update.TheVariants.{Nothing, Follow}
 use Rattle.hir_import_resolution.specs.Directives.{open_items}
 use Rattle.hir_import_resolution.specs.Names.{bound_at, is_foreign, open_vis, trait_vis, variant_items, view_of}
@@ -44,7 +39,8 @@ module _ (v w : View) (j : ℕ) (e : Edge) (b c : Bound) (greater : w.greater c.
 -- what stands at a key may only be raised where it has no name, or another edge brought it
 pub same_update : (v w : View) (j : ℕ) (e : Edge) (key : Key) (by : Option Brought) (shows stands : Option Bound)
     → ((b c : Bound) → shows ≡ Some b → stands ≡ Some c → is_unnamed key ≡ true → w.greater c.vis (brought_vis w e b) ≡ v.greater c.vis (brought_vis v e b))
-    → ((b c : Bound) (last : Brought) → shows ≡ Some b → stands ≡ Some c → by ≡ Some last → w.greater c.vis (brought_vis w e b) ≡ v.greater c.vis (brought_vis v e b))
+    → ((b c : Bound) (last : Brought) → shows ≡ Some b → stands ≡ Some c → by ≡ Some last → w.greater c.vis (brought_vis w e b)
+    ≡ v.greater c.vis (brought_vis v e b))
     → update_of w j e key shows stands by ≡ update_of v j e key shows stands by
 same_update v w j e key by None stands unnamed brought = refl
 same_update v w j e key by (Some b) None unnamed brought = refl
@@ -54,17 +50,20 @@ same_update v w j e key by (Some b) (Some c) unnamed brought = on_name (is_unnam
     on_brought None is = refl
     on_brought (Some last) is = same_brought v w j e b c (brought b c last refl refl is) last
 
-    on_name : (t : Bool) → is_unnamed key ≡ t → (if t then raise_of w e b c else update_of_brought w j e b c by) ≡ (if t then raise_of v e b c else update_of_brought v j e b c by)
+    on_name : (t : Bool) → is_unnamed key ≡ t → (if t then raise_of w e b c else update_of_brought w j e b c by)
+        ≡ (if t then raise_of v e b c else update_of_brought v j e b c by)
     on_name true is = same_raise v w j e b c (unnamed b c refl refl is)
     on_name false is = on_brought by refl
 
 -- ---- the lesser of two visibilities names what one of them names
 
-pub chosen : (map : Map) (own : Visibility) (test : Bool) (x y : Option Visibility) → IsPlaced map (unwrap_or x own) → IsPlaced map (unwrap_or y own) → IsPlaced map (unwrap_or (cond test x y) own)
+pub chosen : (map : Map) (own : Visibility) (test : Bool) (x y : Option Visibility) → IsPlaced map (unwrap_or x own) → IsPlaced map (unwrap_or y own)
+    → IsPlaced map (unwrap_or (cond test x y) own)
 chosen map own true x y first second = first
 chosen map own false x y first second = second
 
-pub lesser_placed : (above : ModuleId → List ModuleId) (map : Map) (a b : Visibility) → IsPlaced map a → IsPlaced map b → IsPlaced map (unwrap_or (lesser_of above map.id a b) a)
+pub lesser_placed : (above : ModuleId → List ModuleId) (map : Map) (a b : Visibility) → IsPlaced map a → IsPlaced map b
+    → IsPlaced map (unwrap_or (lesser_of above map.id a b) a)
 lesser_placed above map Public b first second = second
 lesser_placed above map (PubCrate c) Public first second = tt
 lesser_placed above map (PubCrate c) (PubCrate d) first second = chosen map (PubCrate c) (same_crate c d) (Some (PubCrate c)) None tt tt
@@ -105,12 +104,15 @@ module _ (finished : Maps) (old new : Map) (names new_names : GlobNames) (ordere
       ∙ same_visible finished old new grows ordered (numbered old.id at) (same_id old.id) (below at (length old.modules) is) vis
 
   -- what a target shows, where it does so among the modules of the map
-  pub source_still : (of : Target) (key : Key) → HasVariants old of → ((at : ℕ) → of ≡ targets.Own at → w.bound (targets.Own at) key ≡ v.bound (targets.Own at) key)
+  pub source_still : (of : Target) (key : Key) → HasVariants old of → ((at : ℕ) → of ≡ targets.Own at → w.bound (targets.Own at) key
+      ≡ v.bound (targets.Own at) key)
       → w.bound of key ≡ v.bound of key
   source_still (targets.Own at) key has own = own at refl
   source_still (targets.Module m) key has own = λ i.
-      bound_at (λ name. open_items (is_foreign (grows.id i) m) (entry_in finished m name)) (λ id. open_vis (is_foreign (grows.id i) m) (trait_vis (module_in finished m) id)) key
-  source_still (targets.Enum id) key has own = λ i. bound_at (λ name. variant_items (same_variant finished old new grows ordered id name has i)) (λ tr. None) key
+      bound_at (λ name. open_items (is_foreign (grows.id i) m) (entry_in finished m name))
+      (λ id. open_vis (is_foreign (grows.id i) m) (trait_vis (module_in finished m) id)) key
+  source_still (targets.Enum id) key has own =
+      λ i. bound_at (λ name. variant_items (same_variant finished old new grows ordered id name has i)) (λ tr. None) key
 
   -- what an edge shows at a key
   pub shown_along : (e : Edge) (key : Key) → v.has e.importer ≡ true → w.bound e.source key ≡ v.bound e.source key → shown w e key ≡ shown v e key

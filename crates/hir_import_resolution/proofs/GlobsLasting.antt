@@ -2,8 +2,8 @@
 use Rattle.std.proofs.Common.{◌≡◌, ◌∙◌, ap, sym, subst, refl, ℕ, ◌<◌, List, length, None, Some, inl, inr, arith}
 use Rattle.std.proofs.lemmas.Bool.{lt-ltb, ltb-true}
 use Rattle.std.specs.Prelude.{slice_get}
-use Rattle.hir_base.specs.declared.ids.MapId.{MapId}
-use Rattle.hir_scope.specs.declared.visibility.Visibility.{Visibility}
+use Rattle.hir_base.specs.Types.{MapId}
+use Rattle.hir_scope.specs.Types.{Visibility}
 use Rattle.hir_scope.specs.declared.visibility.Visibility.TheVariants.{Module, PubCrate, Public}
 use Rattle.hir_def_map_rules.specs.Overlay.{Maps}
 use Rattle.hir_def_map.specs.Scoping.Slots.{is_in}
@@ -14,11 +14,8 @@ use Rattle.hir_glob_imports.specs.Keys.{slot_at}
 use Rattle.hir_glob_imports.specs.Rules.{BroughtBy}
 use Rattle.hir_glob_imports.specs.View.{View}
 use Rattle.hir_glob_imports.specs.Waves.{AreOfKind, GlobsValue, IsKept, IsPendingOrSettled, Stands, brought_of, update_at}
-use Rattle.hir_glob_imports.specs.declared.edge.Brought.{Brought}
-use Rattle.hir_glob_imports.specs.declared.edge.Edge.{Edge}
-use Rattle.hir_glob_imports.specs.declared.edge.Key.{Key}
+use Rattle.hir_glob_imports.specs.Types.{Brought, Edge, Key, Slot}
 use Rattle.hir_glob_imports.specs.declared.edge.Key.TheVariants.{Unnamed}
-use Rattle.hir_glob_imports.specs.declared.edge.Slot.{Slot}
 use Rattle.hir_glob_imports.specs.declared.edge.Target.TheVariants as targets
 use Rattle.hir_glob_imports.specs.declared.edge.Update.TheVariants.{Nothing}
 use Rattle.hir_import_resolution.specs.Changes.{forgotten}
@@ -29,8 +26,7 @@ use Rattle.hir_import_resolution.specs.Names.{bound_at, bound_of, view_of}
 use Rattle.hir_import_resolution.specs.Rounds.{GlobsLast, GrowsAround, GrowthKeepsGlobs, HaveGlobs, PushesKeepGlobs, RestingGlobsLast}
 use Rattle.hir_import_resolution.specs.Scopes.{value_of}
 use Rattle.hir_import_resolution.specs.State.{ImportState, scopes_of}
-use Rattle.hir_import_resolution.specs.declared.imports.Imports.{Imports}
-use Rattle.hir_import_resolution.specs.declared.resolver.Resolver.{Resolver}
+use Rattle.hir_import_resolution.specs.Types.{Imports, Resolver}
 use Rattle.hir_import_resolution.proofs.Binding.{push_binds}
 use Rattle.hir_import_resolution.proofs.Firm.{as_many, grown_ordered, more_variants, same_variants, still_has, still_ordered}
 use Rattle.hir_import_resolution.proofs.GlobsGrowing.{has_still}
@@ -44,7 +40,9 @@ pub globs_at_rest : RestingGlobsLast
 globs_at_rest finished queue s g up lasting stand have = record {
   kept = record {
     there = λ j e is. lt-ltb e.importer (length s.map.modules) (up.importers j e (recorded j e is));
-    settled = λ j e key is. inr (subst (λ (brought : BroughtBy). update_at (view_of (scopes_of finished s)) brought j e key ≡ Nothing) have.brought (up.still j e key (recorded j e is)));
+    settled =
+        λ j e key is. inr (subst (λ (brought : BroughtBy). update_at (view_of (scopes_of finished s)) brought j e key ≡ Nothing) have.brought
+        (up.still j e key (recorded j e is)));
     stands = λ slot by is. stand slot by (ap (λ (brought : BroughtBy). brought slot) have.brought ∙ is);
   };
   lasts = up.lasts lasting;
@@ -75,14 +73,17 @@ module _ (finished : Maps) (old new : ImportState) (g : GlobsValue) (had : HaveG
   by_before : (s : Slot) → old.brought s ≡ brought_of g s
   by_before s = ap (λ (brought : BroughtBy). brought s) had.brought
 
-  still : (j : ℕ) (e : Edge) (key : Key) → slice_get g.edges j ≡ Some e → update_at before (brought_of g) j e key ≡ Nothing → update_at after (brought_of g) j e key ≡ Nothing
+  still : (j : ℕ) (e : Edge) (key : Key) → slice_get g.edges j ≡ Some e → update_at before (brought_of g) j e key ≡ Nothing → update_at after (brought_of g) j e
+      key ≡ Nothing
   still j e key is nothing =
       let placed = last.lasts.placed in
       pair_still finished old.map new.map old.globs new.globs last.lasts.ordered around.grows around.modules (brought_of g) (brought_of g) j e key
-      (ltb-true e.importer (length old.map.modules) (last.kept.there j e is)) (placed.edges j e (edge_before j e is)) (last.lasts.enums j e (edge_before j e is))
+      (ltb-true e.importer (length old.map.modules) (last.kept.there j e is)) (placed.edges j e (edge_before j e is))
+      (last.lasts.enums j e (edge_before j e is))
       (λ at of. own_still at key) (own_still e.importer key) refl
       (λ by c by_glob there. placed.brought (slot_at e.importer key) by c (by_before (slot_at e.importer key) ∙ by_glob) there)
-      (λ id c unnamed there. placed.traits e.importer id c (sym (ap (λ (k : Key). bound_of (scopes_of finished old) (targets.Own e.importer) k) unnamed) ∙ there)) nothing
+      (λ id c unnamed there. placed.traits e.importer id c (sym (ap (λ (k : Key). bound_of (scopes_of finished old) (targets.Own e.importer) k) unnamed) ∙
+      there)) nothing
 
   settled_still : (j : ℕ) (e : Edge) (key : Key) → slice_get g.edges j ≡ Some e → IsPendingOrSettled before g j e key → IsPendingOrSettled after g j e key
   settled_still j e key is (inl pending) = inl pending
@@ -111,7 +112,8 @@ module _ (finished : Maps) (old new : ImportState) (g : GlobsValue) (had : HaveG
       record {
         edges = λ j e is. placed_now e.vis (placed.edges j e (edge_before j e (edge_kept j e is)));
         brought = λ s by b is there.
-            placed_now b.vis (placed.brought s by b (by_before s ∙ sym (ap (λ (brought : BroughtBy). brought s) have.brought) ∙ is) (sym (own_still s.at s.key) ∙ there));
+            placed_now b.vis (placed.brought s by b (by_before s ∙ sym (ap (λ (brought : BroughtBy). brought s) have.brought) ∙ is)
+            (sym (own_still s.at s.key) ∙ there));
         traits = λ at id b is. placed_now b.vis (placed.traits at id b (sym (own_still at (Unnamed id)) ∙ is));
       }
 
@@ -137,7 +139,9 @@ globs_pushed finished old new g h home name items had have map edges brought for
     of_crate = ap (λ (id : MapId). id.block) differs.id ∙ last.lasts.of_crate;
     ordered = still_ordered old.map new.map differs finished last.lasts.ordered;
     placed = kinds_now;
-    enums = λ j e is. still_has old.map new.map (same_variants old.map new.map differs) e.source (last.lasts.enums j e (sym (ap (λ (es : List Edge). slice_get es j) same_edges) ∙ is));
+    enums =
+        λ j e is. still_has old.map new.map (same_variants old.map new.map differs) e.source
+        (last.lasts.enums j e (sym (ap (λ (es : List Edge). slice_get es j) same_edges) ∙ is));
   };
 }
   where
@@ -151,7 +155,9 @@ globs_pushed finished old new g h home name items had have map edges brought for
     once = pushed old.map old.globs home name items None
 
     bound : IsBound home name items before after
-    bound = subst (λ (m : Map). IsBound home name items before (view_of (beside finished m new.globs))) (sym map) (push_binds (scopes_of finished old) home name items None)
+    bound =
+        subst (λ (m : Map). IsBound home name items before (view_of (beside finished m new.globs))) (sym map)
+        (push_binds (scopes_of finished old) home name items None)
 
     differs : DiffersInScopes old.map new.map
     differs = subst (DiffersInScopes old.map) (sym map) (scope_pushed old.map old.local old.globs home name items None).differs
@@ -164,7 +170,8 @@ globs_pushed finished old new g h home name items had have map edges brought for
 
     kinds_now : AreOfKind (IsPlaced new.map) after new.edges new.brought
     kinds_now =
-        kind_through (IsPlaced old.map) (IsPlaced new.map) after new.edges new.brought (placed_through old.map new.map differs.id (as_many old.map new.map differs))
+        kind_through (IsPlaced old.map) (IsPlaced new.map) after new.edges new.brought
+        (placed_through old.map new.map differs.id (as_many old.map new.map differs))
         (subst (λ (b : BroughtBy). AreOfKind (IsPlaced old.map) after new.edges b) (sym same_brought)
         (subst (λ (es : List Edge). AreOfKind (IsPlaced old.map) after es (forgotten home name items old.brought)) (sym same_edges)
         (kind_bound (IsPlaced old.map) old.edges home name items before after old.brought bound last.lasts.placed)))
@@ -178,7 +185,8 @@ kept_through finished given r state same globs kept =
     (subst (λ (f : Maps). IsKept (view_of (scopes_of f (state_by r))) given.globs) (sym same)
     (subst (λ (s : ImportState). IsKept (view_of (scopes_of finished s)) given.globs) (sym state) kept))
 
-pub globs_after : (f : Maps) (left : Imports) (r : Resolver) → finished_by r ≡ f → state_in left ≡ state_by r → left.globs ≡ r.globs → IsKeptIn r → Lasts (finished_by r) (state_by r)
+pub globs_after : (f : Maps) (left : Imports) (r : Resolver) → finished_by r ≡ f → state_in left ≡ state_by r → left.globs ≡ r.globs → IsKeptIn r
+    → Lasts (finished_by r) (state_by r)
     → GlobsLast f (state_in left) left.globs
 globs_after f left r same state globs kept lasts = record {
   kept =

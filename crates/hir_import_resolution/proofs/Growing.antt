@@ -1,5 +1,6 @@
 -- What was up to date stays so while the map grows, once what has changed is woken and what came besides is queued.
-use Rattle.std.proofs.Common.{◌≡◌, ◌∙◌, ap, sym, refl, subst, ℕ, zero, suc, ◌<◌, ◌≤◌, Bool, true, false, ◌++◌, None, Some, List, [], ◌∷◌, length, get_or, drop, length-append, ◌+◌, arith}
+use Rattle.std.proofs.Common.{◌≡◌, ◌∙◌, ap, sym, refl, subst, ℕ, zero, suc, ◌<◌, ◌≤◌, Bool, true, false, ◌++◌, None, Some, List, [], ◌∷◌, length, get_or, drop}
+use Rattle.std.proofs.Common.{length-append, ◌+◌, arith}
 use Rattle.std.proofs.Math.Seq.{drop-cons}
 use Rattle.std.proofs.lemmas.List.{drop_all}
 use Rattle.std.specs.Prelude.{not, slice_get, slice_index_or}
@@ -9,9 +10,8 @@ use Rattle.hir_worklist.proofs.Idle.{idle-appended}
 use Rattle.hir_worklist.specs.Moves.{Appends, Wakes, empty_queue}
 use Rattle.hir_worklist.specs.Queue.{IsIdle, Queue, count_of, is_unfinished}
 use Rattle.hir_worklist.specs.Watching.{Forgets, is_watching}
-use Rattle.hir_worklist.specs.declared.watchers.Watchers.{Watchers}
-use Rattle.hir_import_resolution.specs.declared.directive.ImportDirective.{ImportDirective}
-use Rattle.hir_import_resolution.specs.declared.import_queue.ImportQueue.{ImportQueue}
+use Rattle.hir_worklist.specs.Types.{Watchers}
+use Rattle.hir_import_resolution.specs.Types.{ImportDirective, ImportQueue}
 use Rattle.hir_import_resolution.specs.Inner.Queue.{AreIdleSettled, IsLonger, IsWoken, WakesEach, slot_cmp, more, none}
 use Rattle.hir_import_resolution.specs.Rounds.{AreQueued, IsResumable, is_lasting}
 use Rattle.hir_import_resolution.specs.State.{ImportState}
@@ -21,8 +21,10 @@ use Rattle.hir_import_resolution.proofs.Trying.{woken_anew}
 -- ---- slots that are woken, one after another
 
 -- one of those that are left, and the others
-pub wakes_one : (slots : List PathSlot) (s : PathSlot) (n : ℕ) (r : Queue) (after : Watchers PathSlot) (q between : Queue) (watchers left : Watchers PathSlot) → n < length slots
-    → get_or slots n s ≡ s → Wakes q between (is_watching slot_cmp watchers s) → Forgets slot_cmp watchers left s → WakesEach r after between left (drop (n + 1) slots)
+pub wakes_one : (slots : List PathSlot) (s : PathSlot) (n : ℕ) (r : Queue) (after : Watchers PathSlot) (q between : Queue) (watchers left : Watchers PathSlot)
+    → n < length slots
+    → get_or slots n s ≡ s → Wakes q between (is_watching slot_cmp watchers s) → Forgets slot_cmp watchers left s → WakesEach r after between left
+    (drop (n + 1) slots)
     → WakesEach r after q watchers (drop n slots)
 wakes_one slots s n r after q between watchers left below is wakes forgets then =
     subst (λ (xs : List PathSlot). WakesEach r after q watchers xs) (sym (drop-cons slots n s below ∙ (λ i. is i ∷ drop (suc n) slots)))
@@ -47,7 +49,8 @@ pub idle_below : (q : Queue) (p : ℕ) → IsIdle q p → p < count_of q
 idle_below q p idle = below_unfinished q.finished p idle.unfinished
 
 -- the last thing isn't finished
-push_unfinished : (finished : List Bool) (p : ℕ) → ((k : ℕ) → k < length finished → not (slice_index_or finished k true) ≡ true) → p < length (finished ++ false ∷ [])
+push_unfinished : (finished : List Bool) (p : ℕ) → ((k : ℕ) → k < length finished → not (slice_index_or finished k true) ≡ true)
+    → p < length (finished ++ false ∷ [])
     → not (slice_index_or (finished ++ false ∷ []) p true) ≡ true
 push_unfinished [] zero all below = refl
 push_unfinished [] (suc p) all below = absurd (omega arith)
@@ -78,7 +81,8 @@ none_idle q r empty longer p idle =
     let before : p < 0 = below_unfinished [] p (subst (λ (x : Queue). is_unfinished x p ≡ true) empty (longer.idle p idle).unfinished) in absurd (omega arith)
 
 -- so in a queue of all imports each is queued
-pub queued_first : (finished : Maps) (queue : ImportQueue) (q : Queue) (s : ImportState) (n : ℕ) → q ≡ empty_queue → IsLonger q queue.worklist → n ≡ length s.imports → (count_of q ≤ n → count_of queue.worklist ≡ n)
+pub queued_first : (finished : Maps) (queue : ImportQueue) (q : Queue) (s : ImportState) (n : ℕ) → q ≡ empty_queue → IsLonger q queue.worklist → n
+    ≡ length s.imports → (count_of q ≤ n → count_of queue.worklist ≡ n)
     → ((p : ℕ) (d : ImportDirective) → slice_get s.imports p ≡ Some d → d.home < length s.map.modules) → AreQueued finished queue s
 queued_first finished queue q s n empty longer all count there = record {
   settled = record {
@@ -125,18 +129,23 @@ module _ (finished : Maps) (queue : ImportQueue) (now : ImportState) (slots : Li
         woken_anew queue.lasting queue.apart finished before now slots queue.worklist woken.worklist queue.watchers woken.watchers
         (λ p idle. record { import = given.grew.imports p (idle_there p idle); taken = given.grew.taken p (idle_there p idle) })
         (λ e p d is firm unread.
-        unchanged_grown finished before now slots d d.source refl (given.apart e) (given.up_to_date.lasts lasting).of_crate (given.up_to_date.lasts lasting).ordered.in_order
+        unchanged_grown finished before now slots d d.source refl (given.apart e) (given.up_to_date.lasts lasting).of_crate
+        (given.up_to_date.lasts lasting).ordered.in_order
         (given.up_to_date.queued.there p d is) given.grew (firm lasting) unread)
         given.up_to_date.queued.settled wakes
 
-    pub queued_again : (last : ImportQueue) (n : ℕ) → last ≡ record woken { worklist = last.worklist } → IsLonger woken.worklist last.worklist → n ≡ length now.imports
+    pub queued_again : (last : ImportQueue) (n : ℕ) → last ≡ record woken { worklist = last.worklist } → IsLonger woken.worklist last.worklist → n
+        ≡ length now.imports
         → (count_of woken.worklist ≤ n → count_of last.worklist ≡ n)
         → ((p : ℕ) (d : ImportDirective) → slice_get now.imports p ≡ Some d → d.home < length now.map.modules) → AreQueued finished last now
     queued_again last n rest longer all count there = record {
       settled =
-          subst (λ (w : Watchers PathSlot). AreIdleSettled last.lasting last.apart finished now None last.worklist w) (sym (ap (λ (x : ImportQueue). x.watchers) rest))
-          (subst (λ (b : Bool). AreIdleSettled last.lasting b finished now None last.worklist woken.watchers) (sym (ap (λ (x : ImportQueue). x.apart) rest ∙ apart))
-          (subst (λ (b : Bool). AreIdleSettled b queue.apart finished now None last.worklist woken.watchers) (sym (ap (λ (x : ImportQueue). x.lasting) rest ∙ lasts)) fewer));
+          subst (λ (w : Watchers PathSlot). AreIdleSettled last.lasting last.apart finished now None last.worklist w)
+          (sym (ap (λ (x : ImportQueue). x.watchers) rest))
+          (subst (λ (b : Bool). AreIdleSettled last.lasting b finished now None last.worklist woken.watchers)
+          (sym (ap (λ (x : ImportQueue). x.apart) rest ∙ apart))
+          (subst (λ (b : Bool). AreIdleSettled b queue.apart finished now None last.worklist woken.watchers)
+          (sym (ap (λ (x : ImportQueue). x.lasting) rest ∙ lasts)) fewer));
       count = as_many;
       unfinished = λ p below. longer.unfinished old_unfinished p (subst (λ (n : ℕ). p < n) (sym as_many) below);
       there = there;

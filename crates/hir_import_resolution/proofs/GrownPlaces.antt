@@ -6,15 +6,12 @@ use Rattle.std.specs.Option.{option_and_then, option_map}
 use Rattle.std.specs.Prelude.{is_some, not, map as list_map}
 use Rattle.std.proofs.lemmas.List.Elements.{All-head, All-tail}
 use Rattle.hir_base.specs.contracts.ids.MapIdPartialEq.TheImpl as map_id
-use Rattle.hir_base.specs.declared.ast_id.BlockId.{BlockId}
-use Rattle.hir_base.specs.declared.ids.Crate.{Crate}
-use Rattle.hir_base.specs.declared.ids.EnumId.{EnumId}
-use Rattle.hir_base.specs.declared.ids.MapId.{MapId}
+use Rattle.hir_base.specs.Types.{BlockId, Crate, EnumId, MapId}
 use Rattle.hir_base.specs.declared.ids.ModuleId.{ModuleId as AnyModule}
-use Rattle.hir_item_tree.specs.declared.raw_visibility.VisibilityExplicitness.{VisibilityExplicitness}
+use Rattle.hir_item_tree.specs.Types.{VisibilityExplicitness}
 use Rattle.hir_scope.specs.ModuleTree.{same_crate, same_map, same_module}
 use Rattle.hir_scope.specs.Visibility.{both_in, either_written, greater_of, is_visible, lesser_of, lower_of, stands_for, upper_of}
-use Rattle.hir_scope.specs.declared.visibility.Visibility.{Visibility}
+use Rattle.hir_scope.specs.Types.{Visibility}
 use Rattle.hir_scope.specs.declared.visibility.Visibility.TheVariants.{Module, PubCrate, Public}
 use Rattle.hir_def_map_rules.specs.Ancestors.{above_in, above_inside, above_under, frame_of, frames_of, holders_in, numbers_of}
 use Rattle.hir_def_map_rules.specs.Inner.OverlayLaws.{frame_holders}
@@ -100,14 +97,17 @@ module _ (finished : Maps) (old new : Map) (grows : Grows old new) (ordered : Is
   under_out [] m out all = inside_out m out
   under_out (h ∷ hs) m out all =
       let inside : above_inside (frames_of after) m ≡ above_inside (frames_of before) m = inside_out m out in
-      let outwards : above_under (frames_of after) hs h ≡ above_under (frames_of before) hs h = under_out hs h (All-head Out h hs all) (All-tail Out h hs all) in
+      let outwards : above_under (frames_of after) hs h ≡ above_under (frames_of before) hs h = under_out hs h (All-head Out h hs all) (All-tail Out h hs all)
+      in
       λ i. inside i ++ h ∷ outwards i
 
-  under_own : (hs : List AnyModule) (m : AnyModule) → is_in own m ≡ true → m.index < length old.modules → All Out hs → above_under (frames_of after) hs m ≡ above_under (frames_of before) hs m
+  under_own : (hs : List AnyModule) (m : AnyModule) → is_in own m ≡ true → m.index < length old.modules → All Out hs → above_under (frames_of after) hs m
+      ≡ above_under (frames_of before) hs m
   under_own [] m e low all = inside_own m e low
   under_own (h ∷ hs) m e low all =
       let inside : above_inside (frames_of after) m ≡ above_inside (frames_of before) m = inside_own m e low in
-      let outwards : above_under (frames_of after) hs h ≡ above_under (frames_of before) hs h = under_out hs h (All-head Out h hs all) (All-tail Out h hs all) in
+      let outwards : above_under (frames_of after) hs h ≡ above_under (frames_of before) hs h = under_out hs h (All-head Out h hs all) (All-tail Out h hs all)
+      in
       λ i. inside i ++ h ∷ outwards i
 
   -- the same lies above a module of the map
@@ -135,14 +135,16 @@ module _ (finished : Maps) (old new : Map) (grows : Grows old new) (ordered : Is
       stays None e f = absurd cc
       stays (Some variants) e f = grows.enums id variants e ∙ sym e
 
-      go : (b : Bool) → map_id.ghosts.eq id.loc.container.map own ≡ b → (b && not (is_some (variants_at old id))) ≡ false → variant_in after id name ≡ variant_in before id name
+      go : (b : Bool) → map_id.ghosts.eq id.loc.container.map own ≡ b → (b && not (is_some (variants_at old id))) ≡ false → variant_in after id name
+          ≡ variant_in before id name
       go true e f =
           ap (λ (o : Option Variants). option_and_then (λ (vs : Variants). at_name vs name) o)
           (ap (λ (o : Option Placed). option_and_then (λ (placed : Placed). variants_at placed.map id) o) (after_own id.loc.container.map e)
           ∙ stays (variants_at old id) refl f
           ∙ sym (ap (λ (o : Option Placed). option_and_then (λ (placed : Placed). variants_at placed.map id) o) (before_own id.loc.container.map e)))
       go false e f =
-          ap (λ (o : Option Placed). option_and_then (λ (vs : Variants). at_name vs name) (option_and_then (λ (placed : Placed). variants_at placed.map id) o)) (same_out id.loc.container.map e)
+          ap (λ (o : Option Placed). option_and_then (λ (vs : Variants). at_name vs name) (option_and_then (λ (placed : Placed). variants_at placed.map id) o))
+          (same_out id.loc.container.map e)
 
   -- ---- the greater and the lesser of two visibilities whose modules are there
 
@@ -157,12 +159,14 @@ module _ (finished : Maps) (old new : Map) (grows : Grows old new) (ordered : Is
     abbrev upper_by : Bool → List AnyModule → List AnyModule → Option Visibility
     upper_by both above_m above_n =
         cond (same_module m n) (Some (Module m (either_written d e)))
-        (cond both (cond (list_any (same_module n) (m ∷ above_m)) (Some (Module n e)) (cond (list_any (same_module m) (n ∷ above_n)) (Some (Module m d)) None)) None)
+        (cond both (cond (list_any (same_module n) (m ∷ above_m)) (Some (Module n e)) (cond (list_any (same_module m) (n ∷ above_n)) (Some (Module m d)) None))
+        None)
 
     abbrev lower_by : Bool → List AnyModule → List AnyModule → Option Visibility
     lower_by both above_m above_n =
         cond (same_module m n) (Some (Module m (either_written d e)))
-        (cond both (cond (list_any (same_module n) (m ∷ above_m)) (Some (Module m d)) (cond (list_any (same_module m) (n ∷ above_n)) (Some (Module n e)) None)) None)
+        (cond both (cond (list_any (same_module n) (m ∷ above_m)) (Some (Module m d)) (cond (list_any (same_module m) (n ∷ above_n)) (Some (Module n e)) None))
+        None)
 
     first_same : both_in own m n ≡ true → above_in after m ≡ above_in before m
     first_same b = same_above m (first_own b) (first (first_own b))
@@ -173,16 +177,22 @@ module _ (finished : Maps) (old new : Map) (grows : Grows old new) (ordered : Is
     same_upper : upper_of (above_in after) own m d n e ≡ upper_of (above_in before) own m d n e
     same_upper = go (both_in own m n) refl
       where
-        go : (b : Bool) → both_in own m n ≡ b → upper_by (both_in own m n) (above_in after m) (above_in after n) ≡ upper_by (both_in own m n) (above_in before m) (above_in before n)
+        go : (b : Bool) → both_in own m n ≡ b → upper_by (both_in own m n) (above_in after m) (above_in after n)
+            ≡ upper_by (both_in own m n) (above_in before m) (above_in before n)
         go true b = λ i. upper_by (both_in own m n) (first_same b i) (second_same b i)
-        go false b = ap (λ (t : Bool). upper_by t (above_in after m) (above_in after n)) b ∙ sym (ap (λ (t : Bool). upper_by t (above_in before m) (above_in before n)) b)
+        go false b =
+            ap (λ (t : Bool). upper_by t (above_in after m) (above_in after n)) b ∙ sym (ap (λ (t : Bool). upper_by t (above_in before m) (above_in before n))
+            b)
 
     same_lower : lower_of (above_in after) own m d n e ≡ lower_of (above_in before) own m d n e
     same_lower = go (both_in own m n) refl
       where
-        go : (b : Bool) → both_in own m n ≡ b → lower_by (both_in own m n) (above_in after m) (above_in after n) ≡ lower_by (both_in own m n) (above_in before m) (above_in before n)
+        go : (b : Bool) → both_in own m n ≡ b → lower_by (both_in own m n) (above_in after m) (above_in after n)
+            ≡ lower_by (both_in own m n) (above_in before m) (above_in before n)
         go true b = λ i. lower_by (both_in own m n) (first_same b i) (second_same b i)
-        go false b = ap (λ (t : Bool). lower_by t (above_in after m) (above_in after n)) b ∙ sym (ap (λ (t : Bool). lower_by t (above_in before m) (above_in before n)) b)
+        go false b =
+            ap (λ (t : Bool). lower_by t (above_in after m) (above_in after n)) b ∙ sym (ap (λ (t : Bool). lower_by t (above_in before m) (above_in before n))
+            b)
 
   pub same_greater : (a b : Visibility) → IsPlaced old a → IsPlaced old b → greater_of (above_in after) own a b ≡ greater_of (above_in before) own a b
   same_greater Public b first second = refl

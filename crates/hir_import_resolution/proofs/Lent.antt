@@ -7,7 +7,8 @@ use Rattle.hir_def_map_rules.specs.State.{Map, ModuleValue, changed_at, scope_at
 use Rattle.hir_def_map_rules.proofs.Modules.{changed_at-past}
 
 -- what is left behind the scope is in its place
-left_in : (ms : List ModuleValue) (at : ℕ) (scope : ScopeValue) (change : ScopeValue → ScopeValue) → Some scope ≡ option_map (λ (m : ModuleValue). m.scope) (slice_get ms at)
+left_in : (ms : List ModuleValue) (at : ℕ) (scope : ScopeValue) (change : ScopeValue → ScopeValue) → Some scope ≡ option_map (λ (m : ModuleValue). m.scope)
+    (slice_get ms at)
     → changed_at ms at (with_module_scope (λ _. change scope)) ≡ changed_at ms at (with_module_scope change)
 left_in [] at scope change e = refl
 left_in (m ∷ ms) zero scope change e =

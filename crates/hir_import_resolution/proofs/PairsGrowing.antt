@@ -1,6 +1,6 @@
 -- Where nothing is to be done along an edge at a key, nothing is while the map grows elsewhere.
 use Rattle.std.proofs.Common.{◌≡◌, ◌∙◌, ℕ, ◌<◌, ◌≤◌, length, true, Some}
-use Rattle.hir_base.specs.declared.ids.TraitId.{TraitId}
+use Rattle.hir_base.specs.Types.{TraitId}
 use Rattle.hir_scope.specs.Globs.{GlobNames}
 use Rattle.hir_def_map_rules.specs.Overlay.{Maps}
 use Rattle.hir_def_map_rules.specs.State.{Map}
@@ -11,10 +11,7 @@ use Rattle.hir_glob_imports.specs.Moves.{brought_vis, shown, update_of}
 use Rattle.hir_glob_imports.specs.Rules.{BroughtBy}
 use Rattle.hir_glob_imports.specs.View.{View, bound_in}
 use Rattle.hir_glob_imports.specs.Waves.{update_at}
-use Rattle.hir_glob_imports.specs.declared.edge.Bound.{Bound}
-use Rattle.hir_glob_imports.specs.declared.edge.Brought.{Brought}
-use Rattle.hir_glob_imports.specs.declared.edge.Edge.{Edge}
-use Rattle.hir_glob_imports.specs.declared.edge.Key.{Key}
+use Rattle.hir_glob_imports.specs.Types.{Bound, Brought, Edge, Key}
 use Rattle.hir_glob_imports.specs.declared.edge.Key.TheVariants.{Unnamed}
 use Rattle.hir_glob_imports.specs.declared.edge.Target.TheVariants.{Own}
 use Rattle.hir_glob_imports.specs.declared.edge.Update.TheVariants.{Nothing}
@@ -41,7 +38,8 @@ module _ (finished : Maps) (old new : Map) (names new_names : GlobNames) (ordere
       → ((at : ℕ) → e.source ≡ Own at → bound_of (beside finished new new_names) (Own at) key ≡ bound_of (beside finished old names) (Own at) key)
       → bound_of (beside finished new new_names) (Own e.importer) key ≡ bound_of (beside finished old names) (Own e.importer) key
       → new_brought (slot_at e.importer key) ≡ brought (slot_at e.importer key)
-      → ((by : Brought) (c : Bound) → brought (slot_at e.importer key) ≡ Some by → bound_of (beside finished old names) (Own e.importer) key ≡ Some c → IsPlaced old c.vis)
+      → ((by : Brought) (c : Bound) → brought (slot_at e.importer key) ≡ Some by → bound_of (beside finished old names) (Own e.importer) key ≡ Some c
+      → IsPlaced old c.vis)
       → ((id : TraitId) (c : Bound) → key ≡ Unnamed id → bound_of (beside finished old names) (Own e.importer) key ≡ Some c → IsPlaced old c.vis)
       → update_at v brought j e key ≡ Nothing → update_at w new_brought j e key ≡ Nothing
   pair_still long brought new_brought j e key low of_edge variants source importer same by_glob traits nothing =
@@ -55,4 +53,6 @@ module _ (finished : Maps) (old new : Map) (names new_names : GlobNames) (ordere
       has = has_below finished old new names new_names ordered grows e.importer low
 
       shows : shown w e key ≡ shown v e key
-      shows = shown_along finished old new names new_names ordered grows e key has (source_still finished old new names new_names ordered grows e.source key variants source)
+      shows =
+          shown_along finished old new names new_names ordered grows e key has (source_still finished old new names new_names ordered grows e.source key
+          variants source)

@@ -10,8 +10,7 @@ use Rattle.hir_worklist.proofs.Idle.{idle-settled}
 use Rattle.hir_worklist.proofs.Settled.{pass_closed, pass_opened, taken}
 use Rattle.hir_worklist.specs.Moves.{Takes, closed, opened}
 use Rattle.hir_worklist.specs.Queue.{Queue}
-use Rattle.hir_import_resolution.specs.declared.directive.ImportDirective.{ImportDirective}
-use Rattle.hir_import_resolution.specs.declared.resolver.Resolver.{Resolver}
+use Rattle.hir_import_resolution.specs.Types.{ImportDirective, Resolver}
 use Rattle.hir_import_resolution.specs.Inner.Queue.{AreIdleSettled, IsRunning, IsSettledFor, reads_at, slot_cmp}
 use Rattle.hir_import_resolution.specs.Inner.State.{finished_by, state_by}
 use Rattle.hir_import_resolution.specs.Names.{view_of}
@@ -23,38 +22,46 @@ use Rattle.hir_import_resolution.proofs.Running.{requeued}
 
 -- ---- the queue
 
-pub opened_running : (r : Resolver) (q : Queue) → IsRunning r None → r.worklist.current ≡ [] → q ≡ opened r.worklist → IsRunning (record r { worklist = q }) None
+pub opened_running : (r : Resolver) (q : Queue) → IsRunning r None → r.worklist.current ≡ [] → q ≡ opened r.worklist → IsRunning (record r { worklist = q })
+    None
 opened_running r q old over e =
     requeued r None None q old
     (subst (λ (x : Queue). AreIdleSettled r.lasting r.apart (finished_by r) (state_by r) None x r.watchers) (sym e)
-    (pass_opened slot_cmp slot_total (reads_at r.apart (finished_by r) (state_by r)) (IsSettledFor r.lasting (finished_by r) (state_by r)) None r.worklist r.watchers old.begun.settled over))
+    (pass_opened slot_cmp slot_total (reads_at r.apart (finished_by r) (state_by r)) (IsSettledFor r.lasting (finished_by r) (state_by r)) None r.worklist
+    r.watchers old.begun.settled over))
     (ap (λ (x : Queue). x.finished) e)
 
 pub taken_running : (r : Resolver) (q : Queue) (i : ℕ) → IsRunning r None → Takes r.worklist q i → IsRunning (record r { worklist = q }) (Some i)
 taken_running r q i old takes =
     requeued r None (Some i) q old
-    (taken slot_cmp slot_total (reads_at r.apart (finished_by r) (state_by r)) (IsSettledFor r.lasting (finished_by r) (state_by r)) r.worklist q i r.watchers old.begun.settled takes) takes.finished
+    (taken slot_cmp slot_total (reads_at r.apart (finished_by r) (state_by r)) (IsSettledFor r.lasting (finished_by r) (state_by r)) r.worklist q i r.watchers
+    old.begun.settled takes) takes.finished
 
 pub closed_running : (r : Resolver) (q : Queue) → IsRunning r None → q ≡ closed r.worklist → IsRunning (record r { worklist = q }) None
 closed_running r q old e =
     requeued r None None q old
     (subst (λ (x : Queue). AreIdleSettled r.lasting r.apart (finished_by r) (state_by r) None x r.watchers) (sym e)
-    (pass_closed slot_cmp slot_total (reads_at r.apart (finished_by r) (state_by r)) (IsSettledFor r.lasting (finished_by r) (state_by r)) None r.worklist r.watchers old.begun.settled))
+    (pass_closed slot_cmp slot_total (reads_at r.apart (finished_by r) (state_by r)) (IsSettledFor r.lasting (finished_by r) (state_by r)) None r.worklist
+    r.watchers old.begun.settled))
     (ap (λ (x : Queue). x.finished) e)
 
 -- ---- steps of one try after another
 
-pub steps_on : (r0 r1 r2 : Resolver) → finished_by r1 ≡ finished_by r0 → Steps (finished_by r0) (state_by r0) (state_by r1) → Steps (finished_by r1) (state_by r1) (state_by r2)
+pub steps_on : (r0 r1 r2 : Resolver) → finished_by r1 ≡ finished_by r0 → Steps (finished_by r0) (state_by r0) (state_by r1)
+    → Steps (finished_by r1) (state_by r1) (state_by r2)
     → Steps (finished_by r0) (state_by r0) (state_by r2)
 steps_on r0 r1 r2 same first then =
     steps_append (finished_by r0) (state_by r0) (state_by r1) (state_by r2) first (subst (λ (f : Maps). Steps f (state_by r1) (state_by r2)) same then)
 
-pub spent_on : (r0 r1 : Resolver) → finished_by r1 ≡ finished_by r0 → Steps (finished_by r0) (state_by r0) (state_by r1) → IsSpent (finished_by r1) (state_by r1) → IsSpent (finished_by r0) (state_by r0)
+pub spent_on : (r0 r1 : Resolver) → finished_by r1 ≡ finished_by r0 → Steps (finished_by r0) (state_by r0) (state_by r1)
+    → IsSpent (finished_by r1) (state_by r1) → IsSpent (finished_by r0) (state_by r0)
 spent_on r0 r1 same first spent = spent_after (finished_by r0) (state_by r0) (state_by r1) first (subst (λ (f : Maps). IsSpent f (state_by r1)) same spent)
 
 -- a pass that takes no step leaves nothing for the next one
-pub nothing_later : (r0 r1 r2 : Resolver) (q : Queue) (i : ℕ) → Steps (finished_by r0) (state_by r0) (state_by r1) → Steps (finished_by r1) (state_by r1) (state_by r2)
-    → (r1.count ≡ r0.count → r1.worklist.later ≡ []) → Takes r1.worklist q i → (r2.count ≡ r1.count → r2.worklist ≡ q) → r2.count ≡ r0.count → r2.worklist.later ≡ []
+pub nothing_later : (r0 r1 r2 : Resolver) (q : Queue) (i : ℕ) → Steps (finished_by r0) (state_by r0) (state_by r1) → Steps (finished_by r1) (state_by r1)
+    (state_by r2)
+    → (r1.count ≡ r0.count → r1.worklist.later ≡ []) → Takes r1.worklist q i → (r2.count ≡ r1.count → r2.worklist ≡ q) → r2.count ≡ r0.count → r2.worklist.later
+    ≡ []
 nothing_later r0 r1 r2 q i first then before takes stays same =
     let up : r0.count ≤ r1.count = steps_count (finished_by r0) (state_by r0) (state_by r1) first in
     let on : r1.count ≤ r2.count = steps_count (finished_by r1) (state_by r1) (state_by r2) then in
@@ -88,7 +95,8 @@ at_rest r old current later = record {
   where
     settled : (i : ℕ) (d : ImportDirective) → slice_get r.imports.items i ≡ Some d → IsSettled (finished_by r) (state_by r) i
     settled i d e =
-        (old.begun.settled.settled i (idle-settled r.worklist i current later (old.begun.unfinished i (slice_get_within r.imports.items i d e))) (λ none. absurd cc)).settled
+        (old.begun.settled.settled i (idle-settled r.worklist i current later (old.begun.unfinished i (slice_get_within r.imports.items i d e)))
+        (λ none. absurd cc)).settled
 
 pub rest_on : (r0 r1 : Resolver) → finished_by r1 ≡ finished_by r0 → IsAtRest (finished_by r1) (state_by r1) → IsAtRest (finished_by r0) (state_by r1)
 rest_on r0 r1 same rests = subst (λ (f : Maps). IsAtRest f (state_by r1)) same rests

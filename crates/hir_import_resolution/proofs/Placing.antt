@@ -1,5 +1,6 @@
 -- What modules of a map see names modules that are there.
-use Rattle.std.proofs.Common.{◌≡◌, ◌∙◌, ap, sym, subst, refl, ℕ, zero, suc, ◌+◌, ◌<◌, List, [], ◌∷◌, length, Bool, true, false, ◌&&◌, ◌||◌, not, cond, Option, None, Some, arith}
+use Rattle.std.proofs.Common.{◌≡◌, ◌∙◌, ap, sym, subst, refl, ℕ, zero, suc, ◌+◌, ◌<◌, List, [], ◌∷◌, length, Bool, true, false, ◌&&◌, ◌||◌, not, cond, Option}
+use Rattle.std.proofs.Common.{None, Some, arith}
 use mathlib.Core.Bool.{true≢false}
 use Rattle.std.proofs.lemmas.Bool.Decides.{nat_tests}
 use Rattle.std.proofs.lemmas.Grind.{common_steps}
@@ -9,16 +10,16 @@ use Rattle.std.specs.List.{All, list_any}
 use Rattle.std.specs.Option.{option_map}
 use Rattle.std.specs.Prelude.{is_some, nat_lt, unwrap_or}
 use Rattle.hir_base.specs.contracts.ids.MapIdPartialEq.TheImpl as map_id
-use Rattle.hir_base.specs.declared.ast_id.BlockId.{BlockId}
-use Rattle.hir_base.specs.declared.ids.MapId.{MapId}
+use Rattle.hir_base.specs.Types.{BlockId, MapId}
 use Rattle.hir_base.specs.declared.ids.ModuleId.{ModuleId as AnyModule}
 use Rattle.hir_scope.proofs.Wider.{exact_module}
 use Rattle.hir_scope.specs.Globs.{GlobNames}
 use Rattle.hir_scope.specs.ModuleTree.{is_at_or_above, same_block, same_crate, same_module}
 use Rattle.hir_scope.specs.Visibility.{both_in, greater_of, is_visible, stands_for}
-use Rattle.hir_scope.specs.declared.visibility.Visibility.{Visibility}
+use Rattle.hir_scope.specs.Types.{Visibility}
 use Rattle.hir_scope.specs.declared.visibility.Visibility.TheVariants.{Module, PubCrate, Public}
-use Rattle.hir_def_map_rules.specs.Ancestors.{above_in, above_inside, above_under, frame_of, frames_of, holders_in, leads_to_root, number_in, numbers_above, numbers_of, step_in, step_to, steps_by, steps_from}
+use Rattle.hir_def_map_rules.specs.Ancestors.{above_in, above_inside, above_under, frame_of, frames_of, holders_in, leads_to_root, number_in, numbers_above}
+use Rattle.hir_def_map_rules.specs.Ancestors.{numbers_of, step_in, step_to, steps_by, steps_from}
 use Rattle.hir_def_map_rules.specs.Inner.OverlayLaws.{exact_map, frame_holders, same_id}
 use Rattle.hir_def_map_rules.specs.Overlay.{Maps, Placed, holders_of, overlay, placed_in}
 use Rattle.hir_def_map.specs.Scoping.Slots.{is_in}
@@ -42,11 +43,13 @@ any_of {A} p Q (x ∷ xs) all e = go (p x) refl e (λ f. any_of p Q xs (All-tail
     go false here f later = later f
 
 -- steps that lead to lower numbers stay below a bound
-steps-below : (up : ℕ → Option ℕ) (bound : ℕ) → ((k p : ℕ) → k < bound → up k ≡ Some p → p < k) → (n at : ℕ) → at < bound → All (λ (k : ℕ). k < bound) (steps_by up n at)
+steps-below : (up : ℕ → Option ℕ) (bound : ℕ) → ((k p : ℕ) → k < bound → up k ≡ Some p → p < k) → (n at : ℕ) → at < bound
+    → All (λ (k : ℕ). k < bound) (steps_by up n at)
 steps-below up bound falls zero at low = All-nil (λ (k : ℕ). k < bound)
 steps-below up bound falls (suc n) at low = go (up at) refl (λ p f. steps-below up bound falls n p f)
   where
-    go : (o : Option ℕ) → up at ≡ o → ((p : ℕ) → p < bound → All (λ (k : ℕ). k < bound) (steps_by up n p)) → All (λ (k : ℕ). k < bound) (steps_from (steps_by up n) o)
+    go : (o : Option ℕ) → up at ≡ o → ((p : ℕ) → p < bound → All (λ (k : ℕ). k < bound) (steps_by up n p))
+        → All (λ (k : ℕ). k < bound) (steps_from (steps_by up n) o)
     go None e further = All-nil (λ (k : ℕ). k < bound)
     go (Some p) e further =
         let less : p < at = falls at p low e in
@@ -85,7 +88,8 @@ module _ (finished : Maps) (map : Map) (ordered : IsOrdered finished map) where
     where
       go : (o : Option AnyModule) → IsBefore own k o → step_to (frame_of placed) k (number_in own o) ≡ Some p → p < k
       go None before f = absurd cc
-      go (Some q) before f = on (nat_lt q.index k || leads_to_root (frame_of placed) k) (sym (ap (step_to (frame_of placed) k) (number_there own q before.0)) ∙ f)
+      go (Some q) before f =
+          on (nat_lt q.index k || leads_to_root (frame_of placed) k) (sym (ap (step_to (frame_of placed) k) (number_there own q before.0)) ∙ f)
         where
           on : (b : Bool) → cond b (Some q.index) None ≡ Some p → p < k
           on true g = let same : q.index ≡ p = cc in subst (λ (n : ℕ). n < k) same before.1
@@ -103,7 +107,8 @@ module _ (finished : Maps) (map : Map) (ordered : IsOrdered finished map) where
   inside_lies from e low =
       All-map Lies (numbered from.map) (numbers_of (frames_of maps from.map) from.index)
       (subst (λ (o : Option Placed). All (λ (k : ℕ). Lies (numbered from.map k)) (numbers_of (option_map frame_of o) from.index)) (sym (own_placed from.map e))
-      (All-weaker (λ (k : ℕ). k < length map.modules) (λ (k : ℕ). Lies (numbered from.map k)) (λ k lower inside. lower) (numbers_above (frame_of placed) from.index) (numbers_below from.index low)))
+      (All-weaker (λ (k : ℕ). k < length map.modules) (λ (k : ℕ). Lies (numbered from.map k)) (λ k lower inside. lower)
+      (numbers_above (frame_of placed) from.index) (numbers_below from.index low)))
 
   -- ---- above a module that lies outside
 
@@ -118,7 +123,8 @@ module _ (finished : Maps) (map : Map) (ordered : IsOrdered finished map) where
 
   -- ---- above a module of the map
 
-  under_lies : (hs : List AnyModule) (from : AnyModule) → is_in own from ≡ true → from.index < length map.modules → All Out hs → All Lies (above_under (frames_of maps) hs from)
+  under_lies : (hs : List AnyModule) (from : AnyModule) → is_in own from ≡ true → from.index < length map.modules → All Out hs
+      → All Lies (above_under (frames_of maps) hs from)
   under_lies [] from e low all = inside_lies from e low
   under_lies (h ∷ hs) from e low all =
       All-append Lies (above_inside (frames_of maps) from) (h ∷ above_under (frames_of maps) hs h) (inside_lies from e low)
@@ -135,7 +141,8 @@ module _ (finished : Maps) (map : Map) (ordered : IsOrdered finished map) where
 
   -- ---- what one of its modules sees
 
-  at_or_above_lies : (from m : AnyModule) → is_in own from ≡ true → from.index < length map.modules → is_in own m ≡ true → is_at_or_above (above_in maps) m from ≡ true
+  at_or_above_lies : (from m : AnyModule) → is_in own from ≡ true → from.index < length map.modules → is_in own m ≡ true → is_at_or_above (above_in maps) m from
+      ≡ true
       → m.index < length map.modules
   at_or_above_lies from m e low inside high =
       any_of (same_module m) (m.index < length map.modules) (from ∷ above_in maps from)
@@ -154,18 +161,21 @@ module _ (finished : Maps) (map : Map) (ordered : IsOrdered finished map) where
       ap (λ (b : Bool). cond b (stands_for from h hs) m)
       (ap (λ (id : MapId). is_some m.map.block && not (same_block m.map.block id.block)) same ∙ not_other_itself m.map.block)
 
-  seen_placed : (at : ℕ) (vis : Visibility) → at < length map.modules → is_visible (above_in maps) (holders_in maps) vis (numbered own at) ≡ true → IsPlaced map vis
+  seen_placed : (at : ℕ) (vis : Visibility) → at < length map.modules → is_visible (above_in maps) (holders_in maps) vis (numbered own at) ≡ true
+      → IsPlaced map vis
   seen_placed at Public low sees = tt
   seen_placed at (PubCrate c) low sees = tt
   seen_placed at (Module m e) low sees = λ inside.
       at_or_above_lies (numbered own at) m (same_id own) low inside
       (subst (λ (x : AnyModule). is_at_or_above (above_in maps) x (numbered own at) ≡ true)
       (stands_itself (numbered own at) m (sym (exact_map m.map own inside)) (holders_in maps m))
-      (second_so (same_crate own.krate m.map.krate) (is_at_or_above (above_in maps) (stands_for (numbered own at) m (holders_in maps m)) (numbered own at)) sees))
+      (second_so (same_crate own.krate m.map.krate) (is_at_or_above (above_in maps) (stands_for (numbered own at) m (holders_in maps m)) (numbered own at))
+      sees))
 
 -- ---- the greater of two visibilities names what one of them names
 
-greater_placed : (above : AnyModule → List AnyModule) (map : Map) (a b : Visibility) → IsPlaced map a → IsPlaced map b → IsPlaced map (unwrap_or (greater_of above map.id a b) a)
+greater_placed : (above : AnyModule → List AnyModule) (map : Map) (a b : Visibility) → IsPlaced map a → IsPlaced map b
+    → IsPlaced map (unwrap_or (greater_of above map.id a b) a)
 greater_placed above map Public b first second = tt
 greater_placed above map (PubCrate c) Public first second = tt
 greater_placed above map (PubCrate c) (PubCrate d) first second = chosen map (PubCrate c) (same_crate c d) (Some (PubCrate c)) None tt tt

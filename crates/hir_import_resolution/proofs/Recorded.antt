@@ -1,15 +1,15 @@
 -- What globs were taken for stays recorded.
-use Rattle.std.proofs.Common.{◌≡◌, ◌≢◌, ◌⊎◌, inl, inr, ◌∙◌, ap, sym, subst, refl, ◌==◌, ◌&&◌, ℕ, zero, suc, ◌++◌, Bool, true, false, List, [], ◌∷◌, length, Some}
+use Rattle.std.proofs.Common.{◌≡◌, ◌≢◌, ◌⊎◌, inl, inr, ◌∙◌, ap, sym, subst, refl, ◌==◌, ◌&&◌, ℕ, zero, suc, ◌++◌, Bool, true, false, List, [], ◌∷◌, length}
+use Rattle.std.proofs.Common.{Some}
 use Rattle.std.specs.Prelude.{Contains, slice_get, slice_set}
 use Rattle.std.specs.Cmp.{unsigned_Decides}
 use Rattle.std.proofs.lemmas.List.Elements.{Contains-push_cases}
 use mathlib.Core.Bool.{true≢false}
 use Rattle.hir_glob_imports.specs.View.{View}
 use Rattle.hir_glob_imports.specs.Waves.{Records, adds, edge_with_vis, same_own, stays, widens}
-use Rattle.hir_glob_imports.specs.declared.edge.Edge.{Edge}
-use Rattle.hir_glob_imports.specs.declared.edge.Target.{Target}
+use Rattle.hir_glob_imports.specs.Types.{Edge, Target}
 use Rattle.hir_glob_imports.specs.declared.edge.Target.TheVariants as targets
-use Rattle.hir_import_resolution.specs.declared.directive.ImportDirective.{ImportDirective}
+use Rattle.hir_import_resolution.specs.Types.{ImportDirective}
 use Rattle.hir_import_resolution.specs.Directives.{TakenValue, taken_for}
 use Rattle.hir_import_resolution.specs.Rest.{IsRecorded, IsSource}
 use Rattle.hir_import_resolution.specs.State.{ImportState}
@@ -165,7 +165,8 @@ recorded_taken s s' i t t' before same imports edges taken old k = record { each
         go (inr p) = now ((old k).each r w target was p has)
 
 -- a glob is recorded, and taken for its source
-pub recorded_linked : (v : View) (s s' : ImportState) (i : ℕ) (r : ImportDirective) (t : TakenValue) (e : Edge) → slice_get s.imports i ≡ Some r → slice_get s.taken i ≡ Some t
+pub recorded_linked : (v : View) (s s' : ImportState) (i : ℕ) (r : ImportDirective) (t : TakenValue) (e : Edge) → slice_get s.imports i ≡ Some r
+    → slice_get s.taken i ≡ Some t
     → e.importer ≡ r.home → Records v s.edges s'.edges e → s'.imports ≡ s.imports → s'.taken ≡ slice_set s.taken i (taken_for t e.source)
     → ((k : ℕ) → IsRecorded s k) → (k : ℕ) → IsRecorded s' k
 recorded_linked v s s' i r t e import before into records imports taken old k = record { each = each }
@@ -194,10 +195,12 @@ recorded_linked v s s' i r t e import before into records imports taken old k = 
         go (inr p) = now ((old k).each q w target was p has)
 
 -- nothing is taken
-pub recorded_kept : (s s' : ImportState) → s'.imports ≡ s.imports → s'.edges ≡ s.edges → s'.taken ≡ s.taken → ((k : ℕ) → IsRecorded s k) → (k : ℕ) → IsRecorded s' k
+pub recorded_kept : (s s' : ImportState) → s'.imports ≡ s.imports → s'.edges ≡ s.edges → s'.taken ≡ s.taken → ((k : ℕ) → IsRecorded s k) → (k : ℕ)
+    → IsRecorded s' k
 recorded_kept s s' imports edges taken old k = record { each = each }
   where
     each : (r : ImportDirective) (w : TakenValue) (target : Target) → slice_get s'.imports k ≡ Some r → slice_get s'.taken k ≡ Some w
         → Contains w.targets target → IsSource s' target r.home
     each r w target import there has = source_of s' target r.home (subst (λ (es : List Edge). Leads es target r.home) (sym edges) (leads_of s target r.home
-        ((old k).each r w target (sym (ap (λ (rs : List ImportDirective). slice_get rs k) imports) ∙ import) (sym (ap (λ (ts : List TakenValue). slice_get ts k) taken) ∙ there) has)))
+        ((old k).each r w target (sym (ap (λ (rs : List ImportDirective). slice_get rs k) imports) ∙ import)
+        (sym (ap (λ (ts : List TakenValue). slice_get ts k) taken) ∙ there) has)))

@@ -6,9 +6,8 @@ use Rattle.hir_def_map_rules.specs.Overlay.{Maps}
 use Rattle.hir_glob_imports.proofs.Resting.{waved}
 use Rattle.hir_glob_imports.proofs.Taking.{brought_by_list}
 use Rattle.hir_glob_imports.specs.Waves.{GlobsValue}
-use Rattle.hir_glob_imports.specs.declared.edge.Edge.{Edge}
-use Rattle.hir_import_resolution.specs.declared.import_queue.ImportQueue.{ImportQueue}
-use Rattle.hir_import_resolution.specs.declared.resolver.Resolver.{Resolver}
+use Rattle.hir_glob_imports.specs.Types.{Edge}
+use Rattle.hir_import_resolution.specs.Types.{ImportQueue, Resolver}
 use Rattle.hir_import_resolution.specs.Inner.State.{AreRecorded, IsKeptIn, finished_by, queue_by, state_by, with_globs}
 use Rattle.hir_import_resolution.specs.Names.{view_of}
 use Rattle.hir_import_resolution.specs.Rest.{IsClosed, IsRecorded, IsSound}
@@ -22,7 +21,8 @@ pub same_state : (r : Resolver) (g : GlobsValue) → g.edges ≡ r.globs.edges �
 same_state r g edges brought = λ i. record (state_by r) { edges = edges i; brought = brought_by_list g r.globs brought i }
 
 -- each edge leads to a module that globs see
-pub has_importers : (r : Resolver) → IsSound (finished_by r) (state_by r) → (j : ℕ) (e : Edge) → slice_get r.globs.edges j ≡ Some e → (view_of (value_of r.scopes)).has e.importer ≡ true
+pub has_importers : (r : Resolver) → IsSound (finished_by r) (state_by r) → (j : ℕ) (e : Edge) → slice_get r.globs.edges j ≡ Some e
+    → (view_of (value_of r.scopes)).has e.importer ≡ true
 has_importers r sound j e is = lt-ltb e.importer (length r.scopes.map.modules) (sound.there j e is)
 
 -- ---- where it starts
@@ -35,7 +35,8 @@ pub record Reopened (finished : Maps) (queue : ImportQueue) (s : ImportState) (r
   pub fresh : r.changes.items ≡ []
   pub unreported : r.reported.items ≡ []
 
-pub reopened : (finished : Maps) (queue : ImportQueue) (s : ImportState) (r0 r : Resolver) → state_by r0 ≡ s → finished_by r0 ≡ finished → queue_by r0 ≡ queue → r0.changes.items ≡ [] → r0.reported.items ≡ []
+pub reopened : (finished : Maps) (queue : ImportQueue) (s : ImportState) (r0 r : Resolver) → state_by r0 ≡ s → finished_by r0 ≡ finished → queue_by r0 ≡ queue
+    → r0.changes.items ≡ [] → r0.reported.items ≡ []
     → state_by r ≡ state_by r0 → r ≡ with_globs r0 r0.scopes r.globs → Reopened finished queue s r
 reopened finished queue s r0 r state beside queued fresh unreported same rest = record {
   state = same ∙ state;

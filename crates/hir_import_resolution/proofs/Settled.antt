@@ -1,13 +1,12 @@
 -- Which imports are settled as the state changes?
-use Rattle.std.proofs.Common.{◌≡◌, ◌≢◌, ◌∙◌, ap, sym, refl, subst, ℕ, ◌<◌, Bool, true, false, not, ◌&&◌, ◌||◌, Option, None, Some, List, [], ◌∷◌, ◌++◌, length, cond, get_or, arith}
+use Rattle.std.proofs.Common.{◌≡◌, ◌≢◌, ◌∙◌, ap, sym, refl, subst, ℕ, ◌<◌, Bool, true, false, not, ◌&&◌, ◌||◌, Option, None, Some, List, [], ◌∷◌, ◌++◌, length}
+use Rattle.std.proofs.Common.{cond, get_or, arith}
 use Rattle.std.specs.Prelude.{Contains, slice_get, slice_set}
 use Rattle.std.specs.Option.{option_and_then}
 use Rattle.std.proofs.lemmas.List.Elements.{All-contains_itself, Contains-append_right}
 use Rattle.std.specs.List.{All}
-use Rattle.hir_base.specs.declared.ids.Crate.{Crate}
-use Rattle.hir_base.specs.declared.ids.ExternCrateId.{ExternCrateId}
-use Rattle.hir_scope.specs.declared.imports.GlobId.{GlobId}
-use Rattle.hir_scope.specs.declared.per_ns.PerNs.{PerNs}
+use Rattle.hir_base.specs.Types.{Crate, ExternCrateId}
+use Rattle.hir_scope.specs.Types.{GlobId, PerNs}
 use Rattle.hir_use_tree.specs.declared.imports.ImportKind.TheVariants as kinds
 use Rattle.hir_def_map_rules.specs.Overlay.{Maps, overlay}
 use Rattle.hir_def_map_rules.specs.Reaches.{by_import}
@@ -19,13 +18,11 @@ use Rattle.hir_def_map_laws.proofs.EnumsGrow.{unstopped_reads}
 use Rattle.hir_def_map_laws.proofs.SlotLists.{unread_scopes}
 use Rattle.hir_def_map_laws.specs.ReadLaw.{AgreeAt, IsReadAlike, stops_bare}
 use Rattle.hir_def_map_laws.specs.SlotChanges.{ScopesChangeAmong}
-use Rattle.hir_glob_imports.specs.declared.edge.Target.{Target}
-use Rattle.hir_import_resolution.specs.declared.directive.ImportDirective.{ImportDirective}
-use Rattle.hir_import_resolution.specs.declared.directive.ImportSource.{ImportSource}
+use Rattle.hir_glob_imports.specs.Types.{Target}
+use Rattle.hir_import_resolution.specs.Types.{ImportDirective, ImportSource, Namespaces, Taking}
 use Rattle.hir_import_resolution.specs.declared.directive.ImportSource.TheVariants as sources
-use Rattle.hir_import_resolution.specs.declared.namespaces.Namespaces.{Namespaces}
-use Rattle.hir_import_resolution.specs.declared.resolver.steps.Taking.{Taking}
-use Rattle.hir_import_resolution.specs.Directives.{AreAmong, TakenValue, answer_by_source, answer_in, answer_to, both_of, glob_of, goes_beyond, namespaces_of, path_answer, reached_by, taken_after, taken_for, target_among, target_of}
+use Rattle.hir_import_resolution.specs.Directives.{AreAmong, TakenValue, answer_by_source, answer_in, answer_to, both_of, glob_of, goes_beyond, namespaces_of}
+use Rattle.hir_import_resolution.specs.Directives.{path_answer, reached_by, taken_after, taken_for, target_among, target_of}
 use Rattle.hir_import_resolution.specs.Inner.Queue.{IsFirmBy, path_reads}
 use Rattle.hir_import_resolution.specs.Inner.State.{IsApart}
 use Rattle.hir_import_resolution.specs.Inner.Steps.{IsLinkedAt, taking_at, taking_for, taking_of}
@@ -64,7 +61,8 @@ pub record IsUnchanged (finished : Maps) (s t : ImportState) (r : ImportDirectiv
   pub firm : IsFirmBy finished s r source → IsFirmBy finished t r source
 
 -- an `extern crate` reads nothing
-extern_alike : (finished : Maps) (s t : ImportState) (r : ImportDirective) (id : ExternCrateId) (krate : Option Crate) → r.source ≡ sources.ExternCrate id krate → IsAlike finished s t r
+extern_alike : (finished : Maps) (s t : ImportState) (r : ImportDirective) (id : ExternCrateId) (krate : Option Crate) → r.source ≡ sources.ExternCrate id krate
+    → IsAlike finished s t r
 extern_alike finished s t r id krate e = record {
   reached =
       ap (λ (x : ImportSource). (answer_by_source x (path_answer finished t.local t.map r)).resolved_def) e
@@ -73,8 +71,10 @@ extern_alike finished s t r id krate e = record {
 }
 
 -- where it reads none of the slots that change, it does
-pub unchanged : (finished : Maps) (s t : ImportState) (slots : List PathSlot) (r : ImportDirective) (source : ImportSource) → r.source ≡ source → IsApart finished s.map.id s.local
-    → ScopesChangeAmong s.map t.map s.local slots → t.local ≡ s.local → ((slot : PathSlot) → Contains slots slot → ¬ Contains (path_reads finished s r source) slot)
+pub unchanged : (finished : Maps) (s t : ImportState) (slots : List PathSlot) (r : ImportDirective) (source : ImportSource) → r.source ≡ source
+    → IsApart finished s.map.id s.local
+    → ScopesChangeAmong s.map t.map s.local slots → t.local ≡ s.local
+    → ((slot : PathSlot) → Contains slots slot → ¬ Contains (path_reads finished s r source) slot)
     → IsUnchanged finished s t r source
 unfolding answer_in
 unchanged finished s t slots r (sources.Use id kind) e apart changes local unread = record {
@@ -84,7 +84,9 @@ unchanged finished s t slots r (sources.Use id kind) e apart changes local unrea
   };
   slots = same_slots;
   firm = λ old. record {
-    unstopped = ap (stops_bare t.map) same ∙ still_unstopped s.map t.map (same_variants s.map t.map changes.differs) (path_answer finished s.local s.map r) old.unstopped;
+    unstopped =
+        ap (stops_bare t.map) same ∙ still_unstopped s.map t.map (same_variants s.map t.map changes.differs) (path_answer finished s.local s.map r)
+        old.unstopped;
     there =
         subst (λ (n : ℕ). All (IsThere n) (path_reads finished t r (sources.Use id kind))) (sym (as_many s.map t.map changes.differs))
         (subst (All (IsThere (length s.map.modules))) (sym same_slots) old.there);
@@ -103,7 +105,8 @@ unchanged finished s t slots r (sources.ExternCrate id krate) e apart changes lo
     record { alike = extern_alike finished s t r id krate e; slots = refl; firm = λ old. tt }
 
 -- the same while the map of a crate grows, where its path's meaning stays as modules and enums come
-pub unchanged_grown : (finished : Maps) (s t : ImportState) (slots : List PathSlot) (r : ImportDirective) (source : ImportSource) → r.source ≡ source → IsApart finished s.map.id s.local
+pub unchanged_grown : (finished : Maps) (s t : ImportState) (slots : List PathSlot) (r : ImportDirective) (source : ImportSource) → r.source ≡ source
+    → IsApart finished s.map.id s.local
     → s.map.id.block ≡ None → IsInOrder s.map → r.home < length s.map.modules → Grew s t slots → IsFirmBy finished s r source
     → ((slot : PathSlot) → Contains slots slot → ¬ Contains (path_reads finished s r source) slot) → IsUnchanged finished s t r source
 unfolding answer_in
@@ -114,7 +117,8 @@ unchanged_grown finished s t slots r (sources.Use id kind) e apart of_crate in_o
   };
   slots = same_slots;
   firm = λ old. record {
-    unstopped = ap (stops_bare t.map) same ∙ still_unstopped s.map t.map (more_variants s.map t.map grew.grows) (path_answer finished s.local s.map r) old.unstopped;
+    unstopped =
+        ap (stops_bare t.map) same ∙ still_unstopped s.map t.map (more_variants s.map t.map grew.grows) (path_answer finished s.local s.map r) old.unstopped;
     there =
         all_there_still (length s.map.modules) (length t.map.modules) grew.modules (path_reads finished t r (sources.Use id kind))
         (subst (All (IsThere (length s.map.modules))) (sym same_slots) old.there);
@@ -127,7 +131,9 @@ unchanged_grown finished s t slots r (sources.Use id kind) e apart of_crate in_o
         grew.others slot (λ among. unread slot among (All-contains_itself (path_reads finished s r (sources.Use id kind)) n d l)) (firm.there n d l)
 
     read : IsReadAlike finished s.map (by_import s.local) t.map t.local (numbered s.map.id r.home) r.path
-    read = unstopped_reads finished s.map t.map (by_import s.local) t.local r.home r.path apart.apart of_crate in_order there grew.grows grew.modules firm.unstopped agree
+    read =
+        unstopped_reads finished s.map t.map (by_import s.local) t.local r.home r.path apart.apart of_crate in_order there grew.grows grew.modules
+        firm.unstopped agree
 
     same : path_answer finished t.local t.map r ≡ path_answer finished s.local s.map r
     same = (λ i. resolution_of (overlay finished t.map) (by_import t.local) (numbered (grew.grows.id i) r.home) r.path) ∙ read.answers
@@ -150,7 +156,8 @@ both_among : (a b : Namespaces) → AreAmong b (both_of a b)
 both_among a b = record { types = λ h. or_right a.types b.types h; values = λ h. or_right a.values b.values h; macros = λ h. or_right a.macros b.macros h }
 
 -- a glob binds nothing
-glob_gains_nothing : (source : ImportSource) (by : GlobId) (a : Resolution) (all : Namespaces) → glob_of source ≡ Some by → goes_beyond (namespaces_of (answer_by_source source a).resolved_def) all ≡ false
+glob_gains_nothing : (source : ImportSource) (by : GlobId) (a : Resolution) (all : Namespaces) → glob_of source ≡ Some by
+    → goes_beyond (namespaces_of (answer_by_source source a).resolved_def) all ≡ false
 glob_gains_nothing (sources.Use id kinds.Plain) by a all e = absurd cc
 glob_gains_nothing (sources.Use id kinds.TypeOnly) by a all e = absurd cc
 glob_gains_nothing (sources.Use id kinds.Glob) by a all e = refl
@@ -168,7 +175,8 @@ taken_settled finished s i taking d = record {
       (both_among d.t.namespaces (namespaces_of (reached_by finished s.local s.map d.r))));
   linked = λ r x by target e f g h.
       let import : d.r ≡ r = only_one (slice_get s.imports i) d.r r d.import e in
-      let none = glob_gains_nothing d.r.source by (path_answer finished s.local s.map d.r) d.t.namespaces (ap (λ (q : ImportDirective). glob_of q.source) import ∙ g) in
+      let none = glob_gains_nothing d.r.source by (path_answer finished s.local s.map d.r) d.t.namespaces
+      (ap (λ (q : ImportDirective). glob_of q.source) import ∙ g) in
       let gains = d.gains in absurd cc;
 }
   where
@@ -209,7 +217,8 @@ are_among some all e = record {
     third = not_beyond some.macros all.macros false second.1
 
 -- where no taking is due, no namespace is reached that wasn't
-pub nothing_gained : (finished : Maps) (s : ImportState) (i : ℕ) → taking_at finished s i ≡ None → (r : ImportDirective) (t : TakenValue) → slice_get s.imports i ≡ Some r
+pub nothing_gained : (finished : Maps) (s : ImportState) (i : ℕ) → taking_at finished s i ≡ None → (r : ImportDirective) (t : TakenValue)
+    → slice_get s.imports i ≡ Some r
     → slice_get s.taken i ≡ Some t → AreAmong (namespaces_of (reached_by finished s.local s.map r)) t.namespaces
 nothing_gained finished s i none r t e f =
     are_among (namespaces_of (reached_by finished s.local s.map r)) t.namespaces
@@ -221,11 +230,14 @@ pub nothing_due : (finished : Maps) (s : ImportState) (i : ℕ) → taking_at fi
 nothing_due finished s i none linked = record { among = nothing_gained finished s i none; linked = linked.linked }
 
 -- once a glob is noted for what it reaches, it's settled, if nothing else was due
-pub linked_settled : (finished : Maps) (s : ImportState) (i : ℕ) (t : TakenValue) (target : Target) → taking_at finished s i ≡ None → slice_get s.taken i ≡ Some t
-    → ((r : ImportDirective) → slice_get s.imports i ≡ Some r → target_of finished s.local s.map r ≡ Some target) → IsSettled finished (with_taken s i (taken_for t target)) i
+pub linked_settled : (finished : Maps) (s : ImportState) (i : ℕ) (t : TakenValue) (target : Target) → taking_at finished s i ≡ None → slice_get s.taken i
+    ≡ Some t
+    → ((r : ImportDirective) → slice_get s.imports i ≡ Some r → target_of finished s.local s.map r ≡ Some target)
+    → IsSettled finished (with_taken s i (taken_for t target)) i
 linked_settled finished s i t target none before reaches = record {
   among = λ r x e f.
-      subst (λ (y : TakenValue). AreAmong (namespaces_of (reached_by finished s.local s.map r)) y.namespaces) (noted x f) (nothing_gained finished s i none r t e before);
+      subst (λ (y : TakenValue). AreAmong (namespaces_of (reached_by finished s.local s.map r)) y.namespaces) (noted x f)
+      (nothing_gained finished s i none r t e before);
   linked = λ r x by other e f g h.
       let same : target ≡ other = only_one (target_of finished s.local s.map r) target other (reaches r e) h in
       subst (λ (y : TakenValue). Contains y.targets other) (noted x f)
@@ -236,6 +248,8 @@ linked_settled finished s i t target none before reaches = record {
     noted x f = only_one (slice_get (slice_set s.taken i (taken_for t target)) i) (taken_for t target) x (set_here s.taken i (taken_for t target) t before) f
 
 -- the others stay settled
-pub others_settled : (finished : Maps) (s : ImportState) (i p : ℕ) (t : TakenValue) → Some i ≢ Some p → IsSettled finished s p → IsSettled finished (with_taken s i t) p
+pub others_settled : (finished : Maps) (s : ImportState) (i p : ℕ) (t : TakenValue) → Some i ≢ Some p → IsSettled finished s p
+    → IsSettled finished (with_taken s i t) p
 others_settled finished s i p t other old =
-    stays_settled finished s (with_taken s i t) p refl (set_elsewhere s.taken i t p (λ e. other (ap Some (sym e)))) (λ r e. record { reached = refl; target = λ by g. refl }) old
+    stays_settled finished s (with_taken s i t) p refl (set_elsewhere s.taken i t p (λ e. other (ap Some (sym e))))
+    (λ r e. record { reached = refl; target = λ by g. refl }) old

@@ -1,12 +1,10 @@
 -- What holds of imports and globs wherever steps lead stays so.
-use Rattle.std.proofs.Common.{◌≡◌, ◌∙◌, ap, sym, subst, refl, ℕ, zero, suc, ◌<◌, ◌⊎◌, inl, inr, Bool, true, false, List, [], ◌∷◌, ◌++◌, length, Option, None, Some, is_some, if◌then◌else◌, map as list_map, arith}
+use Rattle.std.proofs.Common.{◌≡◌, ◌∙◌, ap, sym, subst, refl, ℕ, zero, suc, ◌<◌, ◌⊎◌, inl, inr, Bool, true, false, List, [], ◌∷◌, ◌++◌, length, Option, None}
+use Rattle.std.proofs.Common.{Some, is_some, if◌then◌else◌, map as list_map, arith}
 use Rattle.std.proofs.lemmas.Bool.{lt-ltb, ltb-true, true≢false}
 use Rattle.std.specs.Prelude.{Contains, slice_get, slice_set}
-use Rattle.hir_base.specs.declared.ids.TraitId.{TraitId}
-use Rattle.hir_scope.specs.declared.imports.ImportId.{ImportId}
-use Rattle.hir_scope.specs.declared.imports.ImportOrExternCrate.{ImportOrExternCrate}
-use Rattle.hir_scope.specs.declared.per_ns.PerNs.{PerNs}
-use Rattle.hir_scope.specs.declared.visibility.Visibility.{Visibility}
+use Rattle.hir_base.specs.Types.{TraitId}
+use Rattle.hir_scope.specs.Types.{ImportId, ImportOrExternCrate, PerNs, Visibility}
 use Rattle.hir_def_map_rules.specs.Overlay.{Maps}
 use Rattle.hir_def_map_rules.specs.State.{globs_after, module_at, place_at, pushed, pushed_module, with_module_scope}
 use Rattle.hir_def_map_rules.proofs.Grown.{length-changed}
@@ -16,21 +14,17 @@ use Rattle.hir_glob_imports.proofs.Taking.{noted-named, noted-other, noted-unnam
 use Rattle.hir_glob_imports.proofs.Updates.{there_from_seen}
 use Rattle.hir_glob_imports.specs.Keys.{is_unnamed, same_slot, slot_at}
 use Rattle.hir_glob_imports.specs.Moves.{brought_vis}
-use Rattle.hir_glob_imports.specs.Rules.{BroughtBy, GlobState, May as MayAlong, Rule as GlobRule, acts as acts_along, as_seen, copies_along, follows_along, noted, perform as perform_along, raises_along, with_brought}
+use Rattle.hir_glob_imports.specs.Rules.{BroughtBy, GlobState, May as MayAlong, Rule as GlobRule, acts as acts_along, as_seen, copies_along, follows_along}
+use Rattle.hir_glob_imports.specs.Rules.{noted, perform as perform_along, raises_along, with_brought}
 use Rattle.hir_glob_imports.specs.View.{Binds, ChangesOnly, View, bound_in, with_vis}
 use Rattle.hir_glob_imports.specs.Waves.{Records, Stands, adds, edge_with_vis, stays, widens}
-use Rattle.hir_glob_imports.specs.declared.edge.Bound.{Bound}
-use Rattle.hir_glob_imports.specs.declared.edge.Brought.{Brought}
-use Rattle.hir_glob_imports.specs.declared.edge.Edge.{Edge}
-use Rattle.hir_glob_imports.specs.declared.edge.Key.{Key}
+use Rattle.hir_glob_imports.specs.Types.{Bound, Brought, Edge, Key, Slot, Target}
 use Rattle.hir_glob_imports.specs.declared.edge.Key.TheVariants.{Types, Values, Macros, Unnamed}
-use Rattle.hir_glob_imports.specs.declared.edge.Slot.{Slot}
-use Rattle.hir_glob_imports.specs.declared.edge.Target.{Target}
 use Rattle.hir_glob_imports.specs.declared.edge.Target.TheVariants as targets
-use Rattle.hir_import_resolution.specs.declared.directive.ImportDirective.{ImportDirective}
-use Rattle.hir_import_resolution.specs.declared.directive.ImportSource.{ImportSource}
+use Rattle.hir_import_resolution.specs.Types.{ImportDirective, ImportSource}
 use Rattle.hir_import_resolution.specs.Changes.{along, bound_as, forgotten, forgotten_in, kept_vis, perform, pushing, with_kept}
-use Rattle.hir_import_resolution.specs.Directives.{TakenValue, answer_to, edge_to, kept_trait, leaf_of, name_of, not_taken, nothing_taken, offered_by, taken_after, taken_for, visibility_of}
+use Rattle.hir_import_resolution.specs.Directives.{TakenValue, answer_to, edge_to, kept_trait, leaf_of, name_of, not_taken, nothing_taken, offered_by}
+use Rattle.hir_import_resolution.specs.Directives.{taken_after, taken_for, visibility_of}
 use Rattle.hir_import_resolution.specs.Inner.Steps.{IsBound, MayBind}
 use Rattle.hir_import_resolution.specs.Inner.TableLaws.{is_name_table}
 use Rattle.hir_import_resolution.specs.Inner.ViewLaws.{bound_inside, inside_own}
@@ -80,7 +74,8 @@ noted_stand v w s x seen brought binds same unnamed old q by is = go (same_slot 
     go false m = stands_apart v w s binds.changes q by m (old q by (sym (noted-other brought s seen q m) ∙ is))
 
 -- a slot takes another visibility
-raised_stand : (v w : View) (s : Slot) (c : Bound) (vis : Visibility) (brought : BroughtBy) → bound_in v s ≡ Some c → Binds s (with_vis c vis) v w → AllStand v brought → AllStand w brought
+raised_stand : (v w : View) (s : Slot) (c : Bound) (vis : Visibility) (brought : BroughtBy) → bound_in v s ≡ Some c → Binds s (with_vis c vis) v w
+    → AllStand v brought → AllStand w brought
 raised_stand v w s c vis brought there binds old q by is = go (same_slot s q) refl
   where
     here : Stands v s by → Stands w s by
@@ -103,11 +98,13 @@ forgets_stand v w s brought changes old q by is = go (same_slot s q) refl is
     go true m e = absurd cc
     go false m e = stands_apart v w s changes q by m (old q by e)
 
-binds_stand : (v w : View) (home : ℕ) (key : Key) (binds : Bool) (brought : BroughtBy) → MayBind home key binds v w → AllStand v brought → AllStand w (forgotten_in home key binds brought)
+binds_stand : (v w : View) (home : ℕ) (key : Key) (binds : Bool) (brought : BroughtBy) → MayBind home key binds v w → AllStand v brought
+    → AllStand w (forgotten_in home key binds brought)
 binds_stand v w home key true brought may old = forgets_stand v w (slot_at home key) brought (may.bound refl).changes old
 binds_stand v w home key false brought may old = subst (λ (x : View). AllStand x brought) (sym (may.stays refl)) old
 
-bound_stand : (v w : View) (home : ℕ) (name : List ℕ) (items : PerNs) (brought : BroughtBy) → IsBound home name items v w → AllStand v brought → AllStand w (forgotten home name items brought)
+bound_stand : (v w : View) (home : ℕ) (name : List ℕ) (items : PerNs) (brought : BroughtBy) → IsBound home name items v w → AllStand v brought
+    → AllStand w (forgotten home name items brought)
 bound_stand v w home name items brought bound old =
     binds_stand bound.with_values w home (Macros name) (is_some items.macros) with_values bound.macros
     (binds_stand bound.with_types bound.with_values home (Values name) (is_some items.values) with_types bound.values
@@ -130,7 +127,8 @@ module _ (n : ScopesValue) (home : ℕ) (name : List ℕ) (items : PerNs) (impor
 -- ---- what leaves the edges and the takings
 
 -- where nothing but the map and what was brought changes
-sound_from : (finished : Maps) (s s' : ImportState) → s'.imports ≡ s.imports → s'.taken ≡ s.taken → s'.edges ≡ s.edges → ((at : ℕ) → at < length s.map.modules → at < length s'.map.modules)
+sound_from : (finished : Maps) (s s' : ImportState) → s'.imports ≡ s.imports → s'.taken ≡ s.taken → s'.edges ≡ s.edges
+    → ((at : ℕ) → at < length s.map.modules → at < length s'.map.modules)
     → AllStand (view_of (scopes_of finished s')) s'.brought → IsSound finished s → IsSound finished s'
 sound_from finished s s' imports taken edges longer stands sound = record {
   there = λ j e is. longer e.importer (sound.there j e (sym (ap (λ (es : List Edge). slice_get es j) edges) ∙ is));
@@ -149,7 +147,8 @@ pub growth_keeps_sound : GrowthKeepsSound
 growth_keeps_sound finished s m around sound =
     sound_from finished s (record s { map = m }) refl refl refl (λ at low. omega (arith, around.modules, low)) (λ q by is. on q by (sound.stands q by is)) sound
   where
-    own : (at : ℕ) (key : Key) → (view_of (scopes_of finished (record s { map = m }))).bound (targets.Own at) key ≡ (view_of (scopes_of finished s)).bound (targets.Own at) key
+    own : (at : ℕ) (key : Key) → (view_of (scopes_of finished (record s { map = m }))).bound (targets.Own at) key ≡ (view_of (scopes_of finished s)).bound
+        (targets.Own at) key
     own at key = λ i. bound_at (λ name. around.entries at name i) (λ id. around.traits at id i) key
 
     on : (q : Slot) (by : Brought) → Stands (view_of (scopes_of finished s)) q by → Stands (view_of (scopes_of finished (record s { map = m }))) q by
@@ -160,7 +159,8 @@ bound_sound : (finished : Maps) (s : ImportState) (home : ℕ) (name : Option (L
 bound_sound finished s home None items source sound = sound
 bound_sound finished s home (Some name) items source sound =
     sound_from finished s (bound_as s home (Some name) items source) refl refl refl
-    (λ at low. subst (λ (n : ℕ). at < n) (sym (length-changed s.map.modules home (pushed_module s.globs (place_at s.map.id home name) items (pushing source)))) low)
+    (λ at low. subst (λ (n : ℕ). at < n) (sym (length-changed s.map.modules home (pushed_module s.globs (place_at s.map.id home name) items (pushing source))))
+    low)
     (pushed_stand (scopes_of finished s) home name items (pushing source) s.brought (λ q by is. sound.stands q by is)) sound
 
 pub pushes_keep_sound : PushesKeepSound
@@ -171,15 +171,19 @@ kept_sound : (finished : Maps) (s : ImportState) (home : ℕ) (kept : Option Tra
 kept_sound finished s home None vis leaf sound = sound
 kept_sound finished s home (Some id) vis leaf sound =
     sound_from finished s (with_kept finished s home (Some id) vis leaf) refl refl refl
-    (λ at low. subst (λ (n : ℕ). at < n) (sym (length-changed s.map.modules home (with_module_scope (with_trait id (kept_vis finished s.map vis (trait_vis (module_at s.map home) id)) leaf)))) low)
-    (forgets_stand (view_of (scopes_of finished s)) (view_of (scopes_of finished (with_kept finished s home (Some id) vis leaf))) (slot_at home (Unnamed id)) s.brought
-    (keep_binds (scopes_of finished s) home id (kept_vis finished s.map vis (trait_vis (module_at s.map home) id)) leaf).changes (λ q by is. sound.stands q by is)) sound
+    (λ at low. subst (λ (n : ℕ). at < n) (sym
+    (length-changed s.map.modules home (with_module_scope (with_trait id (kept_vis finished s.map vis (trait_vis (module_at s.map home) id)) leaf)))) low)
+    (forgets_stand (view_of (scopes_of finished s)) (view_of (scopes_of finished (with_kept finished s home (Some id) vis leaf))) (slot_at home (Unnamed id))
+    s.brought
+    (keep_binds (scopes_of finished s) home id (kept_vis finished s.map vis (trait_vis (module_at s.map home) id)) leaf).changes
+    (λ q by is. sound.stands q by is)) sound
 
 -- ---- imports that come behind the others
 
 module _ {X Y : Type 0} where
   -- a place in two lists that were as long and grew: in both as they were, or in what came behind the second
-  in_grown : (xs more : List X) (ys others : List Y) → length ys ≡ length xs → (i : ℕ) (x : X) (y : Y) → slice_get (xs ++ more) i ≡ Some x → slice_get (ys ++ others) i ≡ Some y
+  in_grown : (xs more : List X) (ys others : List Y) → length ys ≡ length xs → (i : ℕ) (x : X) (y : Y) → slice_get (xs ++ more) i ≡ Some x
+      → slice_get (ys ++ others) i ≡ Some y
       → ((slice_get xs i ≡ Some x) × (slice_get ys i ≡ Some y)) ⊎ ((k : ℕ) × (slice_get others k ≡ Some y))
   in_grown [] more [] others long i x y e f = inr (i, f)
   in_grown [] more (b ∷ ys) others long i x y e f = absurd (omega arith)
@@ -196,7 +200,8 @@ no_targets (r ∷ rs) (suc k) t e = no_targets rs k t e
 pub reached_keep_sound : ReachedImportsKeepSound
 reached_keep_sound finished s rs long sound = record { there = sound.there; stands = λ q by is. sound.stands q by is; recorded = λ i. record { each = each i } }
   where
-    each : (i : ℕ) (r : ImportDirective) (t : TakenValue) (target : Target) → slice_get (s.imports ++ rs) i ≡ Some r → slice_get (s.taken ++ not_taken rs) i ≡ Some t → Contains t.targets target
+    each : (i : ℕ) (r : ImportDirective) (t : TakenValue) (target : Target) → slice_get (s.imports ++ rs) i ≡ Some r → slice_get (s.taken ++ not_taken rs) i
+        ≡ Some t → Contains t.targets target
         → IsSource (record s { imports = s.imports ++ rs; taken = s.taken ++ not_taken rs }) target r.home
     each i r t target import there has = go (in_grown s.imports rs s.taken (not_taken rs) long i r t import there)
       where
@@ -213,7 +218,8 @@ reached_keep_sound finished s rs long sound = record { there = sound.there; stan
 
 -- what goes along globs changes names and what was brought
 along_sound : (finished : Maps) (s : ImportState) (g : GlobState ScopesValue) → g.names.finished ≡ finished → g.edges ≡ s.edges
-    → ((at : ℕ) → (view_of g.names).has at ≡ (view_of (scopes_of finished s)).has at) → AllStand (view_of g.names) g.brought → IsSound finished s → IsSound finished (with_glob_state s g)
+    → ((at : ℕ) → (view_of g.names).has at ≡ (view_of (scopes_of finished s)).has at) → AllStand (view_of g.names) g.brought → IsSound finished s
+    → IsSound finished (with_glob_state s g)
 along_sound finished s g same edges has stands sound =
     sound_from finished s (with_glob_state s g) refl refl edges
     (λ at low. ltb-true at (length g.names.map.modules) (has at ∙ lt-ltb at (length s.map.modules) low))
@@ -282,15 +288,18 @@ module _ (finished : Maps) (s : ImportState) (sound : IsSound finished s) where
 -- ---- an import, and a glob
 
 -- neither binding nor keeping changes the takings
-bound_taken : (s : ImportState) (home : ℕ) (name : Option (List ℕ)) (items : PerNs) (source : Option ImportSource) → (bound_as s home name items source).taken ≡ s.taken
+bound_taken : (s : ImportState) (home : ℕ) (name : Option (List ℕ)) (items : PerNs) (source : Option ImportSource) → (bound_as s home name items source).taken
+    ≡ s.taken
 bound_taken s home None items source = refl
 bound_taken s home (Some name) items source = refl
 
-kept_taken : (finished : Maps) (s : ImportState) (home : ℕ) (kept : Option TraitId) (vis : Visibility) (leaf : Option ImportId) → (with_kept finished s home kept vis leaf).taken ≡ s.taken
+kept_taken : (finished : Maps) (s : ImportState) (home : ℕ) (kept : Option TraitId) (vis : Visibility) (leaf : Option ImportId)
+    → (with_kept finished s home kept vis leaf).taken ≡ s.taken
 kept_taken finished s home None vis leaf = refl
 kept_taken finished s home (Some id) vis leaf = refl
 
-taken_sound : (finished : Maps) (s : ImportState) (i : ℕ) (t t' : TakenValue) → slice_get s.taken i ≡ Some t → t'.targets ≡ t.targets → IsSound finished s → IsSound finished (with_taken s i t')
+taken_sound : (finished : Maps) (s : ImportState) (i : ℕ) (t t' : TakenValue) → slice_get s.taken i ≡ Some t → t'.targets ≡ t.targets → IsSound finished s
+    → IsSound finished (with_taken s i t')
 taken_sound finished s i t t' before same sound = record {
   there = sound.there;
   stands = λ q by is. sound.stands q by is;
@@ -298,7 +307,8 @@ taken_sound finished s i t t' before same sound = record {
 }
 
 -- each edge leads to a module that is there, once a glob into one is recorded
-records_there : (v : View) (old new : List Edge) (e : Edge) (n : ℕ) → Records v old new e → e.importer < n → ((j : ℕ) (d : Edge) → slice_get old j ≡ Some d → d.importer < n)
+records_there : (v : View) (old new : List Edge) (e : Edge) (n : ℕ) → Records v old new e → e.importer < n
+    → ((j : ℕ) (d : Edge) → slice_get old j ≡ Some d → d.importer < n)
     → (j : ℕ) (d : Edge) → slice_get new j ≡ Some d → d.importer < n
 records_there v old new e n (widens at w wide recorded ends wider is) low there j d found =
     go (found_set old at (edge_with_vis w wide) j d (sym (ap (λ (es : List Edge). slice_get es j) is) ∙ found))
@@ -315,12 +325,14 @@ records_there v old new e n (adds apart is) low there j d found = go (one_or_las
 
 -- ---- any step
 
-rule_sound : (finished : Maps) (s : ImportState) → ((i : ℕ) (r : ImportDirective) → slice_get s.imports i ≡ Some r → r.home < length s.map.modules) → IsSound finished s
+rule_sound : (finished : Maps) (s : ImportState) → ((i : ℕ) (r : ImportDirective) → slice_get s.imports i ≡ Some r → r.home < length s.map.modules)
+    → IsSound finished s
     → (rule : Rule) → May finished s rule → IsSound finished (after finished s rule)
 rule_sound finished s homes sound (takes_import i r t) may =
     ticked_sound finished (with_taken later i now)
     (taken_sound finished later i t now (ap (λ (ts : List TakenValue). slice_get ts i) taken ∙ may.before) refl
-    (kept_sound finished once r.home kept vis (leaf_of r.source) (bound_sound finished s r.home (name_of r) (offered_by finished s.local s.map r) (Some r.source) sound)))
+    (kept_sound finished once r.home kept vis (leaf_of r.source) (bound_sound finished s r.home (name_of r) (offered_by finished s.local s.map r)
+    (Some r.source) sound)))
   where
     kept : Option TraitId
     kept = kept_trait finished s.local s.map r

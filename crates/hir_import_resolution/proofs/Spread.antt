@@ -5,8 +5,7 @@ use Rattle.hir_def_map_laws.specs.SlotChanges.{ScopesChangeAmong}
 use Rattle.hir_glob_imports.proofs.OfKind.{kinds_kept}
 use Rattle.hir_glob_imports.specs.Rules.{IsSpent as IsSpentAlong, StepsIn}
 use Rattle.hir_glob_imports.specs.Waves.{brought_of, state_of}
-use Rattle.hir_glob_imports.specs.declared.edge.Slot.{Slot}
-use Rattle.hir_glob_imports.specs.declared.step.GlobError.{GlobError}
+use Rattle.hir_glob_imports.specs.Types.{GlobError, Slot}
 use Rattle.hir_glob_imports.specs.declared.step.GlobError.TheVariants as glob_errors
 use Rattle.hir_import_resolution.specs.Inner.State.{AreRecorded, IsKeptIn, IsSpread, finished_by, path_slots, refusal_of, state_by}
 use Rattle.hir_import_resolution.specs.Inner.OpenLaws.{is_open_table}
@@ -16,7 +15,7 @@ use Rattle.hir_import_resolution.specs.Scopes.{open_table, value_of}
 use Rattle.hir_import_resolution.specs.Rest.{IsSpent}
 use Rattle.hir_import_resolution.specs.Rules.{Steps}
 use Rattle.hir_import_resolution.specs.declared.resolve.ImportError.TheVariants as errors
-use Rattle.hir_import_resolution.specs.declared.resolver.Resolver.{Resolver}
+use Rattle.hir_import_resolution.specs.Types.{Resolver}
 use Rattle.hir_import_resolution.proofs.Along.{Goes, goes, shown, spent_along, spent_shown, steps_in_shown, world_stays}
 use Rattle.hir_import_resolution.proofs.Firm.{as_many}
 use Rattle.hir_import_resolution.proofs.Placed.{kind_through, lasts_changed, placed_through}
@@ -25,7 +24,8 @@ use Rattle.hir_import_resolution.proofs.Recorded.{recorded_kept}
 
 -- the resolver once names went along globs
 module _ (r new : Resolver) (slots : List Slot) (steps : StepsIn open_table slots (state_of r.scopes r.globs r.count) (state_of new.scopes new.globs new.count))
-    (local : new.local ≡ r.local) (imports : new.imports ≡ r.imports) (taken : new.taken ≡ r.taken) (apart : new.apart ≡ r.apart) (lasting : new.lasting ≡ r.lasting)
+    (local : new.local ≡ r.local) (imports : new.imports ≡ r.imports) (taken : new.taken ≡ r.taken) (apart : new.apart ≡ r.apart)
+    (lasting : new.lasting ≡ r.lasting)
     (worklist : new.worklist ≡ r.worklist) (watchers : new.watchers ≡ r.watchers) (reported : new.reported ≡ r.reported) where
   gone : Goes (finished_by r) (state_by r) slots (shown (state_of new.scopes new.globs new.count))
   gone = goes (finished_by r) (state_by r) slots (shown (state_of new.scopes new.globs new.count))

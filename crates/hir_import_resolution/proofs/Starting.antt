@@ -6,9 +6,7 @@ use Rattle.hir_def_map.specs.declared.nameres.path_resolution.slots.Slot.{Slot a
 use Rattle.hir_def_map_laws.specs.SlotChanges.{ScopesChangeAmong}
 use Rattle.hir_glob_imports.proofs.OfKind.{nothing_along}
 use Rattle.hir_glob_imports.specs.declared.step.TheConstants.{MAX_STEPS}
-use Rattle.hir_import_resolution.specs.declared.import_queue.ImportQueue.{ImportQueue}
-use Rattle.hir_import_resolution.specs.declared.imports.Imports.{Imports}
-use Rattle.hir_import_resolution.specs.declared.resolver.Resolver.{Resolver}
+use Rattle.hir_import_resolution.specs.Types.{ImportQueue, Imports, Resolver}
 use Rattle.hir_import_resolution.specs.Inner.Queue.{IsBegun, IsRunning, Reports}
 use Rattle.hir_import_resolution.specs.Inner.State.{IsApart, IsKeptIn, finished_by, queue_by, state_by, state_in}
 use Rattle.hir_import_resolution.specs.Names.{view_of}
@@ -19,14 +17,17 @@ use Rattle.hir_import_resolution.specs.State.{ImportState, scopes_of}
 
 pub queued_through : (f g : Maps) (queue other : ImportQueue) (s t : ImportState) → f ≡ g → queue ≡ other → s ≡ t → AreQueued f queue s → AreQueued g other t
 queued_through f g queue other s t same queued state old =
-    subst (λ (x : Maps). AreQueued x other t) same (subst (λ (x : ImportQueue). AreQueued f x t) queued (subst (λ (x : ImportState). AreQueued f queue x) state old))
+    subst (λ (x : Maps). AreQueued x other t) same
+    (subst (λ (x : ImportQueue). AreQueued f x t) queued (subst (λ (x : ImportState). AreQueued f queue x) state old))
 
 pub lasts_through : (f g : Maps) (s t : ImportState) → f ≡ g → s ≡ t → Lasts f s → Lasts g t
 lasts_through f g s t same state old = subst (λ (x : Maps). Lasts x t) same (subst (λ (x : ImportState). Lasts f x) state old)
 
 -- where the imports are queued, they may be tried
-pub begun_kept : (finished : Maps) (queue : ImportQueue) (given : Imports) (r : Resolver) → state_by r ≡ state_in given → finished_by r ≡ finished → queue_by r ≡ queue
-    → r.changes.items ≡ [] → AreQueued finished queue (state_in given) → (is_lasting queue ≡ true → Lasts finished (state_in given)) → (is_lasting queue ≡ true → is_apart queue ≡ true)
+pub begun_kept : (finished : Maps) (queue : ImportQueue) (given : Imports) (r : Resolver) → state_by r ≡ state_in given → finished_by r ≡ finished → queue_by r
+    ≡ queue
+    → r.changes.items ≡ [] → AreQueued finished queue (state_in given) → (is_lasting queue ≡ true → Lasts finished (state_in given))
+    → (is_lasting queue ≡ true → is_apart queue ≡ true)
     → given.count ≤ MAX_STEPS → (is_apart queue ≡ true → IsApart finished given.map.id given.local)
     → IsKeptIn r → ((p : ℕ) → IsRecorded (state_in given) p) → IsBegun r None
 begun_kept finished queue given r state same queued fresh are_queued lasts watches small keeps_apart kept recorded = record {
@@ -55,7 +56,15 @@ up_to_date_after f queue s r running over outside same queued state =
     subst (λ (x : Maps). IsUpToDate x queue s) same
     (subst (λ (x : ImportQueue). IsUpToDate (finished_by r) x s) (sym queued)
     (subst (λ (x : ImportState). IsUpToDate (finished_by r) (queue_by r) x) (sym state) (record {
-      queued = record { settled = running.begun.settled; count = running.begun.count; unfinished = running.begun.unfinished; there = running.begun.there; over = over; outside = outside };
+      queued =
+          record {
+            settled = running.begun.settled;
+            count = running.begun.count;
+            unfinished = running.begun.unfinished;
+            there = running.begun.there;
+            over = over;
+            outside = outside;
+          };
       still = nothing_along (view_of (scopes_of (finished_by r) (state_by r))) r.globs running.begun.kept running.waved;
       importers = λ j e is. ltb-true e.importer (length r.scopes.map.modules) (running.begun.kept.there j e is);
       lasts = running.begun.lasts;
@@ -73,9 +82,11 @@ pub spent_through : (f g : Maps) (a c : ImportState) → f ≡ g → a ≡ c →
 spent_through f g a c same first spent = subst (λ (x : Maps). IsSpent x c) same (subst (λ (s : ImportState). IsSpent f s) first spent)
 
 -- what was reported on the way from where imports stood to where they are left
-pub changes_through : (given left : Imports) (r new : Resolver) (told : List PathSlot) → state_by r ≡ state_in given → state_in left ≡ state_by new → told ≡ new.reported.items → r.reported.items ≡ []
+pub changes_through : (given left : Imports) (r new : Resolver) (told : List PathSlot) → state_by r ≡ state_in given → state_in left ≡ state_by new → told
+    ≡ new.reported.items → r.reported.items ≡ []
     → Reports r new → ScopesChangeAmong given.map left.map given.local told
 changes_through given left r new told first last listed none reports =
-    subst (λ (ss : List PathSlot). ScopesChangeAmong given.map left.map given.local ss) (sym (listed ∙ reports.listed ∙ ap (λ (xs : List PathSlot). xs ++ reports.more) none))
+    subst (λ (ss : List PathSlot). ScopesChangeAmong given.map left.map given.local ss)
+    (sym (listed ∙ reports.listed ∙ ap (λ (xs : List PathSlot). xs ++ reports.more) none))
     (subst (λ (s : ImportState). ScopesChangeAmong s.map left.map s.local reports.more) first
     (subst (λ (s : ImportState). ScopesChangeAmong r.scopes.map s.map r.local reports.more) (sym last) reports.among))

@@ -3,10 +3,8 @@ use Rattle.std.proofs.Common.{◌≡◌, ◌∙◌, ◌⊎◌, inl, inr, ap, sym
 use Rattle.std.specs.Prelude.{slice_get, slice_set}
 use Rattle.std.specs.declared.vec.Vec.{Vec}
 use Rattle.std.specs.declared.alloc.Global.{Global}
-use Rattle.hir_base.specs.declared.ids.TraitId.{TraitId}
-use Rattle.hir_scope.specs.declared.imports.ImportId.{ImportId}
-use Rattle.hir_scope.specs.declared.per_ns.PerNs.{PerNs}
-use Rattle.hir_scope.specs.declared.visibility.Visibility.{Visibility}
+use Rattle.hir_base.specs.Types.{TraitId}
+use Rattle.hir_scope.specs.Types.{ImportId, PerNs, Visibility}
 use Rattle.hir_def_map_rules.specs.Overlay.{Maps}
 use Rattle.hir_def_map_rules.specs.State.{Local, Map, module_at}
 use Rattle.hir_def_map.specs.WorldParts.{part_of}
@@ -17,19 +15,18 @@ use Rattle.hir_glob_imports.proofs.Linking.{one_or_last, one_or_written}
 use Rattle.hir_glob_imports.proofs.OfKind.{kind_linked}
 use Rattle.hir_glob_imports.specs.Rules.{BroughtBy}
 use Rattle.hir_glob_imports.specs.Waves.{AreOfKind, GlobsValue, IsKept, Records, adds, brought_of, edge_with_vis, stays as stays_recorded, widens}
-use Rattle.hir_glob_imports.specs.declared.edge.Edge.{Edge}
+use Rattle.hir_glob_imports.specs.Types.{Edge}
 use Rattle.hir_import_resolution.specs.Changes.{bound_as, kept_vis, pushing, with_kept}
 use Rattle.hir_import_resolution.specs.Directives.{TakenValue, leaf_of, taken_after, taken_for}
-use Rattle.hir_import_resolution.specs.Inner.State.{ArePlacedIn, AreRecorded, IsKeptIn, IsLinked, IsTaken, IsTraitPlaced, finished_by, slots_named, state_by, with_globs}
+use Rattle.hir_import_resolution.specs.Inner.State.{ArePlacedIn, AreRecorded, IsKeptIn, IsLinked, IsTaken, IsTraitPlaced, finished_by, slots_named, state_by}
+use Rattle.hir_import_resolution.specs.Inner.State.{with_globs}
 use Rattle.hir_import_resolution.specs.Inner.Steps.{IsLinking, taking_at}
 use Rattle.hir_import_resolution.specs.Lasting.{HasVariants, IsPlaced, Lasts}
 use Rattle.hir_import_resolution.specs.Names.{trait_vis, view_of}
 use Rattle.hir_import_resolution.specs.Scopes.{value_of}
 use Rattle.hir_import_resolution.specs.Rules.{Step}
 use Rattle.hir_import_resolution.specs.State.{ImportState, ticked, with_taken}
-use Rattle.hir_import_resolution.specs.declared.directive.ImportSource.{ImportSource}
-use Rattle.hir_import_resolution.specs.declared.resolver.Resolver.{Resolver}
-use Rattle.hir_import_resolution.specs.declared.resolver.steps.Taking.{Taking}
+use Rattle.hir_import_resolution.specs.Types.{ImportSource, Resolver, Taking}
 use Rattle.hir_import_resolution.proofs.Due.{Due, due, linked_to, linking_steps, noted_apart, taken_to, taking_steps}
 use Rattle.hir_import_resolution.proofs.Placing.{placed_kind}
 use Rattle.hir_import_resolution.proofs.Recorded.{recorded_linked, recorded_taken}
@@ -42,7 +39,8 @@ bound_among : (s : ImportState) (home : ℕ) (name : Option (List ℕ)) (items :
 bound_among s home None items source local = stays s.map local []
 bound_among s home (Some name) items source local = scope_pushed s.map local s.globs home name items (pushing source)
 
-kept_among : (finished : Maps) (s : ImportState) (home : ℕ) (kept : Option TraitId) (vis : Visibility) (leaf : Option ImportId) (local : Local) (slots : List PathSlot)
+kept_among : (finished : Maps) (s : ImportState) (home : ℕ) (kept : Option TraitId) (vis : Visibility) (leaf : Option ImportId) (local : Local)
+    (slots : List PathSlot)
     → ScopesChangeAmong s.map (with_kept finished s home kept vis leaf).map local slots
 kept_among finished s home None vis leaf local slots = stays s.map local slots
 kept_among finished s home (Some id) vis leaf local slots =
@@ -53,12 +51,14 @@ taken_among : (finished : Maps) (s : ImportState) (home : ℕ) (name : Option (L
     (kept : Option TraitId) (vis : Visibility) (leaf : Option ImportId) (local : Local)
     → ScopesChangeAmong s.map (with_kept finished (bound_as s home name items source) home kept vis leaf).map local (slots_named home name)
 taken_among finished s home name items source kept vis leaf local =
-    again s.map (bound_as s home name items source).map (with_kept finished (bound_as s home name items source) home kept vis leaf).map local (slots_named home name)
+    again s.map (bound_as s home name items source).map (with_kept finished (bound_as s home name items source) home kept vis leaf).map local
+    (slots_named home name)
     (bound_among s home name items source local) (kept_among finished (bound_as s home name items source) home kept vis leaf local (slots_named home name))
 
 -- no edge changes
 taken_edges : (finished : Maps) (s : ImportState) (home : ℕ) (name : Option (List ℕ)) (items : PerNs) (source : Option ImportSource)
-    (kept : Option TraitId) (vis : Visibility) (leaf : Option ImportId) → (with_kept finished (bound_as s home name items source) home kept vis leaf).edges ≡ s.edges
+    (kept : Option TraitId) (vis : Visibility) (leaf : Option ImportId) → (with_kept finished (bound_as s home name items source) home kept vis leaf).edges
+    ≡ s.edges
 taken_edges finished s home None items source None vis leaf = refl
 taken_edges finished s home None items source (Some id) vis leaf = refl
 taken_edges finished s home (Some name) items source None vis leaf = refl
@@ -99,12 +99,15 @@ module _ (r m r2 r3 : Resolver) (i : ℕ) (taking : Taking) (leaf : Option Impor
   taken_is t before =
       kept
       ∙ (λ j. with_kept (part_of (world j)) (bound j) taking.home taking.kept taking.vis (by j))
-      ∙ ap (λ (s : ImportState). with_kept (finished_by r) (bound_as s taking.home taking.name taking.items (Some taking.source)) taking.home taking.kept taking.vis (leaf_of taking.source))
+      ∙ ap (λ (s : ImportState). with_kept (finished_by r) (bound_as s taking.home taking.name taking.items (Some taking.source)) taking.home taking.kept
+      taking.vis (leaf_of taking.source))
       (begun_state t before)
-      ∙ noted_apart (finished_by r) (state_by r) i (taken_after t taking.answer) taking.home taking.name taking.items (Some taking.source) taking.kept taking.vis (leaf_of taking.source)
+      ∙ noted_apart (finished_by r) (state_by r) i (taken_after t taking.answer) taking.home taking.name taking.items (Some taking.source) taking.kept
+      taking.vis (leaf_of taking.source)
 
   -- what neither binding nor keeping changes
-  rest : {A : Type 0} (part : Resolver → A) → ((x : Resolver) → part (with_globs r2 x.scopes x.globs) ≡ part r2) → ((x : Resolver) → part (with_globs m x.scopes x.globs) ≡ part m) → part r3 ≡ part m
+  rest : {A : Type 0} (part : Resolver → A) → ((x : Resolver) → part (with_globs r2 x.scopes x.globs) ≡ part r2)
+      → ((x : Resolver) → part (with_globs m x.scopes x.globs) ≡ part m) → part r3 ≡ part m
   rest part first then = ap part kept_rest ∙ first r3 ∙ ap part bound_rest ∙ then r2
 
   pub taken_steps : Step (finished_by r) (state_by r) (state_by r3)
@@ -114,7 +117,8 @@ module _ (r m r2 r3 : Resolver) (i : ℕ) (taking : Taking) (leaf : Option Impor
       steps e = subst (Step (finished_by r) (state_by r)) (sym (taken_is e.t e.before)) (taking_steps (finished_by r) (state_by r) i taking e)
 
   map_is : Due (finished_by r) (state_by r) i taking
-      → (with_kept (finished_by r) (bound_as (state_by r) taking.home taking.name taking.items (Some taking.source)) taking.home taking.kept taking.vis (leaf_of taking.source)).map ≡ r3.scopes.map
+      → (with_kept (finished_by r) (bound_as (state_by r) taking.home taking.name taking.items (Some taking.source)) taking.home taking.kept taking.vis
+      (leaf_of taking.source)).map ≡ r3.scopes.map
   map_is e = sym (ap (λ (s : ImportState). s.map) (taken_is e.t e.before))
 
   items_are : r3.taken.items ≡ taken.items
@@ -128,7 +132,8 @@ module _ (r m r2 r3 : Resolver) (i : ℕ) (taking : Taking) (leaf : Option Impor
     changes = record {
       world = kept_world ∙ world;
       among = subst (λ (map : Map). ScopesChangeAmong r.scopes.map map r.local (slots_named taking.home taking.name)) (map_is d)
-          (taken_among (finished_by r) (state_by r) taking.home taking.name taking.items (Some taking.source) taking.kept taking.vis (leaf_of taking.source) r.local);
+          (taken_among (finished_by r) (state_by r) taking.home taking.name taking.items (Some taking.source) taking.kept taking.vis (leaf_of taking.source)
+          r.local);
       local = rest (λ x. x.local) (λ x. refl) (λ x. refl) ∙ ap (λ (x : Resolver). x.local) begun;
       imports = imports_stay;
       apart = rest (λ x. x.apart) (λ x. refl) (λ x. refl) ∙ ap (λ (x : Resolver). x.apart) begun;
@@ -161,11 +166,13 @@ module _ (r m r2 r3 : Resolver) (i : ℕ) (taking : Taking) (leaf : Option Impor
   pub taken_kept : (IsKeptIn m → IsKeptIn r2) → (IsKeptIn r2 → IsKeptIn r3) → IsKeptIn r → IsKeptIn r3
   taken_kept first then kept_before = then (first (subst IsKeptIn (sym begun) kept_before))
 
-  pub taken_placed : (ArePlacedIn m → ArePlacedIn r2) → (IsTraitPlaced r3 taking.home taking.kept → ArePlacedIn r2 → ArePlacedIn r3) → IsTraitPlaced r3 taking.home taking.kept → ArePlacedIn r → ArePlacedIn r3
+  pub taken_placed : (ArePlacedIn m → ArePlacedIn r2) → (IsTraitPlaced r3 taking.home taking.kept → ArePlacedIn r2 → ArePlacedIn r3)
+      → IsTraitPlaced r3 taking.home taking.kept → ArePlacedIn r → ArePlacedIn r3
   taken_placed first then of_trait before = then of_trait (first (subst ArePlacedIn (sym begun) before))
 
   -- all of it
-  pub took : (IsKeptIn m → IsKeptIn r2) → (IsKeptIn r2 → IsKeptIn r3) → (ArePlacedIn m → ArePlacedIn r2) → (IsTraitPlaced r3 taking.home taking.kept → ArePlacedIn r2 → ArePlacedIn r3) → Took r r3 i taking
+  pub took : (IsKeptIn m → IsKeptIn r2) → (IsKeptIn r2 → IsKeptIn r3) → (ArePlacedIn m → ArePlacedIn r2)
+      → (IsTraitPlaced r3 taking.home taking.kept → ArePlacedIn r2 → ArePlacedIn r3) → Took r r3 i taking
   took first then place place_trait = record {
     step = taken_steps;
     is = taken_changes;
@@ -184,7 +191,8 @@ pub record WasLinked (r new : Resolver) (i : ℕ) (edge : Edge) : Type 0 where
   pub is : IsLinked r new i edge
   pub recorded : AreRecorded r → AreRecorded new
   pub kept : IsKeptIn r → IsKeptIn new
-  pub lasts : IsPlaced r.scopes.map edge.vis → HasVariants r.scopes.map edge.source → Lasts (finished_by r) (state_by r) → Lasts (finished_by new) (state_by new)
+  pub lasts : IsPlaced r.scopes.map edge.vis → HasVariants r.scopes.map edge.source → Lasts (finished_by r) (state_by r)
+      → Lasts (finished_by new) (state_by new)
 
 module _ (r r3 : Resolver) (i : ℕ) (edge : Edge) (globs : GlobsValue) (taken : Vec TakenValue Global)
     (d : IsLinking (finished_by r) (state_by r) i edge)
@@ -204,7 +212,9 @@ module _ (r r3 : Resolver) (i : ℕ) (edge : Edge) (globs : GlobsValue) (taken :
   linked_changes = record {
     changes = record {
       world = ap (λ (x : Resolver). x.scopes.world) begun;
-      among = subst (λ (map : Map). ScopesChangeAmong r.scopes.map map r.local []) (sym (ap (λ (x : Resolver). x.scopes.map) begun)) (stays r.scopes.map r.local []);
+      among =
+          subst (λ (map : Map). ScopesChangeAmong r.scopes.map map r.local []) (sym (ap (λ (x : Resolver). x.scopes.map) begun))
+          (stays r.scopes.map r.local []);
       local = ap (λ (x : Resolver). x.local) begun;
       imports = ap (λ (x : Resolver). x.imports) begun;
       apart = ap (λ (x : Resolver). x.apart) begun;
@@ -230,11 +240,14 @@ module _ (r r3 : Resolver) (i : ℕ) (edge : Edge) (globs : GlobsValue) (taken :
 
   -- each edge leads out of an enum that has its variants, if it leads out of one
   have_variants : HasVariants r.scopes.map edge.source → ((j : ℕ) (e : Edge) → slice_get r.globs.edges j ≡ Some e → HasVariants r.scopes.map e.source)
-      → Records (view_of (value_of r.scopes)) r.globs.edges globs.edges edge → (j : ℕ) (e : Edge) → slice_get globs.edges j ≡ Some e → HasVariants r.scopes.map e.source
+      → Records (view_of (value_of r.scopes)) r.globs.edges globs.edges edge → (j : ℕ) (e : Edge) → slice_get globs.edges j ≡ Some e
+      → HasVariants r.scopes.map e.source
   have_variants new old (widens k x wide there ends wider is) j e found =
-      one_more k (edge_with_vis x wide) (old k x there) j e (one_or_written r.globs.edges k (edge_with_vis x wide) j e (subst (λ (es : List Edge). slice_get es j ≡ Some e) is found))
+      one_more k (edge_with_vis x wide) (old k x there) j e
+      (one_or_written r.globs.edges k (edge_with_vis x wide) j e (subst (λ (es : List Edge). slice_get es j ≡ Some e) is found))
     where
-      one_more : (k : ℕ) (y : Edge) → HasVariants r.scopes.map y.source → (j : ℕ) (d : Edge) → (slice_get r.globs.edges j ≡ Some d) ⊎ ((j ≡ k) × (d ≡ y)) → HasVariants r.scopes.map d.source
+      one_more : (k : ℕ) (y : Edge) → HasVariants r.scopes.map y.source → (j : ℕ) (d : Edge) → (slice_get r.globs.edges j ≡ Some d) ⊎ ((j ≡ k) × (d ≡ y))
+          → HasVariants r.scopes.map d.source
       one_more k y has j d (inl before) = old j d before
       one_more k y has j d (inr now) = subst (λ (z : Edge). HasVariants r.scopes.map z.source) (sym now.1) has
   have_variants new old (stays_recorded k x there ends wider is) j e found = old j e (subst (λ (es : List Edge). slice_get es j ≡ Some e) is found)
@@ -244,7 +257,8 @@ module _ (r r3 : Resolver) (i : ℕ) (edge : Edge) (globs : GlobsValue) (taken :
       go (inl before) = old j e before
       go (inr now) = subst (λ (z : Edge). HasVariants r.scopes.map z.source) (sym now.1) new
 
-  linked_lasts : IsPlaced r.scopes.map edge.vis → HasVariants r.scopes.map edge.source → Lasts (finished_by r) (state_by r) → Lasts (finished_by r3) (state_by r3)
+  linked_lasts : IsPlaced r.scopes.map edge.vis → HasVariants r.scopes.map edge.source → Lasts (finished_by r) (state_by r)
+      → Lasts (finished_by r3) (state_by r3)
   linked_lasts placed has old = subst (λ (x : Resolver). Lasts (finished_by x) (state_by x)) (sym begun) (record {
     of_crate = old.of_crate;
     ordered = old.ordered;

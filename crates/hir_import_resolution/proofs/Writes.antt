@@ -3,19 +3,14 @@ use Rattle.std.proofs.Common.{◌≡◌, ◌≢◌, ◌∙◌, ◌⊎◌, inl, i
 use Rattle.std.specs.Option.{option_map}
 use Rattle.std.specs.Prelude.{Contains}
 use Rattle.std.proofs.lemmas.List.Elements.{Contains-append_cases}
-use Rattle.hir_base.specs.declared.ids.TraitId.{TraitId}
+use Rattle.hir_base.specs.Types.{TraitId}
 use Rattle.hir_scope.proofs.AfterPush.{declarations_stay}
 use Rattle.hir_scope.specs.PerNs.{Item}
 use Rattle.hir_scope.specs.Scope.{ScopeValue}
 use Rattle.hir_scope.specs.Scope.Reads.{unnamed_vis}
-use Rattle.hir_scope.specs.declared.imports.GlobId.{GlobId}
-use Rattle.hir_scope.specs.declared.imports.ImportId.{ImportId}
-use Rattle.hir_scope.specs.declared.imports.ImportOrExternCrate.{ImportOrExternCrate}
+use Rattle.hir_scope.specs.Types.{GlobId, ImportId, ImportOrExternCrate, ItemInNs, PerNs, Visibility}
 use Rattle.hir_scope.specs.declared.imports.ImportOrExternCrate.TheVariants as ways
-use Rattle.hir_scope.specs.declared.item_in_ns.ItemInNs.{ItemInNs}
 use Rattle.hir_scope.specs.declared.item_in_ns.ItemInNs.TheVariants as in_ns
-use Rattle.hir_scope.specs.declared.per_ns.PerNs.{PerNs}
-use Rattle.hir_scope.specs.declared.visibility.Visibility.{Visibility}
 use Rattle.hir_def_map_rules.proofs.Grown.{kept}
 use Rattle.hir_def_map_rules.specs.State.{Local, Map, ModuleValue, module_at, place_at, pushed, pushed_module, with_module_scope, with_scope}
 use Rattle.hir_def_map.specs.declared.nameres.path_resolution.slots.Slot.{Slot as PathSlot}
@@ -24,26 +19,26 @@ use Rattle.hir_def_map_laws.specs.SlotChanges.{ScopesChangeAmong}
 use Rattle.hir_def_map_laws.proofs.SlotLists.{follow_scopes, no_scope, scope_pushed, scope_traits, scope_updates}
 use Rattle.hir_glob_imports.proofs.Exact.{exact_slot}
 use Rattle.hir_glob_imports.specs.Keys.{name_of, same_slot, slot_at}
-use Rattle.hir_glob_imports.specs.declared.edge.Bound.{Bound}
-use Rattle.hir_glob_imports.specs.declared.edge.Key.{Key}
+use Rattle.hir_glob_imports.specs.Types.{Bound, Key, Slot, Target}
 use Rattle.hir_glob_imports.specs.declared.edge.Key.TheVariants.{Types, Values, Macros, Unnamed}
-use Rattle.hir_glob_imports.specs.declared.edge.Slot.{Slot}
-use Rattle.hir_glob_imports.specs.declared.edge.Target.{Target}
 use Rattle.hir_glob_imports.specs.declared.edge.Target.TheVariants as targets
 use Rattle.hir_import_resolution.specs.Inner.State.{slots_named}
 use Rattle.hir_import_resolution.specs.Inner.ScopeLaws.{keeps-trait}
 use Rattle.hir_import_resolution.specs.Inner.ViewLaws.{changes_in_slot}
-use Rattle.hir_import_resolution.specs.Names.{ScopesValue, bound_of, bound_trait, copied, copied_to, copied_where, followed, followed_to, followed_where, items_by, raised, redefined, revised, trait_vis, with_trait}
+use Rattle.hir_import_resolution.specs.Names.{ScopesValue, bound_of, bound_trait, copied, copied_to, copied_where, followed, followed_to, followed_where}
+use Rattle.hir_import_resolution.specs.Names.{items_by, raised, redefined, revised, trait_vis, with_trait}
 
 -- scopes change among more slots
-pub wider : (old new : Map) (local : Local) (xs ys : List PathSlot) → ((p : PathSlot) → Contains xs p → Contains ys p) → ScopesChangeAmong old new local xs → ScopesChangeAmong old new local ys
+pub wider : (old new : Map) (local : Local) (xs ys : List PathSlot) → ((p : PathSlot) → Contains xs p → Contains ys p) → ScopesChangeAmong old new local xs
+    → ScopesChangeAmong old new local ys
 wider old new local xs ys further changes = record { differs = changes.differs; others = λ slot apart. changes.others slot (λ h. apart (further slot h)) }
 
 pub stays : (map : Map) (local : Local) (slots : List PathSlot) → ScopesChangeAmong map map local slots
 stays map local slots = wider map map local [] slots (λ p h. absurd (omega (arith, h.1))) (no_scope map local)
 
 -- what changes twice among the same slots
-pub again : (one two three : Map) (local : Local) (slots : List PathSlot) → ScopesChangeAmong one two local slots → ScopesChangeAmong two three local slots → ScopesChangeAmong one three local slots
+pub again : (one two three : Map) (local : Local) (slots : List PathSlot) → ScopesChangeAmong one two local slots → ScopesChangeAmong two three local slots
+    → ScopesChangeAmong one three local slots
 again one two three local slots first then = wider one three local (slots ++ slots) slots both (follow_scopes one two three local slots slots first then)
   where
     one_of : (p : PathSlot) → Contains slots p ⊎ Contains slots p → Contains slots p
@@ -57,7 +52,8 @@ again one two three local slots first then = wider one three local (slots ++ slo
 pub record Writes (at : ℕ) (key : Key) (old new : ScopesValue) : Type 0 where
   pub finished : new.finished ≡ old.finished
   pub among : (local : Local) → ScopesChangeAmong old.map new.map local (slots_named at (name_of key))
-  pub traits : (other : ℕ) (id : TraitId) → slot_at at key ≢ slot_at other (Unnamed id) → trait_vis (module_at new.map other) id ≡ trait_vis (module_at old.map other) id
+  pub traits : (other : ℕ) (id : TraitId) → slot_at at key ≢ slot_at other (Unnamed id) → trait_vis (module_at new.map other) id
+      ≡ trait_vis (module_at old.map other) id
 
 pub writes_none : (n : ScopesValue) (at : ℕ) (key : Key) → Writes at key n n
 writes_none n at key = record { finished = refl; among = λ local. stays n.map local (slots_named at (name_of key)); traits = λ other id apart. refl }
@@ -75,7 +71,8 @@ push_traits n at name items import other id =
 -- nor does what leaves them in a scope
 scope_traits_stay : (map : Map) (at : ℕ) (change : ScopeValue → ScopeValue) → ((s : ScopeValue) (id : TraitId) → unnamed_vis (change s) id ≡ unnamed_vis s id)
     → (other : ℕ) (id : TraitId) → trait_vis (module_at (with_scope map at change) other) id ≡ trait_vis (module_at map other) id
-scope_traits_stay map at change leaves other id = kept (λ (o : Option ModuleValue). trait_vis o id) map.modules at (with_module_scope change) (λ m. leaves m.scope id) other
+scope_traits_stay map at change leaves other id =
+    kept (λ (o : Option ModuleValue). trait_vis o id) map.modules at (with_module_scope change) (λ m. leaves m.scope id) other
 
 pub seen_vis : (id : TraitId) (a : Option Visibility) → option_map (λ (b : Bound). b.vis) (bound_trait id a) ≡ a
 seen_vis id None = refl
@@ -92,7 +89,8 @@ not_same a b apart = go (same_slot a b) refl
     go false e = e
 
 -- a trait that is kept is one of a slot
-one_trait : (n : ScopesValue) (at : ℕ) (kept_id : TraitId) (vis : Visibility) (other : ℕ) (id : TraitId) → slot_at at (Unnamed kept_id) ≢ slot_at other (Unnamed id)
+one_trait : (n : ScopesValue) (at : ℕ) (kept_id : TraitId) (vis : Visibility) (other : ℕ) (id : TraitId) → slot_at at (Unnamed kept_id) ≢ slot_at other
+    (Unnamed id)
     → trait_vis (module_at (with_scope n.map at (with_trait kept_id vis None)) other) id ≡ trait_vis (module_at n.map other) id
 one_trait n at kept_id vis other id apart =
     same_trait id _ _
@@ -132,9 +130,27 @@ redefined_traits map at name (in_ns.Values def) vis other id = scope_traits_stay
 redefined_traits map at name (in_ns.Macros def) vis other id = scope_traits_stay map at (redefined name (in_ns.Macros def) vis) (λ s i. refl) other id
 
 followed_writes : (n : ScopesValue) (at : ℕ) (key : Key) (vis : Visibility) (b : Bound) → Writes at key n (followed_to n at key vis b)
-followed_writes n at (Types name) vis b = record { finished = refl; among = λ local. redefined_among n.map local at name b.def vis; traits = λ other id apart. redefined_traits n.map at name b.def vis other id }
-followed_writes n at (Values name) vis b = record { finished = refl; among = λ local. redefined_among n.map local at name b.def vis; traits = λ other id apart. redefined_traits n.map at name b.def vis other id }
-followed_writes n at (Macros name) vis b = record { finished = refl; among = λ local. redefined_among n.map local at name b.def vis; traits = λ other id apart. redefined_traits n.map at name b.def vis other id }
+followed_writes n at (Types name) vis b =
+    record {
+      finished = refl;
+      among = λ local. redefined_among n.map local at name b.def vis;
+      traits = λ other id apart. redefined_traits n.map at name b.def
+          vis other id;
+    }
+followed_writes n at (Values name) vis b =
+    record {
+      finished = refl;
+      among = λ local. redefined_among n.map local at name b.def vis;
+      traits = λ other id apart. redefined_traits n.map at name b.def
+          vis other id;
+    }
+followed_writes n at (Macros name) vis b =
+    record {
+      finished = refl;
+      among = λ local. redefined_among n.map local at name b.def vis;
+      traits = λ other id apart. redefined_traits n.map at name b.def
+          vis other id;
+    }
 followed_writes n at (Unnamed id) vis b = record { finished = refl; among = λ local. scope_traits n.map local at id vis None; traits = one_trait n at id vis }
 
 pub revised_writes : (n : ScopesValue) (at : ℕ) (key : Key) (vis : Visibility) → Writes at key n (record n { map = with_scope n.map at (revised key vis) })

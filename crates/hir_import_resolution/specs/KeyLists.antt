@@ -1,21 +1,16 @@
 -- At which keys does a target have something, in the order in which a glob brings it?
 use Rattle.std.specs.Prelude.{ℕ, Bool, false, List, [], ◌∷◌, ◌++◌, Option, None, Some, is_some, cond, map, option_map}
 use Rattle.std.specs.Map.{values_of}
-use Rattle.hir_base.specs.declared.ids.ModuleId.{ModuleId}
-use Rattle.hir_base.specs.declared.ids.TraitId.{TraitId}
+use Rattle.hir_base.specs.Types.{ModuleId, TraitId}
 use Rattle.hir_scope.specs.PerNs.{Item}
 use Rattle.hir_scope.specs.Scope.{ScopeValue}
 use Rattle.hir_scope.specs.Scope.Reads.{traits_among, unnamed_vis}
-use Rattle.hir_scope.specs.declared.imports.ImportId.{ImportId}
-use Rattle.hir_scope.specs.declared.per_ns.Namespace.{Namespace}
+use Rattle.hir_scope.specs.Types.{ImportId, Namespace, PerNs, Visibility}
 use Rattle.hir_scope.specs.declared.per_ns.Namespace.TheVariants as namespaces
-use Rattle.hir_scope.specs.declared.per_ns.PerNs.{PerNs}
-use Rattle.hir_scope.specs.declared.visibility.Visibility.{Visibility}
 use Rattle.hir_def_map_rules.specs.Overlay.{Maps, module_in, overlay, variants_in}
 use Rattle.hir_def_map_rules.specs.State.{ModuleValue, Variants, scope_at}
-use Rattle.hir_glob_imports.specs.declared.edge.Key.{Key}
+use Rattle.hir_glob_imports.specs.Types.{Key, Target}
 use Rattle.hir_glob_imports.specs.declared.edge.Key.TheVariants.{Types, Values, Macros, Unnamed}
-use Rattle.hir_glob_imports.specs.declared.edge.Target.{Target}
 use Rattle.hir_glob_imports.specs.declared.edge.Target.TheVariants as targets
 use Rattle.hir_import_resolution.specs.Names.{ScopesValue, is_foreign, is_open, variant_items}
 
@@ -47,7 +42,8 @@ traits_in scope = traits_among (values_of scope.types) ++ map (λ (entry : Trait
 -- the keys of a scope: types, values and macros by name, and then traits without a name
 abbrev pub scope_keys : Bool → ScopeValue → List Key
 scope_keys crossing scope =
-    ((name_keys namespaces.Types crossing scope.types ++ name_keys namespaces.Values crossing scope.values) ++ name_keys namespaces.Macros crossing scope.macros)
+    ((name_keys namespaces.Types crossing scope.types ++ name_keys namespaces.Values crossing scope.values) ++ name_keys namespaces.Macros crossing
+    scope.macros)
     ++ trait_keys crossing scope (traits_in scope)
 
 abbrev pub keys_in : Bool → Option ScopeValue → List Key

@@ -17,3 +17,4 @@ pub mod Sound
 -- ---- words of private code
 pub mod KeyLists
 pub mod Inner
+pub mod Types

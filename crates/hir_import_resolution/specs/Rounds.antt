@@ -1,26 +1,19 @@
 -- What may happen to imports between two times that they rest?
 use Rattle.std.specs.Prelude.{◌≡◌, ℕ, ◌<◌, ◌≤◌, Bool, true, List, [], Option, None, Some, Contains, length, slice_get}
-use Rattle.hir_base.specs.declared.ids.EnumId.{EnumId}
-use Rattle.hir_base.specs.declared.ids.ExternCrateId.{ExternCrateId}
-use Rattle.hir_base.specs.declared.ids.ModuleId.{ModuleId}
-use Rattle.hir_base.specs.declared.ids.TraitId.{TraitId}
-use Rattle.hir_base.specs.declared.macro_kind.MacroId.{MacroId}
+use Rattle.hir_base.specs.Types.{EnumId, ExternCrateId, MacroId, ModuleId, TraitId}
 use Rattle.hir_scope.specs.Scope.{ScopeValue, binding_of}
 use Rattle.hir_scope.specs.Scope.Reads.{unnamed_vis}
-use Rattle.hir_scope.specs.declared.imports.ImportOrExternCrate.{ImportOrExternCrate}
-use Rattle.hir_scope.specs.declared.per_ns.PerNs.{PerNs}
-use Rattle.hir_scope.specs.declared.visibility.Visibility.{Visibility}
+use Rattle.hir_scope.specs.Types.{ImportOrExternCrate, PerNs, Visibility}
 use Rattle.hir_def_map_rules.specs.Declaration.{listed}
 use Rattle.hir_def_map_rules.specs.Overlay.{Maps}
-use Rattle.hir_def_map_rules.specs.State.{IsInOrder, Map, Variants, entry_at, globs_after, module_at, new_module, pushed, variants_at, with_enum, with_macro_use, with_module, with_scope}
-use Rattle.hir_def_map_rules.specs.declared.declaration.Declaration.{Declaration}
-use Rattle.hir_def_map_rules.specs.declared.origin.ModuleOrigin.{ModuleOrigin}
+use Rattle.hir_def_map_rules.specs.State.{IsInOrder, Map, Variants, entry_at, globs_after, module_at, new_module, pushed, variants_at, with_enum}
+use Rattle.hir_def_map_rules.specs.State.{with_macro_use, with_module, with_scope}
+use Rattle.hir_def_map_rules.specs.Types.{Declaration, ModuleOrigin}
 use Rattle.hir_def_map.specs.declared.nameres.path_resolution.slots.Slot.{Slot as PathSlot}
 use Rattle.hir_def_map_laws.specs.ReadLaw.{AgreeAt, Grows}
 use Rattle.hir_glob_imports.specs.View.{View}
 use Rattle.hir_glob_imports.specs.Waves.{GlobsValue, IsKept, brought_of, update_at}
-use Rattle.hir_glob_imports.specs.declared.edge.Edge.{Edge}
-use Rattle.hir_glob_imports.specs.declared.edge.Key.{Key}
+use Rattle.hir_glob_imports.specs.Types.{Edge, Key}
 use Rattle.hir_glob_imports.specs.declared.edge.Update.TheVariants.{Nothing}
 use Rattle.hir_worklist.specs.Queue.{count_of, is_unfinished}
 use Rattle.hir_import_resolution.specs.declared.directive.ImportDirective.{ImportDirective}
@@ -102,12 +95,15 @@ pub record HaveGlobs (s : ImportState) (g : GlobsValue) : Type 0 where
 
 -- where imports rest, globs last if what was found out does
 abbrev pub RestingGlobsLast : Type 0
-RestingGlobsLast = (finished : Maps) (queue : ImportQueue) (s : ImportState) (g : GlobsValue) → IsUpToDate finished queue s → is_lasting queue ≡ true → BroughtStands finished s → HaveGlobs s g
+RestingGlobsLast =
+    (finished : Maps) (queue : ImportQueue) (s : ImportState) (g : GlobsValue) → IsUpToDate finished queue s → is_lasting queue ≡ true
+    → BroughtStands finished s → HaveGlobs s g
     → GlobsLast finished s g
 
 -- they do while the map grows around its names, each module behind what it is in
 abbrev pub GrowthKeepsGlobs : Type 0
-GrowthKeepsGlobs = (finished : Maps) (old new : ImportState) (g : GlobsValue) → HaveGlobs old g → HaveGlobs new g → GrowsAround old.map new.map → IsInOrder new.map
+GrowthKeepsGlobs =
+    (finished : Maps) (old new : ImportState) (g : GlobsValue) → HaveGlobs old g → HaveGlobs new g → GrowsAround old.map new.map → IsInOrder new.map
     → GlobsLast finished old g → GlobsLast finished new g
 
 -- and where something is bound explicitly, once it's noted where to look
@@ -125,7 +121,9 @@ abbrev pub ListsGrowAround : Type 0
 ListsGrowAround = (map : Map) (at : ℕ) (d : Declaration) → GrowsAround map (with_scope map at (listed d))
 
 abbrev pub EnumsGrowAround : Type 0
-EnumsGrowAround = (map : Map) (id : EnumId) (variants : Variants) → ((before : Variants) → variants_at map id ≡ Some before → before ≡ variants) → GrowsAround map (with_enum map id variants)
+EnumsGrowAround =
+    (map : Map) (id : EnumId) (variants : Variants) → ((before : Variants) → variants_at map id ≡ Some before → before ≡ variants)
+    → GrowsAround map (with_enum map id variants)
 
 abbrev pub MacroUsesGrowAround : Type 0
 MacroUsesGrowAround = (map : Map) (name : List ℕ) (makro : MacroId) (by : Option ExternCrateId) → GrowsAround map (with_macro_use map name makro by)
@@ -138,4 +136,5 @@ ScopesGrowAround = (map : Map) (at : ℕ) (change : ScopeValue → ScopeValue) �
 -- items that are pushed to a name of a module are bound there explicitly, and globs see no other change
 abbrev pub PushesBind : Type 0
 PushesBind = (n : ScopesValue) (home : ℕ) (name : List ℕ) (items : PerNs) (import : Option ImportOrExternCrate)
-    → IsBound home name items (view_of n) (view_of (record n { map = pushed n.map n.globs home name items import; globs = globs_after n.map n.globs home name items import }))
+    → IsBound home name items (view_of n) (view_of
+    (record n { map = pushed n.map n.globs home name items import; globs = globs_after n.map n.globs home name items import }))

@@ -1,14 +1,14 @@
 -- The rules by which imports are taken.
 use Rattle.std.specs.Prelude.{◌≡◌, ℕ, true, List, [], ◌∷◌, map, Some, Contains, slice_get}
-use Rattle.hir_scope.specs.declared.imports.GlobId.{GlobId}
+use Rattle.hir_scope.specs.Types.{GlobId}
 use Rattle.hir_def_map_rules.specs.Overlay.{Maps}
 use Rattle.hir_glob_imports.specs.Rules.{Rule as GlobRule, May as MayAlong, acts as glob_acts}
 use Rattle.hir_glob_imports.specs.Waves.{Records}
-use Rattle.hir_glob_imports.specs.declared.edge.Edge.{Edge}
-use Rattle.hir_glob_imports.specs.declared.edge.Target.{Target}
+use Rattle.hir_glob_imports.specs.Types.{Edge, Target}
 use Rattle.hir_import_resolution.specs.declared.directive.ImportDirective.{ImportDirective}
 use Rattle.hir_import_resolution.specs.Changes.{Change, along, keeps_trait, perform, pushes, records, takes}
-use Rattle.hir_import_resolution.specs.Directives.{TakenValue, answer_to, edge_to, glob_of, goes_beyond, kept_trait, leaf_of, name_of, namespaces_of, offered_by, reached_by, taken_after, taken_for, target_of, visibility_of}
+use Rattle.hir_import_resolution.specs.Directives.{TakenValue, answer_to, edge_to, glob_of, goes_beyond, kept_trait, leaf_of, name_of, namespaces_of}
+use Rattle.hir_import_resolution.specs.Directives.{offered_by, reached_by, taken_after, taken_for, target_of, visibility_of}
 use Rattle.hir_import_resolution.specs.Names.{scope_table, view_of}
 use Rattle.hir_import_resolution.specs.State.{ImportState, glob_state, scopes_of, ticked}
 
@@ -30,7 +30,8 @@ pub record CanTake (finished : Maps) (s : ImportState) (i : ℕ) (r : ImportDire
   pub gains : goes_beyond (namespaces_of (reached_by finished s.local s.map r)) t.namespaces ≡ true
 
 -- the import at the place is a glob, and reaches a module or an enum for which it wasn't taken
-pub record CanLink (finished : Maps) (s : ImportState) (i : ℕ) (r : ImportDirective) (t : TakenValue) (by : GlobId) (target : Target) (edges : List Edge) : Type 0 where
+pub record CanLink (finished : Maps) (s : ImportState) (i : ℕ) (r : ImportDirective) (t : TakenValue) (by : GlobId) (target : Target) (edges : List Edge) : Type
+    0 where
   pub import : slice_get s.imports i ≡ Some r
   pub before : slice_get s.taken i ≡ Some t
   pub is_glob : glob_of r.source ≡ Some by

@@ -2,7 +2,7 @@
 use Rattle.std.specs.Prelude.{◌≡◌, ℕ, ◌<◌, ◌++◌, List, Option, None, Some, length, slice_get}
 use Rattle.hir_def_map_rules.specs.Overlay.{Maps}
 use Rattle.hir_def_map_rules.specs.State.{Local, Map}
-use Rattle.hir_scope.specs.declared.per_ns.PerNs.{PerNs}
+use Rattle.hir_scope.specs.Types.{PerNs}
 use Rattle.hir_import_resolution.specs.declared.directive.ImportDirective.{ImportDirective}
 use Rattle.hir_import_resolution.specs.Changes.{act, pushes}
 use Rattle.hir_import_resolution.specs.Directives.{not_taken}
@@ -13,7 +13,8 @@ use Rattle.hir_import_resolution.specs.State.{ImportState}
 
 -- a step, where the modules of the imports are there
 abbrev pub StepsKeepSound : Type 0
-StepsKeepSound = (finished : Maps) (old new : ImportState) → ((i : ℕ) (r : ImportDirective) → slice_get old.imports i ≡ Some r → r.home < length old.map.modules)
+StepsKeepSound =
+    (finished : Maps) (old new : ImportState) → ((i : ℕ) (r : ImportDirective) → slice_get old.imports i ≡ Some r → r.home < length old.map.modules)
     → Step finished old new → IsSound finished old → IsSound finished new
 
 -- a map that grows around its names
@@ -22,7 +23,9 @@ GrowthKeepsSound = (finished : Maps) (s : ImportState) (m : Map) → GrowsAround
 
 -- a declaration that is bound
 abbrev pub PushesKeepSound : Type 0
-PushesKeepSound = (finished : Maps) (s : ImportState) (home : ℕ) (name : Option (List ℕ)) (items : PerNs) → IsSound finished s → IsSound finished (act s (pushes home name items None))
+PushesKeepSound =
+    (finished : Maps) (s : ImportState) (home : ℕ) (name : Option (List ℕ)) (items : PerNs) → IsSound finished s
+    → IsSound finished (act s (pushes home name items None))
 
 -- imports that come behind the others, with nothing taken
 abbrev pub ReachedImportsKeepSound : Type 0
@@ -31,4 +34,5 @@ ReachedImportsKeepSound = (finished : Maps) (s : ImportState) (rs : List ImportD
 
 -- other crates that paths may begin with, and another count of steps
 abbrev pub LocalKeepsSound : Type 0
-LocalKeepsSound = (finished : Maps) (s : ImportState) (local : Local) (count : ℕ) → IsSound finished s → IsSound finished (record s { local = local; count = count })
+LocalKeepsSound =
+    (finished : Maps) (s : ImportState) (local : Local) (count : ℕ) → IsSound finished s → IsSound finished (record s { local = local; count = count })

@@ -1,11 +1,11 @@
 -- The row of an associated item.
 use Rattle.std.proofs.Common.{◌≡◌, Bool, true, List, [], ◌∷◌, ◌++◌, map, refl, sym, ap, ◌∙◌}
 use Rattle.std.proofs.lemmas.List.{map-append}
-use Rattle.hir_base.specs.declared.cfg.CfgAtom.{CfgAtom}
+use Rattle.hir_base.specs.Types.{CfgAtom}
 use Rattle.hir_item_tree.specs.Source.{Item, plain, holder}
 use Rattle.hir_item_tree.specs.KeptForest.{KeptItem, kept_item}
 use Rattle.hir_item_tree.specs.Rows.{RowValue, rows_view, item_of, Laid, lay}
-use Rattle.hir_item_tree.specs.declared.rows.Row.{Row}
+use Rattle.hir_item_tree.specs.Types.{Row}
 use Rattle.hir_item_tree.specs.SideLists.{is_associated, row_item}
 
 -- the item of a row that holds no others

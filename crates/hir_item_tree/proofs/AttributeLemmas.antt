@@ -2,7 +2,7 @@
 use Rattle.std.proofs.Common.{◌≡◌, ℕ, ◌+◌, Bool, true, false, if◌then◌else◌, List, ◌++◌, map, Option, Some, None, refl, ap, ap₂, sym, ◌∙◌, append-nil}
 use Rattle.std.proofs.lemmas.List.{map-append, append_assoc}
 use Rattle.hir_base.specs.Cfg.{Cfg}
-use Rattle.hir_base.specs.declared.cfg.CfgAtom.{CfgAtom}
+use Rattle.hir_base.specs.Types.{CfgAtom}
 use Rattle.hir_use_tree.specs.UseTree.{count_of}
 use Rattle.hir_item_tree.specs.Attributes.{MetaValue, Attribute, meta, cfg, cfg_attr, Attributes, no_attributes, attribute, attribute_size}
 use Rattle.hir_item_tree.specs.Collected.{Numbered, Collected, merge, merged, empty, holds, collect, collect_all}
@@ -65,7 +65,8 @@ module _ (set : CfgAtom → Bool) where
     renumbered (meta m) i j = refl
     renumbered (cfg c) i j = refl
     renumbered (cfg_attr c inner) i j =
-        either_way (holds set c) (collect_all set inner (count_of (i + 1))) (collect_all set inner (count_of (j + 1))) empty (all_renumbered inner (count_of (i + 1)) (count_of (j + 1)))
+        either_way (holds set c) (collect_all set inner (count_of (i + 1))) (collect_all set inner (count_of (j + 1))) empty
+        (all_renumbered inner (count_of (i + 1)) (count_of (j + 1)))
 
     all_renumbered : (attrs : Attributes) (i j : ℕ) → unnumbered (collect_all set attrs i) ≡ unnumbered (collect_all set attrs j)
     all_renumbered no_attributes i j = refl

@@ -1,14 +1,16 @@
 -- What is without bodies and without sides is without sides, and what is without bodies has the same sides.
 use Rattle.std.proofs.Common.{◌≡◌, ◌++◌, refl, sym, ap, ap₂, ◌∙◌, Bool, List}
-use Rattle.hir_base.specs.declared.ast_id.AstKind.{AstKind}
-use Rattle.hir_base.specs.declared.cfg.CfgAtom.{CfgAtom}
+use Rattle.hir_base.specs.Types.{AstKind, CfgAtom}
 use Rattle.hir_item_tree.specs.Source as written
 use Rattle.hir_item_tree.specs.Source.{NodeHead, Plain, Holder, Item, Items, SourceValue}
 use Rattle.hir_item_tree.specs.KeptForest.{kept_item}
-use Rattle.hir_item_tree.specs.SideLists.{Side, SideEntry, associated, is_associated, is_associated_kind, and_associated, kept_associated, plain_side, holder_side, entry_list, item_entries, entries, side_lists}
+use Rattle.hir_item_tree.specs.SideLists.{Side, SideEntry, associated, is_associated, is_associated_kind, and_associated, kept_associated, plain_side}
+use Rattle.hir_item_tree.specs.SideLists.{holder_side, entry_list, item_entries, entries, side_lists}
 use Rattle.hir_item_tree.specs.SyntaxIds.{node_id, plain_kind, holder_kind}
-use Rattle.hir_item_tree.specs.BodyTexts.{plain_without_body, without_body, without_bodies, source_without_bodies, BodyTextsLeaveTheTree, BodyTextsLeaveTheSides}
-use Rattle.hir_item_tree.specs.WithoutSides.{head_without_input, plain_without_sides, held_without_sides, item_without_sides, items_without_sides, source_without_sides}
+use Rattle.hir_item_tree.specs.BodyTexts.{plain_without_body, without_body, without_bodies, source_without_bodies, BodyTextsLeaveTheTree}
+use Rattle.hir_item_tree.specs.BodyTexts.{BodyTextsLeaveTheSides}
+use Rattle.hir_item_tree.specs.WithoutSides.{head_without_input, plain_without_sides, held_without_sides, item_without_sides, items_without_sides}
+use Rattle.hir_item_tree.specs.WithoutSides.{source_without_sides}
 use Rattle.hir_item_tree.proofs.Sides.{kept_without_sides, side_lists_leave_the_tree}
 
 plain_twice : (p : Plain) → plain_without_sides (plain_without_body p) ≡ plain_without_sides p
@@ -72,7 +74,8 @@ module _ (set : CfgAtom → Bool) where
   mutual
     item_entries_stay : (i : Item) → item_entries set (without_body i) ≡ item_entries set i
     item_entries_stay (written.plain h p) = ap₂ (entry_of_node h) (kind_stays p) (plain_side_stays p)
-    item_entries_stay (written.holder h k is) = ap₂ (λ (side : Side) (es : List SideEntry). entry_of_node h (holder_kind k) side ++ es) (holder_side_stays k is) (entries_stay is)
+    item_entries_stay (written.holder h k is) =
+        ap₂ (λ (side : Side) (es : List SideEntry). entry_of_node h (holder_kind k) side ++ es) (holder_side_stays k is) (entries_stay is)
 
     entries_stay : (is : Items) → entries set (without_bodies is) ≡ entries set is
     entries_stay written.no_items = refl

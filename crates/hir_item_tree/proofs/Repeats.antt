@@ -13,7 +13,8 @@ neither true b h = cc
 neither false b h = (refl, h)
 
 module _ {K : Type 0} (eq : K → K → Bool) (symm : (x y : K) → eq x y ≡ eq y x) where
-  earlier : (before ks : List K) (k : K) → AllByRecursion (λ j. list_any (eq j) (before ++ k ∷ []) ≡ false) ks → AllByRecursion (λ j. list_any (eq j) before ≡ false) ks × AllByRecursion (λ j. eq k j ≡ false) ks
+  earlier : (before ks : List K) (k : K) → AllByRecursion (λ j. list_any (eq j) (before ++ k ∷ []) ≡ false) ks
+      → AllByRecursion (λ j. list_any (eq j) before ≡ false) ks × AllByRecursion (λ j. eq k j ≡ false) ks
   earlier before [] k h = (tt, tt)
   earlier before (j ∷ js) k h =
       let both = neither (list_any (eq j) before) (list_any (eq j) (k ∷ [])) (sym (list_any-append (eq j) before (k ∷ [])) ∙ h.0) in

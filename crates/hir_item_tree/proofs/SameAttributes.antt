@@ -1,6 +1,6 @@
 -- Attributes that say the same are as many.
 use Rattle.std.proofs.Common.{◌≡◌, ◌∙◌, ap, sym, refl, ℕ, suc, List, [], ◌∷◌, length}
-use Rattle.hir_item_tree.specs.declared.raw_attr.RawAttr.{RawAttr}
+use Rattle.hir_item_tree.specs.Types.{RawAttr}
 use Rattle.hir_item_tree.specs.Attributes.{Attributes, no_attributes, attribute, attributes_view}
 
 abbrev how_many : Attributes → ℕ

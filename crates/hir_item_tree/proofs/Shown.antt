@@ -1,5 +1,6 @@
 -- The rows of a forest stand for that forest.
-use Rattle.std.proofs.Common.{◌≡◌, ℕ, zero, suc, ◌+◌, List, [], ◌∷◌, ◌++◌, length, Some, refl, sym, ap, ◌∙◌, subst, arith, append_assoc, append-nil, length-append}
+use Rattle.std.proofs.Common.{◌≡◌, ℕ, zero, suc, ◌+◌, List, [], ◌∷◌, ◌++◌, length, Some, refl, sym, ap, ◌∙◌, subst, arith, append_assoc, append-nil}
+use Rattle.std.proofs.Common.{length-append}
 use Rattle.std.specs.List.{slice_get}
 use Rattle.hir_item_tree.specs.KeptForest.{Head, KeptItem, leaf, holder, KeptForest, no_items, item, item_and_inside, all_items}
 use Rattle.hir_item_tree.specs.Rows.{Content, alone, with_items, RowValue, Laid, LaidAll, lay, lay_all, items_at, item_of, items_behind, forest_at, IsLaid}
@@ -59,7 +60,8 @@ IsItem_more : (items more : List KeptItem) (h : Head) (c : Content) (i : KeptIte
 IsItem_more items more h (alone l) i e = e
 IsItem_more items more h (with_items k ns) i e = (e.0, Shows_more items more ns e.0 e.1, e.2)
 
-Grown_push : (done : List KeptItem) (rows : List RowValue) (all : List KeptItem) (r : RowValue) (i : KeptItem) → Grown done rows all → IsItem all r.head r.content i → Grown done (rows ++ r ∷ []) (all ++ i ∷ [])
+Grown_push : (done : List KeptItem) (rows : List RowValue) (all : List KeptItem) (r : RowValue) (i : KeptItem) → Grown done rows all
+    → IsItem all r.head r.content i → Grown done (rows ++ r ∷ []) (all ++ i ∷ [])
 Grown_push done [] all r i h m = (i, subst (λ items. IsItem items r.head r.content i) h m, ap (λ items. items ++ i ∷ []) h)
 Grown_push done (q ∷ qs) all r i h m = (h.0, h.1, Grown_push (done ++ h.0 ∷ []) qs all r i h.2 m)
 
@@ -109,7 +111,11 @@ mutual
       let e : (all ++ item_and_inside i) ++ all_items f ≡ all ++ (item_and_inside i ++ all_items f) = append_assoc all (item_and_inside i) (all_items f) in
       record {
         grown = subst (Grown [] s.rows) e rest.grown;
-        shown = subst (λ items. Shows items (r.number ∷ s.numbers) (item i f)) e (slice_get_more (all ++ item_and_inside i) (all_items f) r.number i one.shown, rest.shown);
+        shown =
+            subst (λ items. Shows items (r.number ∷ s.numbers) (item i f)) e (
+              slice_get_more (all ++ item_and_inside i) (all_items f) r.number i one.shown,
+              rest.shown,
+            );
       }
 
 -- the rows of a forest stand for its items
@@ -123,7 +129,8 @@ Shows-lay_all f = (lays_all f [] [] refl).shown
 pub forest_at-lay_all : (f : KeptForest) → forest_at (lay_all f []).rows (lay_all f []).numbers ≡ f
 forest_at-lay_all f =
     let r = lay_all f [] in
-    ap (λ items. items_at items r.numbers) (items_behind-Grown [] r.rows (all_items f) (Grown-lay_all f)) ∙ items_at-Shows (all_items f) r.numbers f (Shows-lay_all f)
+    ap (λ items. items_at items r.numbers) (items_behind-Grown [] r.rows (all_items f) (Grown-lay_all f)) ∙ items_at-Shows (all_items f) r.numbers f
+    (Shows-lay_all f)
 
 -- what is laid out stands for the forest, and is its layout
 pub forest_at-laid : (f : KeptForest) (r : LaidAll) → r ≡ lay_all f [] → forest_at r.rows r.numbers ≡ f

@@ -1,9 +1,10 @@
 -- The place of the first entry of a node, and the entry.
-use Rattle.std.proofs.Common.{◌≡◌, ◌<◌, ◌≤◌, ℕ, suc, ◌+◌, ◌-◌, Bool, true, false, cond, List, [], ◌∷◌, length, drop, get_or, Option, Some, None, refl, sym, ap, ◌∙◌, arith}
+use Rattle.std.proofs.Common.{◌≡◌, ◌<◌, ◌≤◌, ℕ, suc, ◌+◌, ◌-◌, Bool, true, false, cond, List, [], ◌∷◌, length, drop, get_or, Option, Some, None, refl, sym, ap}
+use Rattle.std.proofs.Common.{◌∙◌, arith}
 use Rattle.std.proofs.Math.Seq.{drop-cons}
 use Rattle.std.specs.BTreeMap.{BTreeMap, is_at, get}
 use Rattle.std.specs.Cmp.{ties}
-use Rattle.hir_item_tree.specs.declared.check.NodeId.{NodeId}
+use Rattle.hir_item_tree.specs.Types.{NodeId}
 use Rattle.hir_item_tree.specs.declared.side_lists.SideEntry.{SideEntry as KeptEntry}
 use Rattle.hir_item_tree.specs.contracts.check.NodeIdPartialEq.TheImpl.{ghosts}
 use Rattle.hir_item_tree.specs.contracts.check.NodeIdPartialOrd.TheImpl.Laws.{lawful as partial_lawful}

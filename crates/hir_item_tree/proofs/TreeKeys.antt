@@ -14,14 +14,11 @@ use Rattle.hir_base.specs.contracts.ast_id.HirFileIdPartialEq.TheImpl as file_eq
 use Rattle.hir_base.specs.contracts.edition.Edition.{the_type as editions}
 use Rattle.hir_base.specs.contracts.ids.CrateOrd.TheImpl.{ghosts as crates}
 use Rattle.hir_base.specs.contracts.ids.CrateOrd.TheImpl.Laws.{total-law as crates_total, matches_eq-law as crates_tie}
-use Rattle.hir_base.specs.declared.ast_id.BlockId.{BlockId}
-use Rattle.hir_base.specs.declared.ast_id.HirFileId.{HirFileId}
+use Rattle.hir_base.specs.Types.{BlockId, Crate, HirFileId}
 use Rattle.hir_base.specs.declared.ast_id.HirFileId.TheVariants.{File, Macro}
-use Rattle.hir_base.specs.declared.ids.Crate.{Crate}
 use Rattle.hir_item_tree.specs.contracts.tree_id.TreeIdOrd.TheImpl.{ghosts as ids}
 use Rattle.hir_item_tree.specs.contracts.tree_id.TreeIdOrd.TheImpl.Laws.{total-law as ids_total, matches_eq-law as ids_tie}
-use Rattle.hir_item_tree.specs.declared.tree_id.TreeId.{TreeId}
-use Rattle.hir_item_tree.specs.declared.tree_id.TreeKey.{TreeKey}
+use Rattle.hir_item_tree.specs.Types.{TreeId, TreeKey}
 use Rattle.hir_item_tree.specs.Trees.{is_key}
 
 same_nat : (m n : ℕ) → nat_eq m n ≡ true → m ≡ n
@@ -96,7 +93,8 @@ module _ {K V W : Type 0} (cmp : K → K → Ordering) (exact : (a b : K) → is
 
       go : (b : Bool) → is_at (cmp id) j ≡ b → kept_under of (new j) k ≡ cond (b && is_at (crates.cmp krate) k) (option_map of now) (kept_under of (old j) k)
       go true on =
-          let was_kept : kept_under of (old j) k ≡ option_map of (get crates.cmp was k) = ap (λ (a : K). kept_under of (old a) k) (sym (exact id j on)) ∙ before k in
+          let was_kept : kept_under of (old j) k ≡ option_map of (get crates.cmp was k) = ap (λ (a : K). kept_under of (old a) k) (sym (exact id j on)) ∙ before
+          k in
           ap (λ (source : Option (BTreeMap Crate V)). kept_under of source k) (outer j ∙ ap (λ (b : Bool). cond b (Some is) (old j)) on)
           ∙ ap (option_map of) (inner k)
           ∙ here (is_at (crates.cmp krate) k)
@@ -130,7 +128,8 @@ module _ {K V W : Type 0} (cmp : K → K → Ordering) (exact : (a b : K) → is
 
       go : (b : Bool) → is_at (cmp id) j ≡ b → kept_under of (old j) k ≡ cond (b && is_at (crates.cmp krate) k) None (kept_under of (old j) k)
       go true on =
-          let nothing : kept_under of (old j) k ≡ None = ap (λ (a : K). kept_under of (old a) k) (sym (exact id j on)) ∙ ap (λ (source : Option (BTreeMap Crate V)). kept_under of source k) (sym none) in
+          let nothing : kept_under of (old j) k ≡ None = ap (λ (a : K). kept_under of (old a) k) (sym (exact id j on)) ∙ ap
+          (λ (source : Option (BTreeMap Crate V)). kept_under of source k) (sym none) in
           nothing ∙ alike (is_at (crates.cmp krate) k) None ∙ ap (λ (o : Option W). cond (is_at (crates.cmp krate) k) None o) (sym nothing)
       go false off = refl
 

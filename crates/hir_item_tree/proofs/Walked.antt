@@ -1,5 +1,6 @@
 -- From a number to its row and the items that it holds.
-use Rattle.std.proofs.Common.{◌≡◌, ◌<◌, ℕ, zero, suc, ◌+◌, List, [], ◌∷◌, ◌++◌, length, map, get_or, Some, refl, sym, ap, ◌∙◌, subst, arith, append_assoc, append-nil, length-append}
+use Rattle.std.proofs.Common.{◌≡◌, ◌<◌, ℕ, zero, suc, ◌+◌, List, [], ◌∷◌, ◌++◌, length, map, get_or, Some, refl, sym, ap, ◌∙◌, subst, arith, append_assoc}
+use Rattle.std.proofs.Common.{append-nil, length-append}
 use Rattle.std.specs.List.{slice_get, All, AllByRecursion}
 use Rattle.std.proofs.lemmas.Option.{slice_get_within, slice_get-get_or}
 use Rattle.std.specs.Option.{IfSome}
@@ -7,10 +8,10 @@ use Rattle.std.proofs.lemmas.List.{length-map}
 use Rattle.std.proofs.lemmas.List.Elements.{All-from_recursion, All-nil}
 use Rattle.hir_item_tree.specs.Kinds.{item_head}
 use Rattle.hir_item_tree.specs.KeptForest.{Head, KeptItem, holder, KeptForest, no_items, item, all_items}
-use Rattle.hir_item_tree.specs.Rows.{Content, alone, with_items, RowValue, numbers_of, held_numbers, row_view, rows_view, items_at, item_of, items_behind, forest_at, IsLaid}
+use Rattle.hir_item_tree.specs.Rows.{Content, alone, with_items, RowValue, numbers_of, held_numbers, row_view, rows_view, items_at, item_of, items_behind}
+use Rattle.hir_item_tree.specs.Rows.{forest_at, IsLaid}
 use Rattle.hir_item_tree.specs.Numbers.{AreBelow, ChildrenBelow, AreWhole, IsWhole}
-use Rattle.hir_item_tree.specs.declared.rows.ModItemId.{ModItemId}
-use Rattle.hir_item_tree.specs.declared.rows.Row.{Row}
+use Rattle.hir_item_tree.specs.Types.{ModItemId, Row}
 use Rattle.hir_item_tree.proofs.Shown.{Shows, IsItem, Grown, Grown-laid, Shows-laid, items_behind-Grown, length-Grown}
 
 -- those that are there stay in front
@@ -40,7 +41,8 @@ item_of_same xs ys h (with_items k ns) b = ap (holder h k) (items_at_same xs ys 
 
 -- a row stands for the item that has its number
 row_shown : (done : List KeptItem) (rows : List RowValue) (i : ℕ) (r : RowValue) → AreWhole (length done) rows → slice_get rows i ≡ Some r
-    → (slice_get (items_behind done rows) (length done + i) ≡ Some (item_of (items_behind done rows) r.head r.content)) × ChildrenBelow (length done + i) r.content
+    → (slice_get (items_behind done rows) (length done + i) ≡ Some (item_of (items_behind done rows) r.head r.content)) × ChildrenBelow (length done + i)
+    r.content
 row_shown done [] i r w h = cc
 row_shown done (q ∷ qs) zero r w h =
     let same : q ≡ r = cc in
@@ -51,8 +53,10 @@ row_shown done (q ∷ qs) zero r w h =
     let shown : slice_get (items_behind done (q ∷ qs)) (length done) ≡ Some it = ap (λ xs. slice_get xs (length done)) whole ∙ slice_get_front done rest.0 it in
     let as_item : item_of (items_behind done (q ∷ qs)) q.head q.content ≡ it
     = ap (λ xs. item_of xs q.head q.content) whole ∙ item_of_same done (it ∷ rest.0) q.head q.content w.0 in
-    subst (λ (x : RowValue). (slice_get (items_behind done (q ∷ qs)) (length done + 0) ≡ Some (item_of (items_behind done (q ∷ qs)) x.head x.content)) × ChildrenBelow (length done + 0) x.content) same
-    (subst (λ n. (slice_get (items_behind done (q ∷ qs)) n ≡ Some (item_of (items_behind done (q ∷ qs)) q.head q.content)) × ChildrenBelow n q.content) (sym here)
+    subst (λ (x : RowValue). (slice_get (items_behind done (q ∷ qs)) (length done + 0) ≡ Some (item_of (items_behind done (q ∷ qs)) x.head x.content))
+    × ChildrenBelow (length done + 0) x.content) same
+    (subst (λ n. (slice_get (items_behind done (q ∷ qs)) n ≡ Some (item_of (items_behind done (q ∷ qs)) q.head q.content)) × ChildrenBelow n q.content)
+    (sym here)
     (shown ∙ ap Some (sym as_item), w.0))
 row_shown done (q ∷ qs) (suc i) r w h =
     let it = item_of done q.head q.content in
@@ -68,12 +72,14 @@ slice_get-map f (y ∷ ys) (suc i) x h = slice_get-map f ys i x h
 
 -- the row at an index stands for the item that has its number
 pub row_at_shown : (rows : List Row) (n : ℕ) (r : Row) → IsWhole (rows_view rows) → n < length rows → r ≡ get_or rows n r
-    → (slice_get (items_behind [] (rows_view rows)) n ≡ Some (item_of (items_behind [] (rows_view rows)) (row_view r).head (row_view r).content)) × ChildrenBelow n (row_view r).content
+    → (slice_get (items_behind [] (rows_view rows)) n ≡ Some (item_of (items_behind [] (rows_view rows)) (row_view r).head (row_view r).content))
+    × ChildrenBelow n (row_view r).content
 row_at_shown rows n r w within is =
     let row : slice_get rows n ≡ Some r = slice_get-get_or rows n r within ∙ ap Some (sym is) in
     let found = row_shown [] (rows_view rows) n (row_view r) w (slice_get-map row_view rows n r row) in
     let e : 0 + n ≡ n = omega arith in
-    subst (λ m. (slice_get (items_behind [] (rows_view rows)) m ≡ Some (item_of (items_behind [] (rows_view rows)) (row_view r).head (row_view r).content)) × ChildrenBelow m (row_view r).content) e found
+    subst (λ m. (slice_get (items_behind [] (rows_view rows)) m ≡ Some (item_of (items_behind [] (rows_view rows)) (row_view r).head (row_view r).content))
+    × ChildrenBelow m (row_view r).content) e found
 
 AreBelow-Shows : (items : List KeptItem) (ns : List ℕ) (f : KeptForest) → Shows items ns f → AreBelow (length items) ns
 AreBelow-Shows items [] f h = tt
@@ -105,10 +111,12 @@ pub items_behind-laid : (rows : List RowValue) (ns : List ℕ) → IsLaid rows n
 items_behind-laid rows ns h = items_behind-Grown [] rows (all_items (forest_at rows ns)) (Grown-laid rows ns h)
 
 -- and there are as many
-pub length-laid : (rows : List Row) (ns : List ℕ) (f : KeptForest) → IsLaid (rows_view rows) ns → forest_at (rows_view rows) ns ≡ f → length (all_items f) ≡ length rows
+pub length-laid : (rows : List Row) (ns : List ℕ) (f : KeptForest) → IsLaid (rows_view rows) ns → forest_at (rows_view rows) ns ≡ f → length (all_items f)
+    ≡ length rows
 length-laid rows ns f h e =
     let same : length (all_items (forest_at (rows_view rows) ns)) ≡ length rows
-    = omega (arith, length-Grown [] (rows_view rows) (all_items (forest_at (rows_view rows) ns)) (Grown-laid (rows_view rows) ns h), length-map rows row_view) in
+    = omega (arith, length-Grown [] (rows_view rows) (all_items (forest_at (rows_view rows) ns)) (Grown-laid (rows_view rows) ns h), length-map rows row_view)
+    in
     ap (λ g. length (all_items g)) (sym e) ∙ same
 
 -- the numbers of the forest are those of rows
@@ -129,12 +137,15 @@ shown_in rows ns f n h c laid e found =
     let same : items_behind [] rows ≡ all_items f = items_behind-laid rows ns laid ∙ ap all_items e in
     record { found = subst (λ items. slice_get items n ≡ Some (item_of items h c)) same found }
 
-pub head_of_row : (f : KeptForest) (n : ℕ) (h : Head) (c : Content) (P : Head → Type 0) → IsRowOf f n h c → P h → IfSome (slice_get (all_items f) n) (λ i. P (item_head i))
+pub head_of_row : (f : KeptForest) (n : ℕ) (h : Head) (c : Content) (P : Head → Type 0) → IsRowOf f n h c → P h → IfSome (slice_get (all_items f) n)
+    (λ i. P (item_head i))
 head_of_row f n h c P is p = subst (λ o. IfSome o (λ i. P (item_head i))) (sym is.found) (subst P (sym (item_head-item_of (all_items f) h c)) p)
 
-pub content_of_row : (f : KeptForest) (n : ℕ) (h : Head) (c : Content) → IsRowOf f n h c → IfSome (slice_get (all_items f) n) (λ i. item_of (all_items f) (item_head i) c ≡ i)
+pub content_of_row : (f : KeptForest) (n : ℕ) (h : Head) (c : Content) → IsRowOf f n h c → IfSome (slice_get (all_items f) n)
+    (λ i. item_of (all_items f) (item_head i) c ≡ i)
 content_of_row f n h c is =
-    subst (λ o. IfSome o (λ i. item_of (all_items f) (item_head i) c ≡ i)) (sym is.found) (ap (λ g. item_of (all_items f) g c) (item_head-item_of (all_items f) h c))
+    subst (λ o. IfSome o (λ i. item_of (all_items f) (item_head i) c ≡ i)) (sym is.found)
+    (ap (λ g. item_of (all_items f) g c) (item_head-item_of (all_items f) h c))
 
 -- so is each item of the forest
 below_by_recursion : (n : ℕ) (ids : List ModItemId) → AreBelow n (numbers_of ids) → AllByRecursion (λ (id : ModItemId). id.0 < n) ids

@@ -1,8 +1,10 @@
 -- The walk over rows that are laid out.
-use Rattle.std.proofs.Common.{◌≡◌, ℕ, zero, suc, ◌+◌, List, [], ◌∷◌, ◌++◌, length, Some, refl, sym, ap, ◌∙◌, subst, arith, append_assoc, append-nil, length-append}
+use Rattle.std.proofs.Common.{◌≡◌, ℕ, zero, suc, ◌+◌, List, [], ◌∷◌, ◌++◌, length, Some, refl, sym, ap, ◌∙◌, subst, arith, append_assoc, append-nil}
+use Rattle.std.proofs.Common.{length-append}
 use Rattle.std.specs.List.{slice_get, range_with_len}
 use Rattle.std.specs.List.Sorted.{IsPermutation}
-use Rattle.std.proofs.lemmas.List.Sorted.{IsPermutation-refl, IsPermutation-append_left, IsPermutation-append_right, IsPermutation-to_front, IsPermutation-sym, IsPermutation-trans}
+use Rattle.std.proofs.lemmas.List.Sorted.{IsPermutation-refl, IsPermutation-append_left, IsPermutation-append_right, IsPermutation-to_front, IsPermutation-sym}
+use Rattle.std.proofs.lemmas.List.Sorted.{IsPermutation-trans}
 use Rattle.hir_item_tree.specs.KeptForest.{KeptItem, leaf, holder, KeptForest, no_items, item}
 use Rattle.hir_item_tree.specs.Rows.{alone, with_items, held_numbers, RowValue, LaidAll, lay, lay_all, forest_at}
 use Rattle.hir_item_tree.specs.Walks.{Meets, WalksAreDetermined, EachRowIsMetOnce}
@@ -42,7 +44,8 @@ Meets_more rows more (goes_on n r ns inside beside is into along) =
 Meets_append : (rows : List RowValue) {ns met ms others : List ℕ} → Meets rows ns met → Meets rows ms others → Meets rows (ns ++ ms) (met ++ others)
 Meets_append rows ends w = w
 Meets_append rows {ms = ms} {others = others} (goes_on n r ns inside beside is into along) w =
-    subst (λ met. Meets rows (n ∷ (ns ++ ms)) (n ∷ met)) (sym (append_assoc inside beside others)) (goes_on n r (ns ++ ms) inside (beside ++ others) is into (Meets_append rows along w))
+    subst (λ met. Meets rows (n ∷ (ns ++ ms)) (n ∷ met)) (sym (append_assoc inside beside others))
+    (goes_on n r (ns ++ ms) inside (beside ++ others) is into (Meets_append rows along w))
 
 range_append : (a n m : ℕ) → range_with_len a n ++ range_with_len (a + n) m ≡ range_with_len a (n + m)
 range_append a zero m =
@@ -110,7 +113,8 @@ mutual
       let rest = walked_all f first.rows in
       let all = lay_all f first.rows in
       let from : length first.rows ≡ length rows + length one.more = ap length one.grown ∙ length-append rows one.more in
-      let begins : Meets all.rows (first.number ∷ []) one.met = subst (λ rs. Meets rs (first.number ∷ []) one.met) (sym rest.grown) (Meets_more first.rows rest.more one.meets) in
+      let begins : Meets all.rows (first.number ∷ []) one.met = subst (λ rs. Meets rs (first.number ∷ []) one.met) (sym rest.grown)
+      (Meets_more first.rows rest.more one.meets) in
       let whole : range_with_len (length rows) (length one.more) ++ range_with_len (length first.rows) (length rest.more)
       ≡ range_with_len (length rows) (length (one.more ++ rest.more))
       = ap (λ a. range_with_len (length rows) (length one.more) ++ range_with_len a (length rest.more)) from
@@ -123,11 +127,13 @@ mutual
         each = subst (IsPermutation (one.met ++ rest.met)) whole
             (IsPermutation-trans (one.met ++ rest.met) (range_with_len (length rows) (length one.more) ++ rest.met) _
             (IsPermutation-append_left rest.met one.met (range_with_len (length rows) (length one.more)) one.each)
-            (IsPermutation-append_right (range_with_len (length rows) (length one.more)) rest.met (range_with_len (length first.rows) (length rest.more)) rest.each));
+            (IsPermutation-append_right (range_with_len (length rows) (length one.more)) rest.met (range_with_len (length first.rows) (length rest.more))
+            rest.each));
       }
 
 -- the numbers of laid rows, from none on
-met_once : (f : KeptForest) (laid : LaidAll) → lay_all f [] ≡ laid → (met : List ℕ) × Meets laid.rows laid.numbers met × IsPermutation met (range_with_len 0 (length laid.rows))
+met_once : (f : KeptForest) (laid : LaidAll) → lay_all f [] ≡ laid → (met : List ℕ) × Meets laid.rows laid.numbers met
+    × IsPermutation met (range_with_len 0 (length laid.rows))
 met_once f laid e =
     let w = walked_all f [] in
     subst (λ (l : LaidAll). (met : List ℕ) × Meets l.rows l.numbers met × IsPermutation met (range_with_len 0 (length l.rows))) e

@@ -3,7 +3,7 @@ use Rattle.std.specs.Prelude.{◌≡◌}
 use Rattle.std.specs.Coded.{Coded, codes}
 use Rattle.std.proofs.Common.{refl, ap₂, arith}
 use base.Stored.{Gv, gnil, gnum, gcons}
-use Rattle.hir_base.specs.declared.macro_kind.MacroExpander.{MacroExpander}
+use Rattle.hir_base.specs.Types.{MacroExpander}
 use Rattle.hir_item_tree.specs.declared.shape.ExternCrateName.{ExternCrateName}
 use Rattle.hir_item_tree.specs.KeptForest.{Head, Leaf, Holder, KeptItem, leaf, holder, KeptForest, no_items, item}
 use Rattle.hir_item_tree.specs.ValueCodes.{number, halves, coded_name, coded_id, coded_path, coded_visibility, coded_shape, coded_alias}
@@ -49,7 +49,8 @@ mutual
   item_code_inj (leaf h l) (holder i k f) e = absurd (omega (arith, number 0 1 (halves (gnum 0) _ (gnum 1) _ e).0))
   item_code_inj (holder h k f) (leaf i m) e = absurd (omega (arith, number 1 0 (halves (gnum 1) _ (gnum 0) _ e).0))
   item_code_inj (holder h k f) (holder i m g) e =
-      let p = halves (gcons (coded_head.code h) (coded_holder.code k)) (forest_code f) (gcons (coded_head.code i) (coded_holder.code m)) (forest_code g) (halves (gnum 1) _ (gnum 1) _ e).1 in
+      let p = halves (gcons (coded_head.code h) (coded_holder.code k)) (forest_code f) (gcons (coded_head.code i) (coded_holder.code m)) (forest_code g)
+      (halves (gnum 1) _ (gnum 1) _ e).1 in
       let q = halves (coded_head.code h) (coded_holder.code k) (coded_head.code i) (coded_holder.code m) p.0 in
       let same_head = coded_head.inj h i q.0 in
       let same_kind = coded_holder.inj k m q.1 in

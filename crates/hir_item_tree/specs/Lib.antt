@@ -33,3 +33,4 @@ pub mod SideIndex
 pub mod SourceTree
 pub mod SideCodes
 pub mod Trees
+pub mod Types

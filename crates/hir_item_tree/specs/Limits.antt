@@ -6,11 +6,14 @@ use Rattle.hir_item_tree.specs.declared.raw_visibility.RawVisibility.{RawVisibil
 use Rattle.hir_item_tree.specs.declared.raw_visibility.RawVisibility.TheVariants as raw
 use Rattle.hir_item_tree.specs.declared.check.NodeId.{NodeId}
 use Rattle.hir_base.specs.Cfg.{Cfg, invalid, constant as constant_cfg, atom, all, any, unless, Cfgs, no_cfgs, cfg as next_cfg}
-use Rattle.hir_item_tree.specs.Attributes.{Tokens, paths, tokens, derive, Input, literal, parentheses, Attribute, meta, cfg, cfg_attr, Attributes, no_attributes, attribute}
+use Rattle.hir_item_tree.specs.Attributes.{Tokens, paths, tokens, derive, Input, literal, parentheses, Attribute, meta, cfg, cfg_attr, Attributes}
+use Rattle.hir_item_tree.specs.Attributes.{no_attributes, attribute}
 use Rattle.hir_use_tree.specs.UseTree.{UseTree, tree_depth}
 pub use Rattle.hir_use_tree.specs.UseTree.{tree_size}
 pub use Rattle.hir_use_tree.specs.Limits.{is_long, has_long_tree, Spent}
-use Rattle.hir_item_tree.specs.Source.{NodeHead, VariantValue, Plain, import, extern_crate, function, structure, union_structure, enumeration, constant, static_item, type_alias, outline_module, macro_call, macro_rules, macro_def, Holder, extern_block, trait_item, implementation, inline_module, Item, plain, holder, Items, no_items, item}
+use Rattle.hir_item_tree.specs.Source.{NodeHead, VariantValue, Plain, import, extern_crate, function, structure, union_structure, enumeration, constant}
+use Rattle.hir_item_tree.specs.Source.{static_item, type_alias, outline_module, macro_call, macro_rules, macro_def, Holder, extern_block, trait_item}
+use Rattle.hir_item_tree.specs.Source.{implementation, inline_module, Item, plain, holder, Items, no_items, item}
 
 -- a visibility with a long path
 abbrev pub has_long_visibility : RawVisibility → Bool

@@ -1,12 +1,12 @@
 -- Which row does a node get?
 use Rattle.std.specs.Prelude.{ℕ, Bool, List}
 use Rattle.hir_item_tree.specs.declared.raw_visibility.RawVisibility.{RawVisibility}
-use Rattle.hir_base.specs.declared.ast_id.SyntaxId.{SyntaxId}
+use Rattle.hir_base.specs.Types.{CfgAtom, SyntaxId}
 use Rattle.hir_item_tree.specs.Attributes.{Attributes}
-use Rattle.hir_base.specs.declared.cfg.CfgAtom.{CfgAtom}
 use Rattle.hir_item_tree.specs.Source as written
 use Rattle.hir_item_tree.specs.Source.{Holder as WrittenHolder, Item}
-use Rattle.hir_item_tree.specs.KeptForest.{trait_item, implementation, extern_block, inline_module, plain_visibility, holder_visibility, kept_leaf, kept_attributes}
+use Rattle.hir_item_tree.specs.KeptForest.{trait_item, implementation, extern_block, inline_module, plain_visibility, holder_visibility, kept_leaf}
+use Rattle.hir_item_tree.specs.KeptForest.{kept_attributes}
 use Rattle.hir_item_tree.specs.Rows.{Content, alone, with_items, RowValue}
 
 -- the visibility that is kept of a node

@@ -3,11 +3,10 @@ use Rattle.std.specs.Prelude.{ℕ, ◌+◌, ◌*◌, ◌-◌, ◌^◌, Bool, tru
 use Rattle.std.specs.Fmt.{digits, padded_integral, format_spec}
 use Rattle.hir_base.specs.Display.{shown, path_shown}
 use Rattle.hir_base.specs.ModPath.{Path}
-use Rattle.hir_base.specs.declared.ast_id.SyntaxId.{SyntaxId}
-use Rattle.hir_base.specs.declared.edition.Edition.{Edition}
+use Rattle.hir_base.specs.Types.{Edition, SyntaxId}
 use Rattle.hir_item_tree.specs.declared.raw_visibility.RawVisibility.{RawVisibility}
 use Rattle.hir_item_tree.specs.declared.raw_visibility.RawVisibility.TheVariants as raw
-use Rattle.hir_use_tree.specs.declared.imports.ImportAlias.{ImportAlias}
+use Rattle.hir_use_tree.specs.Types.{ImportAlias}
 use Rattle.hir_use_tree.specs.declared.imports.ImportAlias.TheVariants as aliases
 use Rattle.hir_item_tree.specs.declared.shape.ExternCrateName.{ExternCrateName}
 use Rattle.hir_item_tree.specs.declared.shape.ExternCrateName.TheVariants as crates
@@ -15,7 +14,9 @@ use Rattle.hir_base.specs.Cfg.{Cfg, cfg_text}
 use Rattle.hir_item_tree.specs.Attributes.{Tokens, paths, tokens, derive, Input, literal, parentheses, MetaValue}
 use Rattle.hir_item_tree.specs.Collected.{Numbered, Collected}
 use Rattle.hir_use_tree.specs.UseTree.{UseTree, single, glob, prefixed, UseTrees, no_trees, tree}
-use Rattle.hir_item_tree.specs.KeptForest.{Head, Leaf, import, extern_crate, function, structure, union_structure, enumeration, constant, static_item, trait_item, implementation, type_alias, outline_module, macro_call, macro_rules, macro_def, Holder, extern_block, inline_module, KeptItem, leaf, holder, KeptForest, no_items, item}
+use Rattle.hir_item_tree.specs.KeptForest.{Head, Leaf, import, extern_crate, function, structure, union_structure, enumeration, constant, static_item}
+use Rattle.hir_item_tree.specs.KeptForest.{trait_item, implementation, type_alias, outline_module, macro_call, macro_rules, macro_def, Holder, extern_block}
+use Rattle.hir_item_tree.specs.KeptForest.{inline_module, KeptItem, leaf, holder, KeptForest, no_items, item}
 use Rattle.hir_item_tree.specs.ItemTree.{Tree}
 
 -- ---- words

@@ -3,7 +3,9 @@ use Rattle.std.specs.Prelude.{◌≡◌, ℕ, List, [], ◌∷◌, ◌++◌, len
 use Rattle.std.specs.List.{slice_get}
 use Rattle.hir_item_tree.specs.Collected.{collected_of}
 use Rattle.hir_use_tree.specs.UseTree.{use_tree_view}
-use Rattle.hir_item_tree.specs.KeptForest.{Head, Leaf, import, extern_crate, function, structure, union_structure, enumeration, constant, static_item, trait_item, implementation, type_alias, outline_module, macro_call, macro_rules, macro_def, Holder, extern_block, inline_module, KeptItem, leaf, holder, KeptForest, no_items, item}
+use Rattle.hir_item_tree.specs.KeptForest.{Head, Leaf, import, extern_crate, function, structure, union_structure, enumeration, constant, static_item}
+use Rattle.hir_item_tree.specs.KeptForest.{trait_item, implementation, type_alias, outline_module, macro_call, macro_rules, macro_def, Holder, extern_block}
+use Rattle.hir_item_tree.specs.KeptForest.{inline_module, KeptItem, leaf, holder, KeptForest, no_items, item}
 use Rattle.hir_item_tree.specs.declared.rows.ModItemId.{ModItemId}
 use Rattle.hir_item_tree.specs.declared.rows.Row.{Row}
 use Rattle.hir_item_tree.specs.declared.rows.RowKind.{RowKind}

@@ -108,8 +108,8 @@ fn same_raw_attr(a: &RawAttr, b: &RawAttr) -> bool
     match (a, b) {
         (RawAttr::Meta(a), RawAttr::Meta(b)) => same_meta(a, b),
         (RawAttr::Cfg(a), RawAttr::Cfg(b)) => a.same(b),
-        (RawAttr::CfgAttr { cfg: a, attrs: x }, RawAttr::CfgAttr { cfg: b, attrs: y }) =>
-            a.same(b) && same_raw_list(x, y),
+        (RawAttr::CfgAttr { cfg: a, attrs: x }, RawAttr::CfgAttr { cfg: b, attrs: y }) => a.same(b)
+            && same_raw_list(x, y),
         _ => false,
     }
 }

@@ -1,13 +1,13 @@
 -- A run that has come upon nothing, and the number of the tree with which a run begins.
 use Rattle.std.proofs.Common.{◌≡◌, ◌∙◌, ℕ, false, List, [], length, slice_get, Option, Some, None, refl, sym, ap, subst}
 use Rattle.std.specs.Prelude.{IsSome}
-use Rattle.hir_item_tree.specs.declared.tree_id.TreeId.{TreeId}
+use Rattle.hir_item_tree.specs.Types.{TreeId}
 use Rattle.hir_tables.specs.SourcePlaces.{SourcePlaceValue}
 use Rattle.hir_tables.specs.Tables.{KeepsTables, TablesValue, source_of}
 use Rattle.hir_tables.proofs.Growth.{source_of-kept}
 use Rattle.hir_def_map_rules.specs.Overlay.{Maps}
 use Rattle.hir_def_map_rules.specs.State.{IsInOrder}
-use Rattle.hir_glob_imports.specs.declared.edge.Brought.{Brought}
+use Rattle.hir_glob_imports.specs.Types.{Brought}
 use Rattle.hir_collector_rules.specs.CallMoves.{ComesToRest, IsReady, rested}
 use Rattle.hir_collector_rules.specs.Keys.{Environment}
 use Rattle.hir_collector_rules.specs.State.{Core, RecordedGlobs, no_recorded_globs}
@@ -18,7 +18,8 @@ nothing_at xs i x e h = let gone : slice_get [] i ≡ Some x = subst (λ (ys : L
 nothing_brought_there : (o : Option Brought) (by : Brought) → o ≡ None → o ≡ Some by → ⊥
 nothing_brought_there o by e h = let no : ⊥ = cc in no
 
-pub ready_empty : (tables : TablesValue) (finished : Maps) (c : Core) → c.globs ≡ no_recorded_globs → c.reached ≡ [] → c.taken ≡ [] → c.calls ≡ [] → c.fates ≡ [] → IsInOrder c.map
+pub ready_empty : (tables : TablesValue) (finished : Maps) (c : Core) → c.globs ≡ no_recorded_globs → c.reached ≡ [] → c.taken ≡ [] → c.calls ≡ [] → c.fates
+    ≡ [] → IsInOrder c.map
     → IsReady tables finished c
 ready_empty tables finished c globs reached taken calls fates in_order = record {
   sound = record {
@@ -35,7 +36,8 @@ ready_empty tables finished c globs reached taken calls fates in_order = record 
 }
 
 -- nothing is left to be done in it
-pub rests_empty : (env : Environment) (finished : Maps) (c : Core) → c.globs ≡ no_recorded_globs → c.reached ≡ [] → c.calls ≡ [] → ComesToRest env finished c c false
+pub rests_empty : (env : Environment) (finished : Maps) (c : Core) → c.globs ≡ no_recorded_globs → c.reached ≡ [] → c.calls ≡ [] → ComesToRest env finished c c
+    false
 rests_empty env finished c globs reached calls =
     rested
     (record {

@@ -6,16 +6,13 @@ use Rattle.std.specs.Cmp.Lexicographic.{slice_cmp}
 use Rattle.std.proofs.lemmas.Cmp.{tied_itself, nat_list_cmp_total}
 use Rattle.hir_base.specs.contracts.ids.ModuleDefIdPartialEq.TheImpl as module_def
 use Rattle.hir_base.specs.contracts.macro_kind.MacroIdPartialEq.TheImpl as makro
-use Rattle.hir_base.specs.declared.ids.ModuleDefId.{ModuleDefId}
+use Rattle.hir_base.specs.Types.{MacroId, ModuleDefId}
 use Rattle.hir_base.specs.declared.ids.ModuleDefId.TheVariants as defs
-use Rattle.hir_base.specs.declared.macro_kind.MacroId.{MacroId}
 use Rattle.hir_scope.specs.contracts.imports.ImportOrExternCratePartialEq.TheImpl as item_import
 use Rattle.hir_scope.specs.contracts.imports.ImportOrGlobPartialEq.TheImpl as glob_import
-use Rattle.hir_scope.specs.declared.imports.ImportOrDef.{ImportOrDef}
-use Rattle.hir_scope.specs.declared.imports.ImportOrExternCrate.{ImportOrExternCrate}
-use Rattle.hir_scope.specs.declared.imports.ImportOrGlob.{ImportOrGlob}
-use Rattle.hir_scope.specs.declared.per_ns.PerNs.{PerNs}
-use Rattle.hir_scope.specs.Bindings.{Push, Candidate, after_push, first_of, is_reresolved_by, items_by, slot_after, slot_after_candidate, slot_at, taken, takes, type_candidate, value_candidate, macro_candidate, written_items, written_places}
+use Rattle.hir_scope.specs.Types.{ImportOrDef, ImportOrExternCrate, ImportOrGlob, PerNs}
+use Rattle.hir_scope.specs.Bindings.{Push, Candidate, after_push, first_of, is_reresolved_by, items_by, slot_after, slot_after_candidate, slot_at, taken, takes}
+use Rattle.hir_scope.specs.Bindings.{type_candidate, value_candidate, macro_candidate, written_items, written_places}
 use Rattle.hir_scope.specs.Entries.{any_value, item_at, with_entry}
 use Rattle.hir_scope.specs.Globs.{GlobNames, Place, has_place, no_globs}
 use Rattle.hir_scope.specs.ImportRecords.{is_glob, reached_by, value_reached_by}
@@ -97,19 +94,22 @@ module _ {D I : Type 0} where
 module _ (place : Place) (import : Option ImportOrExternCrate) (scope : ScopeValue) (explicit : is_glob import ≡ false) where
   types_here : (o : Option (Item ModuleDefId ImportOrExternCrate))
       → item_at (written_items place.1 (taken module_def.ghosts.eq item_import.ghosts.eq scope.types [] place (type_candidate o import)) scope.types) place.1
-      ≡ slot_after module_def.ghosts.eq item_import.ghosts.eq (item_at scope.types place.1) (option_map (λ (i : Item ModuleDefId ImportOrExternCrate). item_of i.def i.vis import) o)
+      ≡ slot_after module_def.ghosts.eq item_import.ghosts.eq (item_at scope.types place.1)
+      (option_map (λ (i : Item ModuleDefId ImportOrExternCrate). item_of i.def i.vis import) o)
   types_here None = refl
   types_here (Some i) = written_here module_def.ghosts.eq item_import.ghosts.eq scope.types place _ _ explicit
 
   values_here : (o : Option (Item ModuleDefId ImportOrGlob))
       → item_at (written_items place.1 (taken module_def.ghosts.eq glob_import.ghosts.eq scope.values [] place (value_candidate o import)) scope.values) place.1
-      ≡ slot_after module_def.ghosts.eq glob_import.ghosts.eq (item_at scope.values place.1) (option_map (λ (i : Item ModuleDefId ImportOrGlob). item_of i.def i.vis (value_import import)) o)
+      ≡ slot_after module_def.ghosts.eq glob_import.ghosts.eq (item_at scope.values place.1)
+      (option_map (λ (i : Item ModuleDefId ImportOrGlob). item_of i.def i.vis (value_import import)) o)
   values_here None = refl
   values_here (Some i) = written_here module_def.ghosts.eq glob_import.ghosts.eq scope.values place _ _ explicit
 
   macros_here : (o : Option (Item MacroId ImportOrExternCrate))
       → item_at (written_items place.1 (taken makro.ghosts.eq item_import.ghosts.eq scope.macros [] place (macro_candidate o import)) scope.macros) place.1
-      ≡ slot_after makro.ghosts.eq item_import.ghosts.eq (item_at scope.macros place.1) (option_map (λ (i : Item MacroId ImportOrExternCrate). item_of i.def i.vis import) o)
+      ≡ slot_after makro.ghosts.eq item_import.ghosts.eq (item_at scope.macros place.1)
+      (option_map (λ (i : Item MacroId ImportOrExternCrate). item_of i.def i.vis import) o)
   macros_here None = refl
   macros_here (Some i) = written_here makro.ghosts.eq item_import.ghosts.eq scope.macros place _ _ explicit
 
@@ -149,7 +149,8 @@ module _ (place : Place) (import : Option ImportOrExternCrate) (scope : ScopeVal
 
 module _ (globs : GlobNames) (place : Place) (import : Option ImportOrExternCrate) (scope : ScopeValue) where
   pub on_pushed_types : (P : List (List ℕ × Item ModuleDefId ImportOrExternCrate) → Type 0) (items : PerNs) → P scope.types
-      → ((i : Item ModuleDefId ImportOrExternCrate) → items.types ≡ Some i → P (with_entry (slice_cmp nat_cmp) scope.types place.1 (item_of i.def i.vis import)))
+      → ((i : Item ModuleDefId ImportOrExternCrate) → items.types ≡ Some i
+      → P (with_entry (slice_cmp nat_cmp) scope.types place.1 (item_of i.def i.vis import)))
       → P (pushed_scope globs place items import scope).types
   on_pushed_types P items old new = subst P (sym (pushed-types scope globs place import items)) (go items.types refl)
     where
@@ -164,7 +165,8 @@ module _ (globs : GlobNames) (place : Place) (import : Option ImportOrExternCrat
           on false = old
 
   pub on_pushed_values : (P : List (List ℕ × Item ModuleDefId ImportOrGlob) → Type 0) (items : PerNs) → P scope.values
-      → ((i : Item ModuleDefId ImportOrGlob) → items.values ≡ Some i → P (with_entry (slice_cmp nat_cmp) scope.values place.1 (item_of i.def i.vis (value_import import))))
+      → ((i : Item ModuleDefId ImportOrGlob) → items.values ≡ Some i
+      → P (with_entry (slice_cmp nat_cmp) scope.values place.1 (item_of i.def i.vis (value_import import))))
       → P (pushed_scope globs place items import scope).values
   on_pushed_values P items old new = subst P (sym (pushed-values scope globs place import items)) (go items.values refl)
     where
@@ -215,8 +217,36 @@ module _ (globs : GlobNames) (place : Place) (import : Option ImportOrExternCrat
   -- what a scope declares stays
   pub declarations_stay : (items : PerNs) → SameDeclarations scope (pushed_scope globs place items import scope)
   declarations_stay items = elim (is_nothing items)
-      as (λ b. SameDeclarations scope (cond b (with_unresolved scope place.1) (written_scope place.1 (taken_candidates scope globs place items import) scope)))
-      [ true ↦ record { declarations = refl; impls = refl; builtin_derive_impls = refl; extern_blocks = refl; unnamed_consts = refl; unnamed_traits = refl; use_decls = refl; extern_crate_decls = refl; legacy_macros = refl; attr_macros = refl; macro_calls = refl; derive_macros = refl } | false ↦ record { declarations = refl; impls = refl; builtin_derive_impls = refl; extern_blocks = refl; unnamed_consts = refl; unnamed_traits = refl; use_decls = refl; extern_crate_decls = refl; legacy_macros = refl; attr_macros = refl; macro_calls = refl; derive_macros = refl } ]
+      as (λ b. SameDeclarations scope (cond b (with_unresolved scope place.1) (written_scope place.1 (taken_candidates scope globs place items import) scope))) [
+        | true ↦ record {
+          declarations = refl;
+          impls = refl;
+          builtin_derive_impls = refl;
+          extern_blocks = refl;
+          unnamed_consts = refl;
+          unnamed_traits = refl;
+          use_decls = refl;
+          extern_crate_decls = refl;
+          legacy_macros = refl;
+          attr_macros = refl;
+          macro_calls = refl;
+          derive_macros = refl;
+        }
+        | false ↦ record {
+          declarations = refl;
+          impls = refl;
+          builtin_derive_impls = refl;
+          extern_blocks = refl;
+          unnamed_consts = refl;
+          unnamed_traits = refl;
+          use_decls = refl;
+          extern_crate_decls = refl;
+          legacy_macros = refl;
+          attr_macros = refl;
+          macro_calls = refl;
+          derive_macros = refl;
+        }
+      ]
 
 -- ---- what the name stands for, whatever globs have brought
 

@@ -2,16 +2,12 @@
 use Rattle.std.specs.Prelude.{◌≡◌, refl, ℕ, Bool, true, false, not, is_some, List, ◌∷◌, Option, None, cond}
 use Rattle.std.proofs.Common.{sym, ap, ◌∙◌, subst}
 use Rattle.std.specs.Borrow.{Bor}
-use Rattle.hir_base.specs.declared.ids.ModuleDefId.{ModuleDefId}
-use Rattle.hir_base.specs.declared.macro_kind.MacroId.{MacroId}
+use Rattle.hir_base.specs.Types.{MacroId, ModuleDefId}
 use Rattle.hir_base.specs.contracts.ids.ModuleDefIdPartialEq.TheImpl as module_def
 use Rattle.hir_base.specs.contracts.macro_kind.MacroIdPartialEq.TheImpl as makro
-use Rattle.hir_scope.specs.declared.item_in_ns.ItemInNs.{ItemInNs}
+use Rattle.hir_scope.specs.Types.{ImportOrExternCrate, ImportOrGlob, ItemInNs, Visibility}
 use Rattle.hir_scope.specs.declared.item_in_ns.ItemInNs.TheVariants.{Types, Values, Macros}
-use Rattle.hir_scope.specs.declared.imports.ImportOrExternCrate.{ImportOrExternCrate}
-use Rattle.hir_scope.specs.declared.imports.ImportOrGlob.{ImportOrGlob}
 use Rattle.hir_scope.specs.PerNs.{Item}
-use Rattle.hir_scope.specs.declared.visibility.Visibility.{Visibility}
 use Rattle.hir_scope.specs.Scope.Reads.{AsksInOrder, names_with, names_of_item}
 use Rattle.hir_scope.specs.Scope.{ScopeValue}
 
@@ -31,23 +27,30 @@ module _ {F T : Type 0} (steps : F → Bor (List ℕ) → Visibility → Bool �
       → AsksInOrder steps g (names_with same def entries) outcome → AsksInOrder steps f (names_with same def all) outcome
   unanswered same def f g entry entries all lent explicit answer outcome first bound named imported none stepped asks =
       subst (λ names. AsksInOrder steps f names outcome)
-      (sym (ap (names_with same def) first ∙ ap (λ b. cond b ((entry.0, entry.1.vis, not (is_some entry.1.import)) ∷ names_with same def entries) (names_with same def entries)) bound))
+      (sym (ap (names_with same def) first ∙ ap (λ b. cond b ((entry.0, entry.1.vis, not (is_some entry.1.import)) ∷ names_with same def entries)
+      (names_with same def entries)) bound))
       (None, g, lent, named, subst (λ b. steps f lent entry.1.vis b None g) imported (subst (λ a. steps f lent entry.1.vis explicit a g) none stepped), asks)
 
-  pub asked_types : (f : F) (scope : ScopeValue) (id : ModuleDefId) (item : ItemInNs) (entries : List (List ℕ × Item ModuleDefId ImportOrExternCrate)) (outcome : Option T)
+  pub asked_types : (f : F) (scope : ScopeValue) (id : ModuleDefId) (item : ItemInNs) (entries : List (List ℕ × Item ModuleDefId ImportOrExternCrate))
+      (outcome : Option T)
       → item ≡ Types id → entries ≡ scope.types → AsksInOrder steps f (names_with module_def.ghosts.eq id entries) outcome
       → AsksInOrder steps f (names_of_item scope item) outcome
   asked_types f scope id item entries outcome is all asks =
-      subst (λ i. AsksInOrder steps f (names_of_item scope i) outcome) (sym is) (subst (λ es. AsksInOrder steps f (names_with module_def.ghosts.eq id es) outcome) all asks)
+      subst (λ i. AsksInOrder steps f (names_of_item scope i) outcome) (sym is)
+      (subst (λ es. AsksInOrder steps f (names_with module_def.ghosts.eq id es) outcome) all asks)
 
-  pub asked_values : (f : F) (scope : ScopeValue) (id : ModuleDefId) (item : ItemInNs) (entries : List (List ℕ × Item ModuleDefId ImportOrGlob)) (outcome : Option T)
+  pub asked_values : (f : F) (scope : ScopeValue) (id : ModuleDefId) (item : ItemInNs) (entries : List (List ℕ × Item ModuleDefId ImportOrGlob))
+      (outcome : Option T)
       → item ≡ Values id → entries ≡ scope.values → AsksInOrder steps f (names_with module_def.ghosts.eq id entries) outcome
       → AsksInOrder steps f (names_of_item scope item) outcome
   asked_values f scope id item entries outcome is all asks =
-      subst (λ i. AsksInOrder steps f (names_of_item scope i) outcome) (sym is) (subst (λ es. AsksInOrder steps f (names_with module_def.ghosts.eq id es) outcome) all asks)
+      subst (λ i. AsksInOrder steps f (names_of_item scope i) outcome) (sym is)
+      (subst (λ es. AsksInOrder steps f (names_with module_def.ghosts.eq id es) outcome) all asks)
 
-  pub asked_macros : (f : F) (scope : ScopeValue) (id : MacroId) (item : ItemInNs) (entries : List (List ℕ × Item MacroId ImportOrExternCrate)) (outcome : Option T)
+  pub asked_macros : (f : F) (scope : ScopeValue) (id : MacroId) (item : ItemInNs) (entries : List (List ℕ × Item MacroId ImportOrExternCrate))
+      (outcome : Option T)
       → item ≡ Macros id → entries ≡ scope.macros → AsksInOrder steps f (names_with makro.ghosts.eq id entries) outcome
       → AsksInOrder steps f (names_of_item scope item) outcome
   asked_macros f scope id item entries outcome is all asks =
-      subst (λ i. AsksInOrder steps f (names_of_item scope i) outcome) (sym is) (subst (λ es. AsksInOrder steps f (names_with makro.ghosts.eq id es) outcome) all asks)
+      subst (λ i. AsksInOrder steps f (names_of_item scope i) outcome) (sym is) (subst (λ es. AsksInOrder steps f (names_with makro.ghosts.eq id es) outcome)
+      all asks)

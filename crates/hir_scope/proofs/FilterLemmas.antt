@@ -1,8 +1,7 @@
 -- A test that always answers alike keeps what it answers yes for.
 use Rattle.std.proofs.Common.{◌≡◌, ◌∙◌, ap, Bool, Option, None, Some, cond}
 use Rattle.hir_scope.specs.PerNs.{Item, Passes, PassInOrder, keep_item, keep_of}
-use Rattle.hir_scope.specs.declared.per_ns.PerNs.{PerNs}
-use Rattle.hir_scope.specs.declared.visibility.Visibility.{Visibility}
+use Rattle.hir_scope.specs.Types.{PerNs, Visibility}
 
 module _ {F : Type 0} (steps : F → Visibility → Bool → F → Type 0) (keep : Visibility → Bool)
     (alike : (state : F) (vis : Visibility) (answer : Bool) (left : F) → steps state vis answer left → answer ≡ keep vis) where

@@ -4,11 +4,8 @@ use mathlib.Core.Bool.{true≢false}
 use Rattle.std.specs.List.{list_any}
 use Rattle.std.specs.Option.{is_some}
 use Rattle.std.specs.Cmp.{unsigned_Decides, first_so, second_so}
-use Rattle.hir_base.specs.declared.ids.Crate.{Crate}
-use Rattle.hir_base.specs.declared.ast_id.BlockId.{BlockId}
-use Rattle.hir_base.specs.declared.ids.MapId.{MapId}
-use Rattle.hir_base.specs.declared.ids.ModuleId.{ModuleId}
-use Rattle.hir_item_tree.specs.declared.raw_visibility.VisibilityExplicitness.{VisibilityExplicitness}
+use Rattle.hir_base.specs.Types.{BlockId, Crate, MapId, ModuleId}
+use Rattle.hir_item_tree.specs.Types.{VisibilityExplicitness}
 use Rattle.hir_scope.specs.declared.visibility.Visibility.TheVariants.{Module}
 use Rattle.hir_scope.specs.ModuleTree.{same_crate, same_block, same_map, same_module, chain_from, is_at_or_above, IsTree}
 use Rattle.hir_scope.specs.Visibility.{is_in_other_block, stands_for, is_visible}
@@ -80,16 +77,19 @@ module _ {above holders : ModuleId → List ModuleId} {up holder : ModuleId → 
       → ((stands_for f m (holders m) ≡ m) × (stands_for f n (holders n) ≡ n)) ⊎ (stands_for f m (holders m) ≡ stands_for f n (holders n))
   stand_alike f m n e =
       let at_m : holders m ≡ chain_from holders (holder m) = tree.holders_step m in
-      let at_n : holders n ≡ chain_from holders (holder m) = tree.holders_step n ∙ ap (λ (o : Option ModuleId). chain_from holders o) (sym (tree.same_holder m n e)) in
+      let at_n : holders n ≡ chain_from holders (holder m) = tree.holders_step n ∙ ap (λ (o : Option ModuleId). chain_from holders o)
+      (sym (tree.same_holder m n e)) in
       rw (at_m, at_n) (go (holder m))
     where
       go : (o : Option ModuleId)
-          → ((stands_for f m (chain_from holders o) ≡ m) × (stands_for f n (chain_from holders o) ≡ n)) ⊎ (stands_for f m (chain_from holders o) ≡ stands_for f n (chain_from holders o))
+          → ((stands_for f m (chain_from holders o) ≡ m) × (stands_for f n (chain_from holders o) ≡ n))
+          ⊎ (stands_for f m (chain_from holders o) ≡ stands_for f n (chain_from holders o))
       go None = inl (refl, refl)
       go (Some h) = on (is_in_other_block f m) refl (ap (λ (x : MapId). is_some x.block && not (same_block x.block f.map.block)) (sym e))
         where
           on : (c : Bool) → is_in_other_block f m ≡ c → is_in_other_block f n ≡ is_in_other_block f m
-              → ((stands_for f m (h ∷ holders h) ≡ m) × (stands_for f n (h ∷ holders h) ≡ n)) ⊎ (stands_for f m (h ∷ holders h) ≡ stands_for f n (h ∷ holders h))
+              → ((stands_for f m (h ∷ holders h) ≡ m) × (stands_for f n (h ∷ holders h) ≡ n))
+              ⊎ (stands_for f m (h ∷ holders h) ≡ stands_for f n (h ∷ holders h))
           on true p q = inr (let r : is_in_other_block f n ≡ true = q ∙ p in rw (p, r))
           on false p q = inl (rw p, let r : is_in_other_block f n ≡ false = q ∙ p in rw r)
 
@@ -97,8 +97,10 @@ module _ {above holders : ModuleId → List ModuleId} {up holder : ModuleId → 
   pub wider : (d e : VisibilityExplicitness) (m n : ModuleId) → m.map ≡ n.map → is_at_or_above above n m ≡ true
       → (f : ModuleId) → is_visible above holders (Module m d) f ≡ true → is_visible above holders (Module n e) f ≡ true
   wider d e m n k j f h =
-      let krate : same_crate f.map.krate m.map.krate ≡ true = first_so (same_crate f.map.krate m.map.krate) (is_at_or_above above (stands_for f m (holders m)) f) h in
-      let there : is_at_or_above above (stands_for f m (holders m)) f ≡ true = second_so (same_crate f.map.krate m.map.krate) (is_at_or_above above (stands_for f m (holders m)) f) h in
+      let krate : same_crate f.map.krate m.map.krate ≡ true = first_so (same_crate f.map.krate m.map.krate)
+      (is_at_or_above above (stands_for f m (holders m)) f) h in
+      let there : is_at_or_above above (stands_for f m (holders m)) f ≡ true = second_so (same_crate f.map.krate m.map.krate)
+      (is_at_or_above above (stands_for f m (holders m)) f) h in
       let same : same_crate f.map.krate n.map.krate ≡ true = let at : MapId → Type 0 = λ x. same_crate f.map.krate x.krate ≡ true in subst at k krate in
       rw same (on (stand_alike f m n k) there)
     where
@@ -134,11 +136,13 @@ meet_right false false h = refl
 pub same_union : (above holders : ModuleId → List ModuleId) (c d e : VisibilityExplicitness) (m n : ModuleId) → m ≡ n
     → (f : ModuleId) → is_visible above holders (Module m c) f ≡ (is_visible above holders (Module m d) f || is_visible above holders (Module n e) f)
 same_union above holders c d e m n k f =
-    let at : ModuleId → Type 0 = λ x. is_visible above holders (Module m c) f ≡ (is_visible above holders (Module m d) f || is_visible above holders (Module x e) f) in
+    let at : ModuleId → Type 0 = λ x. is_visible above holders (Module m c) f
+    ≡ (is_visible above holders (Module m d) f || is_visible above holders (Module x e) f) in
     subst at k (union_right (is_visible above holders (Module m c) f) (is_visible above holders (Module m c) f) (λ h. h))
 
 pub same_meet : (above holders : ModuleId → List ModuleId) (c d e : VisibilityExplicitness) (m n : ModuleId) → m ≡ n
     → (f : ModuleId) → is_visible above holders (Module m c) f ≡ (is_visible above holders (Module m d) f && is_visible above holders (Module n e) f)
 same_meet above holders c d e m n k f =
-    let at : ModuleId → Type 0 = λ x. is_visible above holders (Module m c) f ≡ (is_visible above holders (Module m d) f && is_visible above holders (Module x e) f) in
+    let at : ModuleId → Type 0 = λ x. is_visible above holders (Module m c) f
+    ≡ (is_visible above holders (Module m d) f && is_visible above holders (Module x e) f) in
     subst at k (meet_right (is_visible above holders (Module m c) f) (is_visible above holders (Module m c) f) (λ h. h))

@@ -18,3 +18,4 @@ pub mod Laws
 -- ---- lists in order, and words of private code
 pub use Rattle.hir_scope_table.specs.Merge
 pub mod Inner
+pub mod Types

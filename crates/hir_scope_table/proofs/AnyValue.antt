@@ -7,7 +7,7 @@ use Rattle.std.specs.Ordering.{match_ordering, nat_cmp}
 use Rattle.std.specs.Cmp.Lexicographic.{slice_cmp}
 use Rattle.std.specs.declared.cmp.Ordering.{Ordering}
 use Rattle.std.specs.declared.cmp.Ordering.TheVariants.{Less, Equal, Greater}
-use Rattle.hir_scope_table.specs.declared.item.Item.{Item}
+use Rattle.hir_scope_table.specs.Types.{Item}
 use Rattle.hir_scope_table.specs.Entries.{any_value, has_key, item_at, with_entry}
 use Rattle.hir_scope_table.specs.Table.{is_definition, rewritten, without_definition}
 

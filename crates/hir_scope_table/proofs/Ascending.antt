@@ -38,10 +38,24 @@ module _ {K : Type 0} (cmp : K → K → Ordering) where
           where
             on : IsStrictlySortedBy cmp (merged_in cmp x (merge cmp xs) zs) → (o : Ordering) → cmp x y ≡ o
                 → IsStrictlySortedBy cmp (match_ordering o (x ∷ merge cmp xs (y ∷ zs)) (x ∷ merge cmp xs zs) (y ∷ merged_in cmp x (merge cmp xs) zs))
-            on later Less e =
-                (all_merged (λ z. cmp x z ≡ Less) xs (y ∷ zs) s.0 (e, all_weaker (λ z. cmp y z ≡ Less) (λ z. cmp x z ≡ Less) (λ z l. total.trans x y z e l) zs u.0), rest (y ∷ zs) u)
-            on later Equal e =
-                (all_merged (λ z. cmp x z ≡ Less) xs zs s.0 (all_weaker (λ z. cmp y z ≡ Less) (λ z. cmp x z ≡ Less) (λ z l. total.congr x y z e ∙ l) zs u.0), rest zs u.1)
+            on later Less e = (
+              all_merged (λ z. cmp x z ≡ Less) xs (y ∷ zs) s.0 (
+                e,
+                all_weaker (λ z. cmp y z ≡ Less) (λ z. cmp x z ≡ Less) (λ z l. total.trans x y z e l) zs
+                    u.0,
+              ),
+              rest (y ∷ zs) u,
+            )
+            on later Equal e = (
+              all_merged (λ z. cmp x z ≡ Less) xs zs s.0 (all_weaker (λ z. cmp y z ≡ Less) (λ z. cmp x z ≡ Less) (λ z l. total.congr x y z e ∙ l) zs u.0),
+              rest zs u.1,
+            )
             on later Greater e =
-                let first : cmp y x ≡ Less = total.antisymm y x ∙ ap ordering_reverse e in
-                (all_merged (λ z. cmp y z ≡ Less) (x ∷ xs) zs (first, all_weaker (λ z. cmp x z ≡ Less) (λ z. cmp y z ≡ Less) (λ z l. total.trans y x z first l) xs s.0) u.0, later)
+                let first : cmp y x ≡ Less = total.antisymm y x ∙ ap ordering_reverse e in (
+                  all_merged (λ z. cmp y z ≡ Less) (x ∷ xs) zs (
+                    first,
+                    all_weaker (λ z. cmp x z ≡ Less) (λ z. cmp y z ≡ Less) (λ z l. total.trans y x z first l)
+                        xs s.0,
+                  ) u.0,
+                  later,
+                )

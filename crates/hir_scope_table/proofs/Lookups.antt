@@ -44,10 +44,12 @@ module _ {K : Type 0} (cmp : K → K → Ordering) (total : IsTotalOrder cmp) wh
               ≡ cond (is_eq (cmp k q)) (Some v) (cond (is_eq (cmp q e.0)) (Some e.1) (lookup (is_at (cmp q)) es))
           on true at =
               let apart : is_eq (cmp q e.0) ≡ false = sym (laws.congr k q e.0 at) ∙ ap is_eq is in
-              let found : lookup (is_at (cmp q)) (insert_entry cmp es k v) ≡ Some v = rest absent ∙ ap (λ (b : Bool). cond b (Some v) (lookup (is_at (cmp q)) es)) at in
+              let found : lookup (is_at (cmp q)) (insert_entry cmp es k v)
+              ≡ Some v = rest absent ∙ ap (λ (b : Bool). cond b (Some v) (lookup (is_at (cmp q)) es)) at in
               rw (at, apart) found
           on false at =
-              let found : lookup (is_at (cmp q)) (insert_entry cmp es k v) ≡ lookup (is_at (cmp q)) es = rest absent ∙ ap (λ (b : Bool). cond b (Some v) (lookup (is_at (cmp q)) es)) at in
+              let found : lookup (is_at (cmp q)) (insert_entry cmp es k v) ≡ lookup (is_at (cmp q)) es = rest absent ∙ ap
+              (λ (b : Bool). cond b (Some v) (lookup (is_at (cmp q)) es)) at in
               rw (at, found) refl
 
   pub lookup-with_entry : {V : Type 0} (es : List (K × V)) (k : K) (v : V) (q : K)
@@ -55,7 +57,8 @@ module _ {K : Type 0} (cmp : K → K → Ordering) (total : IsTotalOrder cmp) wh
   lookup-with_entry {V} es k v q = go (has_key cmp es k) refl
     where
       go : (b : Bool) → has_key cmp es k ≡ b
-          → lookup (is_at (cmp q)) (cond b (set_value (is_at (cmp k)) es v) (insert_entry cmp es k v)) ≡ cond (is_eq (cmp k q)) (Some v) (lookup (is_at (cmp q)) es)
+          → lookup (is_at (cmp q)) (cond b (set_value (is_at (cmp k)) es v) (insert_entry cmp es k v)) ≡ cond (is_eq (cmp k q)) (Some v)
+          (lookup (is_at (cmp q)) es)
       go true h = lookup-set_value {eq = eq_by_cmp cmp} laws (is_at (cmp k)) (λ x y at. laws.congr k x y at) q v es h
       go false h = lookup-insert_entry es k v q h
 
@@ -135,7 +138,9 @@ module _ {K : Type 0} (cmp : K → K → Ordering) (total : IsTotalOrder cmp) wh
           sym (or_apart (is_eq (cmp q x)) (list_any (is_at (cmp q)) xs) apart)
       go rest false true at_x at_q =
           let apart : is_eq (cmp q x) ≡ false = sym (laws.congr k q x at_q) ∙ at_x in
-          or_apart (is_eq (cmp q x)) (list_any (is_at (cmp q)) (remove_key (is_at (cmp k)) xs)) apart ∙ rest ∙ ap (λ (b : Bool). cond b false (list_any (is_at (cmp q)) xs)) at_q
+          or_apart (is_eq (cmp q x)) (list_any (is_at (cmp q)) (remove_key (is_at (cmp k)) xs)) apart ∙ rest ∙ ap
+          (λ (b : Bool). cond b false (list_any (is_at (cmp q)) xs)) at_q
       go rest false false at_x at_q =
-          let kept : list_any (is_at (cmp q)) (remove_key (is_at (cmp k)) xs) ≡ list_any (is_at (cmp q)) xs = rest ∙ ap (λ (b : Bool). cond b false (list_any (is_at (cmp q)) xs)) at_q in
+          let kept : list_any (is_at (cmp q)) (remove_key (is_at (cmp k)) xs) ≡ list_any (is_at (cmp q)) xs = rest ∙ ap
+          (λ (b : Bool). cond b false (list_any (is_at (cmp q)) xs)) at_q in
           ap (λ (b : Bool). is_eq (cmp q x) || b) kept

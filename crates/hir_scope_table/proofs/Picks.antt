@@ -23,7 +23,8 @@ module _ {K : Type 0} (cmp : K → K → Ordering) where
   merge-pick None (Some y) xs ys p q = rw (p refl) refl
   merge-pick (Some x) None xs ys p q = rw (q refl) (ap (λ (zs : List K). x ∷ zs) refl)
   merge-pick (Some x) (Some y) xs ys p q =
-      elim (cmp x y) as (λ o. Gives (match_ordering o (record { given = Some x; first = None; second = Some y }) (record { given = Some x; first = None; second = None }) (record { given = Some y; first = Some x; second = None }))
+      elim (cmp x y) as (λ o. Gives (match_ordering o (record { given = Some x; first = None; second = Some y })
+      (record { given = Some x; first = None; second = None }) (record { given = Some y; first = Some x; second = None }))
       xs ys (match_ordering o (x ∷ merge cmp xs (y ∷ ys)) (x ∷ merge cmp xs ys) (y ∷ merged_in cmp x (merge cmp xs) ys)))
       [ Less ↦ refl | Equal ↦ refl | Greater ↦ refl ]
 

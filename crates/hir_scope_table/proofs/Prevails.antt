@@ -3,11 +3,10 @@ use Rattle.std.proofs.Common.{◌≡◌, ◌∙◌, ap, sym, refl, Bool, true, f
 use mathlib.Core.Bool.{true≢false}
 use Rattle.std.specs.Cmp.{IsEquivalence}
 use Rattle.std.proofs.lemmas.List.Sums.{fold-append}
-use Rattle.hir_scope_table.specs.declared.item.Candidate.{Candidate}
-use Rattle.hir_scope_table.specs.declared.item.Item.{Item}
-use Rattle.hir_scope_table.specs.declared.item.Push.{Push}
+use Rattle.hir_scope_table.specs.Types.{Candidate, Item, Push}
 use Rattle.hir_scope_table.specs.Bindings.{first_of}
-use Rattle.hir_scope_table.specs.Bindings.{is_same_import, Slot, slot_after_push, history_of, from_explicit, is_by_import, run_starts, last_or, explicit_binding, prevailing}
+use Rattle.hir_scope_table.specs.Bindings.{is_same_import, Slot, slot_after_push, history_of, from_explicit, is_by_import, run_starts, last_or}
+use Rattle.hir_scope_table.specs.Bindings.{explicit_binding, prevailing}
 use Rattle.hir_scope_table.specs.Table.{slot_after_candidate, pushes_of}
 
 module _ {I : Type 0} (same_import : I → I → Bool) (imports : IsEquivalence same_import) where
@@ -39,7 +38,8 @@ module _ {D V I : Type 0} (same_def : D → D → Bool) (same_import : I → I �
           (cond (not p.is_glob && (false || (is_same_import same_import b.import p.item.import && not (same_def b.def p.item.def))))
           (record { bound = Some p.item; globbed = p.is_glob }) (record { bound = Some b; globbed = false })) ps).bound
           ≡ Some (last_or b (run_starts same_def before
-          (cond (not p.is_glob && is_same_import same_import import p.item.import) (p ∷ filter (is_by_import same_import import) ps) (filter (is_by_import same_import import) ps))))
+          (cond (not p.is_glob && is_same_import same_import import p.item.import) (p ∷ filter (is_by_import same_import import) ps)
+          (filter (is_by_import same_import import) ps))))
       go rest true s e gs ss es = rw gs (rest b before import like same)
       go rest false false e gs ss es =
           let other : is_same_import same_import b.import p.item.import ≡ false = like p.item.import ∙ ss in
@@ -98,7 +98,8 @@ module _ {D V I : Type 0} (same_def : D → D → Bool) (same_import : I → I �
   candidate_folds (Some o) slot = refl
 
   -- and a slot that takes a candidate holds what prevails among what stood there, the pushes since and the candidateed one
-  pub candidate_prevails : {T : Type 0} (candidate : Option (Candidate D V I T)) (old new : Slot D V I) → new ≡ slot_after_candidate same_def same_import candidate old
+  pub candidate_prevails : {T : Type 0} (candidate : Option (Candidate D V I T)) (old new : Slot D V I) → new ≡ slot_after_candidate same_def same_import
+      candidate old
       → (cut : Slot D V I) (ps : List (Push D V I)) → old ≡ fold (slot_after_push same_def same_import) cut ps
       → new.bound ≡ prevailing same_def same_import (history_of cut ++ (ps ++ pushes_of candidate))
   candidate_prevails candidate old new made cut ps pushed =

@@ -10,13 +10,12 @@ use Rattle.std.specs.List.Sorted.{IsStrictlySortedBy}
 use Rattle.std.proofs.lemmas.Cmp.{tied_itself, nat_list_cmp_total}
 use Rattle.std.proofs.lemmas.Map.Lookups.{exact_bytes}
 use Rattle.hir_base.specs.contracts.ids.ModuleIdOrd.TheImpl as module_id
-use Rattle.hir_scope_table.specs.declared.item.Item.{Item}
-use Rattle.hir_scope_table.specs.declared.item.Push.{Push}
-use Rattle.hir_scope_table.specs.declared.item.Candidate.{Candidate}
+use Rattle.hir_scope_table.specs.Types.{Candidate, Item, Push}
 use Rattle.hir_scope_table.specs.Bindings.{Slot, first_of, is_same_import, takes}
 use Rattle.hir_scope_table.specs.Entries.{item_at, value_at, with_entry}
 use Rattle.hir_scope_table.specs.Globs.{Place, place_cmp, has_place, with_place, without_place}
-use Rattle.hir_scope_table.specs.Table.{Bindings, slot_at, taken, written_items, written_places, written_records, slot_after_candidate, PushesSlot, reached_through, recorded, last_recorded, Records}
+use Rattle.hir_scope_table.specs.Table.{Bindings, slot_at, taken, written_items, written_places, written_records, slot_after_candidate, PushesSlot}
+use Rattle.hir_scope_table.specs.Table.{reached_through, recorded, last_recorded, Records}
 use Rattle.hir_scope_table.proofs.Prevails.{candidate_prevails}
 use Rattle.hir_scope_table.proofs.Lookups.{lookup-with_entry, has_value-with_key, has_value-remove_key}
 
@@ -69,19 +68,22 @@ module _ {D V I : Type 0} (same_def : D → D → Bool) (same_import : I → I �
       ≡ slot_at items globs (place.0, name)
   taken_there o false name ne = refl
   taken_there o true name ne =
-      let item : item_at (with_entry (slice_cmp nat_cmp) items place.1 o.push.item) name ≡ item_at items name = bound_at o name false (name-apart place.1 name ne) in
+      let item : item_at (with_entry (slice_cmp nat_cmp) items place.1 o.push.item) name ≡ item_at items name = bound_at o name false
+      (name-apart place.1 name ne) in
       let mark : has_place (cond o.push.is_glob (with_place globs place) (without_place globs place)) (place.0, name) ≡ has_place globs (place.0, name) =
       globbed_at o.push.is_glob name false (place-apart place name ne) in
       λ i. record { bound = item i; globbed = mark i }
 
   written_here : {T : Type 0} (candidate : Option (Candidate D V I T))
-      → slot_at (written_items place.1 (taken same_def same_import items globs place candidate) items) (written_places place (taken same_def same_import items globs place candidate) globs) place
+      → slot_at (written_items place.1 (taken same_def same_import items globs place candidate) items)
+      (written_places place (taken same_def same_import items globs place candidate) globs) place
       ≡ slot_after_candidate same_def same_import candidate (slot_at items globs place)
   written_here None = refl
   written_here (Some o) = taken_here o (takes same_def same_import (has_place globs place) (item_at items place.1) o.push)
 
   written_there : {T : Type 0} (candidate : Option (Candidate D V I T)) (name : List ℕ) → name ≢ place.1
-      → slot_at (written_items place.1 (taken same_def same_import items globs place candidate) items) (written_places place (taken same_def same_import items globs place candidate) globs) (place.0, name)
+      → slot_at (written_items place.1 (taken same_def same_import items globs place candidate) items)
+      (written_places place (taken same_def same_import items globs place candidate) globs) (place.0, name)
       ≡ slot_at items globs (place.0, name)
   written_there None name ne = refl
   written_there (Some o) name ne = taken_there o (takes same_def same_import (has_place globs place) (item_at items place.1) o.push) name ne
@@ -89,12 +91,14 @@ module _ {D V I : Type 0} (same_def : D → D → Bool) (same_import : I → I �
   -- so a candidate, if it is taken, writes the slot of its name
   pub candidate_pushes : {T : Type 0} → IsEquivalence same_def → IsEquivalence same_import → (candidate : Option (Candidate D V I T))
       → PushesSlot same_def same_import place candidate (slot_at items globs)
-      (slot_at (written_items place.1 (taken same_def same_import items globs place candidate) items) (written_places place (taken same_def same_import items globs place candidate) globs))
+      (slot_at (written_items place.1 (taken same_def same_import items globs place candidate) items)
+      (written_places place (taken same_def same_import items globs place candidate) globs))
   candidate_pushes defs imports candidate = record {
     bound = written_here candidate;
     others = written_there candidate;
     prevails = candidate_prevails same_def same_import defs imports candidate (slot_at items globs place)
-        (slot_at (written_items place.1 (taken same_def same_import items globs place candidate) items) (written_places place (taken same_def same_import items globs place candidate) globs) place)
+        (slot_at (written_items place.1 (taken same_def same_import items globs place candidate) items)
+        (written_places place (taken same_def same_import items globs place candidate) globs) place)
         (written_here candidate);
   }
 
@@ -106,16 +110,19 @@ first_of-assoc (Some a) y z = refl
 
 module _ {D V I T : Type 0} (cmp : I → I → Ordering) (total : IsTotalOrder cmp) where
   -- a candidate writes the record of its import
-  pub candidate_records : (candidate : Option (Candidate D V I T)) (records : List (I × T)) → Records cmp candidate records (written_records cmp candidate records)
+  pub candidate_records : (candidate : Option (Candidate D V I T)) (records : List (I × T)) → Records cmp candidate records
+      (written_records cmp candidate records)
   candidate_records None records import = refl
   candidate_records (Some candidate) records import = go candidate.push.item.import
     where
-      written : (by : I) (b : Bool) → cond b (Some candidate.source) (value_at cmp records import) ≡ first_of (cond b (Some candidate.source) None) (value_at cmp records import)
+      written : (by : I) (b : Bool) → cond b (Some candidate.source) (value_at cmp records import) ≡ first_of (cond b (Some candidate.source) None)
+          (value_at cmp records import)
       written by true = refl
       written by false = refl
 
       go : (by : Option I)
-          → value_at cmp (written_records cmp (Some (record candidate { push = record candidate.push { item = record candidate.push.item { import = by } } })) records) import
+          → value_at cmp (written_records cmp (Some (record candidate { push = record candidate.push { item = record candidate.push.item { import = by } } }))
+          records) import
           ≡ first_of (reached_through cmp import by candidate.source) (value_at cmp records import)
       go None = refl
       go (Some by) = lookup-with_entry cmp total records by candidate.source import ∙ written by (is_eq (cmp by import))

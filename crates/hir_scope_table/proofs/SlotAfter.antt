@@ -2,8 +2,7 @@
 use Rattle.std.proofs.Common.{◌≡◌, refl, sym, Bool, true, false, not, ◌&&◌, ◌||◌, Option, None, Some, cond}
 use mathlib.Core.Bool.{true≢false}
 use Rattle.std.specs.Option.{is_some}
-use Rattle.hir_scope_table.specs.declared.item.Candidate.{Candidate}
-use Rattle.hir_scope_table.specs.declared.item.Item.{Item}
+use Rattle.hir_scope_table.specs.Types.{Candidate, Item}
 use Rattle.hir_scope_table.specs.Bindings.{Slot, first_of, is_reresolved_by, slot_after, takes}
 use Rattle.hir_scope_table.specs.Table.{slot_after_candidate}
 
@@ -44,7 +43,9 @@ module _ {D V I : Type 0} (same_def : D → D → Bool) (same_import : I → I �
         go : (o : Option (Item D V I))
             → is_some (slot_after_candidate same_def same_import (Some c) (record { bound = o; globbed = slot.globbed })).bound ≡ true
         go None = refl
-        go (Some b) = written_or_left (takes same_def same_import slot.globbed (Some b) c.push) c.push.item (record { bound = Some b; globbed = slot.globbed }) c.push.is_glob refl
+        go (Some b) =
+            written_or_left (takes same_def same_import slot.globbed (Some b) c.push) c.push.item (record { bound = Some b; globbed = slot.globbed })
+            c.push.is_glob refl
 
     -- a glob's push binds what wasn't bound, whatever globs have brought
     pub slot_after_candidate-glob : (candidate : Candidate D V I T) (slot : Slot D V I) → candidate.push.is_glob ≡ true
@@ -52,11 +53,13 @@ module _ {D V I : Type 0} (same_def : D → D → Bool) (same_import : I → I �
     slot_after_candidate-glob candidate slot globs = go slot.bound
       where
         stays : (is_glob rest : Bool) (b : Item D V I) → is_glob ≡ true
-            → (cond {A = Slot D V I} (not is_glob && rest) (record { bound = Some candidate.push.item; globbed = candidate.push.is_glob }) (record { bound = Some b; globbed = slot.globbed })).bound ≡ Some b
+            → (cond {A = Slot D V I} (not is_glob && rest) (record { bound = Some candidate.push.item; globbed = candidate.push.is_glob })
+            (record { bound = Some b; globbed = slot.globbed })).bound ≡ Some b
         stays true rest b e = refl
         stays false rest b e = absurd (true≢false (sym e))
 
         go : (o : Option (Item D V I))
-            → (slot_after_candidate same_def same_import (Some candidate) (record { bound = o; globbed = slot.globbed })).bound ≡ first_of o (Some candidate.push.item)
+            → (slot_after_candidate same_def same_import (Some candidate) (record { bound = o; globbed = slot.globbed })).bound
+            ≡ first_of o (Some candidate.push.item)
         go None = refl
         go (Some b) = stays candidate.push.is_glob (slot.globbed || is_reresolved_by same_def same_import b candidate.push.item) b globs

@@ -8,3 +8,4 @@ pub mod Laws
 pub mod Merge
 -- ---- words of private code
 pub mod Inner
+pub mod Types

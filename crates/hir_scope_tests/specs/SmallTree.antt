@@ -1,9 +1,7 @@
 -- Which modules lie above one another where module 3 is a child of module 1, which holds all blocks, and each other module is a child of its root?
 use Rattle.std.specs.Prelude.{◌≡◌, ◌==◌, ℕ, true, false, Option, None, Some, List, [], ◌∷◌, cond, refl, All}
 use Rattle.std.proofs.lemmas.List.Elements.{All-cons, All-nil}
-use Rattle.hir_base.specs.declared.ast_id.BlockId.{BlockId}
-use Rattle.hir_base.specs.declared.ids.Crate.{Crate}
-use Rattle.hir_base.specs.declared.ids.ModuleId.{ModuleId}
+use Rattle.hir_base.specs.Types.{BlockId, Crate, ModuleId}
 use Rattle.hir_scope.specs.Bindings.{first_of}
 use Rattle.hir_scope.specs.ModuleTree.{chain_from}
 
@@ -52,11 +50,16 @@ above_unfolds krate None index =
           ≡ chain_from above (first_of (cond c (Some (module_at krate None 1)) (Some (module_at krate None 0))) None)) [ true ↦ refl | false ↦ refl ]
     ]
 above_unfolds krate (Some block) index =
-    elim (index == 0) as (λ b. cond b (from_holder krate (Some block)) (cond (index == 3) (module_at krate (Some block) 1 ∷ module_at krate (Some block) 0 ∷ from_holder krate (Some block)) (module_at krate (Some block) 0 ∷ from_holder krate (Some block)))
-    ≡ chain_from above (first_of (cond b None (cond (index == 3) (Some (module_at krate (Some block) 1)) (Some (module_at krate (Some block) 0)))) (Some (module_at krate None 1)))) [
+    elim (index == 0) as (λ b. cond b (from_holder krate (Some block))
+    (cond (index == 3) (module_at krate (Some block) 1 ∷ module_at krate (Some block) 0 ∷ from_holder krate (Some block))
+    (module_at krate (Some block) 0 ∷ from_holder krate (Some block)))
+    ≡ chain_from above (first_of (cond b None (cond (index == 3) (Some (module_at krate (Some block) 1)) (Some (module_at krate (Some block) 0))))
+    (Some (module_at krate None 1)))) [
       | true ↦ refl
-      | false ↦ elim (index == 3) as (λ c. cond c (module_at krate (Some block) 1 ∷ module_at krate (Some block) 0 ∷ from_holder krate (Some block)) (module_at krate (Some block) 0 ∷ from_holder krate (Some block))
-          ≡ chain_from above (first_of (cond c (Some (module_at krate (Some block) 1)) (Some (module_at krate (Some block) 0))) (Some (module_at krate None 1)))) [ true ↦ refl | false ↦ refl ]
+      | false ↦ elim (index == 3) as (λ c. cond c (module_at krate (Some block) 1 ∷ module_at krate (Some block) 0 ∷ from_holder krate (Some block))
+          (module_at krate (Some block) 0 ∷ from_holder krate (Some block))
+          ≡ chain_from above (first_of (cond c (Some (module_at krate (Some block) 1)) (Some (module_at krate (Some block) 0)))
+          (Some (module_at krate None 1)))) [ true ↦ refl | false ↦ refl ]
     ]
 
 pub holders_unfold : (krate : Crate) (block : Option BlockId) → holders_at krate block ≡ chain_from holders (holder_at krate block)
@@ -80,7 +83,8 @@ module _ (krate : Crate) where
         | true ↦ from_holder_in block
         | false ↦ elim (index == 3) as (λ c. All (λ (m : ModuleId). m.map.krate ≡ krate)
             (cond c (module_at krate block 1 ∷ module_at krate block 0 ∷ from_holder krate block) (module_at krate block 0 ∷ from_holder krate block))) [
-              | true ↦ All-cons (λ (m : ModuleId). m.map.krate ≡ krate) (module_at krate block 1) (module_at krate block 0 ∷ from_holder krate block) refl (from_root_in block)
+              | true ↦ All-cons (λ (m : ModuleId). m.map.krate ≡ krate) (module_at krate block 1) (module_at krate block 0 ∷ from_holder krate block) refl
+                  (from_root_in block)
               | false ↦ from_root_in block
             ]
       ]

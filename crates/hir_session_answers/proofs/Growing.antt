@@ -2,47 +2,31 @@
 use Rattle.std.proofs.Common.{◌≡◌, ◌⊎◌, inl, inr, ℕ, zero, suc, is_some, List, Option, None, Some, option_map, slice_get, refl, sym, ap, ◌∙◌, subst}
 use Rattle.std.specs.Option.{option_and_then}
 use Rattle.hir_base.specs.ModPath.{Path}
-use Rattle.hir_base.specs.declared.ast_id.BlockId.{BlockId}
-use Rattle.hir_base.specs.declared.ast_id.HirFileId.{HirFileId}
+use Rattle.hir_base.specs.Types.{AdtId, BlockId, BlockPlace, Crate, HirFileId, MacroCallLoc, MacroId, ModuleDefId, ModuleId, SyntaxId}
 use Rattle.hir_base.specs.declared.ast_id.HirFileId.TheVariants.{File, Macro}
-use Rattle.hir_base.specs.declared.ast_id.SyntaxId.{SyntaxId}
-use Rattle.hir_base.specs.declared.ids.AdtId.{AdtId}
 use Rattle.hir_base.specs.declared.ids.AdtId.TheVariants as adt
-use Rattle.hir_base.specs.declared.ids.Crate.{Crate}
-use Rattle.hir_base.specs.declared.ids.ModuleDefId.{ModuleDefId}
 use Rattle.hir_base.specs.declared.ids.ModuleDefId.TheVariants as def
-use Rattle.hir_base.specs.declared.ids.ModuleId.{ModuleId}
-use Rattle.hir_base.specs.declared.macro_kind.MacroCallLoc.{MacroCallLoc}
-use Rattle.hir_base.specs.declared.macro_kind.MacroId.{MacroId}
 use Rattle.hir_base.specs.declared.macro_kind.MacroId.TheVariants as macro
-use Rattle.hir_base.specs.declared.place.BlockPlace.{BlockPlace}
 use Rattle.hir_scope.specs.PerNs.{Item}
-use Rattle.hir_scope.specs.declared.imports.ImportOrExternCrate.{ImportOrExternCrate}
+use Rattle.hir_scope.specs.Types.{ImportOrExternCrate, ImportOrGlob, Visibility}
 use Rattle.hir_scope.specs.declared.imports.ImportOrExternCrate.TheVariants as import
-use Rattle.hir_scope.specs.declared.imports.ImportOrGlob.{ImportOrGlob}
 use Rattle.hir_scope.specs.declared.imports.ImportOrGlob.TheVariants as value_import
-use Rattle.hir_scope.specs.declared.visibility.Visibility.{Visibility}
 use Rattle.hir_scope.specs.declared.visibility.Visibility.TheVariants as vis
 use Rattle.hir_tables.specs.Tables.{TablesValue, KeepsTables, block_at, call_at}
 use Rattle.hir_def_map_rules.specs.Diagnostics.{call_node}
 use Rattle.hir_def_map_rules.specs.Scoping.{resolution_of}
 use Rattle.hir_def_map_rules.specs.State.{Local, ModuleValue}
 use Rattle.hir_def_map_rules.specs.Overlay.{Maps, module_in}
-use Rattle.hir_def_map_rules.specs.declared.origin.ModuleOrigin.{ModuleOrigin}
+use Rattle.hir_def_map_rules.specs.Types.{ModuleOrigin}
 use Rattle.hir_def_map_rules.specs.declared.origin.ModuleOrigin.TheVariants as origin
-use Rattle.hir_wire.specs.declared.answer.AnswerItem.{AnswerItem}
-use Rattle.hir_wire.specs.declared.answer.AnswerVisibility.{AnswerVisibility}
-use Rattle.hir_wire.specs.declared.answer.Definition.{Definition}
-use Rattle.hir_wire.specs.declared.answer.ImportSource.{ImportSource}
-use Rattle.hir_wire.specs.declared.answer.ItemSource.{ItemSource}
-use Rattle.hir_wire.specs.declared.answer.SourceKind.{SourceKind}
-use Rattle.hir_wire.specs.declared.command.MacroStyle.{MacroStyle}
-use Rattle.hir_wire.specs.declared.command.Shadow.{Shadow}
+use Rattle.hir_wire.specs.Types.{AnswerItem, AnswerVisibility, Definition, ImportSource, ItemSource, MacroStyle, Shadow, SourceKind}
 use Rattle.hir_session_answers.specs.Answers.{answer_in, asking_of}
 use Rattle.hir_session_state.specs.Standing.{most_calls}
 use Rattle.hir_session_answers.specs.LeavesOut.{LeavesNothingOut}
 use Rattle.hir_session_answers.specs.SourceCalls.{and_call, block_source, file_source, source_call, source_of, source_within}
-use Rattle.hir_session_answers.specs.SourceItems.{adt_definition, answered_macro, answered_type, answered_value, block_definition, definition_of, import_source, item_in, item_of, macro_definition, maybe_source, module_by, module_definition, together, value_import_source, visibility_source}
+use Rattle.hir_session_answers.specs.SourceItems.{adt_definition, answered_macro, answered_type, answered_value, block_definition, definition_of, import_source}
+use Rattle.hir_session_answers.specs.SourceItems.{item_in, item_of, macro_definition, maybe_source, module_by, module_definition, together, value_import_source}
+use Rattle.hir_session_answers.specs.SourceItems.{visibility_source}
 use Rattle.hir_session_state.proofs.Truth.{clash}
 
 -- what was there stays
@@ -62,7 +46,8 @@ no_visibility None i = refl
 no_visibility (Some d) None = refl
 no_visibility (Some d) (Some i) = refl
 
-all : (d e : Option Definition) (i j : Option (Option ImportSource)) (v w : Option AnswerVisibility) → Stays d e → Stays i j → Stays v w → Stays (together d i v) (together e j w)
+all : (d e : Option Definition) (i j : Option (Option ImportSource)) (v w : Option AnswerVisibility) → Stays d e → Stays i j → Stays v w
+    → Stays (together d i v) (together e j w)
 all d e i j v w (inl none) b c = inl (ap (λ (x : Option Definition). together x i v) none)
 all d e i j v w (inr a) (inl none) c = inl (ap (λ (x : Option (Option ImportSource)). together d x v) none ∙ no_import d v)
 all d e i j v w (inr a) (inr b) (inl none) = inl (ap (together d i) none ∙ no_visibility d i)
@@ -78,7 +63,8 @@ module _ (few more : TablesValue) (keeps : KeepsTables few more) where
 
   within_stays : (n : ℕ) (file : HirFileId) (block : Option BlockId) → Stays (source_within n few file block) (source_within n more file block)
   within_stays n file (Some b) = mapped block_source (block_at few b) (block_at more b) (block_stays b)
-  within_stays n (File f) None = mapped file_source (slice_get few.files f.file_id.0) (slice_get more.files f.file_id.0) (go (slice_get few.files f.file_id.0) refl)
+  within_stays n (File f) None =
+      mapped file_source (slice_get few.files f.file_id.0) (slice_get more.files f.file_id.0) (go (slice_get few.files f.file_id.0) refl)
     where
       go : (o : Option (List ℕ)) → slice_get few.files f.file_id.0 ≡ o → Stays (slice_get few.files f.file_id.0) (slice_get more.files f.file_id.0)
       go None s = inl s
@@ -89,14 +75,17 @@ module _ (few more : TablesValue) (keeps : KeepsTables few more) where
       inside : TablesValue → MacroCallLoc → Option ItemSource
       inside t call = option_map (and_call (source_call call.kind)) (source_within n t (call_node call.kind).file_id (call_node call.kind).block)
 
-      stays : (call : MacroCallLoc) → call_at few c ≡ Some call → Stays (source_within n few (call_node call.kind).file_id (call_node call.kind).block) (source_within n more (call_node call.kind).file_id (call_node call.kind).block)
+      stays : (call : MacroCallLoc) → call_at few c ≡ Some call → Stays (source_within n few (call_node call.kind).file_id (call_node call.kind).block)
+          (source_within n more (call_node call.kind).file_id (call_node call.kind).block)
           → Stays (option_and_then (inside few) (call_at few c)) (option_and_then (inside more) (call_at more c))
       stays call s next =
           subst (λ (o : Option MacroCallLoc). Stays (option_and_then (inside few) o) (option_and_then (inside more) (call_at more c))) (sym s)
-          (subst (λ (o : Option MacroCallLoc). Stays (option_and_then (inside few) (Some call)) (option_and_then (inside more) o)) (sym (keeps.calls c.0 call s))
+          (subst (λ (o : Option MacroCallLoc). Stays (option_and_then (inside few) (Some call)) (option_and_then (inside more) o))
+          (sym (keeps.calls c.0 call s))
           (mapped (and_call (source_call call.kind)) _ _ next))
 
-      go : (o : Option MacroCallLoc) → call_at few c ≡ o → ((file : HirFileId) (block : Option BlockId) → Stays (source_within n few file block) (source_within n more file block))
+      go : (o : Option MacroCallLoc) → call_at few c ≡ o
+          → ((file : HirFileId) (block : Option BlockId) → Stays (source_within n few file block) (source_within n more file block))
           → Stays (option_and_then (inside few) (call_at few c)) (option_and_then (inside more) (call_at more c))
       go None s next = inl (ap (option_and_then (inside few)) s)
       go (Some call) s next = stays call s (next (call_node call.kind).file_id (call_node call.kind).block)
@@ -104,7 +93,8 @@ module _ (few more : TablesValue) (keeps : KeepsTables few more) where
   source_stays : (file : HirFileId) (block : Option BlockId) → Stays (source_of few file block) (source_of more file block)
   source_stays file block = within_stays (most_calls file) file block
 
-  item_stays : (krate : Crate) (kind : SourceKind) (file : HirFileId) (block : Option BlockId) (id : SyntaxId) → Stays (item_of few krate kind file block id) (item_of more krate kind file block id)
+  item_stays : (krate : Crate) (kind : SourceKind) (file : HirFileId) (block : Option BlockId) (id : SyntaxId) → Stays (item_of few krate kind file block id)
+      (item_of more krate kind file block id)
   item_stays krate kind file block id = mapped (item_in krate kind id) (source_of few file block) (source_of more file block) (source_stays file block)
 
   by_origin : (krate : Crate) (o : ModuleOrigin) → Stays (module_by few krate o) (module_by more krate o)
@@ -140,7 +130,8 @@ module _ (few more : TablesValue) (keeps : KeepsTables few more) where
     module_stays : (m : ModuleId) → Stays (module_definition few maps m) (module_definition more maps m)
     module_stays m = go (module_in maps m)
       where
-        go : (o : Option ModuleValue) → Stays (option_and_then (λ (v : ModuleValue). module_by few m.map.krate v.origin) o) (option_and_then (λ (v : ModuleValue). module_by more m.map.krate v.origin) o)
+        go : (o : Option ModuleValue) → Stays (option_and_then (λ (v : ModuleValue). module_by few m.map.krate v.origin) o)
+            (option_and_then (λ (v : ModuleValue). module_by more m.map.krate v.origin) o)
         go None = inl refl
         go (Some v) = by_origin m.map.krate v.origin
 
@@ -165,10 +156,13 @@ module _ (few more : TablesValue) (keeps : KeepsTables few more) where
     type_stays i = all _ _ _ _ _ _ (def_stays i.def) (maybe_stays (import_source few) (import_source more) import_stays i.import) (visibility_stays i.vis)
 
     value_stays : (i : Item ModuleDefId ImportOrGlob) → Stays (answered_value few maps i) (answered_value more maps i)
-    value_stays i = all _ _ _ _ _ _ (def_stays i.def) (maybe_stays (value_import_source few) (value_import_source more) value_import_stays i.import) (visibility_stays i.vis)
+    value_stays i =
+        all _ _ _ _ _ _ (def_stays i.def) (maybe_stays (value_import_source few) (value_import_source more) value_import_stays i.import)
+        (visibility_stays i.vis)
 
     macro_item_stays : (i : Item MacroId ImportOrExternCrate) → Stays (answered_macro few maps i) (answered_macro more maps i)
-    macro_item_stays i = all _ _ _ _ _ _ (macro_stays i.def) (maybe_stays (import_source few) (import_source more) import_stays i.import) (visibility_stays i.vis)
+    macro_item_stays i =
+        all _ _ _ _ _ _ (macro_stays i.def) (maybe_stays (import_source few) (import_source more) import_stays i.import) (visibility_stays i.vis)
 
     -- what isn't left out stays
     not_left_out : {I : Type 0} (f g : I → Option AnswerItem) → ((i : I) → Stays (f i) (g i)) → (o : Option I) → is_some (option_and_then f o) ≡ is_some o

@@ -1,9 +1,10 @@
-use Rattle.std.proofs.Common.{◌≡◌, ◌⊎◌, inl, inr, ℕ, ◌≤◌, Bool, true, false, nat_le, nat_lt, List, [], ◌∷◌, length, Option, Some, None, Ok, refl, sym, subst, arith}
+use Rattle.std.proofs.Common.{◌≡◌, ◌⊎◌, inl, inr, ℕ, ◌≤◌, Bool, true, false, nat_le, nat_lt, List, [], ◌∷◌, length, Option, Some, None, Ok, refl, sym, subst}
+use Rattle.std.proofs.Common.{arith}
 use Rattle.std.proofs.lemmas.Bool.Decides.{nat_tests}
 use Rattle.std.specs.List.{list_any}
-use Rattle.hir_base.specs.declared.ids.Crate.{Crate}
+use Rattle.hir_base.specs.Types.{Crate}
 use Rattle.hir_wire.specs.CommandValue.{CommandValue, CrateInputValue}
-use Rattle.hir_wire.specs.declared.reply.Reply.{Reply}
+use Rattle.hir_wire.specs.Types.{Reply}
 use Rattle.hir_session_state.specs.SessionState.{SessionState, IsSound, max_crates}
 use Rattle.hir_session_state.specs.Refusals.{first_out_of_order, is_too_deep, is_too_long, verdict_of_limits, verdict_of_order, verdict_of_new}
 use Rattle.hir_session_state.proofs.Truth.{on_bool}
@@ -44,7 +45,8 @@ one_value h = cc
 no_session : {A : Type 0} {s : SessionState} → (Some s) ≡ None → A
 no_session h = absurd (let wrong : ⊥ = cc in wrong)
 
-pub after_command : {from s : SessionState} {c : CommandValue} {answer : Reply} {new : MachineState} → History from s → AnswersCommand (Some s) c answer new → HasHistory from new
+pub after_command : {from s : SessionState} {c : CommandValue} {answer : Reply} {new : MachineState} → History from s → AnswersCommand (Some s) c answer new
+    → HasHistory from new
 after_command {s = s} h (finds_no_memory told same) = (s, same, h)
 after_command h (begins inputs t is_crates before accepted made told same) = no_session before
 after_command h (refuses_session inputs why is_crates before refused told same) = no_session before
@@ -53,7 +55,8 @@ after_command {from} {s = s} h (comes_too_late t makes before told same) = (t, s
 after_command {from} {s = s} {c = c} {answer = answer} h (calls u t before moves same) =
     (t, same, after_call h (subst (λ (x : SessionState). Moves x c answer t) (sym (one_value before)) moves))
 
-pub after_line : {from s : SessionState} {answer : Reply} {new : MachineState} {line : List ℕ} → History from s → AnswersLine (Some s) line answer new → HasHistory from new
+pub after_line : {from s : SessionState} {answer : Reply} {new : MachineState} {line : List ℕ} → History from s → AnswersLine (Some s) line answer new
+    → HasHistory from new
 after_line {s = s} h (finds_no_memory_for_line told same) = (s, same, h)
 after_line {s = s} h (reads_no_command why read told same) = (s, same, h)
 after_line h (carries_out c read done) = after_command h done
@@ -64,7 +67,8 @@ after_within true line answer h (inl done) = after_line h done
 after_within {s = s} true line answer h (inr lost) = (s, lost.1, h)
 after_within {s = s} false line answer h skipped = (s, skipped.1, h)
 
-pub after_input : {from s : SessionState} {new : MachineState} (line : List ℕ) (answer : Reply) → History from s → AnswersInput (Some s) line answer new → HasHistory from new
+pub after_input : {from s : SessionState} {new : MachineState} (line : List ℕ) (answer : Reply) → History from s → AnswersInput (Some s) line answer new
+    → HasHistory from new
 after_input line answer h done = after_within (nat_le (length line) LINE_LIMIT) line answer h done
 
 pub after_lines : {from : SessionState} {new : MachineState} (lines : List (List ℕ)) (answers : List Reply) {s : SessionState} → History from s
@@ -151,7 +155,16 @@ begun_by {new} (line ∷ lines) (answer ∷ answers) done = elim (first_within (
   | inl same ↦ begun_by lines answers (subst (λ (m : MachineState). AnswersLines m lines answers new) same done.2)
   | inr so_far ↦
       let next = after_lines lines answers so_far.history (subst (λ (m : MachineState). AnswersLines m lines answers new) so_far.is done.2) in
-      inr (record { inputs = so_far.inputs; accepted = so_far.accepted; from = so_far.from; begun = so_far.begun; to = next.0; is = next.1; history = next.2; sound = history_sound (begun_sound so_far) next.2 })
+      inr (record {
+        inputs = so_far.inputs;
+        accepted = so_far.accepted;
+        from = so_far.from;
+        begun = so_far.begun;
+        to = next.0;
+        is = next.1;
+        history = next.2;
+        sound = history_sound (begun_sound so_far) next.2;
+      })
 ]
 begun_by [] (answer ∷ answers) wrong = absurd wrong
 begun_by (line ∷ lines) [] wrong = absurd wrong

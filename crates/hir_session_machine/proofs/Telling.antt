@@ -1,11 +1,11 @@
 -- What a reply with diagnostics says.
 use Rattle.std.proofs.Common.{◌≡◌, inl, inr, ℕ, Bool, true, false, List, Some, Result, Ok, Err}
-use Rattle.hir_base.specs.declared.ids.Crate.{Crate}
+use Rattle.hir_base.specs.Types.{Crate}
 use Rattle.hir_wire.specs.CommandValue.{CommandValue, diagnostics}
 use Rattle.hir_wire.specs.Commands.{reading_of}
-use Rattle.hir_wire.specs.declared.diagnostic.Diagnostic.{Diagnostic}
+use Rattle.hir_wire.specs.Types.{Diagnostic}
 use Rattle.hir_wire.specs.declared.reply.Reply.TheVariants as reply
-use Rattle.hir_session_state.specs.declared.error.DiagnosticsError.{DiagnosticsError}
+use Rattle.hir_session_state.specs.Types.{DiagnosticsError}
 use Rattle.hir_session_state.specs.declared.error.DiagnosticsError.TheVariants as diagnostics_error
 use Rattle.hir_session_state.specs.SessionState.{SessionState}
 use Rattle.hir_session_answers.specs.Diagnostics.{diagnostics_of}
@@ -43,14 +43,11 @@ told_by_call asks (dumps_none at why is_dump same refused told) = absurd (let wr
 told_by_call {s} {krate = krate} {list = list} asks (lists other is_list same told) =
     let is_crate : other ≡ krate = cc in told_ok (diagnostics_of s krate) list (rw is_crate at told)
 
-told_by_command : {old new : MachineState} {c : CommandValue} {krate : Crate} {list : List Diagnostic} → c ≡ diagnostics krate → AnswersCommand old c (reply.Diagnostics list) new
+told_by_command : {old new : MachineState} {c : CommandValue} {krate : Crate} {list : List Diagnostic} → c ≡ diagnostics krate
+    → AnswersCommand old c (reply.Diagnostics list) new
     → IsTold old krate list
-told_by_command asks (finds_no_memory told same) = absurd (let wrong : ⊥ = cc in wrong)
-told_by_command asks (begins inputs s is_crates before accepted made told same) = absurd (let wrong : ⊥ = cc in wrong)
-told_by_command asks (refuses_session inputs why is_crates before refused told same) = absurd (let wrong : ⊥ = cc in wrong)
-told_by_command asks (comes_too_soon other before told same) = absurd (let wrong : ⊥ = cc in wrong)
-told_by_command asks (comes_too_late s makes before told same) = absurd (let wrong : ⊥ = cc in wrong)
 told_by_command asks (calls s t before moves same) = record { at = s; before = before; is = told_by_call asks moves }
+told_by_command asks other = absurd (let wrong : ⊥ = cc in wrong)
 
 -- a line that asks for diagnostics, and that is answered by some
 told_by_line : {old new : MachineState} {line : List ℕ} {krate : Crate} {list : List Diagnostic} → reading_of line ≡ Ok (diagnostics krate)
@@ -59,7 +56,8 @@ told_by_line asks (finds_no_memory_for_line told same) = absurd (let wrong : ⊥
 told_by_line asks (reads_no_command why read told same) = absurd (let wrong : ⊥ = cc in wrong)
 told_by_line asks (carries_out c read done) = told_by_command (cc) done
 
-pub told_within : {old : MachineState} {krate : Crate} {list : List Diagnostic} (new : MachineState) (fits : Bool) (line : List ℕ) → reading_of line ≡ Ok (diagnostics krate)
+pub told_within : {old : MachineState} {krate : Crate} {list : List Diagnostic} (new : MachineState) (fits : Bool) (line : List ℕ) → reading_of line
+    ≡ Ok (diagnostics krate)
     → AnswersWithin fits old line (reply.Diagnostics list) new → IsTold old krate list
 told_within new true line asks (inl done) = told_by_line asks done
 told_within new true line asks (inr lost) = let told = lost.0 in absurd (let wrong : ⊥ = cc in wrong)

@@ -2,17 +2,12 @@
 use Rattle.std.specs.Prelude.{◌≡◌, ◌⊎◌, ℕ, zero, suc, ◌<◌, List, [], ◌∷◌, Option, Some, Ok, slice_get}
 use Rattle.hir_base.specs.ModPath.{Path}
 use Rattle.hir_base.specs.Place.{PlaceValue}
-use Rattle.hir_base.specs.declared.ids.Crate.{Crate}
-use Rattle.hir_base.specs.declared.ids.ModuleId.{ModuleId}
-use Rattle.hir_collector_rules.specs.declared.source_database.Key.{Key}
+use Rattle.hir_base.specs.Types.{Crate, ModuleId}
+use Rattle.hir_collector_rules.specs.Types.{Key}
 use Rattle.hir_wire.specs.CommandValue.{diagnostics, edit, resolve}
 use Rattle.hir_wire.specs.Commands.{reading_of}
 use Rattle.hir_wire.specs.Edits.{EditValue}
-use Rattle.hir_wire.specs.declared.answer.Answer.{Answer}
-use Rattle.hir_wire.specs.declared.command.Shadow.{Shadow}
-use Rattle.hir_wire.specs.declared.command.MacroStyle.{MacroStyle}
-use Rattle.hir_wire.specs.declared.diagnostic.Diagnostic.{Diagnostic}
-use Rattle.hir_wire.specs.declared.reply.Reply.{Reply}
+use Rattle.hir_wire.specs.Types.{Answer, Diagnostic, MacroStyle, Reply, Shadow}
 use Rattle.hir_wire.specs.declared.reply.Reply.TheVariants as reply
 use Rattle.hir_session_state.specs.SessionState.{SessionState, module_of, workspace_of}
 use Rattle.hir_session_state.specs.Marks.{IsAltered}
@@ -43,7 +38,8 @@ pub record AsksDiagnostics (lines : List (List ℕ)) (n : ℕ) (krate : Crate) :
   pub read : reading_of line ≡ Ok (diagnostics krate)
 
 -- the state in which the line of a number is answered
-abbrev pub state_at : ℕ → (old : MachineState) (lines : List (List ℕ)) (answers : List Reply) (new : MachineState) → AnswersLines old lines answers new → MachineState
+abbrev pub state_at : ℕ → (old : MachineState) (lines : List (List ℕ)) (answers : List Reply) (new : MachineState) → AnswersLines old lines answers new
+    → MachineState
 state_at zero old lines answers new done = old
 state_at (suc n) old [] [] new done = new
 state_at (suc n) old (line ∷ lines) (answer ∷ answers) new done = state_at n done.0 lines answers new done.2
@@ -111,4 +107,5 @@ pub record Headline (lines : List (List ℕ)) (answers : List Reply) (last : Mac
 
 -- so it is whatever the lines are
 abbrev pub RepliesHoldTheHeadline : Type 0
-RepliesHoldTheHeadline = (lines : List (List ℕ)) (answers : List Reply) (last : MachineState) (done : AnswersLines first_state lines answers last) → Headline lines answers last done
+RepliesHoldTheHeadline =
+    (lines : List (List ℕ)) (answers : List Reply) (last : MachineState) (done : AnswersLines first_state lines answers last) → Headline lines answers last done

@@ -8,7 +8,7 @@ use Rattle.std.specs.Ordering.{nat_cmp}
 use Rattle.std.specs.Coded.{Coded-set}
 use Rattle.std.specs.declared.alloc.Global.{Global}
 use Rattle.std.specs.declared.rc.Rc.{Rc}
-use Rattle.hir_base.specs.declared.ids.Crate.{Crate}
+use Rattle.hir_base.specs.Types.{Crate}
 use Rattle.hir_base.specs.contracts.ids.CrateOrd.TheImpl as crate_order
 use Rattle.hir_base.specs.contracts.place.BlockPlaceOrd.TheImpl as block_order
 use Rattle.hir_item_tree.specs.SideCodes.{coded_source_tree}
@@ -62,4 +62,5 @@ pub record AreCurrent (w : Workspace) (trees : SourceTrees) : Type 0 where
 
 -- that is a fact
 pub current_prop : (w : Workspace) (trees : SourceTrees) → IsProp (AreCurrent w trees)
-current_prop w trees x y = λ i. record { each = λ place krate t kept. Coded-set coded_source_tree _ _ (x.each place krate t kept) (y.each place krate t kept) i }
+current_prop w trees x y =
+    λ i. record { each = λ place krate t kept. Coded-set coded_source_tree _ _ (x.each place krate t kept) (y.each place krate t kept) i }

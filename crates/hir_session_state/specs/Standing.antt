@@ -4,21 +4,12 @@ use Rattle.std.specs.Option.{option_and_then}
 use Rattle.hir_base.specs.Place.{PlaceValue}
 use Rattle.hir_base.specs.contracts.place.BlockPlacePartialEq.TheImpl as block_eq
 use Rattle.hir_base.specs.contracts.ids.MapIdPartialEq.TheImpl as map_id
-use Rattle.hir_base.specs.declared.ast_id.BlockId.{BlockId}
-use Rattle.hir_base.specs.declared.ast_id.EditionedFileId.{EditionedFileId}
-use Rattle.hir_base.specs.declared.ast_id.HirFileId.{HirFileId}
+use Rattle.hir_base.specs.Types.{BlockId, BlockPlace, Crate, EditionedFileId, HirFileId, MacroCallLoc, MapId, ModuleId, PlaceElement, SyntaxId}
 use Rattle.hir_base.specs.declared.ast_id.HirFileId.TheVariants.{File, Macro}
-use Rattle.hir_base.specs.declared.ast_id.SyntaxId.{SyntaxId}
-use Rattle.hir_base.specs.declared.ids.Crate.{Crate}
-use Rattle.hir_base.specs.declared.ids.MapId.{MapId}
-use Rattle.hir_base.specs.declared.ids.ModuleId.{ModuleId}
-use Rattle.hir_base.specs.declared.macro_kind.MacroCallLoc.{MacroCallLoc}
-use Rattle.hir_base.specs.declared.place.BlockPlace.{BlockPlace}
-use Rattle.hir_base.specs.declared.place.PlaceElement.{PlaceElement}
 use Rattle.hir_base.specs.declared.place.PlaceElement.TheVariants as element
 use Rattle.hir_def_map_rules.specs.Diagnostics.{call_node}
 use Rattle.hir_def_map_rules.specs.State.{ModuleValue, child_at, crate_map, module_at, root_of}
-use Rattle.hir_def_map_rules.specs.declared.origin.ModuleOrigin.{ModuleOrigin}
+use Rattle.hir_def_map_rules.specs.Types.{ModuleOrigin}
 use Rattle.hir_def_map_rules.specs.declared.origin.ModuleOrigin.TheVariants as origin
 use Rattle.hir_tables.specs.Tables.{TablesValue, block_at, call_at}
 use Rattle.hir_session_state.specs.Blocks.{Blocks, block_in, place_of_block}
@@ -90,7 +81,8 @@ module _ (tables : TablesValue) (blocks : Blocks) (kept : Resolutions) where
   -- one step from where the steps before it lead
   abbrev pub step : Crate → List PlaceElement → Standing → PlaceElement → Standing
   step krate before (at m) (element.Module name) = to_child m.map (child_kept kept m name)
-  step krate before (at m) (element.Block id) = cond (is_set blocks (block_below krate before id)) (to_root (kept_block tables kept (block_below krate before id))) unset
+  step krate before (at m) (element.Block id) =
+      cond (is_set blocks (block_below krate before id)) (to_root (kept_block tables kept (block_below krate before id))) unset
   step krate before (lacks id) e = lacks id
   step krate before stale (element.Module name) = stale
   step krate before stale (element.Block id) = cond (is_set blocks (block_below krate before id)) stale unset

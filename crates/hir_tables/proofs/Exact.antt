@@ -25,20 +25,10 @@ use Rattle.hir_base.specs.contracts.place.BlockPlaceEq.TheImpl.Laws.{laws-law as
 use Rattle.hir_base.specs.contracts.place.BlockPlacePartialEq.TheImpl as block_eq
 use Rattle.hir_base.specs.contracts.place.PlaceElementPartialEq.TheImpl as element_eq
 use Rattle.hir_base.specs.contracts.place.PlacePartialEq.TheImpl as place_eq
-use Rattle.hir_base.specs.declared.ast_id.AstId.{AstId}
-use Rattle.hir_base.specs.declared.ast_id.BlockId.{BlockId}
-use Rattle.hir_base.specs.declared.ast_id.HirFileId.{HirFileId}
+use Rattle.hir_base.specs.Types.{AstId, BlockId, BlockPlace, CallStyle, ExpansionKey, HirFileId, MacroCallKind, MacroCallLoc, MacroText, PlaceElement, SyntaxId}
 use Rattle.hir_base.specs.declared.ast_id.HirFileId.TheVariants as hir_file
-use Rattle.hir_base.specs.declared.ast_id.SyntaxId.{SyntaxId}
-use Rattle.hir_base.specs.declared.macro_kind.CallStyle.{CallStyle}
 use Rattle.hir_base.specs.declared.macro_kind.CallStyle.TheVariants as style
-use Rattle.hir_base.specs.declared.macro_kind.ExpansionKey.{ExpansionKey}
-use Rattle.hir_base.specs.declared.macro_kind.MacroCallKind.{MacroCallKind}
 use Rattle.hir_base.specs.declared.macro_kind.MacroCallKind.TheVariants as kind
-use Rattle.hir_base.specs.declared.macro_kind.MacroCallLoc.{MacroCallLoc}
-use Rattle.hir_base.specs.declared.macro_kind.MacroText.{MacroText}
-use Rattle.hir_base.specs.declared.place.BlockPlace.{BlockPlace}
-use Rattle.hir_base.specs.declared.place.PlaceElement.{PlaceElement}
 use Rattle.hir_base.specs.declared.place.PlaceElement.TheVariants as element
 use Rattle.hir_tables.specs.SourcePlaces.{ExpansionValue, expansion_value}
 
@@ -112,7 +102,8 @@ exact_kind (kind.FnLike a) (kind.FnLike b) e = ap kind.FnLike (exact_ast a b e)
 exact_kind (kind.Derive a m i) (kind.Derive b n j) e =
     let same_attr = nat_eq m.0 n.0 in
     let behind = second_so (ast_eq.ghosts.eq a b) (same_attr && nat_eq i j) e in
-    λ k. kind.Derive (exact_ast a b (first_so (ast_eq.ghosts.eq a b) (same_attr && nat_eq i j) e) k) (record { 0 = same_nat m.0 n.0 (first_so same_attr (nat_eq i j) behind) k })
+    λ k. kind.Derive (exact_ast a b (first_so (ast_eq.ghosts.eq a b) (same_attr && nat_eq i j) e) k)
+    (record { 0 = same_nat m.0 n.0 (first_so same_attr (nat_eq i j) behind) k })
     (same_nat i j (second_so same_attr (nat_eq i j) behind) k)
 exact_kind (kind.Attr a m) (kind.Attr b n) e = λ k. kind.Attr (exact_ast a b (first_so _ _ e) k) (record { 0 = same_nat m.0 n.0 (second_so _ _ e) k })
 exact_kind a b e = absurd (true≢false (sym e))

@@ -1,5 +1,6 @@
 -- A table whose equality is that of plain values, seen as the list of those.
-use Rattle.std.proofs.Common.{◌≡◌, ◌↔◌, ℕ, zero, suc, Bool, true, false, List, [], ◌∷◌, ◌++◌, length, Option, Some, None, Result, Ok, Err, cond, refl, sym, ap, ◌∙◌, rules, slice_get, map, option_map, Decides, OnOk, OnErr, IfOk}
+use Rattle.std.proofs.Common.{◌≡◌, ◌↔◌, ℕ, zero, suc, Bool, true, false, List, [], ◌∷◌, ◌++◌, length, Option, Some, None, Result, Ok, Err, cond, refl, sym, ap}
+use Rattle.std.proofs.Common.{◌∙◌, rules, slice_get, map, option_map, Decides, OnOk, OnErr, IfOk}
 use Rattle.std.specs.Cmp.{IsEquivalence}
 use Rattle.std.specs.List.{IsDistinct, list_any}
 use Rattle.std.proofs.lemmas.Option.{slice_get-map}
@@ -46,7 +47,8 @@ IsPlain-itself eq laws decides = record {
 }
 
 -- values that are mapped to plain ones
-pub IsPlain-mapped : {V W : Type 0} (eq : V → V → Bool) (plain : V → W) → IsEquivalence eq → ((a b : V) → Decides (eq a b) (plain a ≡ plain b)) → IsPlain eq plain (map plain)
+pub IsPlain-mapped : {V W : Type 0} (eq : V → V → Bool) (plain : V → W) → IsEquivalence eq → ((a b : V) → Decides (eq a b) (plain a ≡ plain b))
+    → IsPlain eq plain (map plain)
 IsPlain-mapped eq plain laws decides = record {
   laws = laws;
   decides = decides;

@@ -7,7 +7,7 @@ use Rattle.std.specs.Ordering.{nat_cmp, is_eq, is_lt, is_gt, ordering_reverse}
 use Rattle.std.proofs.lemmas.Cmp.{nat_list_cmp_total, upto, alike_right}
 use Rattle.std.proofs.lemmas.Map.Text.{is_eq-slice_cmp}
 use Rattle.std.proofs.lemmas.List.Elements.{All-nil, All-cons, All-head, All-tail}
-use Rattle.hir_textual_scope.specs.declared.textual_scope.TextualMacro.{TextualMacro}
+use Rattle.hir_textual_scope.specs.Types.{TextualMacro}
 use Rattle.hir_textual_scope.specs.Macros.{is_before, IsInOrder}
 
 is_lt-reverse : (r : Ordering) → is_lt (ordering_reverse r) ≡ is_gt r
@@ -80,13 +80,15 @@ IsInOrder-right [] m r s = s.1
 IsInOrder-right (n ∷ l) m r s = IsInOrder-right l m r s.1
 
 -- a macro is not before those on its left
-pub left_of_middle : (l : List TextualMacro) (m : TextualMacro) (r : List TextualMacro) → IsInOrder (l ++ m ∷ r) → All (λ other. is_before m.name other.name ≡ false) l
+pub left_of_middle : (l : List TextualMacro) (m : TextualMacro) (r : List TextualMacro) → IsInOrder (l ++ m ∷ r)
+    → All (λ other. is_before m.name other.name ≡ false) l
 left_of_middle [] m r s = All-nil (λ other. is_before m.name other.name ≡ false)
 left_of_middle (n ∷ l) m r s =
     let here = All-head (λ other. is_before other.name n.name ≡ false) m r (All-right (λ other. is_before other.name n.name ≡ false) l (m ∷ r) s.0) in
     All-cons (λ other. is_before m.name other.name ≡ false) n l here (left_of_middle l m r s.1)
 
 -- those on its right are not before it
-pub right_of_middle : (l : List TextualMacro) (m : TextualMacro) (r : List TextualMacro) → IsInOrder (l ++ m ∷ r) → All (λ other. is_before other.name m.name ≡ false) r
+pub right_of_middle : (l : List TextualMacro) (m : TextualMacro) (r : List TextualMacro) → IsInOrder (l ++ m ∷ r)
+    → All (λ other. is_before other.name m.name ≡ false) r
 right_of_middle [] m r s = s.0
 right_of_middle (n ∷ l) m r s = right_of_middle l m r s.1

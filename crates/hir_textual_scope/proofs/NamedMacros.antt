@@ -1,13 +1,14 @@
 -- Which of the macros around one have a name.
-use Rattle.std.proofs.Common.{Less, Equal, Greater, ◌≡◌, ℕ, false, List, [], ◌∷◌, ◌++◌, Option, Some, None, map, refl, sym, ap, ◌∙◌, subst, append_assoc, append-nil}
+use Rattle.std.proofs.Common.{Less, Equal, Greater, ◌≡◌, ℕ, false, List, [], ◌∷◌, ◌++◌, Option, Some, None, map, refl, sym, ap, ◌∙◌, subst, append_assoc}
+use Rattle.std.proofs.Common.{append-nil}
 use Rattle.std.specs.List.{All, filter, last_or}
 use Rattle.std.specs.Option.{option_or}
 use Rattle.std.specs.Cmp.Lexicographic.{slice_cmp}
 use Rattle.std.specs.Ordering.{nat_cmp}
 use Rattle.std.proofs.lemmas.List.{map-append}
 use Rattle.std.proofs.lemmas.List.Elements.{All-head, All-tail, All-weaker, filter-append}
-use Rattle.hir_base.specs.declared.macro_kind.MacroId.{MacroId}
-use Rattle.hir_textual_scope.specs.declared.textual_scope.TextualMacro.{TextualMacro}
+use Rattle.hir_base.specs.Types.{MacroId}
+use Rattle.hir_textual_scope.specs.Types.{TextualMacro}
 use Rattle.hir_textual_scope.specs.Macros.{has_name, is_before, last_of, macros_of, IsInOrder}
 use Rattle.hir_textual_scope.proofs.NameOrder.{same_name, less_not_before, greater_not_before, left_of_middle, right_of_middle}
 
@@ -16,7 +17,8 @@ macros_of-none [] name a = refl
 macros_of-none (m ∷ ms) name a = rw (All-head (λ m. has_name name m ≡ false) m ms a) (macros_of-none ms name (All-tail (λ m. has_name name m ≡ false) m ms a))
 
 pub macros_of-append : (l r : List TextualMacro) (name : List ℕ) → macros_of (l ++ r) name ≡ macros_of l name ++ macros_of r name
-macros_of-append l r name = ap (map (λ m. m.makro)) (filter-append (has_name name) l r) ∙ map-append (λ m. m.makro) (filter (has_name name) l) (filter (has_name name) r)
+macros_of-append l r name =
+    ap (map (λ m. m.makro)) (filter-append (has_name name) l r) ∙ map-append (λ m. m.makro) (filter (has_name name) l) (filter (has_name name) r)
 
 -- a name below that of the middle is on the left
 pub macros_of-less : (l : List TextualMacro) (m : TextualMacro) (r : List TextualMacro) (name : List ℕ)

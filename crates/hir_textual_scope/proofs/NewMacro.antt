@@ -4,8 +4,8 @@ use Rattle.std.specs.Prelude.{nat_eq}
 use Rattle.std.specs.List.{last_or}
 use Rattle.std.specs.Cmp.Lexicographic.{pointwise, bytes_decides}
 use Rattle.std.proofs.lemmas.List.Elements.{All-cons, All-weaker}
-use Rattle.hir_base.specs.declared.macro_kind.MacroId.{MacroId}
-use Rattle.hir_textual_scope.specs.declared.textual_scope.TextualMacro.{TextualMacro}
+use Rattle.hir_base.specs.Types.{MacroId}
+use Rattle.hir_textual_scope.specs.Types.{TextualMacro}
 use Rattle.hir_textual_scope.specs.Macros.{has_name, is_before, macros_of, with_macro, IsInOrder}
 use Rattle.hir_textual_scope.specs.Laws.{NewMacroComesLast, NewMacroIsMeant, OtherNamesKeepTheirs}
 use Rattle.hir_textual_scope.proofs.NameOrder.{same_name, less_from_before, less_not_before}
@@ -28,7 +28,8 @@ none_behind m ms name h s =
     (λ other q. same_name name other.name _ (less_not_before name m.name other.name below q)) ms s.0 in
     macros_of-none (m ∷ ms) name (All-cons (λ other. has_name name other ≡ false) m ms (same_name name m.name _ below) rest)
 
-front : (m : TextualMacro) (name : List ℕ) (ms : List TextualMacro) (b : Bool) → has_name name m ≡ b → macros_of (m ∷ ms) name ≡ cond b (m.makro ∷ macros_of ms name) (macros_of ms name)
+front : (m : TextualMacro) (name : List ℕ) (ms : List TextualMacro) (b : Bool) → has_name name m ≡ b → macros_of (m ∷ ms) name
+    ≡ cond b (m.makro ∷ macros_of ms name) (macros_of ms name)
 front m name ms true e = rw e refl
 front m name ms false e = rw e refl
 

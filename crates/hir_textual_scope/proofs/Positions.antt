@@ -1,10 +1,11 @@
 -- Which macro around one stands at a position.
-use Rattle.std.proofs.Common.{◌≡◌, ℕ, Bool, ◌&&◌, zero, suc, ◌+◌, ◌<◌, List, [], ◌∷◌, ◌++◌, length, drop, true, false, Option, Some, None, Bor, refl, sym, ap, ◌∙◌, add-one, drop_of_length-le, arith}
+use Rattle.std.proofs.Common.{◌≡◌, ℕ, Bool, ◌&&◌, zero, suc, ◌+◌, ◌<◌, List, [], ◌∷◌, ◌++◌, length, drop, true, false, Option, Some, None, Bor, refl, sym, ap}
+use Rattle.std.proofs.Common.{◌∙◌, add-one, drop_of_length-le, arith}
 use Rattle.std.specs.List.{slice_get}
 use Rattle.std.specs.Option.{option_copied, option_eq}
 use Rattle.std.specs.Cmp.Lexicographic.{pointwise}
 use Rattle.std.specs.Iterator.{YieldsFirstRef}
-use Rattle.hir_textual_scope.specs.declared.textual_scope.TextualMacro.{TextualMacro}
+use Rattle.hir_textual_scope.specs.Types.{TextualMacro}
 
 pub slice_get-left : (l r : List TextualMacro) (i : ℕ) → i < length l → slice_get (l ++ r) i ≡ slice_get l i
 slice_get-left [] r i h = absurd (omega arith)
@@ -44,7 +45,8 @@ module _ (same : TextualMacro → TextualMacro → Bool) (ms ns : List TextualMa
   -- where the macros at a position are the same, those behind it decide
   pub behind_decides : (i : ℕ) → i < length ms → option_eq same (slice_get ms i) (slice_get ns i) ≡ true
       → pointwise same (drop i ms) (drop i ns) ≡ pointwise same ms ns → pointwise same (drop (i + 1) ms) (drop (i + 1) ns) ≡ pointwise same ms ns
-  behind_decides i h here all = rw add-one (sym (pointwise-drop same ms ns i long h ∙ ap (λ b. b && pointwise same (drop (suc i) ms) (drop (suc i) ns)) here) ∙ all)
+  behind_decides i h here all =
+      rw add-one (sym (pointwise-drop same ms ns i long h ∙ ap (λ b. b && pointwise same (drop (suc i) ms) (drop (suc i) ns)) here) ∙ all)
 
   -- where they are not, the lists differ
   pub differs_here : (i : ℕ) → i < length ms → option_eq same (slice_get ms i) (slice_get ns i) ≡ false

@@ -1,3 +1,4 @@
 pub mod Macros
 pub mod Node
 pub mod Laws
+pub mod Types

@@ -3,8 +3,7 @@ use Rattle.std.proofs.Common.{ℕ, List, [], ◌∷◌, Option, Result, Ok, Err,
 use Rattle.std.specs.declared.alloc.AllocError.{AllocError}
 use Rattle.std.specs.Result.{OnErr}
 use Rattle.hir_base.specs.ModPath.{Path}
-use Rattle.hir_use_tree.specs.declared.imports.ImportAlias.{ImportAlias}
-use Rattle.hir_use_tree.specs.declared.imports.ImportKind.{ImportKind}
+use Rattle.hir_use_tree.specs.Types.{ImportAlias, ImportKind}
 use Rattle.hir_use_tree.specs.Calls.{HandsOutPartly}
 use Rattle.hir_use_tree.specs.Imports.{Import}
 

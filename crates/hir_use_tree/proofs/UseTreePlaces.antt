@@ -5,8 +5,7 @@ use Rattle.std.proofs.lemmas.List.Elements.{All-nil, All-cons, All-append}
 use Rattle.std.proofs.Math.Nat.{min-eq_left}
 use Rattle.std.specs.List.{slice_get, All}
 use Rattle.hir_base.specs.ModPath.{Path}
-use Rattle.hir_use_tree.specs.declared.imports.ImportAlias.{ImportAlias}
-use Rattle.hir_use_tree.specs.declared.joined_path.JoinedPath.{JoinedPath}
+use Rattle.hir_use_tree.specs.Types.{ImportAlias, JoinedPath}
 use Rattle.hir_use_tree.specs.declared.joined_path.JoinedPath.TheVariants as joins
 use Rattle.hir_use_tree.specs.UseTree.{UseTree, single, glob, prefixed, UseTrees, no_trees, tree, tree_size, trees_size, parts, all_parts, count_of}
 use Rattle.hir_use_tree.specs.Imports.{Import, imports_at, all_imports_at, joined_path, single_imports, glob_imports, joined_glob, behind, behind_joined}
@@ -79,12 +78,14 @@ module _ (whole : UseTree) where
   of_glob place (Some p) None a = one_leaf (glob None) _ a (Some p, refl)
   of_glob place None None a = All-nil (HasLeaf whole)
 
-  of_joined : (j : JoinedPath) (imports : Option Path → List Import) → ((p : Option Path) → All (HasLeaf whole) (imports p)) → All (HasLeaf whole) (behind_joined j imports)
+  of_joined : (j : JoinedPath) (imports : Option Path → List Import) → ((p : Option Path) → All (HasLeaf whole) (imports p))
+      → All (HasLeaf whole) (behind_joined j imports)
   of_joined joins.Nothing imports h = All-nil (HasLeaf whole)
   of_joined (joins.Whole p) imports h = h (Some p)
   of_joined (joins.Itself p) imports h = All-nil (HasLeaf whole)
 
-  of_behind : (prefix path : Option Path) (imports : Option Path → List Import) → ((p : Option Path) → All (HasLeaf whole) (imports p)) → All (HasLeaf whole) (behind prefix path imports)
+  of_behind : (prefix path : Option Path) (imports : Option Path → List Import) → ((p : Option Path) → All (HasLeaf whole) (imports p))
+      → All (HasLeaf whole) (behind prefix path imports)
   of_behind prefix None imports h = h prefix
   of_behind prefix (Some path) imports h = of_joined (joined_path prefix path) imports h
 
@@ -93,7 +94,8 @@ module _ (whole : UseTree) where
   counted n small = sym (min-eq_left small)
 
   mutual
-    of_tree : (t : UseTree) (place : ℕ) (prefix : Option Path) → place + tree_size t ≤ 4294967295 → At place (parts t) → All (HasLeaf whole) (imports_at place prefix t)
+    of_tree : (t : UseTree) (place : ℕ) (prefix : Option Path) → place + tree_size t ≤ 4294967295 → At place (parts t)
+        → All (HasLeaf whole) (imports_at place prefix t)
     of_tree (single path alias) place prefix small a = of_single place prefix path alias (joined_path prefix path) refl a
     of_tree (glob path) place prefix small a = of_glob place prefix path a
     of_tree (prefixed path ts) place prefix small a =
@@ -103,7 +105,8 @@ module _ (whole : UseTree) where
         (λ p. subst (λ n. All (HasLeaf whole) (all_imports_at n p ts)) (counted (place + 1) next)
         (of_trees ts (place + 1) p within (back_at place (prefixed path ts ∷ []) (all_parts ts) a)))
 
-    of_trees : (ts : UseTrees) (place : ℕ) (prefix : Option Path) → place + trees_size ts ≤ 4294967295 → At place (all_parts ts) → All (HasLeaf whole) (all_imports_at place prefix ts)
+    of_trees : (ts : UseTrees) (place : ℕ) (prefix : Option Path) → place + trees_size ts ≤ 4294967295 → At place (all_parts ts)
+        → All (HasLeaf whole) (all_imports_at place prefix ts)
     of_trees no_trees place prefix small a = All-nil (HasLeaf whole)
     of_trees (tree t ts) place prefix small a =
         let first : place + tree_size t ≤ 4294967295 = omega (arith, small) in

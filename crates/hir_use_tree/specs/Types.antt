@@ -5,3 +5,4 @@ pub use Rattle.hir_use_tree.specs.declared.imports.ImportKind.TheVariants as imp
 pub use Rattle.hir_use_tree.specs.declared.imports.ImportAlias.{ImportAlias}
 pub use Rattle.hir_use_tree.specs.declared.imports.ImportAlias.TheVariants as import_aliases
 pub use Rattle.hir_use_tree.specs.declared.use_tree.UseTree.{UseTree as WrittenTree}
+pub use Rattle.hir_use_tree.specs.declared.joined_path.JoinedPath.{JoinedPath}

@@ -38,13 +38,18 @@ both c t x u a =
     (λ i. (c || nested t u a i) || nested x u a i) ∙ joined c t x (u && a) ∙ sym (ap (λ (b : Bool). c || b) (nested (t || x) u a))
 
 -- a step more is woken
-pub Wakes-step : (q r s : Queue) (xs : List ℕ) (i : ℕ) → i < length xs → Wakes q r (λ (p : ℕ). is_among p (take i xs)) → Wakes r s (λ (p : ℕ). nat_eq (get_or xs i 0) p)
+pub Wakes-step : (q r s : Queue) (xs : List ℕ) (i : ℕ) → i < length xs → Wakes q r (λ (p : ℕ). is_among p (take i xs))
+    → Wakes r s (λ (p : ℕ). nat_eq (get_or xs i 0) p)
     → Wakes q s (λ (p : ℕ). is_among p (take (i + 1) xs))
 Wakes-step q r s xs i l first then = record {
-  current = λ p. then.current p ∙ (λ j. first.current p j || ((nat_eq (get_or xs i 0) p && is_unfinished-same q r p first.finished j) && is_ahead-same q r p first.next first.end j))
+  current =
+      λ p. then.current p ∙ (λ j. first.current p j || ((nat_eq (get_or xs i 0) p && is_unfinished-same q r p first.finished j) && is_ahead-same q r p
+      first.next first.end j))
       ∙ both (is_among p q.current) (is_among p (take i xs)) (nat_eq (get_or xs i 0) p) (is_unfinished q p) (is_ahead q p)
       ∙ ap (λ (b : Bool). is_among p q.current || ((b && is_unfinished q p) && is_ahead q p)) (sym (more p));
-  later = λ p. then.later p ∙ (λ j. first.later p j || ((nat_eq (get_or xs i 0) p && is_unfinished-same q r p first.finished j) && not (is_ahead-same q r p first.next first.end j)))
+  later =
+      λ p. then.later p ∙ (λ j. first.later p j || ((nat_eq (get_or xs i 0) p && is_unfinished-same q r p first.finished j) && not
+      (is_ahead-same q r p first.next first.end j)))
       ∙ both (is_among p q.later) (is_among p (take i xs)) (nat_eq (get_or xs i 0) p) (is_unfinished q p) (not (is_ahead q p))
       ∙ ap (λ (b : Bool). is_among p q.later || ((b && is_unfinished q p) && not (is_ahead q p))) (sym (more p));
   finished = then.finished ∙ first.finished;
@@ -64,4 +69,5 @@ WakesSome-passed q r xs i woken = ((λ p. is_among p (take i xs)), within, woken
   where
     within : (p : ℕ) → is_among p (take i xs) ≡ true → is_among p xs ≡ true
     within p e =
-        ap (list_any (is_at (nat_cmp p))) (sym (take-append-drop i xs)) ∙ list_any-append (is_at (nat_cmp p)) (take i xs) _ ∙ or_left (is_among p (take i xs)) _ e
+        ap (list_any (is_at (nat_cmp p))) (sym (take-append-drop i xs)) ∙ list_any-append (is_at (nat_cmp p)) (take i xs) _ ∙ or_left (is_among p (take i xs)) _
+        e

@@ -9,7 +9,7 @@ use Rattle.std.specs.Option.{UnwrapsOrElse}
 use Rattle.std.specs.Vec.{vec_len}
 use Rattle.std.specs.Ordering.{nat_cmp}
 use Rattle.std.proofs.lemmas.List.Folds.{list_any-append}
-use Rattle.hir_worklist.specs.declared.watchers.Watchers.{Watchers}
+use Rattle.hir_worklist.specs.Types.{Watchers}
 use Rattle.hir_worklist.specs.Queue.{is_among}
 use Rattle.hir_worklist.specs.Watching.{has_watcher, is_watching}
 use Rattle.hir_worklist.proofs.Settled.{is_watching-equal}
@@ -20,7 +20,8 @@ or_false true = refl
 or_false false = refl
 
 -- where nothing watched, the list was made without any
-pub watchers-found : (found : Option (Vec ℕ Global)) (positions : Vec ℕ Global) → UnwrapsOrElse found (λ (made : Vec ℕ Global). (made.items ≡ []) × (vec_len made ≡ 0)) positions
+pub watchers-found : (found : Option (Vec ℕ Global)) (positions : Vec ℕ Global) → UnwrapsOrElse found (λ (made : Vec ℕ Global). (made.items ≡ [])
+    × (vec_len made ≡ 0)) positions
     → (p : ℕ) → is_among p positions.items ≡ has_watcher found p
 watchers-found None positions made p = ap (is_among p) made.0
 watchers-found (Some watchers) positions is p = ap (λ (v : Vec ℕ Global). is_among p v.items) is
@@ -36,7 +37,8 @@ module _ {K : Type 0} (cmp : K → K → Ordering) (total : IsTotalOrder cmp) wh
       last = or_false (is_at (nat_cmp p) position) ∙ is_at-nat p position
 
       go : (b : Bool) → is_at (cmp slot) other ≡ b → has_watcher seen p ≡ (is_watching cmp old other p || (is_at (cmp slot) other && nat_eq position p))
-      go false e = rw e (ap (λ o. has_watcher o p) (wrote ∙ (λ i. cond (e i) (Some after) (get cmp old.positions other))) ∙ sym (or_false (is_watching cmp old other p)))
+      go false e =
+          rw e (ap (λ o. has_watcher o p) (wrote ∙ (λ i. cond (e i) (Some after) (get cmp old.positions other))) ∙ sym (or_false (is_watching cmp old other p)))
       go true e = rw e (ap (λ o. has_watcher o p) (wrote ∙ (λ i. cond (e i) (Some after) (get cmp old.positions other)))
           ∙ ap (is_among p) pushed ∙ list_any-append (is_at (nat_cmp p)) before.items (position ∷ [])
           ∙ (λ i. (found p ∙ is_watching-equal cmp total old slot other p e) i || last i))

@@ -2,3 +2,4 @@ pub mod Queue
 pub mod Moves
 pub mod Watching
 pub mod Settling
+pub mod Types

@@ -2,9 +2,7 @@
 use Rattle.std.specs.Prelude.{◌≡◌, Bool, true, false, is_some, Option, None, Some, List, ◌∷◌, cond, option_and_then, option_copied, option_map}
 use Rattle.std.specs.Cmp.{first_so, second_so}
 use Rattle.std.proofs.Common.{refl, ap, sym, ◌∙◌}
-use Rattle.hir_base.specs.declared.ids.Crate.{Crate}
-use Rattle.hir_base.specs.declared.ids.MapId.{MapId}
-use Rattle.hir_base.specs.declared.ids.ModuleId.{ModuleId}
+use Rattle.hir_base.specs.Types.{Crate, MapId, ModuleId}
 use Rattle.hir_def_map.specs.declared.world.part.WorldPart.{WorldPart}
 use Rattle.hir_def_map_rules.specs.Overlay.{Maps, Placed}
 use Rattle.hir_def_map.specs.WorldParts.{among, are_of_some, is_of_some, with_its_holders, limited_to, part_of}
@@ -25,22 +23,26 @@ among_agrees crates holders one other agree = λ i id. on id (is_of_some crates 
 
 -- a map may be read where it is there, and it and all that holds it may be
 pub among-there : (crates : List Crate) (holders : List ModuleId) (finished : Maps) (id : MapId) (placed : Placed)
-    → is_of_some crates holders id ≡ true → finished id ≡ Some placed → are_of_some crates holders placed.holders ≡ true → among crates holders finished id ≡ Some placed
+    → is_of_some crates holders id ≡ true → finished id ≡ Some placed → are_of_some crates holders placed.holders ≡ true → among crates holders finished id
+    ≡ Some placed
 unfolding among
 among-there crates holders finished id placed here there held =
     (λ i. cond (here i) (option_and_then (with_its_holders crates holders) (there i)) None) ∙ ap (λ (b : Bool). cond b (Some placed) None) held
 
 -- and only there
-pub among-only : (crates : List Crate) (holders : List ModuleId) (finished : Maps) (id : MapId) (placed : Placed) → among crates holders finished id ≡ Some placed
+pub among-only : (crates : List Crate) (holders : List ModuleId) (finished : Maps) (id : MapId) (placed : Placed) → among crates holders finished id
+    ≡ Some placed
     → (is_of_some crates holders id ≡ true) × (finished id ≡ Some placed) × (are_of_some crates holders placed.holders ≡ true)
 unfolding among
 among-only crates holders finished id placed e = go (is_of_some crates holders id) refl (finished id) refl e
   where
-    within : (p : Placed) (b : Bool) → are_of_some crates holders p.holders ≡ b → cond b (Some p) None ≡ Some placed → (p ≡ placed) × (are_of_some crates holders placed.holders ≡ true)
+    within : (p : Placed) (b : Bool) → are_of_some crates holders p.holders ≡ b → cond b (Some p) None ≡ Some placed → (p ≡ placed)
+        × (are_of_some crates holders placed.holders ≡ true)
     within p true s f = let same : p ≡ placed = cc in (same, ap (λ (x : Placed). are_of_some crates holders x.holders) (sym same) ∙ s)
     within p false s f = absurd cc
 
-    go : (b : Bool) → is_of_some crates holders id ≡ b → (o : Option Placed) → finished id ≡ o → cond b (option_and_then (with_its_holders crates holders) o) None ≡ Some placed
+    go : (b : Bool) → is_of_some crates holders id ≡ b → (o : Option Placed) → finished id ≡ o → cond b (option_and_then (with_its_holders crates holders) o)
+        None ≡ Some placed
         → (is_of_some crates holders id ≡ true) × (finished id ≡ Some placed) × (are_of_some crates holders placed.holders ≡ true)
     go true s None t f = absurd cc
     go true s (Some p) t f = let found = within p (are_of_some crates holders p.holders) refl f in (s, t ∙ ap (λ (x : Placed). Some x) found.0, found.1)
@@ -51,11 +53,13 @@ pub IsPlaced-among : (crates : List Crate) (holders : List ModuleId) (finished :
 unfolding frames_of
 IsPlaced-among crates holders finished placed id h hs e = go (among crates holders finished id) refl e
   where
-    framed : (o : Option Placed) (hs : List ModuleId) → is_some (option_map frame_of o) ≡ true → holders_of_frame (option_map frame_of o) ≡ hs → (p : Placed) × (o ≡ Some p) × (p.holders ≡ hs)
+    framed : (o : Option Placed) (hs : List ModuleId) → is_some (option_map frame_of o) ≡ true → holders_of_frame (option_map frame_of o) ≡ hs → (p : Placed)
+        × (o ≡ Some p) × (p.holders ≡ hs)
     framed None hs there f = absurd cc
     framed (Some p) hs there f = (p, refl, f)
 
-    go : (o : Option Placed) → among crates holders finished id ≡ o → holders_of_frame (option_map frame_of o) ≡ h ∷ hs → HolderLeads (frames_of (among crates holders finished)) id h hs
+    go : (o : Option Placed) → among crates holders finished id ≡ o → holders_of_frame (option_map frame_of o) ≡ h ∷ hs
+        → HolderLeads (frames_of (among crates holders finished)) id h hs
     go None s f = absurd cc
     go (Some p) s f =
         let only = among-only crates holders finished id p s in
@@ -63,9 +67,14 @@ IsPlaced-among crates holders finished placed id h hs e = go (among crates holde
         let above = framed (finished h.map) hs leads.1 leads.2 in
         let held : are_of_some crates holders (h ∷ hs) ≡ true = ap (are_of_some crates holders) (sym f) ∙ only.2 in
         let first : is_of_some crates holders h.map ≡ true = first_so (is_of_some crates holders h.map) (are_of_some crates holders hs) held in
-        let others : are_of_some crates holders above.0.holders ≡ true = ap (are_of_some crates holders) above.2 ∙ second_so (is_of_some crates holders h.map) (are_of_some crates holders hs) held in
-        let found : among crates holders finished h.map ≡ Some above.0 = among-there crates holders finished h.map above.0 first above.1 others in
-        (leads.0, ap (λ (o : Option Placed). is_some (option_map frame_of o)) found, ap (λ (o : Option Placed). holders_of_frame (option_map frame_of o)) found ∙ above.2)
+        let others : are_of_some crates holders above.0.holders ≡ true = ap (are_of_some crates holders) above.2 ∙ second_so (is_of_some crates holders h.map)
+        (are_of_some crates holders hs) held in
+        let found : among crates holders finished h.map ≡ Some above.0 = among-there crates holders finished h.map above.0 first above.1 others in (
+          leads.0,
+          ap (λ (o : Option Placed). is_some (option_map frame_of o)) found,
+          ap (λ (o : Option Placed). holders_of_frame (option_map frame_of o)) found
+              ∙ above.2,
+        )
 
 -- they are in their places
 pub part_placed : (part : WorldPart) → IsPlaced (part_of part)

@@ -1,16 +1,12 @@
 -- Which slots of the map that is built does a path read?
 use Rattle.std.specs.Prelude.{ℕ, List, [], ◌∷◌, Bool, ◌&&◌, Option, None, Some, cond, option_and_then, option_map}
 use Rattle.hir_base.specs.ModPath.{Path}
-use Rattle.hir_base.specs.declared.ids.MapId.{MapId}
-use Rattle.hir_base.specs.declared.ids.ModuleDefId.{ModuleDefId}
+use Rattle.hir_base.specs.Types.{MapId, ModuleDefId, ModuleId, PathKind}
 use Rattle.hir_base.specs.declared.ids.ModuleDefId.TheVariants as definitions
-use Rattle.hir_base.specs.declared.ids.ModuleId.{ModuleId}
-use Rattle.hir_base.specs.declared.mod_path.PathKind.{PathKind}
 use Rattle.hir_base.specs.declared.mod_path.PathKind.TheVariants as kinds
 use Rattle.hir_base.specs.contracts.ids.MapIdPartialEq.TheImpl as map_id
-use Rattle.hir_scope.specs.declared.imports.ImportOrExternCrate.{ImportOrExternCrate}
+use Rattle.hir_scope.specs.Types.{ImportOrExternCrate, PerNs}
 use Rattle.hir_scope.specs.PerNs.{Item}
-use Rattle.hir_scope.specs.declared.per_ns.PerNs.{PerNs}
 use Rattle.hir_def_map_rules.specs.State.{Map, crate_root}
 use Rattle.hir_def_map_rules.specs.Overlay.{Maps, overlay, map_in}
 use Rattle.hir_def_map_rules.specs.Scoping.Asking.{Asking}
@@ -60,7 +56,8 @@ module_among own (Some item) = module_by own item.def
 abbrev pub further_slots : Maps → MapId → ModuleId → List (List ℕ) → Option ModuleId → List Slot
 further_slots maps own from [] at = []
 further_slots maps own from (segment ∷ others) None = []
-further_slots maps own from (segment ∷ others) (Some m) = of_module m.index segment ∷ further_slots maps own from others (module_among own (seen maps from m segment).types)
+further_slots maps own from (segment ∷ others) (Some m) =
+    of_module m.index segment ∷ further_slots maps own from others (module_among own (seen maps from m segment).types)
 
 -- the segments that are left, after what names these items
 abbrev pub slots_after : Maps → MapId → ModuleId → List (List ℕ) → PerNs → List Slot
@@ -94,7 +91,8 @@ slots_from_crates maps asking own from segment others = of_preludes segment ∷ 
 abbrev pub slots_of : Maps → Asking → MapId → ModuleId → PathKind → List (List ℕ) → List Slot
 slots_of maps asking own from kinds.Crate segments = further_slots maps own from segments (kept_in own (crate_root from.map.krate))
 slots_of maps asking own from (kinds.DollarCrate c) segments = further_slots maps own from segments (kept_in own (crate_root c))
-slots_of maps asking own from (kinds.Super n) segments = further_slots maps own from segments (option_and_then (kept_in own) (climb maps n (nearest_non_block_module maps from)))
+slots_of maps asking own from (kinds.Super n) segments =
+    further_slots maps own from segments (option_and_then (kept_in own) (climb maps n (nearest_non_block_module maps from)))
 slots_of maps asking own from kinds.Plain [] = []
 slots_of maps asking own from kinds.Plain (segment ∷ others) =
     cond (is_in_edition_2015 (map_in maps from.map) && is_import asking.mode)

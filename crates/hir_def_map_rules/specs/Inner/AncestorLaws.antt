@@ -1,16 +1,17 @@
 -- What lies above a module is one step and what lies above from there.
-use Rattle.std.specs.Prelude.{◌≡◌, ℕ, zero, suc, ◌<◌, ◌≤◌, ◌+◌, ◌++◌, ◌⊎◌, Bool, true, false, ◌||◌, not, is_some, Option, None, Some, List, [], ◌∷◌, map, length, cond, nat_lt, option_map, All}
+use Rattle.std.specs.Prelude.{◌≡◌, ℕ, zero, suc, ◌<◌, ◌≤◌, ◌+◌, ◌++◌, ◌⊎◌, Bool, true, false, ◌||◌, not, is_some, Option, None, Some, List, [], ◌∷◌, map}
+use Rattle.std.specs.Prelude.{length, cond, nat_lt, option_map, All}
 use Rattle.std.proofs.Common.{refl, ap, sym, subst, ◌∙◌, inl, inr, arith}
 use Rattle.std.proofs.lemmas.Grind.{common_steps}
 use Rattle.std.proofs.lemmas.List.Elements.{All-cons, All-nil}
-use Rattle.hir_base.specs.declared.ids.Crate.{Crate}
-use Rattle.hir_base.specs.declared.ids.MapId.{MapId}
-use Rattle.hir_base.specs.declared.ids.ModuleId.{ModuleId}
+use Rattle.hir_base.specs.Types.{Crate, MapId, ModuleId}
 use Rattle.hir_scope.specs.Bindings.{first_of}
 use Rattle.hir_scope.specs.ModuleTree.{chain_from, up_of, IsInOneCrate}
 use Rattle.hir_def_map_rules.specs.Overlay.{Maps}
 use Rattle.hir_def_map_rules.specs.State.{numbered}
-use Rattle.hir_def_map_rules.specs.Ancestors.{Frame, Frames, above_by, above_in, above_inside, above_under, ends_from, ends_within, frames_of, head_of, holder_in, holders_by, holders_in, holders_of_frame, leads_to_root, numbers_above, numbers_of, parent_number, step_in, step_of, step_to, steps_by, steps_from, up_by, up_in, IsPlaced}
+use Rattle.hir_def_map_rules.specs.Ancestors.{Frame, Frames, above_by, above_in, above_inside, above_under, ends_from, ends_within, frames_of, head_of}
+use Rattle.hir_def_map_rules.specs.Ancestors.{holder_in, holders_by, holders_in, holders_of_frame, leads_to_root, numbers_above, numbers_of, parent_number}
+use Rattle.hir_def_map_rules.specs.Ancestors.{step_in, step_of, step_to, steps_by, steps_from, up_by, up_in, IsPlaced}
 
 -- ---- in one map
 
@@ -26,7 +27,8 @@ module _ (up : ℕ → Option ℕ) where
   ends_later (suc n) zero at h e = absurd (omega (arith, h))
   ends_later (suc n) (suc k) at h e = go (λ p f. ends_later n k p (omega (arith, h)) f) (up at) e
     where
-      go : ((p : ℕ) → ends_within up n p ≡ true → ends_within up k p ≡ true) → (o : Option ℕ) → ends_from (ends_within up n) o ≡ true → ends_from (ends_within up k) o ≡ true
+      go : ((p : ℕ) → ends_within up n p ≡ true → ends_within up k p ≡ true) → (o : Option ℕ) → ends_from (ends_within up n) o ≡ true
+          → ends_from (ends_within up k) o ≡ true
       go below None e = refl
       go below (Some p) e = below p e
 
@@ -63,7 +65,8 @@ module _ (up : ℕ → Option ℕ) where
         past p None f e = absurd cc
         past p (Some q) f e = let same : q ≡ p = cc in subst (λ (x : ℕ). ends_within up n x ≡ true) same e
 
-        go : ((p : ℕ) → ends_within up n p ≡ true → steps_by step k p ≡ steps_by step n p) → (o : Option ℕ) → step at ≡ o → steps_from (steps_by step k) o ≡ steps_from (steps_by step n) o
+        go : ((p : ℕ) → ends_within up n p ≡ true → steps_by step k p ≡ steps_by step n p) → (o : Option ℕ) → step at ≡ o → steps_from (steps_by step k) o
+            ≡ steps_from (steps_by step n) o
         go below None s = refl
         go below (Some p) s = ap (λ (xs : List ℕ). p ∷ xs) (below p (past p (up at) (keeps at p s) e))
 
@@ -90,7 +93,8 @@ module _ (frame : Frame) where
       go None f = absurd cc
       go (Some q) f = on (nat_lt q at) refl (leads_to_root frame at) refl f
         where
-          on : (b : Bool) → nat_lt q at ≡ b → (c : Bool) → leads_to_root frame at ≡ c → cond (b || c) (Some q) None ≡ Some p → (p < at) ⊎ (leads_to_root frame at ≡ true)
+          on : (b : Bool) → nat_lt q at ≡ b → (c : Bool) → leads_to_root frame at ≡ c → cond (b || c) (Some q) None ≡ Some p → (p < at)
+              ⊎ (leads_to_root frame at ≡ true)
           on true s c t g = let same : q ≡ p = cc in inl (grind (arith, common_steps))
           on false s true t g = inr t
           on false s false t g = absurd cc
@@ -139,11 +143,13 @@ module _ (frame : Frame) where
   unfolding numbers_above leads_to_root
   numbers_step at = enough at (size + at) (suc (size + at)) at (omega arith) (omega arith) (omega arith) ∙ go (step_in frame at) refl
     where
-      go : (o : Option ℕ) → step_in frame at ≡ o → steps_from (steps_by (step_in frame) (size + at)) o ≡ steps_from (λ x. steps_by (step_in frame) (size + x) x) o
+      go : (o : Option ℕ) → step_in frame at ≡ o → steps_from (steps_by (step_in frame) (size + at)) o ≡ steps_from (λ x. steps_by (step_in frame) (size + x) x)
+          o
       go None s = refl
       go (Some p) s = ap (λ (xs : List ℕ). p ∷ xs) (elim (step_goes at p s) [
         | inl lower ↦ enough p (size + at) (size + p) p (omega arith) (omega (arith, lower)) (omega arith)
-        | inr leads ↦ (let on : leads_to_root frame p ≡ true = onward leads in rooted (size + at) p (omega arith) on ∙ sym (rooted (size + p) p (omega arith) on))
+        | inr leads ↦ (let on : leads_to_root frame p ≡ true = onward leads in rooted (size + at) p (omega arith) on ∙ sym
+            (rooted (size + p) p (omega arith) on))
       ])
         where
           onward : leads_to_root frame at ≡ true → leads_to_root frame p ≡ true
@@ -155,11 +161,13 @@ module _ (frames : Frames) where
   inside_step : (m : ModuleId) → above_inside frames m ≡ chain_from (above_inside frames) (up_by frames m)
   inside_step m = go (frames m.map) refl
     where
-      on : (f : Frame) → frames m.map ≡ Some f → (o : Option ℕ) → map (numbered m.map) (steps_from (numbers_above f) o) ≡ chain_from (above_inside frames) (option_map (numbered m.map) o)
+      on : (f : Frame) → frames m.map ≡ Some f → (o : Option ℕ) → map (numbered m.map) (steps_from (numbers_above f) o) ≡ chain_from (above_inside frames)
+          (option_map (numbered m.map) o)
       on f e None = refl
       on f e (Some p) = ap (λ (q : Option Frame). numbered m.map p ∷ map (numbered m.map) (numbers_of q p)) (sym e)
 
-      go : (o : Option Frame) → frames m.map ≡ o → map (numbered m.map) (numbers_of o m.index) ≡ chain_from (above_inside frames) (option_map (numbered m.map) (step_of o m.index))
+      go : (o : Option Frame) → frames m.map ≡ o → map (numbered m.map) (numbers_of o m.index) ≡ chain_from (above_inside frames)
+          (option_map (numbered m.map) (step_of o m.index))
       go None e = refl
       go (Some f) e = ap (map (numbered m.map)) (numbers_step f m.index) ∙ on f e (step_in f m.index)
 
@@ -191,9 +199,11 @@ module _ (frames : Frames) where
           ∙ ap (λ (xs : List ModuleId). p ∷ xs) (sym (own (h ∷ rest) p (in_map (step_of (frames m.map) m.index) p s) e))
 
   -- the modules above one lie in its crate
-  numbered_in_crate : (m : ModuleId) (c : Crate) → m.map.krate ≡ c → (xs : List ℕ) (ys : List ModuleId) → All (λ (x : ModuleId). x.map.krate ≡ c) ys → All (λ (x : ModuleId). x.map.krate ≡ c) (map (numbered m.map) xs ++ ys)
+  numbered_in_crate : (m : ModuleId) (c : Crate) → m.map.krate ≡ c → (xs : List ℕ) (ys : List ModuleId) → All (λ (x : ModuleId). x.map.krate ≡ c) ys
+      → All (λ (x : ModuleId). x.map.krate ≡ c) (map (numbered m.map) xs ++ ys)
   numbered_in_crate m c e [] ys all = all
-  numbered_in_crate m c e (x ∷ xs) ys all = All-cons (λ (x : ModuleId). x.map.krate ≡ c) (numbered m.map x) (map (numbered m.map) xs ++ ys) e (numbered_in_crate m c e xs ys all)
+  numbered_in_crate m c e (x ∷ xs) ys all =
+      All-cons (λ (x : ModuleId). x.map.krate ≡ c) (numbered m.map x) (map (numbered m.map) xs ++ ys) e (numbered_in_crate m c e xs ys all)
 
 append_nothing : {A : Type 0} (xs : List A) → xs ++ [] ≡ xs
 append_nothing [] = refl
@@ -211,7 +221,8 @@ module _ (maps : Maps) (placed : IsPlaced maps) where
       go [] e = refl
       go (h ∷ hs) e = ap (λ (ks : List ModuleId). h ∷ ks) (sym (placed m.map h hs e).2)
 
-  under_in_crate : (c : Crate) (m : ModuleId) (hs : List ModuleId) → m.map.krate ≡ c → holders_in maps m ≡ hs → All (λ (x : ModuleId). x.map.krate ≡ c) (above_under (frames_of maps) hs m)
+  under_in_crate : (c : Crate) (m : ModuleId) (hs : List ModuleId) → m.map.krate ≡ c → holders_in maps m ≡ hs → All (λ (x : ModuleId). x.map.krate ≡ c)
+      (above_under (frames_of maps) hs m)
   under_in_crate c m [] e f = subst (λ (xs : List ModuleId). All (λ (x : ModuleId). x.map.krate ≡ c) xs) (append_nothing (above_inside (frames_of maps) m))
       (numbered_in_crate (frames_of maps) m c e (numbers_of (frames_of maps m.map) m.index) [] (All-nil (λ (x : ModuleId). x.map.krate ≡ c)))
   under_in_crate c m (h ∷ hs) e f =

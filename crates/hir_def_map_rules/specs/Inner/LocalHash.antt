@@ -4,8 +4,7 @@ use Rattle.std.specs.Option.{option_eq}
 use Rattle.std.specs.Hash as fed
 use Rattle.std.specs.Hash.{Alike, HashWrites, and-Alike, items_Alike, on_Alike}
 use Rattle.std.proofs.Common.{refl}
-use Rattle.hir_base.specs.declared.ids.ExternCrateId.{ExternCrateId}
-use Rattle.hir_base.specs.declared.ids.ModuleId.{ModuleId}
+use Rattle.hir_base.specs.Types.{ExternCrateId, ModuleId}
 use Rattle.hir_base.specs.contracts.ids.ExternCrateIdHash.TheImpl as extern_crate_hash
 use Rattle.hir_base.specs.contracts.ids.ExternCrateIdHash.TheImpl.Laws.{respects_eq-law as extern_crate_alike}
 use Rattle.hir_base.specs.contracts.ids.ExternCrateIdPartialEq.TheImpl as extern_crate
@@ -31,7 +30,8 @@ fed_local local = fed.slice fed_entry local
 options_alike : Alike (option_eq extern_crate.ghosts.eq) (fed.option extern_crate_hash.ghosts.hash_input)
 options_alike = record { fed = go }
   where
-    go : (one other : Option ExternCrateId) → option_eq extern_crate.ghosts.eq one other ≡ true → fed.option extern_crate_hash.ghosts.hash_input one ≡ fed.option extern_crate_hash.ghosts.hash_input other
+    go : (one other : Option ExternCrateId) → option_eq extern_crate.ghosts.eq one other ≡ true → fed.option extern_crate_hash.ghosts.hash_input one
+        ≡ fed.option extern_crate_hash.ghosts.hash_input other
     go None None e = refl
     go None (Some y) e = absurd cc
     go (Some x) None e = absurd cc

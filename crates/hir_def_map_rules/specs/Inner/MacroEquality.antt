@@ -30,4 +30,5 @@ abbrev pub same_macro_data : MacroDataValue → MacroDataValue → Bool
 same_macro_data = eq_of_both (on (λ (d : MacroDataValue). d.name) (pointwise nat_eq)) (on (λ (d : MacroDataValue). d.helpers) (pointwise (pointwise nat_eq)))
 
 pub same_macro_data_equiv : IsEquivalence same_macro_data
-same_macro_data_equiv = and_equiv (on_equiv (λ (d : MacroDataValue). d.name) nat_list_eq_equiv) (on_equiv (λ (d : MacroDataValue). d.helpers) (lists_equiv nat_list_eq_equiv))
+same_macro_data_equiv =
+    and_equiv (on_equiv (λ (d : MacroDataValue). d.name) nat_list_eq_equiv) (on_equiv (λ (d : MacroDataValue). d.helpers) (lists_equiv nat_list_eq_equiv))

@@ -3,10 +3,7 @@ use Rattle.std.specs.Prelude.{◌≡◌, ◌==◌, Bool, true, false, ◌&&◌, 
 use Rattle.std.specs.Cmp.{unsigned_Decides, first_so, second_so}
 use Rattle.std.proofs.Common.{refl, ap, sym, subst, ◌∙◌}
 use mathlib.Core.Bool.{true≢false}
-use Rattle.hir_base.specs.declared.ast_id.BlockId.{BlockId}
-use Rattle.hir_base.specs.declared.ids.Crate.{Crate}
-use Rattle.hir_base.specs.declared.ids.MapId.{MapId}
-use Rattle.hir_base.specs.declared.ids.ModuleId.{ModuleId}
+use Rattle.hir_base.specs.Types.{BlockId, Crate, MapId, ModuleId}
 use Rattle.hir_base.specs.contracts.ids.MapIdPartialEq.TheImpl as map_id
 use Rattle.hir_scope.specs.ModuleTree.{same_crate}
 use Rattle.hir_def_map_rules.specs.State.{Local, Map}
@@ -76,7 +73,8 @@ module _ (finished : Maps) (map : Map) (local : Local) where
           own (finished map.id) (ap is_some same ∙ e) ∙ ap holders_of same
       go false s = refl
 
-  leads_beside : (id : MapId) (h : ModuleId) (hs : List ModuleId) → HolderLeads (frames_of finished) id h hs → HolderLeads (frames_of (with_map finished map local)) id h hs
+  leads_beside : (id : MapId) (h : ModuleId) (hs : List ModuleId) → HolderLeads (frames_of finished) id h hs
+      → HolderLeads (frames_of (with_map finished map local)) id h hs
   unfolding frames_of
   leads_beside id h hs l =
       let is_there : is_some (finished h.map) ≡ true = sym (there (finished h.map)) ∙ l.1 in (
@@ -85,7 +83,8 @@ module _ (finished : Maps) (map : Map) (local : Local) where
         frame_holders (with_map finished map local h.map) ∙ same_holders h.map is_there ∙ sym (frame_holders (finished h.map)) ∙ l.2,
       )
 
-  under : (id : MapId) → id ≡ map.id → (o : Option ModuleId) (h : ModuleId) (hs : List ModuleId) → holders_under finished map.id o ≡ h ∷ hs → HolderLeads (frames_of (with_map finished map local)) id h hs
+  under : (id : MapId) → id ≡ map.id → (o : Option ModuleId) (h : ModuleId) (hs : List ModuleId) → holders_under finished map.id o ≡ h ∷ hs
+      → HolderLeads (frames_of (with_map finished map local)) id h hs
   unfolding frames_of
   under id e None h hs f = absurd cc
   under id e (Some k) h hs f = go (same_crate k.map.krate map.id.krate) refl (is_some (finished k.map)) refl f
@@ -108,11 +107,14 @@ module _ (finished : Maps) (map : Map) (local : Local) where
   unfolding frames_of
   IsPlaced-with_map placed id h hs e = go (map_id.ghosts.eq id map.id) refl e
     where
-      own : id ≡ map.id → (o : Option Placed) → finished map.id ≡ o → holders_or o (holders_under finished map.id map.holder) ≡ h ∷ hs → HolderLeads (frames_of (with_map finished map local)) id h hs
+      own : id ≡ map.id → (o : Option Placed) → finished map.id ≡ o → holders_or o (holders_under finished map.id map.holder) ≡ h ∷ hs
+          → HolderLeads (frames_of (with_map finished map local)) id h hs
       own same None s f = under id same map.holder h hs f
-      own same (Some p) s f = leads_beside id h hs (placed id h hs (frame_holders (finished id) ∙ ap (λ (x : MapId). holders_of (finished x)) same ∙ ap holders_of s ∙ f))
+      own same (Some p) s f =
+          leads_beside id h hs (placed id h hs (frame_holders (finished id) ∙ ap (λ (x : MapId). holders_of (finished x)) same ∙ ap holders_of s ∙ f))
 
-      go : (b : Bool) → map_id.ghosts.eq id map.id ≡ b → holders_of_frame (option_map frame_of (cond b (Some (placed_with finished map local)) (finished id))) ≡ h ∷ hs → HolderLeads (frames_of (with_map finished map local)) id h hs
+      go : (b : Bool) → map_id.ghosts.eq id map.id ≡ b → holders_of_frame (option_map frame_of (cond b (Some (placed_with finished map local)) (finished id)))
+          ≡ h ∷ hs → HolderLeads (frames_of (with_map finished map local)) id h hs
       go true s f = own (exact_map id map.id s) (finished map.id) refl f
       go false s f = leads_beside id h hs (placed id h hs f)
 

@@ -1,19 +1,9 @@
 -- The references of a map, one after another, as the code walks over them; `None` stands for what has no reference.
 use Rattle.std.specs.Prelude.{ℕ, Bool, ◌||◌, List, [], ◌∷◌, ◌++◌, Option, None, Some, is_some, cond, map, option_map}
 use Rattle.std.specs.List.{list_any}
-use Rattle.hir_base.specs.declared.ids.Crate.{Crate}
-use Rattle.hir_base.specs.declared.ids.ExternCrateId.{ExternCrateId}
-use Rattle.hir_base.specs.declared.ids.MapId.{MapId}
-use Rattle.hir_base.specs.declared.ids.ModuleDefId.{ModuleDefId}
-use Rattle.hir_base.specs.declared.ids.ModuleId.{ModuleId}
-use Rattle.hir_base.specs.declared.ids.TraitId.{TraitId}
-use Rattle.hir_base.specs.declared.ids.UseId.{UseId}
-use Rattle.hir_base.specs.declared.macro_kind.MacroId.{MacroId}
+use Rattle.hir_base.specs.Types.{Crate, ExternCrateId, MacroId, MapId, ModuleDefId, ModuleId, TraitId, UseId}
 use Rattle.hir_scope.specs.Scope.{ScopeValue}
-use Rattle.hir_scope.specs.declared.imports.ImportId.{ImportId}
-use Rattle.hir_scope.specs.declared.imports.ImportOrExternCrate.{ImportOrExternCrate}
-use Rattle.hir_scope.specs.declared.imports.ImportOrGlob.{ImportOrGlob}
-use Rattle.hir_scope.specs.declared.visibility.Visibility.{Visibility}
+use Rattle.hir_scope.specs.Types.{ImportId, ImportOrExternCrate, ImportOrGlob, Visibility}
 use Rattle.hir_scope.specs.PerNs.{Item}
 use Rattle.hir_def_map_rules.specs.declared.reference.Reference.{Reference}
 use Rattle.hir_def_map_rules.specs.declared.reference.Reference.TheVariants as reference
@@ -57,7 +47,8 @@ items_before [] rest = rest
 items_before (item ∷ items) rest = item_reference item ∷ item_visibility item ∷ items_before items rest
 
 -- types and values, each behind who may see the one before, if that is next, and then who may see macros, and traits without names
-abbrev pub scope_list : Option Visibility → List (List ℕ × Item ModuleDefId ImportOrExternCrate) → Option Visibility → List (List ℕ × Item ModuleDefId ImportOrGlob)
+abbrev pub scope_list : Option Visibility → List (List ℕ × Item ModuleDefId ImportOrExternCrate) → Option Visibility
+    → List (List ℕ × Item ModuleDefId ImportOrGlob)
     → List (List ℕ × Item MacroId ImportOrExternCrate) → List (TraitId × Item (Unit {0}) ImportId) → List (Option Reference)
 scope_list type_vis types value_vis values macros traits =
     visibility_before type_vis (items_before types

@@ -1,16 +1,12 @@
 -- What do the further segments of a path name?
 use Rattle.std.specs.Prelude.{ℕ, ◌+◌, List, [], ◌∷◌, true, false, Option, None, Some, cond, option_and_then}
 use Rattle.hir_base.specs.declared.ids.ModuleId.{ModuleId as AnyModule}
-use Rattle.hir_base.specs.declared.ids.ModuleDefId.{ModuleDefId}
+use Rattle.hir_base.specs.Types.{AdtId, EnumId, ModuleDefId}
 use Rattle.hir_base.specs.declared.ids.ModuleDefId.TheVariants as definitions
-use Rattle.hir_base.specs.declared.ids.AdtId.{AdtId}
 use Rattle.hir_base.specs.declared.ids.AdtId.TheVariants as adts
-use Rattle.hir_base.specs.declared.ids.EnumId.{EnumId}
 use Rattle.hir_item_tree.specs.Shape.{has_constructor}
-use Rattle.hir_scope.specs.declared.imports.ImportOrExternCrate.{ImportOrExternCrate}
+use Rattle.hir_scope.specs.Types.{ImportOrExternCrate, PerNs, Visibility}
 use Rattle.hir_scope.specs.PerNs.{Item, nothing, keep_of, with_constructor}
-use Rattle.hir_scope.specs.declared.per_ns.PerNs.{PerNs}
-use Rattle.hir_scope.specs.declared.visibility.Visibility.{Visibility}
 use Rattle.hir_scope.specs.ModuleTree.{same_crate}
 use Rattle.hir_scope.specs.Visibility.{is_visible}
 use Rattle.hir_def_map_rules.specs.Overlay.{Maps, entry_in, variants_in}
@@ -43,7 +39,13 @@ unresolved reached = record { resolved_def = nothing; segment_index = None; reac
 
 -- the path stopped at a type, before the segment of this number
 abbrev pub stopped : ℕ → Item ModuleDefId ImportOrExternCrate → ResolvePathResult
-stopped i item = record { resolved_def = record { types = Some item; values = None; macros = None }; segment_index = Some i; reached_fixedpoint = Yes; prefix_info = own_crate }
+stopped i item =
+    record {
+      resolved_def = record { types = Some item; values = None; macros = None };
+      segment_index = Some i;
+      reached_fixedpoint = Yes;
+      prefix_info = own_crate;
+    }
 
 -- what was found in another crate, where nothing changes any more
 abbrev pub crossing : ResolvePathResult → ResolvePathResult
@@ -103,13 +105,15 @@ through_module further maps from segment m =
     (crossing (further (nearest_non_block_module maps m) (seen maps (nearest_non_block_module maps m) (nearest_non_block_module maps m) segment)))
 
 -- a segment after what names a definition; the path ends before it where that has no names of its own
-abbrev pub through : (AnyModule → PerNs → ResolvePathResult) → Maps → AnyModule → List (List ℕ) → ℕ → List ℕ → Item ModuleDefId ImportOrExternCrate → ModuleDefId → ResolvePathResult
+abbrev pub through : (AnyModule → PerNs → ResolvePathResult) → Maps → AnyModule → List (List ℕ) → ℕ → List ℕ → Item ModuleDefId ImportOrExternCrate
+    → ModuleDefId → ResolvePathResult
 through further maps from others i segment item (definitions.ModuleId m) = through_module further maps from segment m
 through further maps from others i segment item (definitions.AdtId adt) = through_adt maps others i segment item adt
 through further maps from others i segment item _ = stopped i item
 
 -- a segment after what names a type, or else none
-abbrev pub through_type : (AnyModule → PerNs → ResolvePathResult) → Maps → AnyModule → List (List ℕ) → ℕ → List ℕ → Option (Item ModuleDefId ImportOrExternCrate) → ResolvePathResult
+abbrev pub through_type : (AnyModule → PerNs → ResolvePathResult) → Maps → AnyModule → List (List ℕ) → ℕ → List ℕ
+    → Option (Item ModuleDefId ImportOrExternCrate) → ResolvePathResult
 through_type further maps from others i segment None = unresolved No
 through_type further maps from others i segment (Some item) = through further maps from others i segment item item.def
 

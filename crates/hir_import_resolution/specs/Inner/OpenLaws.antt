@@ -1,14 +1,10 @@
 -- Writes leave the finished maps beside the scopes.
 use Rattle.std.proofs.Common.{◌≡◌, sym, subst, refl, Option, None, Some}
-use Rattle.hir_scope.specs.declared.imports.GlobId.{GlobId}
-use Rattle.hir_scope.specs.declared.visibility.Visibility.{Visibility}
+use Rattle.hir_scope.specs.Types.{GlobId, Visibility}
 use Rattle.hir_def_map.specs.WorldParts.{part_of}
 use Rattle.hir_glob_imports.specs.View.{Binds, IsNameTable, with_vis}
-use Rattle.hir_glob_imports.specs.declared.edge.Bound.{Bound}
-use Rattle.hir_glob_imports.specs.declared.edge.Key.{Key}
+use Rattle.hir_glob_imports.specs.Types.{Bound, Key, Slot, Target}
 use Rattle.hir_glob_imports.specs.declared.edge.Key.TheVariants.{Types, Values, Macros, Unnamed}
-use Rattle.hir_glob_imports.specs.declared.edge.Slot.{Slot}
-use Rattle.hir_glob_imports.specs.declared.edge.Target.{Target}
 use Rattle.hir_import_resolution.specs.declared.scopes.OpenScopes.{OpenScopes}
 use Rattle.hir_import_resolution.specs.Inner.TableLaws.{is_name_table}
 use Rattle.hir_import_resolution.specs.Names.{ScopesValue, bound_of, copied, copied_to, copied_where, followed, followed_to, followed_where, view_of}
@@ -55,9 +51,12 @@ follows_kept o s of vis = value_kept o (followed (value_of o) s of vis) (followe
 -- each write does what it says of them
 pub is_open_table : IsNameTable open_table
 is_open_table = record {
-  copies = λ o s of b vis by there vacant shown. subst (λ (v : ScopesValue). Binds s (with_vis b vis) (view_of (value_of o)) (view_of v)) (sym (copies_kept o s of vis by))
+  copies =
+      λ o s of b vis by there vacant shown. subst (λ (v : ScopesValue). Binds s (with_vis b vis) (view_of (value_of o)) (view_of v))
+      (sym (copies_kept o s of vis by))
       (is_name_table.copies (value_of o) s of b vis by there vacant shown);
-  follows = λ o s of b c vis stands shown. subst (λ (v : ScopesValue). Binds s (with_vis b vis) (view_of (value_of o)) (view_of v)) (sym (follows_kept o s of vis))
+  follows =
+      λ o s of b c vis stands shown. subst (λ (v : ScopesValue). Binds s (with_vis b vis) (view_of (value_of o)) (view_of v)) (sym (follows_kept o s of vis))
       (is_name_table.follows (value_of o) s of b c vis stands shown);
   raises = λ o s c vis stands. is_name_table.raises (value_of o) s c vis stands;
 }

@@ -9,10 +9,8 @@ use Rattle.indexmap.specs.IndexMap.{insert_entry as insert_last}
 use Rattle.hir_base.specs.contracts.ids.TraitIdEq.TheImpl.Laws.{laws-law as trait_laws}
 use Rattle.hir_base.specs.contracts.ids.TraitIdOrd.TheImpl.Laws.{matches_eq-law as trait_ties}
 use Rattle.hir_base.specs.contracts.ids.TraitIdPartialEq.TheImpl as trait_id
-use Rattle.hir_base.specs.declared.ids.ModuleDefId.{ModuleDefId}
+use Rattle.hir_base.specs.Types.{MacroId, ModuleDefId, TraitId}
 use Rattle.hir_base.specs.declared.ids.ModuleDefId.TheVariants as definitions
-use Rattle.hir_base.specs.declared.ids.TraitId.{TraitId}
-use Rattle.hir_base.specs.declared.macro_kind.MacroId.{MacroId}
 use Rattle.hir_scope.specs.Bindings.{first_of, with_item_definition, with_item_visibility}
 use Rattle.hir_scope.specs.Entries.{item_at, with_entry}
 use Rattle.hir_scope.specs.Globs.{GlobNames, Place}
@@ -20,22 +18,14 @@ use Rattle.hir_scope.specs.PerNs.{Item}
 use Rattle.hir_scope.specs.Scope.{ScopeValue, binding_of}
 use Rattle.hir_scope.specs.Scope.Push.{pushed_scope}
 use Rattle.hir_scope.specs.Scope.Reads.{unnamed_vis}
-use Rattle.hir_scope.specs.declared.imports.GlobId.{GlobId}
-use Rattle.hir_scope.specs.declared.imports.ImportId.{ImportId}
-use Rattle.hir_scope.specs.declared.imports.ImportOrExternCrate.{ImportOrExternCrate}
+use Rattle.hir_scope.specs.Types.{GlobId, ImportId, ImportOrExternCrate, ImportOrGlob, ItemInNs, PerNs, Visibility}
 use Rattle.hir_scope.specs.declared.imports.ImportOrExternCrate.TheVariants as ways
-use Rattle.hir_scope.specs.declared.imports.ImportOrGlob.{ImportOrGlob}
 use Rattle.hir_scope.specs.declared.imports.ImportOrGlob.TheVariants as value_ways
-use Rattle.hir_scope.specs.declared.item_in_ns.ItemInNs.{ItemInNs}
 use Rattle.hir_scope.specs.declared.item_in_ns.ItemInNs.TheVariants as in_ns
-use Rattle.hir_scope.specs.declared.per_ns.PerNs.{PerNs}
-use Rattle.hir_scope.specs.declared.visibility.Visibility.{Visibility}
 use Rattle.hir_scope.proofs.AfterPush.{binding_of-pushed_by_glob, binding_of-pushed_other, item_at-with_entry, item_at-with_entry_other}
 use Rattle.hir_glob_imports.specs.Keys.{slot_at}
-use Rattle.hir_glob_imports.specs.declared.edge.Bound.{Bound}
-use Rattle.hir_glob_imports.specs.declared.edge.Key.{Key}
+use Rattle.hir_glob_imports.specs.Types.{Bound, Key, Slot}
 use Rattle.hir_glob_imports.specs.declared.edge.Key.TheVariants.{Types, Values, Macros, Unnamed}
-use Rattle.hir_glob_imports.specs.declared.edge.Slot.{Slot}
 use Rattle.hir_glob_imports.proofs.Exact.{exact_slot}
 use Rattle.hir_import_resolution.specs.Names.{bound_at, bound_by, bound_trait, items_by, revised, with_macro, with_trait, with_type, with_value}
 
@@ -56,11 +46,13 @@ module _ {X : Type 0} (new : X → X) (items : List (List ℕ × X)) (name : Lis
 
   set_is_entry : (item : X) → item_at items name ≡ Some item → anew (Some item) ≡ with_entry (slice_cmp nat_cmp) items name (new item)
   set_is_entry item e =
-      sym (ap (λ (b : Bool). cond b (set_value (is_at (slice_cmp nat_cmp name)) items (new item)) (insert_entry (slice_cmp nat_cmp) items name (new item))) (ap is_some e))
+      sym (ap (λ (b : Bool). cond b (set_value (is_at (slice_cmp nat_cmp name)) items (new item)) (insert_entry (slice_cmp nat_cmp) items name (new item)))
+      (ap is_some e))
 
   anew_here : (item : X) → item_at items name ≡ Some item → item_at (anew (item_at items name)) name ≡ Some (new item)
   anew_here item e =
-      ap (λ (o : Option X). item_at (anew o) name) e ∙ ap (λ (es : List (List ℕ × X)). item_at es name) (set_is_entry item e) ∙ item_at-with_entry items name (new item)
+      ap (λ (o : Option X). item_at (anew o) name) e ∙ ap (λ (es : List (List ℕ × X)). item_at es name) (set_is_entry item e) ∙ item_at-with_entry items name
+      (new item)
 
   anew_other : (other : List ℕ) → other ≢ name → item_at (anew (item_at items name)) other ≡ item_at items other
   anew_other other ne = go (item_at items name) refl
@@ -97,15 +89,18 @@ module _ {V : Type 0} (id : TraitId) (v : V) where
       go true s below = ap (λ (b : Bool). cond b (Some v) (lookup (trait_id.ghosts.eq id) es)) s
       go false s below = ap (λ (b : Bool). cond b (Some e.1) (lookup (trait_id.ghosts.eq id) (insert_last trait_id.ghosts.eq es id v))) s ∙ below
 
-  last_other : (q : TraitId) → q ≢ id → (es : List (TraitId × V)) → lookup (trait_id.ghosts.eq q) (insert_last trait_id.ghosts.eq es id v) ≡ lookup (trait_id.ghosts.eq q) es
+  last_other : (q : TraitId) → q ≢ id → (es : List (TraitId × V)) → lookup (trait_id.ghosts.eq q) (insert_last trait_id.ghosts.eq es id v)
+      ≡ lookup (trait_id.ghosts.eq q) es
   last_other q ne [] = ap (λ (b : Bool). cond b (Some v) None) (traits_apart q id ne)
   last_other q ne (e ∷ es) = go (trait_id.ghosts.eq id e.0) refl (last_other q ne es)
     where
-      go : (b : Bool) → trait_id.ghosts.eq id e.0 ≡ b → lookup (trait_id.ghosts.eq q) (insert_last trait_id.ghosts.eq es id v) ≡ lookup (trait_id.ghosts.eq q) es
+      go : (b : Bool) → trait_id.ghosts.eq id e.0 ≡ b → lookup (trait_id.ghosts.eq q) (insert_last trait_id.ghosts.eq es id v) ≡ lookup (trait_id.ghosts.eq q)
+          es
           → lookup (trait_id.ghosts.eq q) (if b then (e.0, v) ∷ es else e ∷ insert_last trait_id.ghosts.eq es id v) ≡ lookup (trait_id.ghosts.eq q) (e ∷ es)
       go true s below =
           let away : trait_id.ghosts.eq q e.0 ≡ false = traits_apart q e.0 (λ f. ne (f ∙ sym (same_trait id e.0 s))) in
-          ap (λ (b : Bool). cond b (Some v) (lookup (trait_id.ghosts.eq q) es)) away ∙ sym (ap (λ (b : Bool). cond b (Some e.1) (lookup (trait_id.ghosts.eq q) es)) away)
+          ap (λ (b : Bool). cond b (Some v) (lookup (trait_id.ghosts.eq q) es)) away ∙ sym
+          (ap (λ (b : Bool). cond b (Some e.1) (lookup (trait_id.ghosts.eq q) es)) away)
       go false s below = ap (cond (trait_id.ghosts.eq q e.0) (Some e.1)) below
 
 pub keeps-trait : (id : TraitId) (vis : Visibility) (import : Option ImportId) → Keeps (Unnamed id) (with_trait id vis import)
@@ -113,46 +108,54 @@ keeps-trait id vis import scope (Types other) ne = refl
 keeps-trait id vis import scope (Values other) ne = refl
 keeps-trait id vis import scope (Macros other) ne = refl
 keeps-trait id vis import scope (Unnamed other) ne =
-    ap (λ (o : Option (Item (Unit {0}) ImportId)). bound_trait other (option_map (λ item. item.vis) o)) (last_other id _ other (λ f. ne (ap Unnamed f)) scope.unnamed_traits)
+    ap (λ (o : Option (Item (Unit {0}) ImportId)). bound_trait other (option_map (λ item. item.vis) o))
+    (last_other id _ other (λ f. ne (ap Unnamed f)) scope.unnamed_traits)
 
 pub trait_here : (id : TraitId) (vis : Visibility) (import : Option ImportId) (scope : ScopeValue)
     → bound_scope (with_trait id vis import scope) (Unnamed id) ≡ Some (record { def = in_ns.Types (definitions.TraitId id); vis = vis })
-trait_here id vis import scope = ap (λ (o : Option (Item (Unit {0}) ImportId)). bound_trait id (option_map (λ item. item.vis) o)) (last_here id _ scope.unnamed_traits)
+trait_here id vis import scope =
+    ap (λ (o : Option (Item (Unit {0}) ImportId)). bound_trait id (option_map (λ item. item.vis) o)) (last_here id _ scope.unnamed_traits)
 
 -- ---- definitions
 
 pub keeps-redefined_type : (name : List ℕ) (def : ModuleDefId) (vis : Visibility) → Keeps (Types name) (with_type name def vis)
-keeps-redefined_type name def vis scope (Types other) ne = ap (bound_by in_ns.Types) (anew_other (with_item_definition def vis) scope.types name other (λ f. ne (ap Types f)))
+keeps-redefined_type name def vis scope (Types other) ne =
+    ap (bound_by in_ns.Types) (anew_other (with_item_definition def vis) scope.types name other (λ f. ne (ap Types f)))
 keeps-redefined_type name def vis scope (Values other) ne = refl
 keeps-redefined_type name def vis scope (Macros other) ne = refl
 keeps-redefined_type name def vis scope (Unnamed other) ne = refl
 
 pub keeps-redefined_value : (name : List ℕ) (def : ModuleDefId) (vis : Visibility) → Keeps (Values name) (with_value name def vis)
 keeps-redefined_value name def vis scope (Types other) ne = refl
-keeps-redefined_value name def vis scope (Values other) ne = ap (bound_by in_ns.Values) (anew_other (with_item_definition def vis) scope.values name other (λ f. ne (ap Values f)))
+keeps-redefined_value name def vis scope (Values other) ne =
+    ap (bound_by in_ns.Values) (anew_other (with_item_definition def vis) scope.values name other (λ f. ne (ap Values f)))
 keeps-redefined_value name def vis scope (Macros other) ne = refl
 keeps-redefined_value name def vis scope (Unnamed other) ne = refl
 
 pub keeps-redefined_macro : (name : List ℕ) (def : MacroId) (vis : Visibility) → Keeps (Macros name) (with_macro name def vis)
 keeps-redefined_macro name def vis scope (Types other) ne = refl
 keeps-redefined_macro name def vis scope (Values other) ne = refl
-keeps-redefined_macro name def vis scope (Macros other) ne = ap (bound_by in_ns.Macros) (anew_other (with_item_definition def vis) scope.macros name other (λ f. ne (ap Macros f)))
+keeps-redefined_macro name def vis scope (Macros other) ne =
+    ap (bound_by in_ns.Macros) (anew_other (with_item_definition def vis) scope.macros name other (λ f. ne (ap Macros f)))
 keeps-redefined_macro name def vis scope (Unnamed other) ne = refl
 
 -- ---- who may see
 
 pub keeps-revised : (key : Key) (vis : Visibility) → Keeps key (revised key vis)
-keeps-revised (Types name) vis scope (Types other) ne = ap (bound_by in_ns.Types) (anew_other (with_item_visibility vis) scope.types name other (λ f. ne (ap Types f)))
+keeps-revised (Types name) vis scope (Types other) ne =
+    ap (bound_by in_ns.Types) (anew_other (with_item_visibility vis) scope.types name other (λ f. ne (ap Types f)))
 keeps-revised (Types name) vis scope (Values other) ne = refl
 keeps-revised (Types name) vis scope (Macros other) ne = refl
 keeps-revised (Types name) vis scope (Unnamed other) ne = refl
 keeps-revised (Values name) vis scope (Types other) ne = refl
-keeps-revised (Values name) vis scope (Values other) ne = ap (bound_by in_ns.Values) (anew_other (with_item_visibility vis) scope.values name other (λ f. ne (ap Values f)))
+keeps-revised (Values name) vis scope (Values other) ne =
+    ap (bound_by in_ns.Values) (anew_other (with_item_visibility vis) scope.values name other (λ f. ne (ap Values f)))
 keeps-revised (Values name) vis scope (Macros other) ne = refl
 keeps-revised (Values name) vis scope (Unnamed other) ne = refl
 keeps-revised (Macros name) vis scope (Types other) ne = refl
 keeps-revised (Macros name) vis scope (Values other) ne = refl
-keeps-revised (Macros name) vis scope (Macros other) ne = ap (bound_by in_ns.Macros) (anew_other (with_item_visibility vis) scope.macros name other (λ f. ne (ap Macros f)))
+keeps-revised (Macros name) vis scope (Macros other) ne =
+    ap (bound_by in_ns.Macros) (anew_other (with_item_visibility vis) scope.macros name other (λ f. ne (ap Macros f)))
 keeps-revised (Macros name) vis scope (Unnamed other) ne = refl
 keeps-revised (Unnamed id) vis scope other ne = keeps-trait id vis None scope other ne
 
@@ -175,15 +178,18 @@ pub trait_def : (id : TraitId) (o : Option Visibility) (b : Bound) → bound_tra
 trait_def id None b e = absurd cc
 trait_def id (Some vis) b e = let same : record { def = in_ns.Types (definitions.TraitId id); vis = vis } ≡ b = cc in ap (λ (x : Bound). x.def) same
 
-pub redefined_type_here : (name : List ℕ) (def : ModuleDefId) (vis : Visibility) (scope : ScopeValue) (i : Item ModuleDefId ImportOrExternCrate) → item_at scope.types name ≡ Some i
+pub redefined_type_here : (name : List ℕ) (def : ModuleDefId) (vis : Visibility) (scope : ScopeValue) (i : Item ModuleDefId ImportOrExternCrate)
+    → item_at scope.types name ≡ Some i
     → bound_scope (with_type name def vis scope) (Types name) ≡ Some (record { def = in_ns.Types def; vis = vis })
 redefined_type_here name def vis scope i e = ap (bound_by in_ns.Types) (anew_here (with_item_definition def vis) scope.types name i e)
 
-pub redefined_value_here : (name : List ℕ) (def : ModuleDefId) (vis : Visibility) (scope : ScopeValue) (i : Item ModuleDefId ImportOrGlob) → item_at scope.values name ≡ Some i
+pub redefined_value_here : (name : List ℕ) (def : ModuleDefId) (vis : Visibility) (scope : ScopeValue) (i : Item ModuleDefId ImportOrGlob)
+    → item_at scope.values name ≡ Some i
     → bound_scope (with_value name def vis scope) (Values name) ≡ Some (record { def = in_ns.Values def; vis = vis })
 redefined_value_here name def vis scope i e = ap (bound_by in_ns.Values) (anew_here (with_item_definition def vis) scope.values name i e)
 
-pub redefined_macro_here : (name : List ℕ) (def : MacroId) (vis : Visibility) (scope : ScopeValue) (i : Item MacroId ImportOrExternCrate) → item_at scope.macros name ≡ Some i
+pub redefined_macro_here : (name : List ℕ) (def : MacroId) (vis : Visibility) (scope : ScopeValue) (i : Item MacroId ImportOrExternCrate)
+    → item_at scope.macros name ≡ Some i
     → bound_scope (with_macro name def vis scope) (Macros name) ≡ Some (record { def = in_ns.Macros def; vis = vis })
 redefined_macro_here name def vis scope i e = ap (bound_by in_ns.Macros) (anew_here (with_item_definition def vis) scope.macros name i e)
 
@@ -193,18 +199,24 @@ revised_here (Types name) vis scope b e = go (item_of in_ns.Types (item_at scope
   where
     go : IsItem in_ns.Types (item_at scope.types name) b → bound_scope (revised (Types name) vis scope) (Types name) ≡ Some (record { def = b.def; vis = vis })
     go (item i is same) =
-        ap (bound_by in_ns.Types) (anew_here (with_item_visibility vis) scope.types name i is) ∙ ap (λ (x : Bound). Some (record { def = x.def; vis = vis })) (sym same)
+        ap (bound_by in_ns.Types) (anew_here (with_item_visibility vis) scope.types name i is) ∙ ap (λ (x : Bound). Some (record { def = x.def; vis = vis }))
+        (sym same)
 revised_here (Values name) vis scope b e = go (item_of in_ns.Values (item_at scope.values name) b e)
   where
-    go : IsItem in_ns.Values (item_at scope.values name) b → bound_scope (revised (Values name) vis scope) (Values name) ≡ Some (record { def = b.def; vis = vis })
+    go : IsItem in_ns.Values (item_at scope.values name) b → bound_scope (revised (Values name) vis scope) (Values name)
+        ≡ Some (record { def = b.def; vis = vis })
     go (item i is same) =
-        ap (bound_by in_ns.Values) (anew_here (with_item_visibility vis) scope.values name i is) ∙ ap (λ (x : Bound). Some (record { def = x.def; vis = vis })) (sym same)
+        ap (bound_by in_ns.Values) (anew_here (with_item_visibility vis) scope.values name i is) ∙ ap (λ (x : Bound). Some (record { def = x.def; vis = vis }))
+        (sym same)
 revised_here (Macros name) vis scope b e = go (item_of in_ns.Macros (item_at scope.macros name) b e)
   where
-    go : IsItem in_ns.Macros (item_at scope.macros name) b → bound_scope (revised (Macros name) vis scope) (Macros name) ≡ Some (record { def = b.def; vis = vis })
+    go : IsItem in_ns.Macros (item_at scope.macros name) b → bound_scope (revised (Macros name) vis scope) (Macros name)
+        ≡ Some (record { def = b.def; vis = vis })
     go (item i is same) =
-        ap (bound_by in_ns.Macros) (anew_here (with_item_visibility vis) scope.macros name i is) ∙ ap (λ (x : Bound). Some (record { def = x.def; vis = vis })) (sym same)
-revised_here (Unnamed id) vis scope b e = trait_here id vis None scope ∙ ap (λ (d : ItemInNs). Some (record { def = d; vis = vis })) (trait_def id (unnamed_vis scope id) b e)
+        ap (bound_by in_ns.Macros) (anew_here (with_item_visibility vis) scope.macros name i is) ∙ ap (λ (x : Bound). Some (record { def = x.def; vis = vis }))
+        (sym same)
+revised_here (Unnamed id) vis scope b e =
+    trait_here id vis None scope ∙ ap (λ (d : ItemInNs). Some (record { def = d; vis = vis })) (trait_def id (unnamed_vis scope id) b e)
 
 -- ---- pushes by a glob
 
@@ -214,7 +226,8 @@ module _ (globs : GlobNames) (place : Place) (by : GlobId) (vis : Visibility) wh
 
   pub keeps-pushed_type : (def : ModuleDefId) → Keeps (Types place.1) (pushed_def (in_ns.Types def))
   keeps-pushed_type def scope (Types other) ne =
-      ap (λ (p : PerNs). bound_by in_ns.Types p.types) (binding_of-pushed_other globs place (items_by (in_ns.Types def) vis) (Some (ways.Glob by)) scope other (λ f. ne (ap Types f)))
+      ap (λ (p : PerNs). bound_by in_ns.Types p.types) (binding_of-pushed_other globs place (items_by (in_ns.Types def) vis) (Some (ways.Glob by)) scope other
+      (λ f. ne (ap Types f)))
   keeps-pushed_type def scope (Values other) ne = refl
   keeps-pushed_type def scope (Macros other) ne = refl
   keeps-pushed_type def scope (Unnamed other) ne = refl
@@ -222,7 +235,8 @@ module _ (globs : GlobNames) (place : Place) (by : GlobId) (vis : Visibility) wh
   pub keeps-pushed_value : (def : ModuleDefId) → Keeps (Values place.1) (pushed_def (in_ns.Values def))
   keeps-pushed_value def scope (Types other) ne = refl
   keeps-pushed_value def scope (Values other) ne =
-      ap (λ (p : PerNs). bound_by in_ns.Values p.values) (binding_of-pushed_other globs place (items_by (in_ns.Values def) vis) (Some (ways.Glob by)) scope other (λ f. ne (ap Values f)))
+      ap (λ (p : PerNs). bound_by in_ns.Values p.values) (binding_of-pushed_other globs place (items_by (in_ns.Values def) vis) (Some (ways.Glob by)) scope
+      other (λ f. ne (ap Values f)))
   keeps-pushed_value def scope (Macros other) ne = refl
   keeps-pushed_value def scope (Unnamed other) ne = refl
 
@@ -230,23 +244,29 @@ module _ (globs : GlobNames) (place : Place) (by : GlobId) (vis : Visibility) wh
   keeps-pushed_macro def scope (Types other) ne = refl
   keeps-pushed_macro def scope (Values other) ne = refl
   keeps-pushed_macro def scope (Macros other) ne =
-      ap (λ (p : PerNs). bound_by in_ns.Macros p.macros) (binding_of-pushed_other globs place (items_by (in_ns.Macros def) vis) (Some (ways.Glob by)) scope other (λ f. ne (ap Macros f)))
+      ap (λ (p : PerNs). bound_by in_ns.Macros p.macros) (binding_of-pushed_other globs place (items_by (in_ns.Macros def) vis) (Some (ways.Glob by)) scope
+      other (λ f. ne (ap Macros f)))
   keeps-pushed_macro def scope (Unnamed other) ne = refl
 
   pub pushed_type_here : (def : ModuleDefId) (scope : ScopeValue) → item_at scope.types place.1 ≡ None
       → bound_scope (pushed_def (in_ns.Types def) scope) (Types place.1) ≡ Some (record { def = in_ns.Types def; vis = vis })
   pushed_type_here def scope vacant =
       ap (λ (p : PerNs). bound_by in_ns.Types p.types) (binding_of-pushed_by_glob globs place (Some (ways.Glob by)) scope (items_by (in_ns.Types def) vis) refl)
-      ∙ ap (λ (o : Option (Item ModuleDefId ImportOrExternCrate)). bound_by in_ns.Types (first_of o (Some (record { def = def; vis = vis; import = Some (ways.Glob by) })))) vacant
+      ∙ ap (λ (o : Option (Item ModuleDefId ImportOrExternCrate)). bound_by in_ns.Types
+      (first_of o (Some (record { def = def; vis = vis; import = Some (ways.Glob by) })))) vacant
 
   pub pushed_value_here : (def : ModuleDefId) (scope : ScopeValue) → item_at scope.values place.1 ≡ None
       → bound_scope (pushed_def (in_ns.Values def) scope) (Values place.1) ≡ Some (record { def = in_ns.Values def; vis = vis })
   pushed_value_here def scope vacant =
-      ap (λ (p : PerNs). bound_by in_ns.Values p.values) (binding_of-pushed_by_glob globs place (Some (ways.Glob by)) scope (items_by (in_ns.Values def) vis) refl)
-      ∙ ap (λ (o : Option (Item ModuleDefId ImportOrGlob)). bound_by in_ns.Values (first_of o (Some (record { def = def; vis = vis; import = Some (value_ways.Glob by) })))) vacant
+      ap (λ (p : PerNs). bound_by in_ns.Values p.values) (binding_of-pushed_by_glob globs place (Some (ways.Glob by)) scope (items_by (in_ns.Values def) vis)
+      refl)
+      ∙ ap (λ (o : Option (Item ModuleDefId ImportOrGlob)). bound_by in_ns.Values
+      (first_of o (Some (record { def = def; vis = vis; import = Some (value_ways.Glob by) })))) vacant
 
   pub pushed_macro_here : (def : MacroId) (scope : ScopeValue) → item_at scope.macros place.1 ≡ None
       → bound_scope (pushed_def (in_ns.Macros def) scope) (Macros place.1) ≡ Some (record { def = in_ns.Macros def; vis = vis })
   pushed_macro_here def scope vacant =
-      ap (λ (p : PerNs). bound_by in_ns.Macros p.macros) (binding_of-pushed_by_glob globs place (Some (ways.Glob by)) scope (items_by (in_ns.Macros def) vis) refl)
-      ∙ ap (λ (o : Option (Item MacroId ImportOrExternCrate)). bound_by in_ns.Macros (first_of o (Some (record { def = def; vis = vis; import = Some (ways.Glob by) })))) vacant
+      ap (λ (p : PerNs). bound_by in_ns.Macros p.macros) (binding_of-pushed_by_glob globs place (Some (ways.Glob by)) scope (items_by (in_ns.Macros def) vis)
+      refl)
+      ∙ ap (λ (o : Option (Item MacroId ImportOrExternCrate)). bound_by in_ns.Macros
+      (first_of o (Some (record { def = def; vis = vis; import = Some (ways.Glob by) })))) vacant

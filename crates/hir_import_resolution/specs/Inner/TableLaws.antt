@@ -2,31 +2,27 @@
 use Rattle.std.proofs.Common.{◌≡◌, ◌∙◌, ap, sym, subst, refl, ℕ, zero, suc, ◌<◌, List, [], ◌∷◌, length, Option, None, Some, arith}
 use Rattle.std.proofs.lemmas.Bool.{ltb-true}
 use Rattle.std.specs.Prelude.{slice_get}
-use Rattle.hir_base.specs.declared.ids.ModuleDefId.{ModuleDefId}
+use Rattle.hir_base.specs.Types.{MacroId, ModuleDefId, TraitId}
 use Rattle.hir_base.specs.declared.ids.ModuleDefId.TheVariants as definitions
-use Rattle.hir_base.specs.declared.ids.TraitId.{TraitId}
-use Rattle.hir_base.specs.declared.macro_kind.MacroId.{MacroId}
 use Rattle.hir_scope.specs.Entries.{item_at}
 use Rattle.hir_scope.specs.Globs.{GlobNames}
 use Rattle.hir_scope.specs.PerNs.{Item}
 use Rattle.hir_scope.specs.Scope.{ScopeValue}
-use Rattle.hir_scope.specs.declared.imports.GlobId.{GlobId}
-use Rattle.hir_scope.specs.declared.imports.ImportOrExternCrate.{ImportOrExternCrate}
-use Rattle.hir_scope.specs.declared.imports.ImportOrGlob.{ImportOrGlob}
-use Rattle.hir_scope.specs.declared.item_in_ns.ItemInNs.{ItemInNs}
+use Rattle.hir_scope.specs.Types.{GlobId, ImportOrExternCrate, ImportOrGlob, ItemInNs, Visibility}
 use Rattle.hir_scope.specs.declared.item_in_ns.ItemInNs.TheVariants as in_ns
-use Rattle.hir_scope.specs.declared.visibility.Visibility.{Visibility}
 use Rattle.hir_def_map_rules.specs.State.{ModuleValue, module_at, place_at, with_scope}
 use Rattle.hir_glob_imports.specs.Keys.{slot_at}
 use Rattle.hir_glob_imports.specs.View.{Binds, IsNameTable, with_vis}
-use Rattle.hir_glob_imports.specs.declared.edge.Bound.{Bound}
-use Rattle.hir_glob_imports.specs.declared.edge.Key.{Key}
+use Rattle.hir_glob_imports.specs.Types.{Bound, Key, Target}
 use Rattle.hir_glob_imports.specs.declared.edge.Key.TheVariants.{Types, Values, Macros, Unnamed}
-use Rattle.hir_glob_imports.specs.declared.edge.Target.{Target}
 use Rattle.hir_glob_imports.specs.declared.edge.Target.TheVariants as targets
-use Rattle.hir_import_resolution.specs.Names.{ScopesValue, bound_of, copied_to, copied_where, entries_of, followed_to, followed_where, redefined_at, revised, scope_table, traits_of, view_of, with_macro, with_trait, with_type, with_value}
+use Rattle.hir_import_resolution.specs.Names.{ScopesValue, bound_of, copied_to, copied_where, entries_of, followed_to, followed_where, redefined_at, revised}
+use Rattle.hir_import_resolution.specs.Names.{scope_table, traits_of, view_of, with_macro, with_trait, with_type, with_value}
 use Rattle.hir_import_resolution.specs.Inner.ViewLaws.{bound_inside, changed_here, changed_once, changes_in_slot, inside_own, inside_scope}
-use Rattle.hir_import_resolution.specs.Inner.ScopeLaws.{IsItem, Keeps, bound_scope, item, item_of, keeps-pushed_macro, keeps-pushed_type, keeps-pushed_value, keeps-redefined_macro, keeps-redefined_type, keeps-redefined_value, keeps-revised, keeps-trait, pushed_def, pushed_macro_here, pushed_type_here, pushed_value_here, redefined_macro_here, redefined_type_here, redefined_value_here, revised_here, trait_def, trait_here, vacant_of}
+use Rattle.hir_import_resolution.specs.Inner.ScopeLaws.{IsItem, Keeps, bound_scope, item, item_of, keeps-pushed_macro, keeps-pushed_type, keeps-pushed_value}
+use Rattle.hir_import_resolution.specs.Inner.ScopeLaws.{keeps-redefined_macro, keeps-redefined_type, keeps-redefined_value, keeps-revised, keeps-trait}
+use Rattle.hir_import_resolution.specs.Inner.ScopeLaws.{pushed_def, pushed_macro_here, pushed_type_here, pushed_value_here, redefined_macro_here}
+use Rattle.hir_import_resolution.specs.Inner.ScopeLaws.{redefined_type_here, redefined_value_here, revised_here, trait_def, trait_here, vacant_of}
 
 there_below : {A : Type 0} (xs : List A) (k : ℕ) → k < length xs → (x : A) × (slice_get xs k ≡ Some x)
 there_below [] k low = absurd (omega arith)
@@ -89,24 +85,30 @@ module _ (n : ScopesValue) (at : ℕ) (m : ModuleValue) (there : module_at n.map
     copy_type : (name : List ℕ) (d : ModuleDefId) → b.def ≡ in_ns.Types d → item_at m.scope.types name ≡ None
         → Binds (slot_at at (Types name)) (with_vis b vis) (view_of n) (view_of (copied_to n at (Types name) vis by b))
     copy_type name d is vacant =
-        subst (λ (def : ItemInNs). Binds (slot_at at (Types name)) (record { def = def; vis = vis }) (view_of n) (view_of (copied_to n at (Types name) vis by (record { def = def; vis = b.vis })))) (sym is)
-        (binds n at (Types name) (pushed_def n.globs (place_at n.map.id at name) by vis (in_ns.Types d)) (copied_to n at (Types name) vis by (record { def = in_ns.Types d; vis = b.vis })).globs
+        subst (λ (def : ItemInNs). Binds (slot_at at (Types name)) (record { def = def; vis = vis }) (view_of n)
+        (view_of (copied_to n at (Types name) vis by (record { def = def; vis = b.vis })))) (sym is)
+        (binds n at (Types name) (pushed_def n.globs (place_at n.map.id at name) by vis (in_ns.Types d))
+        (copied_to n at (Types name) vis by (record { def = in_ns.Types d; vis = b.vis })).globs
         (keeps-pushed_type n.globs (place_at n.map.id at name) by vis d) m there (record { def = in_ns.Types d; vis = vis })
         (pushed_type_here n.globs (place_at n.map.id at name) by vis d m.scope vacant))
 
     copy_value : (name : List ℕ) (d : ModuleDefId) → b.def ≡ in_ns.Values d → item_at m.scope.values name ≡ None
         → Binds (slot_at at (Values name)) (with_vis b vis) (view_of n) (view_of (copied_to n at (Values name) vis by b))
     copy_value name d is vacant =
-        subst (λ (def : ItemInNs). Binds (slot_at at (Values name)) (record { def = def; vis = vis }) (view_of n) (view_of (copied_to n at (Values name) vis by (record { def = def; vis = b.vis })))) (sym is)
-        (binds n at (Values name) (pushed_def n.globs (place_at n.map.id at name) by vis (in_ns.Values d)) (copied_to n at (Values name) vis by (record { def = in_ns.Values d; vis = b.vis })).globs
+        subst (λ (def : ItemInNs). Binds (slot_at at (Values name)) (record { def = def; vis = vis }) (view_of n)
+        (view_of (copied_to n at (Values name) vis by (record { def = def; vis = b.vis })))) (sym is)
+        (binds n at (Values name) (pushed_def n.globs (place_at n.map.id at name) by vis (in_ns.Values d))
+        (copied_to n at (Values name) vis by (record { def = in_ns.Values d; vis = b.vis })).globs
         (keeps-pushed_value n.globs (place_at n.map.id at name) by vis d) m there (record { def = in_ns.Values d; vis = vis })
         (pushed_value_here n.globs (place_at n.map.id at name) by vis d m.scope vacant))
 
     copy_macro : (name : List ℕ) (d : MacroId) → b.def ≡ in_ns.Macros d → item_at m.scope.macros name ≡ None
         → Binds (slot_at at (Macros name)) (with_vis b vis) (view_of n) (view_of (copied_to n at (Macros name) vis by b))
     copy_macro name d is vacant =
-        subst (λ (def : ItemInNs). Binds (slot_at at (Macros name)) (record { def = def; vis = vis }) (view_of n) (view_of (copied_to n at (Macros name) vis by (record { def = def; vis = b.vis })))) (sym is)
-        (binds n at (Macros name) (pushed_def n.globs (place_at n.map.id at name) by vis (in_ns.Macros d)) (copied_to n at (Macros name) vis by (record { def = in_ns.Macros d; vis = b.vis })).globs
+        subst (λ (def : ItemInNs). Binds (slot_at at (Macros name)) (record { def = def; vis = vis }) (view_of n)
+        (view_of (copied_to n at (Macros name) vis by (record { def = def; vis = b.vis })))) (sym is)
+        (binds n at (Macros name) (pushed_def n.globs (place_at n.map.id at name) by vis (in_ns.Macros d))
+        (copied_to n at (Macros name) vis by (record { def = in_ns.Macros d; vis = b.vis })).globs
         (keeps-pushed_macro n.globs (place_at n.map.id at name) by vis d) m there (record { def = in_ns.Macros d; vis = vis })
         (pushed_macro_here n.globs (place_at n.map.id at name) by vis d m.scope vacant))
 
@@ -126,21 +128,24 @@ module _ (n : ScopesValue) (at : ℕ) (m : ModuleValue) (there : module_at n.map
   follow_type : (name : List ℕ) (d : ModuleDefId) (i : Item ModuleDefId ImportOrExternCrate) → b.def ≡ in_ns.Types d → item_at m.scope.types name ≡ Some i
       → Binds (slot_at at (Types name)) (with_vis b vis) (view_of n) (view_of (followed_to n at (Types name) vis b))
   follow_type name d i is had =
-      subst (λ (def : ItemInNs). Binds (slot_at at (Types name)) (record { def = def; vis = vis }) (view_of n) (view_of (redefined_at n at name def vis))) (sym is)
+      subst (λ (def : ItemInNs). Binds (slot_at at (Types name)) (record { def = def; vis = vis }) (view_of n) (view_of (redefined_at n at name def vis)))
+      (sym is)
       (binds n at (Types name) (with_type name d vis) n.globs (keeps-redefined_type name d vis) m there (record { def = in_ns.Types d; vis = vis })
       (redefined_type_here name d vis m.scope i had))
 
   follow_value : (name : List ℕ) (d : ModuleDefId) (i : Item ModuleDefId ImportOrGlob) → b.def ≡ in_ns.Values d → item_at m.scope.values name ≡ Some i
       → Binds (slot_at at (Values name)) (with_vis b vis) (view_of n) (view_of (followed_to n at (Values name) vis b))
   follow_value name d i is had =
-      subst (λ (def : ItemInNs). Binds (slot_at at (Values name)) (record { def = def; vis = vis }) (view_of n) (view_of (redefined_at n at name def vis))) (sym is)
+      subst (λ (def : ItemInNs). Binds (slot_at at (Values name)) (record { def = def; vis = vis }) (view_of n) (view_of (redefined_at n at name def vis)))
+      (sym is)
       (binds n at (Values name) (with_value name d vis) n.globs (keeps-redefined_value name d vis) m there (record { def = in_ns.Values d; vis = vis })
       (redefined_value_here name d vis m.scope i had))
 
   follow_macro : (name : List ℕ) (d : MacroId) (i : Item MacroId ImportOrExternCrate) → b.def ≡ in_ns.Macros d → item_at m.scope.macros name ≡ Some i
       → Binds (slot_at at (Macros name)) (with_vis b vis) (view_of n) (view_of (followed_to n at (Macros name) vis b))
   follow_macro name d i is had =
-      subst (λ (def : ItemInNs). Binds (slot_at at (Macros name)) (record { def = def; vis = vis }) (view_of n) (view_of (redefined_at n at name def vis))) (sym is)
+      subst (λ (def : ItemInNs). Binds (slot_at at (Macros name)) (record { def = def; vis = vis }) (view_of n) (view_of (redefined_at n at name def vis)))
+      (sym is)
       (binds n at (Macros name) (with_macro name d vis) n.globs (keeps-redefined_macro name d vis) m there (record { def = in_ns.Macros d; vis = vis })
       (redefined_macro_here name d vis m.scope i had))
 

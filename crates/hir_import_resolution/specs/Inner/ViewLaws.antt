@@ -1,27 +1,26 @@
 -- What globs read of maps that differ in their scopes.
-use Rattle.std.proofs.Common.{◌≡◌, ◌≢◌, ◌∙◌, ap, sym, subst, refl, ℕ, zero, suc, Bool, true, false, List, [], ◌∷◌, length, nat_lt, map as list_map, Option, None, Some, cond}
+use Rattle.std.proofs.Common.{◌≡◌, ◌≢◌, ◌∙◌, ap, sym, subst, refl, ℕ, zero, suc, Bool, true, false, List, [], ◌∷◌, length, nat_lt, map as list_map, Option}
+use Rattle.std.proofs.Common.{None, Some, cond}
 use Rattle.std.specs.Option.{option_and_then, option_map, unwrap_or}
 use Rattle.std.specs.Prelude.{slice_get}
 use mathlib.Core.Bool.{true≢false}
 use Rattle.hir_base.specs.contracts.ids.MapIdPartialEq.TheImpl as map_id
-use Rattle.hir_base.specs.declared.ids.EnumId.{EnumId}
-use Rattle.hir_base.specs.declared.ids.MapId.{MapId}
+use Rattle.hir_base.specs.Types.{EnumId, MapId}
 use Rattle.hir_scope.specs.Globs.{GlobNames}
 use Rattle.hir_scope.specs.Scope.{ScopeValue}
 use Rattle.hir_scope.specs.Visibility.{greater_of, is_visible, lesser_of}
-use Rattle.hir_scope.specs.declared.visibility.Visibility.{Visibility}
+use Rattle.hir_scope.specs.Types.{Visibility}
 use Rattle.hir_def_map_rules.specs.Ancestors.{Frame, above_by, above_in, frame_of, frames_of, holders_by, holders_in}
 use Rattle.hir_def_map_rules.specs.Overlay.{Maps, Placed, entry_in, holders_or, holders_under, module_in, overlay, placed_in, variants_in}
 use Rattle.hir_def_map_rules.specs.Scoping.Segments.{variant_in}
-use Rattle.hir_def_map_rules.specs.State.{Map, ModuleValue, Variants, at_name, changed_at, entry_of, module_at, numbered, variants_at, with_module_scope, with_scope}
+use Rattle.hir_def_map_rules.specs.State.{Map, ModuleValue, Variants, at_name, changed_at, entry_of, module_at, numbered, variants_at, with_module_scope}
+use Rattle.hir_def_map_rules.specs.State.{with_scope}
 use Rattle.hir_def_map_rules.proofs.Grown.{frame_of-changed}
 use Rattle.hir_def_map_laws.specs.ReadLaw.{DiffersInScopes}
 use Rattle.hir_glob_imports.specs.Keys.{is_slot, same_slot, slot_at}
 use Rattle.hir_glob_imports.specs.View.{ChangesOnly, bound_in}
-use Rattle.hir_glob_imports.specs.declared.edge.Bound.{Bound}
-use Rattle.hir_glob_imports.specs.declared.edge.Key.{Key}
+use Rattle.hir_glob_imports.specs.Types.{Bound, Key, Target}
 use Rattle.hir_glob_imports.specs.declared.edge.Key.TheVariants.{Types, Values, Macros, Unnamed}
-use Rattle.hir_glob_imports.specs.declared.edge.Target.{Target}
 use Rattle.hir_glob_imports.specs.declared.edge.Target.TheVariants as targets
 use Rattle.hir_glob_imports.proofs.Settling.{same_itself}
 use Rattle.hir_import_resolution.specs.Directives.{open_items}
@@ -53,7 +52,8 @@ map_cond true p o = refl
 map_cond false p o = refl
 
 variants_cond : (id : EnumId) (b : Bool) (p : Placed) (o : Option Placed)
-    → option_and_then (λ (placed : Placed). variants_at placed.map id) (cond b (Some p) o) ≡ cond b (variants_at p.map id) (option_and_then (λ (placed : Placed). variants_at placed.map id) o)
+    → option_and_then (λ (placed : Placed). variants_at placed.map id) (cond b (Some p) o) ≡ cond b (variants_at p.map id)
+    (option_and_then (λ (placed : Placed). variants_at placed.map id) o)
 variants_cond id true p o = refl
 variants_cond id false p o = refl
 
@@ -107,7 +107,8 @@ module _ (finished : Maps) (one other : Map) (differs : DiffersInScopes one othe
   variants_stay : (id : EnumId) → variants_in (overlay finished other) id ≡ variants_in (overlay finished one) id
   variants_stay id =
       variants_cond id (map_id.ghosts.eq id.loc.container.map other.id) (placed_in finished other) (finished id.loc.container.map)
-      ∙ (λ i. cond (map_id.ghosts.eq id.loc.container.map (differs.id i)) (differs.enums id i) (option_and_then (λ (placed : Placed). variants_at placed.map id) (finished id.loc.container.map)))
+      ∙ (λ i. cond (map_id.ghosts.eq id.loc.container.map (differs.id i)) (differs.enums id i) (option_and_then (λ (placed : Placed). variants_at placed.map id)
+      (finished id.loc.container.map)))
       ∙ sym (variants_cond id (map_id.ghosts.eq id.loc.container.map one.id) (placed_in finished one) (finished id.loc.container.map))
 
   variant_stays : (id : EnumId) (name : List ℕ) → variant_in (overlay finished other) id name ≡ variant_in (overlay finished one) id name
@@ -116,10 +117,12 @@ module _ (finished : Maps) (one other : Map) (differs : DiffersInScopes one othe
   -- what stands at a key of a target is the same where it's the same in the modules of the map
   pub bound_stays : (globs globs' : GlobNames) (of : Target) (key : Key)
       → ((at : ℕ) → of ≡ targets.Own at → bound_inside key (module_at other at) ≡ bound_inside key (module_at one at))
-      → bound_of (record { finished = finished; map = other; globs = globs' }) of key ≡ bound_of (record { finished = finished; map = one; globs = globs }) of key
+      → bound_of (record { finished = finished; map = other; globs = globs' }) of key ≡ bound_of (record { finished = finished; map = one; globs = globs }) of
+      key
   bound_stays globs globs' (targets.Own at) key same = same at refl
   bound_stays globs globs' (targets.Module m) key same = λ i.
-      bound_at (λ name. open_items (is_foreign (differs.id i) m) (entry_in finished m name)) (λ id. open_vis (is_foreign (differs.id i) m) (trait_vis (module_in finished m) id)) key
+      bound_at (λ name. open_items (is_foreign (differs.id i) m) (entry_in finished m name))
+      (λ id. open_vis (is_foreign (differs.id i) m) (trait_vis (module_in finished m) id)) key
   bound_stays globs globs' (targets.Enum e) key same = λ i. bound_at (λ name. variant_items (variant_stays e name i)) (λ id. None) key
 
 -- ---- views that differ in a slot
@@ -145,7 +148,8 @@ module _ (n : ScopesValue) (home : ℕ) (f g : ScopeValue → ScopeValue) where
   module_same key (m ∷ xs) (suc at) (suc k) same = module_same key xs at k (λ e. same (ap suc e))
 
   -- nothing but what stands in one slot differs
-  pub differ_in_slot : (globs globs' : GlobNames) (key : Key) → ((s : ScopeValue) (other : Key) → other ≢ key → bound_scope (g s) other ≡ bound_scope (f s) other)
+  pub differ_in_slot : (globs globs' : GlobNames) (key : Key) → ((s : ScopeValue) (other : Key) → other ≢ key → bound_scope (g s) other
+      ≡ bound_scope (f s) other)
       → ChangesOnly (slot_at home key) (view_of (once globs f)) (view_of (once globs' g))
   differ_in_slot globs globs' key same = record {
     bound = λ of other away. bound_stays n.finished (with_scope n.map home f) (with_scope n.map home g) differ globs globs' of other (here of other away);
@@ -201,10 +205,12 @@ module _ (n : ScopesValue) (home : ℕ) (change : ScopeValue → ScopeValue) (gl
   changes_nowhere same = differ_nowhere n home (λ s. s) change n.globs globs same ∙ ap view_of (never n home)
 
   -- what stands at a key of the module that is changed
-  pub changed_here : (m : ModuleValue) → module_at n.map home ≡ Some m → (key : Key) → bound_in (view_of changed_once) (slot_at home key) ≡ bound_scope (change m.scope) key
+  pub changed_here : (m : ModuleValue) → module_at n.map home ≡ Some m → (key : Key) → bound_in (view_of changed_once) (slot_at home key)
+      ≡ bound_scope (change m.scope) key
   changed_here m there key = ap (bound_inside key) (found n.map.modules home there)
     where
-      found : (xs : List ModuleValue) (at : ℕ) → slice_get xs at ≡ Some m → slice_get (changed_at xs at (with_module_scope change)) at ≡ Some (with_module_scope change m)
+      found : (xs : List ModuleValue) (at : ℕ) → slice_get xs at ≡ Some m → slice_get (changed_at xs at (with_module_scope change)) at
+          ≡ Some (with_module_scope change m)
       found [] at e = absurd cc
       found (x ∷ xs) zero e = let same : x ≡ m = cc in ap (λ (y : ModuleValue). Some (with_module_scope change y)) same
       found (x ∷ xs) (suc at) e = found xs at e

@@ -61,7 +61,8 @@ same_entry {K} {V} key value = eq_of_both (on (λ (p : K × V). p.0) key) (on (�
 -- whether two names stand for one item, under one visibility and by one import
 abbrev pub same_item : {D I : Type 0} → Test D → Test I → Test (Item D I)
 same_item {D} {I} def import =
-    eq_of_both (on (λ (i : Item D I). i.def) def) (eq_of_both (on (λ (i : Item D I). i.vis) visibility.ghosts.eq) (on (λ (i : Item D I). i.import) (option_eq import)))
+    eq_of_both (on (λ (i : Item D I). i.def) def) (eq_of_both (on (λ (i : Item D I). i.vis) visibility.ghosts.eq)
+    (on (λ (i : Item D I). i.import) (option_eq import)))
 
 -- whether two derive paths became the same
 abbrev pub same_call : Test DeriveCall
@@ -132,7 +133,8 @@ same_entry_equiv {K} {V} keys values = and_equiv (on_equiv (λ (p : K × V). p.0
 
 same_item_equiv : {D I : Type 0} {def : Test D} {import : Test I} → IsEquivalence def → IsEquivalence import → IsEquivalence (same_item def import)
 same_item_equiv {D} {I} defs imports =
-    and_equiv (on_equiv (λ (i : Item D I). i.def) defs) (and_equiv (on_equiv (λ (i : Item D I). i.vis) visibility_laws) (on_equiv (λ (i : Item D I). i.import) (options_equiv imports)))
+    and_equiv (on_equiv (λ (i : Item D I). i.def) defs) (and_equiv (on_equiv (λ (i : Item D I). i.vis) visibility_laws)
+    (on_equiv (λ (i : Item D I). i.import) (options_equiv imports)))
 
 call_itself : (a : DeriveCall) → same_call a a ≡ true
 call_itself (Left a) = macro_call_laws.refl a
@@ -198,4 +200,5 @@ same_macros_equiv =
     (same_list_equiv (λ s. s.derive_macros) (same_entry_equiv ast_id_laws (lists_equiv same_derive_equiv)))))
 
 pub same_scope_equiv : IsEquivalence same_scope
-same_scope_equiv = and_equiv same_bindings_equiv (and_equiv same_declarations_equiv (and_equiv same_uses_equiv (and_equiv same_imports_equiv same_macros_equiv)))
+same_scope_equiv =
+    and_equiv same_bindings_equiv (and_equiv same_declarations_equiv (and_equiv same_uses_equiv (and_equiv same_imports_equiv same_macros_equiv)))

@@ -1,12 +1,12 @@
 -- What does a push make of a scope, and of the names that globs brought?
-use Rattle.std.specs.Prelude.{◌≡◌, ◌≢◌, ℕ, Bool, ◌||◌, not, List, ◌++◌, fold, Option, None, Some, is_some, cond, option_map, option_to_list, [], ◌∷◌, true, false}
+use Rattle.std.specs.Prelude.{◌≡◌, ◌≢◌, ℕ, Bool, ◌||◌, not, List, ◌++◌, fold, Option, None, Some, is_some, cond, option_map, option_to_list, [], ◌∷◌, true}
+use Rattle.std.specs.Prelude.{false}
 use Rattle.std.specs.Ordering.{nat_cmp, is_eq}
 use Rattle.std.specs.Cmp.Lexicographic.{slice_cmp}
 use Rattle.std.specs.BTreeMap.{is_at}
 use Rattle.std.specs.BTreeSet.{insert_key}
 use Rattle.std.specs.List.{list_any}
-use Rattle.hir_base.specs.declared.ids.ModuleDefId.{ModuleDefId}
-use Rattle.hir_base.specs.declared.macro_kind.MacroId.{MacroId}
+use Rattle.hir_base.specs.Types.{MacroId, ModuleDefId}
 use Rattle.hir_base.specs.contracts.ids.ModuleDefIdPartialEq.TheImpl as module_def
 use Rattle.hir_base.specs.contracts.macro_kind.MacroIdPartialEq.TheImpl as makro
 use Rattle.hir_scope.specs.contracts.imports.ImportOrExternCratePartialEq.TheImpl as item_import
@@ -16,7 +16,8 @@ use Rattle.hir_scope.specs.contracts.imports.ImportOrGlobOrd.TheImpl as value_or
 use Rattle.hir_scope.specs.declared.imports.ImportOrExternCrate.{ImportOrExternCrate}
 use Rattle.hir_scope.specs.declared.imports.ImportOrGlob.{ImportOrGlob}
 use Rattle.hir_scope.specs.declared.per_ns.PerNs.{PerNs}
-use Rattle.hir_scope.specs.Bindings.{Candidate, PushesSlot, Records, type_candidate, value_candidate, macro_candidate, slot_at, slot_after_candidate, taken, written_items, written_places, written_records, Slot}
+use Rattle.hir_scope.specs.Bindings.{Candidate, PushesSlot, Records, type_candidate, value_candidate, macro_candidate, slot_at, slot_after_candidate, taken}
+use Rattle.hir_scope.specs.Bindings.{written_items, written_places, written_records, Slot}
 use Rattle.hir_scope.specs.declared.item_scope.push.Candidates.{Candidates}
 use Rattle.hir_scope.specs.Globs.{Place, GlobNames}
 use Rattle.hir_scope.specs.Scope.{ScopeValue}

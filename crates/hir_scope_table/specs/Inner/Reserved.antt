@@ -16,7 +16,8 @@ needs_entry cmp entries None = false
 needs_entry cmp entries (Some entry) = not (has_key cmp entries entry.0)
 
 -- later entries are earlier ones with an entry, which was added or whose key was there
-pub record IsEntryFor {K V : Type 0} (cmp : K → K → Ordering) (earlier : List (K × V)) (entry : Option (K × V)) (added : Bool) (later : List (K × V)) : Type 0 where
+pub record IsEntryFor {K V : Type 0} (cmp : K → K → Ordering) (earlier : List (K × V)) (entry : Option (K × V)) (added : Bool) (later : List (K × V)) : Type
+    0 where
   pub made : later ≡ with_absent cmp earlier entry
   pub was_absent : added ≡ needs_entry cmp earlier entry
 

@@ -2,9 +2,9 @@
 use Rattle.std.proofs.Common.{rules, ◌≡◌, ◌∙◌, ◌<◌, ◌≤◌, List, Some, ap, length, map, subst, sym}
 use Rattle.either.specs.declared.Either.TheVariants as either
 use Rattle.hir_def_map.specs.WorldParts.{part_of}
-use Rattle.hir_def_map_rules.specs.declared.derive_helpers.DeriveHelper.{DeriveHelper}
+use Rattle.hir_def_map_rules.specs.Types.{DeriveHelper}
 use Rattle.hir_collector_rules.specs.declared.start.TheConstants.{STEP_LIMIT}
-use Rattle.hir_collector_rules.specs.declared.macro_directive.MacroDirective.{MacroDirective}
+use Rattle.hir_collector_rules.specs.Types.{MacroDirective}
 use Rattle.hir_collector_rules.specs.Calls.{DerivedCall, helper_by, helpers_brought}
 use Rattle.hir_collector_rules.specs.Moves.{Makes}
 use Rattle.hir_collector_rules.specs.State.{Core, core_in}
@@ -15,7 +15,8 @@ use Rattle.hir_collector_state.proofs.Noted.{noted_follow}
 use Rattle.hir_collector_items.proofs.derives.derive_builtin.Goals as goal
 
 pub list_derived-requires : goal.list_derived-requires
-list_derived-requires c = record { in_range = subst (λ (e : Core). c.args.call.now.site.home < length e.map.modules) (sym c.end_call.ensures.value) c.requires.in_range }
+list_derived-requires c =
+    record { in_range = subst (λ (e : Core). c.args.call.now.site.home < length e.map.modules) (sym c.end_call.ensures.value) c.requires.in_range }
 
 pub returns-clause-ok : goal.returns-clause-ok
 returns-clause-ok c = λ env.
@@ -29,7 +30,8 @@ returns-clause-ok c = λ env.
     ap (λ names. map (helper_by c.args.makro became) names) c.as_slice.ensures.value ∙ c.in_ok-names.ensures.value became in
     let brings : Makes (bringing d.ast_id (helpers_brought part old.map d c.args.makro became)) listed helped =
     subst (λ (hs : List DeriveHelper). Makes (bringing d.ast_id hs) listed helped) are c.in_ok-help_all.ensures.ok in
-    derived env part old c.args.i d c.args.makro c.args.imp (core_in c.end_call.new.self) listed helped (core_in c.tick.new.self) c.requires.builtin c.end_call.ensures.value c.in_ok-list_derived.ensures.ok
+    derived env part old c.args.i d c.args.makro c.args.imp (core_in c.end_call.new.self) listed helped (core_in c.tick.new.self) c.requires.builtin
+    c.end_call.ensures.value c.in_ok-list_derived.ensures.ok
     brings c.in_ok-tick.ensures.ok
 
 pub returns-clause-handled : goal.returns-clause-handled
@@ -37,7 +39,8 @@ returns-clause-handled c =
     let listed : Core = core_in c.list_derived.new.self in
     fate_helped (core_in c.args.run.now) listed (core_in c.help_all.new.run) (core_in c.tick.new.self) c.args.i c.args.call.now.ast_id
     (map (helper_by c.args.makro (Some (either.Right c.args.imp))) c.as_slice.result.now) c.requires.builtin.due.waiting.waits
-    (ap (λ (l : Core). l.fates) c.in_ok-list_derived.ensures.ok ∙ ap (λ (e : Core). e.fates) c.end_call.ensures.value) c.in_ok-help_all.ensures.ok c.in_ok-tick.ensures.ok
+    (ap (λ (l : Core). l.fates) c.in_ok-list_derived.ensures.ok ∙ ap (λ (e : Core). e.fates) c.end_call.ensures.value) c.in_ok-help_all.ensures.ok
+    c.in_ok-tick.ensures.ok
 
 pub returns-in_err-tick-clause-many : goal.returns-in_err-tick-clause-many
 returns-in_err-tick-clause-many c = λ h env.
@@ -47,8 +50,12 @@ returns-in_err-tick-clause-many c = λ h env.
     let d : MacroDirective = c.args.call.now in
     let names : List DeriveHelper = map (helper_by c.args.makro (Some (either.Right c.args.imp))) c.as_slice.result.now in
     let same : helped.count ≡ old.count =
-    count_kept (bringing d.ast_id names) listed helped c.in_ok-help_all.ensures.ok ∙ ap (λ (l : Core). l.count) c.in_ok-list_derived.ensures.ok ∙ ap (λ (e : Core). e.count) c.end_call.ensures.value in
-    past_rule env (part_of c.args.world) old (derives_builtin c.args.i d c.args.makro c.args.imp) c.requires.builtin tt tt (subst (λ n. STEP_LIMIT ≤ n) same (c.in_err-tick.ensures.many (search rules)))
+    count_kept (bringing d.ast_id names) listed helped c.in_ok-help_all.ensures.ok ∙ ap (λ (l : Core). l.count) c.in_ok-list_derived.ensures.ok ∙ ap
+    (λ (e : Core). e.count) c.end_call.ensures.value in
+    past_rule env (part_of c.args.world) old (derives_builtin c.args.i d c.args.makro c.args.imp) c.requires.builtin tt tt
+    (subst (λ n. STEP_LIMIT ≤ n) same (c.in_err-tick.ensures.many (search rules)))
 
 pub returns-clause-noted : goal.returns-clause-noted
-returns-clause-noted c = noted_follow c.end_call.ensures.noted (noted_follow c.in_ok-list_derived.ensures.noted (noted_follow c.in_ok-help_all.ensures.noted c.in_ok-tick.ensures.noted))
+returns-clause-noted c =
+    noted_follow c.end_call.ensures.noted (noted_follow c.in_ok-list_derived.ensures.noted
+    (noted_follow c.in_ok-help_all.ensures.noted c.in_ok-tick.ensures.noted))

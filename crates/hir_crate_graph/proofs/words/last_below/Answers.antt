@@ -11,7 +11,8 @@ next-preserved-then-words-at-eq0 c =
     let word : (c.next.at - 64) / 64 ≡ c.next.at / 64 - 1 = omega arith in (
       omega arith,
       λ n le lt. elim (cases_lt n c.next.at) [
-        | inl before ↦ zeros-passed c.args.words.now (c.next.at - 64) n begins (ap (λ (m : ℕ). get_or c.args.words.now m 0) word ∙ c.if-words-at-eq0.true) le (omega arith)
+        | inl before ↦ zeros-passed c.args.words.now (c.next.at - 64) n begins (ap (λ (m : ℕ). get_or c.args.words.now m 0) word ∙ c.if-words-at-eq0.true) le
+            (omega arith)
         | inr past ↦ c.next.invariant.1 n past lt
       ],
     )

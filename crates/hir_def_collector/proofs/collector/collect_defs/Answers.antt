@@ -1,14 +1,13 @@
 -- The walk's steps lead on to where imports and calls rest.
 use Rattle.std.proofs.Common.{rules, ◌≡◌, ◌∙◌, false, List, None, Some, option_map, refl, ap, sym, subst}
 use Rattle.std.specs.Prelude.{IsSome}
-use Rattle.hir_base.specs.declared.ids.Crate.{Crate}
-use Rattle.hir_base.specs.declared.ids.MapId.{MapId}
+use Rattle.hir_base.specs.Types.{Crate, MapId}
 use Rattle.hir_tables.specs.SourcePlaces.{source_value}
 use Rattle.hir_tables.specs.Tables.{source_of}
 use Rattle.hir_tables.proofs.Growth.{KeepsTables-trans}
 use Rattle.hir_def_map.specs.WorldParts.{among, part_of}
 use Rattle.hir_def_map_rules.specs.Overlay.{map_in}
-use Rattle.hir_def_map_rules.specs.declared.block_info.BlockInfo.{BlockInfo}
+use Rattle.hir_def_map_rules.specs.Types.{BlockInfo}
 use Rattle.hir_def_map.specs.World.{finished_in}
 use Rattle.hir_collector_rules.specs.CallMoves.{ComesToRest}
 use Rattle.hir_collector_rules.specs.Derivation.{IsSpent, collected_view}
@@ -34,7 +33,8 @@ returns-in_err-run-clause-many g c = λ h.
     let all = finished_in c.args.world.now.maps in
     let from = beginning c.args.start c.args.tree (option_map (λ l. l.now) c.args._local) in
     let depends : c.in_ok-transitive.transitive.value ≡ transitive_dependencies_in w (krate_of c.args.start) =
-    c.in_ok-transitive.ensures.value ∙ depends_on w c.krate.result _ c.transitive_dependencies.ensures.value ∙ ap (transitive_dependencies_in w) c.krate.ensures.value in
+    c.in_ok-transitive.ensures.value ∙ depends_on w c.krate.result _ c.transitive_dependencies.ensures.value ∙ ap (transitive_dependencies_in w)
+    c.krate.ensures.value in
     let holders = c.as_slice-holders.result.now in
     let reads : part_of c.among-part.result ≡ among c.in_ok-transitive.transitive.value holders all =
     c.among-part.ensures.value ∙ ap (λ (crates : List Crate). among crates holders all) c.deref.ensures in
@@ -51,15 +51,18 @@ returns-then-is_unknown-clause-ends g c = λ v finished agrees.
     let all = finished_in c.args.world.now.maps in
     let from = beginning c.args.start c.args.tree (option_map (λ l. l.now) c.args._local) in
     let depends : c.in_ok-transitive.transitive.value ≡ transitive_dependencies_in w (krate_of c.args.start) =
-    c.in_ok-transitive.ensures.value ∙ depends_on w c.krate.result _ c.transitive_dependencies.ensures.value ∙ ap (transitive_dependencies_in w) c.krate.ensures.value in
+    c.in_ok-transitive.ensures.value ∙ depends_on w c.krate.result _ c.transitive_dependencies.ensures.value ∙ ap (transitive_dependencies_in w)
+    c.krate.ensures.value in
     let holders = c.as_slice-holders.result.now in
     let reads : part_of c.among-part.result ≡ among c.in_ok-transitive.transitive.value holders all =
     c.among-part.ensures.value ∙ ap (λ (crates : List Crate). among crates holders all) c.deref.ensures in
     let held : holders ≡ holders_by all c.args.start = c.as_slice-holders.ensures.value ∙ c.in_ok-held_by.ensures.value in
     let gone : source_of c.args.locations.now c.args.tree ≡ None =
-    none_there source_value c.source_of.result (source_of c.args.locations.now c.args.tree) c.is_none-is_unknown.result c.source_of.ensures.value c.is_none-is_unknown.ensures c.if-is_unknown.true in
+    none_there source_value c.source_of.result (source_of c.args.locations.now c.args.tree) c.is_none-is_unknown.result c.source_of.ensures.value
+    c.is_none-is_unknown.ensures c.if-is_unknown.true in
     let run = core_in c.in_ok-run.run' in
-    ends_from tables w all from (part_of c.among-part.result) c.in_ok-transitive.transitive.value holders reads depends held run run false (collected_view c.in_ok-finish.field-0)
+    ends_from tables w all from (part_of c.among-part.result) c.in_ok-transitive.transitive.value holders reads depends held run run false
+    (collected_view c.in_ok-finish.field-0)
     c.in_ok-run.ensures.ok none (c.in_ok-run.ensures.idle gone (environment tables w)) c.in_ok-finish.ensures.value v finished agrees
 
 -- ---- rounds follow the walk
@@ -103,15 +106,18 @@ returns-in_err-run-2-clause-many g c = λ h.
     let part = part_of c.among-part.result in
     let run = core_in c.in_ok-run.run' in
     let depends : c.in_ok-transitive.transitive.value ≡ transitive_dependencies_in w (krate_of c.args.start) =
-    c.in_ok-transitive.ensures.value ∙ depends_on w c.krate.result _ c.transitive_dependencies.ensures.value ∙ ap (transitive_dependencies_in w) c.krate.ensures.value in
+    c.in_ok-transitive.ensures.value ∙ depends_on w c.krate.result _ c.transitive_dependencies.ensures.value ∙ ap (transitive_dependencies_in w)
+    c.krate.ensures.value in
     let holders = c.as_slice-holders.result.now in
     let reads : part ≡ among c.in_ok-transitive.transitive.value holders all =
     c.among-part.ensures.value ∙ ap (λ (crates : List Crate). among crates holders all) c.deref.ensures in
     let held : holders ≡ holders_by all c.args.start = c.as_slice-holders.ensures.value ∙ c.in_ok-held_by.ensures.value in
     let there : IsSome (source_of c.args.locations.now c.args.tree) =
-    some_there source_value c.source_of.result (source_of c.args.locations.now c.args.tree) c.is_none-is_unknown.result c.source_of.ensures.value c.is_none-is_unknown.ensures c.if-is_unknown.false in
+    some_there source_value c.source_of.result (source_of c.args.locations.now c.args.tree) c.is_none-is_unknown.result c.source_of.ensures.value
+    c.is_none-is_unknown.ensures c.if-is_unknown.false in
     let far : OnceGrown later w (λ env. IsSpent env part (at_rest run)) =
-    subst (λ (v : Workspace). OnceGrown later v (λ env. IsSpent env part (at_rest run))) c.in_ok-run.ensures.same (c.in_err-run-2.ensures.many (search rules)) in
+    subst (λ (v : Workspace). OnceGrown later v (λ env. IsSpent env part (at_rest run))) c.in_ok-run.ensures.same (c.in_err-run-2.ensures.many (search rules))
+    in
     begun later w all from part c.in_ok-transitive.transitive.value holders reads depends held
     (λ maps s. IsSpent (environment later w) maps s)
     (spent_after (c.in_ok-run.ensures.grown there later c.in_err-run-2.ensures.kept) (far later (tables_stay later)))
@@ -134,17 +140,21 @@ returns-clause-ends g c = λ v finished agrees.
     let run = core_in c.in_ok-run.run' in
     let last = core_in c.in_ok-run-2.run' in
     let depends : c.in_ok-transitive.transitive.value ≡ transitive_dependencies_in w (krate_of c.args.start) =
-    c.in_ok-transitive.ensures.value ∙ depends_on w c.krate.result _ c.transitive_dependencies.ensures.value ∙ ap (transitive_dependencies_in w) c.krate.ensures.value in
+    c.in_ok-transitive.ensures.value ∙ depends_on w c.krate.result _ c.transitive_dependencies.ensures.value ∙ ap (transitive_dependencies_in w)
+    c.krate.ensures.value in
     let holders = c.as_slice-holders.result.now in
     let reads : part ≡ among c.in_ok-transitive.transitive.value holders all =
     c.among-part.ensures.value ∙ ap (λ (crates : List Crate). among crates holders all) c.deref.ensures in
     let held : holders ≡ holders_by all c.args.start = c.as_slice-holders.ensures.value ∙ c.in_ok-held_by.ensures.value in
     let there : IsSome (source_of c.args.locations.now c.args.tree) =
-    some_there source_value c.source_of.result (source_of c.args.locations.now c.args.tree) c.is_none-is_unknown.result c.source_of.ensures.value c.is_none-is_unknown.ensures c.if-is_unknown.false in
+    some_there source_value c.source_of.result (source_of c.args.locations.now c.args.tree) c.is_none-is_unknown.result c.source_of.ensures.value
+    c.is_none-is_unknown.ensures c.if-is_unknown.false in
     let same = c.in_ok-run.ensures.same in
     let after : OnceGrown later w (λ env. Steps env part (at_rest run) (at_rest last)) =
     subst (λ (v : Workspace). OnceGrown later v (λ env. Steps env part (at_rest run) (at_rest last))) same c.in_ok-run-2.ensures.ok in
     let comes : OnceGrown later w (λ env. ComesToRest env part run last c.in_ok-run-2.round_limit_met) =
     subst (λ (v : Workspace). OnceGrown later v (λ env. ComesToRest env part run last c.in_ok-run-2.round_limit_met)) same c.in_ok-run-2.ensures.rests in
-    ends_from later w all from part c.in_ok-transitive.transitive.value holders reads depends held run last c.in_ok-run-2.round_limit_met (collected_view c.in_ok-finish-2.field-0)
-    (c.in_ok-run.ensures.grown there later c.in_ok-run-2.ensures.kept) (after later (tables_stay later)) (comes later (tables_stay later)) c.in_ok-finish-2.ensures.value v finished agrees
+    ends_from later w all from part c.in_ok-transitive.transitive.value holders reads depends held run last c.in_ok-run-2.round_limit_met
+    (collected_view c.in_ok-finish-2.field-0)
+    (c.in_ok-run.ensures.grown there later c.in_ok-run-2.ensures.kept) (after later (tables_stay later)) (comes later (tables_stay later))
+    c.in_ok-finish-2.ensures.value v finished agrees

@@ -1,6 +1,6 @@
 use Rattle.std.proofs.Common.{rules, List, ◌≡◌, ◌∙◌, ◌+◌, ◌<◌, length, sym, ap, arith}
 use Rattle.hir_collector_rules.specs.Workspace.{direct_by}
-use Rattle.hir_collector_rules.specs.declared.source_database.Config.{Config}
+use Rattle.hir_collector_rules.specs.Types.{Config}
 use Rattle.hir_def_collector_tests.specs.Crates.{config_in}
 use Rattle.hir_def_collector_tests.proofs.Transitive.{are_theirs, direct_of, one_longer}
 use Rattle.hir_def_collector_tests.proofs.collector.transitive.Goals as goal
@@ -24,5 +24,12 @@ loop-config-preserved c =
 pub returns : goal.returns
 returns c = record {
   value = are_theirs c.args.configs.now.items c.loop-config.found c.loop-config.invariant.are
-      (omega (arith, c.loop-config.invariant.count, c.loop-config-test.false, c.loop-config.auto.config-index-end, ap (λ (cs : List Config). length cs) c.deref-config-items.ensures.value));
+      (omega (
+        arith,
+        c.loop-config.invariant.count,
+        c.loop-config-test.false,
+        c.loop-config.auto.config-index-end,
+        ap (λ (cs : List Config). length cs)
+            c.deref-config-items.ensures.value,
+      ));
 }

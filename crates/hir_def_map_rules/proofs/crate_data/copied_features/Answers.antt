@@ -9,6 +9,7 @@ use Rattle.hir_def_map_rules.proofs.crate_data.copied_features.Goals as goal
 pub next-preserved : goal.next-preserved
 next-preserved c = (
   c.next.invariant.0,
-  key_copied (slice_cmp nat_cmp) nat_list_cmp_total c.args.features.now.keys c.next.copy.keys c.next.left c.next-in-next.new.self c.insert.new.self.keys c.in-Some.name.now
+  key_copied (slice_cmp nat_cmp) nat_list_cmp_total c.args.features.now.keys c.next.copy.keys c.next.left c.next-in-next.new.self c.insert.new.self.keys
+      c.in-Some.name.now
       c.next.invariant.0 c.next.invariant.1 (search rules) (search rules),
 )

@@ -13,5 +13,6 @@ pub returns-clause-ok : goal.returns-clause-ok
 returns-clause-ok c =
     let change : ModuleValue → ModuleValue = with_module_scope (listed c.args.declaration) in
     OnOk-map c.list.result _ _
-    (λ e. changed_at-write c.args.modules.now.items c.args.at change c.index_mut.result.now c.list.new.self (omega (arith, c.args.modules.now.ok.0)) c.index_mut.ensures.value e)
+    (λ e. changed_at-write c.args.modules.now.items c.args.at change c.index_mut.result.now c.list.new.self (omega (arith, c.args.modules.now.ok.0))
+    c.index_mut.ensures.value e)
     c.list.ensures.ok

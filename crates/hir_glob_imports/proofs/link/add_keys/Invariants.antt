@@ -1,6 +1,6 @@
 use Rattle.std.proofs.Common.{ℕ, ◌⊎◌, length}
 use Rattle.std.specs.Prelude.{Contains}
-use Rattle.hir_glob_imports.specs.declared.edge.Key.{Key}
+use Rattle.hir_glob_imports.specs.Types.{Key}
 use Rattle.hir_glob_imports.proofs.link.add_keys.Given as goal
 
 -- each key is left, or pending at the edge

@@ -1,6 +1,6 @@
 use Rattle.std.proofs.Common.{◌<◌, ◌≤◌, ℕ, length, slice_index}
 use Rattle.std.specs.Prelude.{Contains}
-use Rattle.hir_glob_imports.specs.declared.edge.Key.{Key}
+use Rattle.hir_glob_imports.specs.Types.{Key}
 use Rattle.hir_glob_imports.proofs.pending.add_each.Given as goal
 
 -- the edges from `left` on are pending at the key

@@ -9,7 +9,8 @@ things-init c = record { longer = as_long c.args.worklist.now; within = λ below
 pub things-preserved : goal.things-preserved
 things-preserved c = record {
   longer = one_longer c.args.worklist.now c.things.worklist c.push.new.self c.things.invariant.longer c.in_ok-push.ensures.ok;
-  within = λ below. let one = counts_one c.things.worklist c.push.new.self c.in_ok-push.ensures.ok in omega (arith, one, c.len.ensures.value, c.things-test.true);
+  within =
+      λ below. let one = counts_one c.things.worklist c.push.new.self c.in_ok-push.ensures.ok in omega (arith, one, c.len.ensures.value, c.things-test.true);
 }
 
 pub things-smaller : goal.things-smaller

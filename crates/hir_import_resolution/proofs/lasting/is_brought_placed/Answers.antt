@@ -3,8 +3,7 @@ use Rattle.std.proofs.Common.{◌≡◌, inl, subst, sym, rules, Some, List, [],
 use Rattle.std.specs.Prelude.{Contains}
 use Rattle.hir_def_map_rules.specs.State.{module_at}
 use Rattle.hir_glob_imports.proofs.OfKind.{brought_listed}
-use Rattle.hir_glob_imports.specs.declared.edge.Bound.{Bound}
-use Rattle.hir_glob_imports.specs.declared.edge.Slot.{Slot}
+use Rattle.hir_glob_imports.specs.Types.{Bound, Slot}
 use Rattle.hir_import_resolution.specs.Inner.ViewLaws.{bound_inside}
 use Rattle.hir_import_resolution.specs.Lasting.{IsPlaced}
 use Rattle.hir_import_resolution.proofs.Lists.{in_either, none_left, on_right, popped}
@@ -17,7 +16,8 @@ pub next-preserved : goal.next-preserved
 next-preserved c = λ s by is.
     let taken : c.next.left ≡ c.in-Some.slot.now ∷ c.next-in-next.new.self = search rules in
     in_either (c.next.invariant s by is) (λ h. popped c.next.left c.next-in-next.new.self c.in-Some.slot.now s taken h)
-    (λ same. subst (λ (x : Slot). (b : Bound) → bound_inside x.key (module_at c.args.map.now x.at) ≡ Some b → IsPlaced c.args.map.now b.vis) same (c.is_placed_at.ensures.placed (search rules)))
+    (λ same. subst (λ (x : Slot). (b : Bound) → bound_inside x.key (module_at c.args.map.now x.at) ≡ Some b → IsPlaced c.args.map.now b.vis) same
+    (c.is_placed_at.ensures.placed (search rules)))
 
 pub returns : goal.returns
 returns c = record {

@@ -8,12 +8,18 @@ use Rattle.hir_import_resolution.proofs.Lent.{scope_left, scope_past}
 use Rattle.hir_import_resolution.proofs.scopes.keep_trait_at.Goals as goal
 
 pub returns-then-at-module_count : goal.returns-then-at-module_count
-returns-then-at-module_count c = record { ok = scope_past c.args.map.now c.args.at (with_trait c.args.id c.args.vis c.args.leaf) (omega (arith, c.if-at-module_count.true, c.module_count.ensures.value)) }
+returns-then-at-module_count c =
+    record {
+      ok = scope_past c.args.map.now c.args.at (with_trait c.args.id c.args.vis c.args.leaf)
+          (omega (arith, c.if-at-module_count.true, c.module_count.ensures.value));
+    }
 
 pub returns : goal.returns
 returns c = record {
   ok =
-      on_ok (λ (s : ScopeValue). with_scope c.args.map.now c.args.at (λ _. s) ≡ with_scope c.args.map.now c.args.at (with_trait c.args.id c.args.vis c.args.leaf))
-      c.push_unnamed_trait.result (with_trait c.args.id c.args.vis c.args.leaf c.scope_mut.result.now) c.push_unnamed_trait.new.self c.push_unnamed_trait.ensures.ok
+      on_ok (λ (s : ScopeValue). with_scope c.args.map.now c.args.at (λ _. s) ≡ with_scope c.args.map.now c.args.at
+      (with_trait c.args.id c.args.vis c.args.leaf))
+      c.push_unnamed_trait.result (with_trait c.args.id c.args.vis c.args.leaf c.scope_mut.result.now) c.push_unnamed_trait.new.self
+      c.push_unnamed_trait.ensures.ok
       (scope_left c.args.map.now c.args.at c.scope_mut.result.now (with_trait c.args.id c.args.vis c.args.leaf) c.scope_mut.ensures.value);
 }

@@ -14,4 +14,8 @@ returns-then-at-module_count c = record {
 }
 
 pub returns-else-at-module_count : goal.returns-else-at-module_count
-returns-else-at-module_count c = record { value = scope_past c.args.map.now c.args.at (redefined c.args.name.now c.args.def c.args.vis) (omega (arith, c.if-at-module_count.false, c.module_count.ensures.value)) }
+returns-else-at-module_count c =
+    record {
+      value = scope_past c.args.map.now c.args.at (redefined c.args.name.now c.args.def c.args.vis)
+          (omega (arith, c.if-at-module_count.false, c.module_count.ensures.value));
+    }

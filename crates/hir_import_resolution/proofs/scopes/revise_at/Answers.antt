@@ -8,7 +8,11 @@ use Rattle.hir_import_resolution.proofs.Lent.{scope_left, scope_past}
 use Rattle.hir_import_resolution.proofs.scopes.revise_at.Goals as goal
 
 pub returns-then-at-module_count : goal.returns-then-at-module_count
-returns-then-at-module_count c = record { ok = scope_past c.args.map.now c.args.at (revised c.args.key.now c.args.vis) (omega (arith, c.if-at-module_count.true, c.module_count.ensures.value)) }
+returns-then-at-module_count c =
+    record {
+      ok = scope_past c.args.map.now c.args.at (revised c.args.key.now c.args.vis)
+          (omega (arith, c.if-at-module_count.true, c.module_count.ensures.value));
+    }
 
 pub returns : goal.returns
 returns c = record {

@@ -10,6 +10,8 @@ pub returns-in-Ok-clause-globs : goal.returns-in-Ok-clause-globs
 returns-in-Ok-clause-globs c = λ last.
     let new = c.new-resolver.ensures in
     let kept = kept_through (part_of c.args.world) c.args.imports c.new-resolver.result new.state new.finished new.globs last.kept in
-    let lasts = lasts_through (part_of c.args.world) (finished_by c.new-resolver.result) (state_in c.args.imports) (state_by c.new-resolver.result) (sym new.finished) (sym new.state) last.lasts in
-    globs_after (part_of c.args.world) c.finish_wave-imports.result.0 c.spread-spread.new.self (ap part_of c.in-Ok.ensures.is.changes.world ∙ new.finished) c.finish_wave-imports.ensures.state
+    let lasts = lasts_through (part_of c.args.world) (finished_by c.new-resolver.result) (state_in c.args.imports) (state_by c.new-resolver.result)
+    (sym new.finished) (sym new.state) last.lasts in
+    globs_after (part_of c.args.world) c.finish_wave-imports.result.0 c.spread-spread.new.self (ap part_of c.in-Ok.ensures.is.changes.world ∙ new.finished)
+    c.finish_wave-imports.ensures.state
     c.finish_wave-imports.ensures.globs (c.in-Ok.ensures.kept kept) (c.in-Ok.ensures.lasts kept lasts)

@@ -1,6 +1,6 @@
 use Rattle.std.proofs.Common.{◌≡◌, ◌≤◌, drop, length}
 use Rattle.std.specs.BTreeMap.{get}
-use Rattle.hir_item_tree.specs.declared.check.NodeId.{NodeId}
+use Rattle.hir_item_tree.specs.Types.{NodeId}
 use Rattle.hir_item_tree.specs.contracts.check.NodeIdOrd.TheImpl.{ghosts}
 use Rattle.hir_item_tree.specs.SideIndex.{place_of}
 use Rattle.hir_item_tree.proofs.source_tree.first_places.Given as goal

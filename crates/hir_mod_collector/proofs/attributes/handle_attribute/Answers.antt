@@ -3,8 +3,8 @@ use Rattle.std.proofs.Common.{◌≡◌, ◌∙◌, ◌+◌, ◌∷◌, [], Bool
 use Rattle.hir_item_tree.specs.Collected.{numbered}
 use Rattle.hir_item_tree.specs.KeptForest.{all_items}
 use Rattle.hir_item_tree.specs.SourceTree.{SourceTreeValue}
-use Rattle.hir_item_tree.specs.declared.attrs.Attr.{Attr}
-use Rattle.hir_collector_rules.specs.declared.macro_directive.WaitingItem.{WaitingItem}
+use Rattle.hir_item_tree.specs.Types.{Attr}
+use Rattle.hir_collector_rules.specs.Types.{WaitingItem}
 use Rattle.hir_collector_rules.specs.Calls.{item_kept}
 use Rattle.hir_collector_rules.specs.Attributes.{attr_id, is_derive}
 use Rattle.hir_collector_rules.specs.Moves.{HandlesAttribute, TakesDerive, goes_behind}
@@ -19,8 +19,10 @@ use Rattle.hir_mod_collector.proofs.attributes.handle_attribute.Goals.{then-goes
 pub returns-clause-noted : goal.returns-clause-noted
 returns-clause-noted c =
     elim c.if-goes_on.branch [
-      | then-goes_on+in_ok-take_derive w ↦ noted_follow (subst (λ (run : _). IsNoted c.args.run.now run) (sym w.run-is) w.in_ok-take_derive.ensures.noted) c.in_ok-tick.ensures.noted
-      | else-goes_on+in_ok-new+in_ok-await_attribute w ↦ noted_follow (subst (λ (run : _). IsNoted c.args.run.now run) (sym w.run-is) w.in_ok-await_attribute.ensures.noted) c.in_ok-tick.ensures.noted
+      | then-goes_on+in_ok-take_derive w ↦ noted_follow (subst (λ (run : _). IsNoted c.args.run.now run) (sym w.run-is) w.in_ok-take_derive.ensures.noted)
+          c.in_ok-tick.ensures.noted
+      | else-goes_on+in_ok-new+in_ok-await_attribute w ↦ noted_follow (subst (λ (run : _). IsNoted c.args.run.now run) (sym w.run-is)
+          w.in_ok-await_attribute.ensures.noted) c.in_ok-tick.ensures.noted
     ]
 
 pub returns-clause-ok : goal.returns-clause-ok
@@ -33,16 +35,19 @@ returns-clause-ok c = λ env finished item from a is there next.
     let named : c.is_keyed-goes_on.result ≡ is_derive (numbered a) = c.is_keyed-goes_on.ensures.value ∙ ap (λ (x : Attr). is_derive (numbered x)) same in
     elim c.if-goes_on.branch [
       | then-goes_on+in_ok-take_derive w ↦
-          subst (λ (b : Bool). HandlesAttribute env finished old new (visit v.site.now item) from (goes_behind (visit v.site.now item) c.args.at b)) (sym w.if-goes_on.true)
+          subst (λ (b : Bool). HandlesAttribute env finished old new (visit v.site.now item) from (goes_behind (visit v.site.now item) c.args.at b))
+          (sym w.if-goes_on.true)
           (taken env finished old v item is from c.args.at (numbered a) next (core_in w.take_derive.new.run) new (sym named ∙ w.if-goes_on.true)
           (subst (λ (x : Attr). TakesDerive v.site.now v.node (numbered x) v.adt old (core_in w.take_derive.new.run)) same w.in_ok-take_derive.ensures.ok)
           (c.in_ok-tick.ensures.ok ∙ ap (λ (run : _). counted (core_in run)) w.run-is))
       | else-goes_on+in_ok-new+in_ok-await_attribute w ↦
           let k : WaitingItem = record { source = w.in_ok-new.field-0; id = v.id; done = c.args.at + 1 } in
-          let kept : item_kept k ≡ Some item = subst (λ (s : SourceTreeValue). slice_get (all_items s.tree.items) v.id.0 ≡ Some item) (sym w.in_ok-new.ensures.value) is.kept in
+          let kept : item_kept k ≡ Some item = subst (λ (s : SourceTreeValue). slice_get (all_items s.tree.items) v.id.0 ≡ Some item)
+          (sym w.in_ok-new.ensures.value) is.kept in
           let becomes : core_in w.await_attribute.new.run ≡ with_calls old (attribute_at v.site.now v.node (attr_id (numbered a)) a.meta.path k ∷ []) =
           w.in_ok-await_attribute.ensures.ok ∙ ap (λ (x : Attr). with_calls old (attribute_at v.site.now v.node x.id x.meta.path k ∷ [])) same in
-          subst (λ (b : Bool). HandlesAttribute env finished old new (visit v.site.now item) from (goes_behind (visit v.site.now item) c.args.at b)) (sym w.if-goes_on.false)
+          subst (λ (b : Bool). HandlesAttribute env finished old new (visit v.site.now item) from (goes_behind (visit v.site.now item) c.args.at b))
+          (sym w.if-goes_on.false)
           (awaited env finished old v item is from c.args.at (numbered a) next new k (sym named ∙ w.if-goes_on.false) (omega arith) kept
           (c.in_ok-tick.ensures.ok ∙ ap (λ (run : _). counted (core_in run)) w.run-is ∙ ap counted becomes))
     ]

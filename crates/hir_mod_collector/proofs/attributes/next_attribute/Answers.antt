@@ -2,7 +2,7 @@
 use Rattle.std.proofs.Common.{◌≡◌, ◌∙◌, ◌+◌, ℕ, suc, List, Some, ap, drop, map, refl, slice_get, subst, sym, option_map, arith}
 use Rattle.std.proofs.lemmas.Option.{slice_get-map}
 use Rattle.hir_item_tree.specs.Collected.{Numbered, numbered}
-use Rattle.hir_item_tree.specs.declared.attrs.Attr.{Attr}
+use Rattle.hir_item_tree.specs.Types.{Attr}
 use Rattle.hir_collector_rules.specs.Attributes.{first_looked_up, next_among}
 use Rattle.hir_mod_collector.proofs.Passing.{item_there, passed_over, place_of, stopped_at}
 use Rattle.hir_mod_collector.proofs.attributes.next_attribute.Goals as goal
@@ -21,7 +21,9 @@ loop-at-preserved c =
     let next : suc at ≡ at + 1 = omega arith in
     record {
       behind = (let h = c.loop-at.invariant.behind in omega arith);
-      same = subst (λ (n : ℕ). first_looked_up c.args.map.now c.args.node n (drop n attributes) ≡ next_among c.args.map.now c.args.node c.args.done attributes) next (sym on ∙ c.loop-at.invariant.same);
+      same =
+          subst (λ (n : ℕ). first_looked_up c.args.map.now c.args.node n (drop n attributes) ≡ next_among c.args.map.now c.args.node c.args.done attributes)
+          next (sym on ∙ c.loop-at.invariant.same);
     }
 
 pub returns-then-not-is_passed-clause-value : goal.returns-then-not-is_passed-clause-value

@@ -3,7 +3,7 @@ use Rattle.std.proofs.Common.{rules, ◌≡◌, ◌∙◌, ◌≤◌, Bool, true
 use Rattle.hir_item_tree.specs.Collected.{numbered}
 use Rattle.hir_def_map_rules.specs.State.{Map}
 use Rattle.hir_collector_rules.specs.declared.start.TheConstants.{STEP_LIMIT}
-use Rattle.hir_mod_collector.specs.declared.attributes.Visited.{Visited}
+use Rattle.hir_mod_collector.specs.Types.{Visited}
 use Rattle.hir_collector_rules.specs.Attributes.{next_among, next_attribute}
 use Rattle.hir_collector_rules.specs.Moves.{HandlesAttribute, goes_behind}
 use Rattle.hir_collector_rules.specs.State.{Core, core_in, visit}
@@ -28,10 +28,13 @@ next-preserved c = record {
       let before : PassesTo env finished old v item c.args.from now c.next.done = c.next.invariant.goes env finished item is in
       let a = get_there v.attrs.now c.in-Some.at c.in-Some.ensures.there in
       let at : Some c.in-Some.at ≡ place_of (next_among now.map v.node c.next.done (map numbered v.attrs.now)) =
-      subst (λ (m : Map). Some c.in-Some.at ≡ place_of (next_among m v.node c.next.done (map numbered v.attrs.now))) c.map.ensures.value c.in-Some.ensures.value in
-      let found : next_attribute now.map v.site.now item c.next.done ≡ Some (c.in-Some.at, numbered a.0) = visited_at now.map v item before.still c.next.done c.in-Some.at a.0 a.1 at in
+      subst (λ (m : Map). Some c.in-Some.at ≡ place_of (next_among m v.node c.next.done (map numbered v.attrs.now))) c.map.ensures.value c.in-Some.ensures.value
+      in
+      let found : next_attribute now.map v.site.now item c.next.done ≡ Some (c.in-Some.at, numbered a.0) = visited_at now.map v item before.still c.next.done
+      c.in-Some.at a.0 a.1 at in
       passes_next env finished old v item c.args.from now new c.next.done c.in-Some.at before
-      (subst (λ (b : Bool). HandlesAttribute env finished now new (visit v.site.now item) c.next.done (goes_behind (visit v.site.now item) c.in-Some.at b)) c.if-not-branch.false
+      (subst (λ (b : Bool). HandlesAttribute env finished now new (visit v.site.now item) c.next.done (goes_behind (visit v.site.now item) c.in-Some.at b))
+      c.if-not-branch.false
       (c.in_ok-handle_attribute.ensures.ok env finished item c.next.done a.0 before.still a.1 found));
   noted = noted_follow c.next.invariant.noted c.in_ok-handle_attribute.ensures.noted;
 }
@@ -48,10 +51,13 @@ returns-then-not-branch-clause-ok c = λ env finished item is.
     let before : PassesTo env finished old v item c.args.from now c.next.done = c.next.invariant.goes env finished item is in
     let a = get_there v.attrs.now c.in-Some.at c.in-Some.ensures.there in
     let at : Some c.in-Some.at ≡ place_of (next_among now.map v.node c.next.done (map numbered v.attrs.now)) =
-    subst (λ (m : Map). Some c.in-Some.at ≡ place_of (next_among m v.node c.next.done (map numbered v.attrs.now))) c.map.ensures.value c.in-Some.ensures.value in
-    let found : next_attribute now.map v.site.now item c.next.done ≡ Some (c.in-Some.at, numbered a.0) = visited_at now.map v item before.still c.next.done c.in-Some.at a.0 a.1 at in
+    subst (λ (m : Map). Some c.in-Some.at ≡ place_of (next_among m v.node c.next.done (map numbered v.attrs.now))) c.map.ensures.value c.in-Some.ensures.value
+    in
+    let found : next_attribute now.map v.site.now item c.next.done ≡ Some (c.in-Some.at, numbered a.0) = visited_at now.map v item before.still c.next.done
+    c.in-Some.at a.0 a.1 at in
     passes_waits env finished old v item c.args.from now new c.next.done before
-    (subst (λ (b : Bool). HandlesAttribute env finished now new (visit v.site.now item) c.next.done (goes_behind (visit v.site.now item) c.in-Some.at b)) c.if-not-branch.true
+    (subst (λ (b : Bool). HandlesAttribute env finished now new (visit v.site.now item) c.next.done (goes_behind (visit v.site.now item) c.in-Some.at b))
+    c.if-not-branch.true
     (c.in_ok-handle_attribute.ensures.ok env finished item c.next.done a.0 before.still a.1 found))
 
 pub returns-in_err-handle_attribute-clause-many : goal.returns-in_err-handle_attribute-clause-many
@@ -62,8 +68,10 @@ returns-in_err-handle_attribute-clause-many c = λ many env finished item is.
     let before : PassesTo env finished old v item c.args.from now c.next.done = c.next.invariant.goes env finished item is in
     let a = get_there v.attrs.now c.in-Some.at c.in-Some.ensures.there in
     let at : Some c.in-Some.at ≡ place_of (next_among now.map v.node c.next.done (map numbered v.attrs.now)) =
-    subst (λ (m : Map). Some c.in-Some.at ≡ place_of (next_among m v.node c.next.done (map numbered v.attrs.now))) c.map.ensures.value c.in-Some.ensures.value in
-    let found : next_attribute now.map v.site.now item c.next.done ≡ Some (c.in-Some.at, numbered a.0) = visited_at now.map v item before.still c.next.done c.in-Some.at a.0 a.1 at in
+    subst (λ (m : Map). Some c.in-Some.at ≡ place_of (next_among m v.node c.next.done (map numbered v.attrs.now))) c.map.ensures.value c.in-Some.ensures.value
+    in
+    let found : next_attribute now.map v.site.now item c.next.done ≡ Some (c.in-Some.at, numbered a.0) = visited_at now.map v item before.still c.next.done
+    c.in-Some.at a.0 a.1 at in
     let spent : STEP_LIMIT ≤ now.count = search (rules, many, c.in_err-handle_attribute.ensures.many, c.from_residual.ensures) in
     passes_far env finished old v item c.args.from now c.next.done c.in-Some.at (numbered a.0) before found spent
 
@@ -75,5 +83,6 @@ returns-clause-ok c = λ env finished item is.
     let before : PassesTo env finished old v item c.args.from now c.next.done = c.next.invariant.goes env finished item is in
     let gone : c.next_attribute.result ≡ None = search (rules, c.in_default.is) in
     let past : None ≡ place_of (next_among now.map v.node c.next.done (map numbered v.attrs.now)) =
-    subst (λ (m : Map). None ≡ place_of (next_among m v.node c.next.done (map numbered v.attrs.now))) c.map.ensures.value (sym gone ∙ c.next_attribute.ensures.value) in
+    subst (λ (m : Map). None ≡ place_of (next_among m v.node c.next.done (map numbered v.attrs.now))) c.map.ensures.value
+    (sym gone ∙ c.next_attribute.ensures.value) in
     passes_all env finished old v item c.args.from now c.next.done before (visited_none now.map v item before.still c.next.done past)

@@ -11,7 +11,8 @@ use Rattle.hir_mod_collector.proofs.attributes.pass_attributes.Given as goal
 -- the first so many are done with
 abbrev pub invariant-next : goal.invariant-next
 invariant-next l = record {
-  goes : (env : Environment) (finished : Maps) (item : KeptItem) → IsVisited (core_in l.initial.run).map l.visited item → PassesTo env finished (core_in l.initial.run) l.visited item l.fn.from (core_in l.run) l.done;
+  goes : (env : Environment) (finished : Maps) (item : KeptItem) → IsVisited (core_in l.initial.run).map l.visited item
+      → PassesTo env finished (core_in l.initial.run) l.visited item l.fn.from (core_in l.run) l.done;
   noted : IsNoted l.initial.run l.run;
 }
 

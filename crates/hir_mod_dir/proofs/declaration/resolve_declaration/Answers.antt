@@ -7,7 +7,8 @@ use Rattle.hir_mod_dir.proofs.declaration.resolve_declaration.Goals as goal
 pub returns-then-branch-clause-found : goal.returns-then-branch-clause-found
 returns-then-branch-clause-found g c =
     let low : c.candidates.place < length c.args.candidates.now = omega arith in
-    sym (position_found (is_there (g.F.PresentFiles.present c.args.files.now) c.args.file.now) c.args.candidates.now c.candidates.place c.index-candidates-place.result
+    sym (position_found (is_there (g.F.PresentFiles.present c.args.files.now) c.args.file.now) c.args.candidates.now c.candidates.place
+    c.index-candidates-place.result
     low (λ k l. c.candidates.invariant.before k c.index-candidates-place.result l)
     (cc (c.index-candidates-place.is, c.in_ok-asks_for.ensures.value, c.if-branch.true)))
 

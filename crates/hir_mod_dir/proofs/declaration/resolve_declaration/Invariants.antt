@@ -1,6 +1,6 @@
 use Rattle.std.proofs.Common.{◌≡◌, ◌≤◌, ◌<◌, ◌-◌, ◌++◌, ℕ, false, length, drop, get_or}
 use Rattle.hir_mod_dir.specs.Declaration.{asked_files, is_there}
-use Rattle.hir_mod_dir.specs.declared.candidate.Candidate.{Candidate}
+use Rattle.hir_mod_dir.specs.Types.{Candidate}
 use Rattle.hir_mod_dir.proofs.declaration.resolve_declaration.Given as goal
 
 -- the candidates before this place aren't there, and their files were asked for

@@ -1,7 +1,6 @@
 -- What is kept of a block is found by its number.
 use Rattle.std.proofs.Common.{◌∙◌, ap, None, Some, refl}
-use Rattle.hir_base.specs.declared.ids.Crate.{Crate}
-use Rattle.hir_base.specs.declared.ids.MapId.{MapId}
+use Rattle.hir_base.specs.Types.{Crate, MapId}
 use Rattle.hir_session_state.specs.Kept.{kept_in}
 use Rattle.hir_session_state.specs.Standing.{Standing as way}
 use Rattle.hir_session_answers.proofs.Walks.{root_found}
@@ -14,12 +13,16 @@ returns-in_default c = record {
 
 pub returns-in-Some-get : goal.returns-in-Some-get
 returns-in-Some-get c = record {
-  value = ap way.at c.root.ensures.value ∙ root_found c.args.tables.now c.args.kept.now c.args.place.now (Some c.in-Some.number) c.in-Some.ensures.value c.in-Some.ensures.once _
-      (c.in-Some-get.ensures.value ∙ ap (λ (k : Crate). let id : MapId = record { krate = k; block = Some c.in-Some.number } in kept_in c.args.kept.now id) c.krate.ensures.value);
+  value =
+      ap way.at c.root.ensures.value ∙ root_found c.args.tables.now c.args.kept.now c.args.place.now (Some c.in-Some.number) c.in-Some.ensures.value
+      c.in-Some.ensures.once _
+      (c.in-Some-get.ensures.value ∙ ap (λ (k : Crate). let id : MapId = record { krate = k; block = Some c.in-Some.number } in kept_in c.args.kept.now id)
+      c.krate.ensures.value);
 }
 
 pub returns-in-None : goal.returns-in-None
 returns-in-None c = record {
   value = root_found c.args.tables.now c.args.kept.now c.args.place.now (Some c.in-Some.number) c.in-Some.ensures.value c.in-Some.ensures.once None
-      (c.in-None.ensures.value ∙ ap (λ (k : Crate). let id : MapId = record { krate = k; block = Some c.in-Some.number } in kept_in c.args.kept.now id) c.krate.ensures.value);
+      (c.in-None.ensures.value ∙ ap (λ (k : Crate). let id : MapId = record { krate = k; block = Some c.in-Some.number } in kept_in c.args.kept.now id)
+      c.krate.ensures.value);
 }

@@ -1,6 +1,6 @@
 -- An accepted edit is applied; a refused one changes nothing.
 use Rattle.std.proofs.Common.{ap, inl, inr, refl, ◌∙◌, Some}
-use Rattle.hir_session_state.specs.declared.error.EditError.{EditError}
+use Rattle.hir_session_state.specs.Types.{EditError}
 use Rattle.hir_session_state.specs.SessionState.{SessionState}
 use Rattle.hir_session_machine.specs.Machine.{edit_reply}
 use Rattle.hir_session_machine.specs.Machine.Moves.{applies, refuses}
@@ -12,7 +12,8 @@ returns-in-Ok-clause-step c = calls _ _ refl (applies _ refl c.in-Ok.ensures.ans
 
 pub returns-in-Err-clause-step : goal.returns-in-Err-clause-step
 returns-in-Err-clause-step c = elim c.in-Err.ensures.answer [
-  | inl memory ↦ finds_no_memory (c.edit_error_reply.ensures.value ∙ ap (λ (e : EditError). edit_reply e) memory) (ap (λ (s : SessionState). Some s) c.in-Err.ensures.err)
+  | inl memory ↦ finds_no_memory (c.edit_error_reply.ensures.value ∙ ap (λ (e : EditError). edit_reply e) memory)
+      (ap (λ (s : SessionState). Some s) c.in-Err.ensures.err)
   | inr refused ↦ calls _ _ refl (refuses _ _ refl refused c.in-Err.ensures.err c.edit_error_reply.ensures.value) refl
 ]
 

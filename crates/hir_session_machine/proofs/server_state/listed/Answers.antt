@@ -1,7 +1,7 @@
 -- The diagnostics are told, or why there are none; nothing changes.
 use Rattle.std.proofs.Common.{ap, inl, inr, refl, sym, ◌∙◌, List, Result}
-use Rattle.hir_wire.specs.declared.diagnostic.Diagnostic.{Diagnostic}
-use Rattle.hir_session_state.specs.declared.error.DiagnosticsError.{DiagnosticsError}
+use Rattle.hir_wire.specs.Types.{Diagnostic}
+use Rattle.hir_session_state.specs.Types.{DiagnosticsError}
 use Rattle.hir_session_machine.specs.Machine.{diagnostics_reply, diagnostics_error_reply}
 use Rattle.hir_session_machine.specs.Machine.Moves.{lists}
 use Rattle.hir_session_machine.specs.Machine.AnswersCommand.{calls, finds_no_memory}
@@ -16,6 +16,7 @@ pub returns-in-Err : goal.returns-in-Err
 returns-in-Err c = record {
   step = elim c.in-Err.ensures.told [
     | inl memory ↦ finds_no_memory (c.reply_to_diagnostics.ensures.value ∙ ap (λ (e : DiagnosticsError). diagnostics_error_reply e) memory) refl
-    | inr refused ↦ calls _ _ refl (lists _ refl refl (c.reply_to_diagnostics.ensures.value ∙ sym (ap (λ (r : Result (List Diagnostic) DiagnosticsError). diagnostics_reply r) refused))) refl
+    | inr refused ↦ calls _ _ refl (lists _ refl refl
+        (c.reply_to_diagnostics.ensures.value ∙ sym (ap (λ (r : Result (List Diagnostic) DiagnosticsError). diagnostics_reply r) refused))) refl
   ];
 }

@@ -2,14 +2,15 @@
 use Rattle.std.proofs.Common.{refl, ap, List, Err}
 use Rattle.hir_base.specs.Place.{PlaceValue}
 use Rattle.hir_wire.specs.declared.reply.Reply.TheVariants as reply
-use Rattle.hir_session_state.specs.declared.error.RefreshError.{RefreshError}
+use Rattle.hir_session_state.specs.Types.{RefreshError}
 use Rattle.hir_session_state.specs.declared.error.RefreshError.TheVariants.{Memory}
 use Rattle.hir_session_machine.specs.Machine.Moves.{refreshes, refreshes_partly}
 use Rattle.hir_session_machine.specs.Machine.AnswersCommand.{calls}
 use Rattle.hir_session_machine.proofs.server_state.refreshed.Goals as goal
 
 pub returns-in-Ok-clause-step : goal.returns-in-Ok-clause-step
-returns-in-Ok-clause-step c = calls _ _ refl (refreshes c.in-Ok.places.items refl c.in-Ok.ensures.refreshes (ap (λ (ps : List PlaceValue). reply.Places ps) c.new.ensures.value)) refl
+returns-in-Ok-clause-step c =
+    calls _ _ refl (refreshes c.in-Ok.places.items refl c.in-Ok.ensures.refreshes (ap (λ (ps : List PlaceValue). reply.Places ps) c.new.ensures.value)) refl
 
 pub returns-in-Ok-clause-or_memory : goal.returns-in-Ok-clause-or_memory
 returns-in-Ok-clause-or_memory c h = calls _ _ refl (refreshes_partly Memory refl

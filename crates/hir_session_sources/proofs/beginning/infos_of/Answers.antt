@@ -1,6 +1,6 @@
 -- One more crate is made of the next that was handed in.
 use Rattle.std.proofs.Common.{◌<◌, ◌∙◌, List, length, get_or, ap, arith, refl}
-use Rattle.hir_wire.specs.declared.command.CrateInput.{CrateInput}
+use Rattle.hir_wire.specs.Types.{CrateInput}
 use Rattle.hir_session_sources.proofs.Start.{beginning-start, beginning-more, beginning-end}
 use Rattle.hir_session_sources.proofs.beginning.infos_of.Goals as goal
 
@@ -15,4 +15,6 @@ loop-input-preserved c =
     c.in_ok-add_crate.ensures.added c.loop-input.invariant
 
 pub returns-clause-made : goal.returns-clause-made
-returns-clause-made c = beginning-end c.loop-input.input-index c.args.inputs.now.items _ _ _ (omega (arith, c.loop-input-test.false, c.deref-input-items.ensures.len)) c.loop-input.invariant
+returns-clause-made c =
+    beginning-end c.loop-input.input-index c.args.inputs.now.items _ _ _ (omega (arith, c.loop-input-test.false, c.deref-input-items.ensures.len))
+    c.loop-input.invariant

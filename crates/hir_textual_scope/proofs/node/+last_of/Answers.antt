@@ -45,4 +45,7 @@ pub returns-in-Greater : goal.returns-in-Greater
 returns-in-Greater t c =
     let n = c.node.inside in
     let e : macros_under c.args.tree.now ≡ macros_under n.left ++ n.entry ∷ macros_under n.right = grind arith in
-    record { value = last_on_right _ (macros_under n.left) n.entry _ _ _ e c.requires.in_order (sym c.cmp.ensures ∙ c.in-Greater.is) c.last_of-in-Greater.ensures.value }
+    record {
+      value = last_on_right _ (macros_under n.left) n.entry _ _ _ e c.requires.in_order (sym c.cmp.ensures ∙ c.in-Greater.is)
+          c.last_of-in-Greater.ensures.value;
+    }

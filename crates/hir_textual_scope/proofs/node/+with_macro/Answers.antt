@@ -1,5 +1,5 @@
 use Rattle.std.proofs.Common.{◌≡◌, true, false, List, ◌∷◌, ◌++◌, length-append, arith, ap, subst, length, IfOk}
-use Rattle.hir_textual_scope.specs.declared.textual_scope.TextualMacro.{TextualMacro}
+use Rattle.hir_textual_scope.specs.Types.{TextualMacro}
 use Rattle.hir_textual_scope.specs.Node.{macros_under}
 use Rattle.hir_textual_scope.specs.Macros.{is_before, IsInOrder}
 use Rattle.hir_textual_scope.proofs.NameOrder.{IsInOrder-left, IsInOrder-right}
@@ -27,7 +27,8 @@ returns-in_ok-share t c =
     let n = c.node.inside in
     let e : macros_under c.args.tree.now ≡ macros_under n.left ++ n.entry ∷ macros_under n.right = grind arith in
     let before : is_before c.args.new.name n.entry.name ≡ true = cc in
-    let all = taken_on_left _ _ n.entry (macros_under n.right) c.args.new.name c.args.new.makro _ c.in_ok-clone.field-0 _ e before c.in_ok-left.ensures.ok c.in_ok-clone.ensures.value c.in_ok-share.ensures.ok in
+    let all = taken_on_left _ _ n.entry (macros_under n.right) c.args.new.name c.args.new.makro _ c.in_ok-clone.field-0 _ e before c.in_ok-left.ensures.ok
+    c.in_ok-clone.ensures.value c.in_ok-share.ensures.ok in
     record { ok = subst (λ (xs : List TextualMacro). IfOk c.balanced.result (λ node. node.value ≡ xs)) all c.balanced.ensures.ok }
 
 pub returns-in_ok-clone-2 : goal.returns-in_ok-clone-2
@@ -35,5 +36,6 @@ returns-in_ok-clone-2 t c =
     let n = c.node.inside in
     let e : macros_under c.args.tree.now ≡ macros_under n.left ++ n.entry ∷ macros_under n.right = grind arith in
     let not_before : is_before c.args.new.name n.entry.name ≡ false = cc in
-    let all = taken_on_right _ (macros_under n.left) n.entry _ c.args.new.name c.args.new.makro _ c.in_ok-clone-2.field-0 _ e not_before c.requires.in_order c.in_ok-share-2.ensures.ok c.in_ok-clone-2.ensures.value c.in_ok-right.ensures.ok in
+    let all = taken_on_right _ (macros_under n.left) n.entry _ c.args.new.name c.args.new.makro _ c.in_ok-clone-2.field-0 _ e not_before c.requires.in_order
+    c.in_ok-share-2.ensures.ok c.in_ok-clone-2.ensures.value c.in_ok-right.ensures.ok in
     record { ok = subst (λ (xs : List TextualMacro). IfOk c.balanced-else-lt.result (λ node. node.value ≡ xs)) all c.balanced-else-lt.ensures.ok }

@@ -10,7 +10,10 @@ returns-then-not-same_at c =
     let ns = macros_under c.args.other.now in
     let within : c.loop-i.i < length ms = omega (arith, c.len-count.ensures.value) in
     let differs : c.same_at.result ≡ false = grind arith in
-    record { value = sym (differs_here macro_impl.ghosts.eq ms ns c.loop-i.invariant.long c.loop-i.i within (sym c.same_at.ensures.value ∙ differs) c.loop-i.invariant.rest) }
+    record {
+      value = sym (differs_here macro_impl.ghosts.eq ms ns c.loop-i.invariant.long c.loop-i.i within (sym c.same_at.ensures.value ∙ differs)
+          c.loop-i.invariant.rest);
+    }
 
 pub loop-i-preserved : goal.loop-i-preserved
 loop-i-preserved c =

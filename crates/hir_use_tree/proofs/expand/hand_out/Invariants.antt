@@ -7,7 +7,8 @@ abbrev pub invariant-loop-levels : goal.invariant-loop-levels
 invariant-loop-levels g l = record {
   callable : goal.F-IsAlwaysCallable g l.cb;
   ok : (last : _) → HandsOut (goal.F-step g) l.cb (pending l.levels.items) last → HandsOut (goal.F-step g) l.initial.cb (pending l.initial.levels.items) last;
-  err : (last : _) → HandsOutPartly (goal.F-step g) l.cb (pending l.levels.items) last → HandsOutPartly (goal.F-step g) l.initial.cb (pending l.initial.levels.items) last;
+  err : (last : _) → HandsOutPartly (goal.F-step g) l.cb (pending l.levels.items) last → HandsOutPartly (goal.F-step g) l.initial.cb
+      (pending l.initial.levels.items) last;
 }
 
 abbrev pub decreases-loop-levels : goal.decreases-loop-levels

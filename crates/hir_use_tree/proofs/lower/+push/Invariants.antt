@@ -6,4 +6,5 @@ use Rattle.hir_use_tree.proofs.lower.+push.Given as goal
 -- the parts so far, with those of the trees that are left, are all
 abbrev pub invariant-push_all_parts-loop-tree : goal.invariant-push_all_parts-loop-tree
 invariant-push_all_parts-loop-tree l =
-    trees_at l.out.items ++ all_parts (use_trees_view (drop l.tree-index l.tree-items)) ≡ trees_at l.initial.out.items ++ all_parts (use_trees_view l.tree-items)
+    trees_at l.out.items ++ all_parts (use_trees_view (drop l.tree-index l.tree-items)) ≡ trees_at l.initial.out.items ++ all_parts
+    (use_trees_view l.tree-items)

@@ -9,5 +9,7 @@ returns c =
     let old : CallQueue = c.args.self.now in
     let new : CallQueue = record old { worklist = c.wake_all.new.worklist; watchers = c.new.result } in
     record {
-      woken = woken_all c.args.changed.now old new (record { apart = refl; pass = c.in_ok-wake_all.ensures.pass; queued = c.in_ok-wake_all.ensures.queued }) c.in_ok-wake_all.ensures.none;
+      woken =
+          woken_all c.args.changed.now old new (record { apart = refl; pass = c.in_ok-wake_all.ensures.pass; queued = c.in_ok-wake_all.ensures.queued })
+          c.in_ok-wake_all.ensures.none;
     }

@@ -1,7 +1,7 @@
 -- What is bound explicitly no glob has brought, and its slot is noted.
 use Rattle.std.proofs.Common.{◌≡◌, ◌∙◌, ℕ, List, None, ap, refl, subst}
 use Rattle.hir_scope.specs.Globs.{GlobNames}
-use Rattle.hir_scope.specs.declared.per_ns.PerNs.{PerNs}
+use Rattle.hir_scope.specs.Types.{PerNs}
 use Rattle.hir_call_queue.specs.Changes.{ChangedValue}
 use Rattle.hir_def_map_rules.specs.State.{Map, globs_after, pushed}
 use Rattle.hir_glob_imports.specs.Waves.{GlobsValue, brought_of}
@@ -14,7 +14,8 @@ use Rattle.hir_collector_state.proofs.def_collector.DefCollector.bind.Goals as g
 
 bound_after : (r : Run) (map : Map) (names : GlobNames) (globs : GlobsValue) (changed : ChangedValue) (home : ℕ) (name : List ℕ) (items : PerNs)
     → map ≡ pushed r.map r.names home name items None → names ≡ globs_after r.map r.names home name items None → globs.edges ≡ r.globs.edges
-    → brought_of globs ≡ forgotten home name items (brought_of r.globs) → core_in (record r { map = map; names = names; globs = globs; changed = changed }) ≡ with_bound (core_in r) home name items
+    → brought_of globs ≡ forgotten home name items (brought_of r.globs) → core_in (record r { map = map; names = names; globs = globs; changed = changed })
+    ≡ with_bound (core_in r) home name items
 unfolding core_in
 bound_after r map names globs changed home name items in_map in_names edges brought = λ i. record {
   map = in_map i;
@@ -39,11 +40,13 @@ returns c =
     let after : Run = record before { map = c.push.new.self; names = c.push.new.glob_imports; globs = c.forget.new.globs; changed = c.add.new.self } in
     record {
       ok =
-          bound_after before c.push.new.self c.push.new.glob_imports c.forget.new.globs c.add.new.self c.args.home c.args.name c.args.items c.in_ok-push.ensures.ok c.in_ok-push.ensures.globs
+          bound_after before c.push.new.self c.push.new.glob_imports c.forget.new.globs c.add.new.self c.args.home c.args.name c.args.items
+          c.in_ok-push.ensures.ok c.in_ok-push.ensures.globs
           c.in_ok-forget.ensures.edges c.in_ok-forget.ensures.brought
           ∙ ap (λ (r : Run). with_bound (core_in r) c.args.home c.args.name c.args.items) c.self.view_is;
       noted =
           subst (λ (r : Run). IsNoted r after) c.self.view_is
-          (noted_push before after c.args.home c.args.name c.args.items c.in_ok-push.ensures.ok refl c.in_ok-add.ensures.ok c.in_ok-forget.ensures.edges c.in_ok-forget.ensures.brought
+          (noted_push before after c.args.home c.args.name c.args.items c.in_ok-push.ensures.ok refl c.in_ok-add.ensures.ok c.in_ok-forget.ensures.edges
+          c.in_ok-forget.ensures.brought
           c.in_ok-forget.ensures.kept refl refl);
     }

@@ -18,8 +18,10 @@ returns-clause-ok c =
     let kept = c.set_bit.auto.words in
     let lent : length c.as_mut_slice.result.now ≡ length c.lengthen.new.words.items = ap length c.as_mut_slice.ensures.value in
     let own = c.lengthen.new.words.ok.0 in
-    let written : (with_items c.lengthen.new.words c.set_bit.new.words).items ≡ c.set_bit.new.words = with_items_is c.lengthen.new.words c.set_bit.new.words (omega arith) in
-    rw (← c.self.view_is) (Gains-members c.self.inside.words.items (with_items c.lengthen.new.words c.set_bit.new.words).items (λ n. nat_eq n c.args.krate.0) (λ n.
+    let written : (with_items c.lengthen.new.words c.set_bit.new.words).items ≡ c.set_bit.new.words = with_items_is c.lengthen.new.words c.set_bit.new.words
+    (omega arith) in
+    rw (← c.self.view_is) (Gains-members c.self.inside.words.items (with_items c.lengthen.new.words c.set_bit.new.words).items (λ n. nat_eq n c.args.krate.0)
+    (λ n.
     ap (λ (ws : List ℕ). has_bit ws n) written ∙ c.set_bit.ensures.value n
     ∙ ap (λ (b : Bool). b || nat_eq n c.args.krate.0) (ap (λ (ws : List ℕ). has_bit ws n) c.as_mut_slice.ensures.value ∙ c.lengthen.ensures.same n)))
 

@@ -18,8 +18,10 @@ returns-clause-ok c =
     let kept = c.set_all.auto.words in
     let lent : length c.as_mut_slice.result.now ≡ length c.lengthen.new.words.items = ap length c.as_mut_slice.ensures.value in
     let own = c.lengthen.new.words.ok.0 in
-    let written : (with_items c.lengthen.new.words c.set_all.new.words).items ≡ c.set_all.new.words = with_items_is c.lengthen.new.words c.set_all.new.words (omega arith) in
-    rw (← c.self.view_is, ← c.other.view_is) (Gains-union c.self.inside.words.items (with_items c.lengthen.new.words c.set_all.new.words).items c.other.inside.words.items (λ n.
+    let written : (with_items c.lengthen.new.words c.set_all.new.words).items ≡ c.set_all.new.words = with_items_is c.lengthen.new.words c.set_all.new.words
+    (omega arith) in
+    rw (← c.self.view_is, ← c.other.view_is) (Gains-union c.self.inside.words.items (with_items c.lengthen.new.words c.set_all.new.words).items
+    c.other.inside.words.items (λ n.
     ap (λ (ws : List ℕ). has_bit ws n) written ∙ c.set_all.ensures.value n
     ∙ ap₂ (λ (a b : Bool). a || b) (ap (λ (ws : List ℕ). has_bit ws n) c.as_mut_slice.ensures.value ∙ c.lengthen.ensures.same n)
     (ap (λ (ws : List ℕ). has_bit ws n) c.as_slice.ensures.value)))

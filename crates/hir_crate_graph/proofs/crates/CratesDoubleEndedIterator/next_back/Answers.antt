@@ -8,12 +8,15 @@ use Rattle.hir_crate_graph.proofs.crates.CratesDoubleEndedIterator.next_back.Goa
 pub returns-in-Some-clause-steps : goal.returns-in-Some-clause-steps
 returns-in-Some-clause-steps c =
     let is = c.in-Some.ensures.value in
-    sym c.self.view_is ∙ last_of_crates (has_bit c.self.inside.words.now) c.self.inside.from c.self.inside.to c.in-Some.found is.from_on is.below is.is_set is.others
+    sym c.self.view_is ∙ last_of_crates (has_bit c.self.inside.words.now) c.self.inside.from c.self.inside.to c.in-Some.found is.from_on is.below is.is_set
+    is.others
 
 pub returns-in-Some-clause-goes : goal.returns-in-Some-clause-goes
 returns-in-Some-clause-goes c =
     let is = c.in-Some.ensures.value in
-    let gives : c.args.self.now ≡ crates_from (has_bit c.self.inside.words.now) c.self.inside.from (c.in-Some.found - c.self.inside.from) ++ crate_of c.in-Some.found ∷ [] = sym c.self.view_is ∙ last_of_crates (has_bit c.self.inside.words.now) c.self.inside.from c.self.inside.to c.in-Some.found is.from_on is.below is.is_set is.others in
+    let gives : c.args.self.now ≡ crates_from (has_bit c.self.inside.words.now) c.self.inside.from (c.in-Some.found - c.self.inside.from) ++ crate_of
+    c.in-Some.found ∷ [] = sym c.self.view_is ∙ last_of_crates (has_bit c.self.inside.words.now) c.self.inside.from c.self.inside.to c.in-Some.found is.from_on
+    is.below is.is_set is.others in
     let front = crates_from (has_bit c.self.inside.words.now) c.self.inside.from (c.in-Some.found - c.self.inside.from) in
     let longer = ap length gives ∙ length_one_more front (crate_of c.in-Some.found) in
     record { on = λ finite. (search rules, search rules, omega arith); keeps = search rules; rests = search rules }

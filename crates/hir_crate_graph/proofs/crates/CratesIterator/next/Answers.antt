@@ -8,12 +8,15 @@ use Rattle.hir_crate_graph.proofs.crates.CratesIterator.next.Goals as goal
 pub returns-in-Some-clause-steps : goal.returns-in-Some-clause-steps
 returns-in-Some-clause-steps c =
     let is = c.in-Some.ensures.value in
-    sym c.self.view_is ∙ first_of_crates (has_bit c.self.inside.words.now) c.self.inside.from c.self.inside.to c.in-Some.found is.from_on is.below is.is_set is.others
+    sym c.self.view_is ∙ first_of_crates (has_bit c.self.inside.words.now) c.self.inside.from c.self.inside.to c.in-Some.found is.from_on is.below is.is_set
+    is.others
 
 pub returns-in-Some-clause-goes : goal.returns-in-Some-clause-goes
 returns-in-Some-clause-goes c =
     let is = c.in-Some.ensures.value in
-    let gives : c.args.self.now ≡ crate_of c.in-Some.found ∷ crates_from (has_bit c.self.inside.words.now) (c.in-Some.found + 1) (c.self.inside.to - (c.in-Some.found + 1)) = sym c.self.view_is ∙ first_of_crates (has_bit c.self.inside.words.now) c.self.inside.from c.self.inside.to c.in-Some.found is.from_on is.below is.is_set is.others in
+    let gives : c.args.self.now ≡ crate_of c.in-Some.found ∷ crates_from (has_bit c.self.inside.words.now) (c.in-Some.found + 1)
+    (c.self.inside.to - (c.in-Some.found + 1)) = sym c.self.view_is ∙ first_of_crates (has_bit c.self.inside.words.now) c.self.inside.from c.self.inside.to
+    c.in-Some.found is.from_on is.below is.is_set is.others in
     let longer = ap length gives in
     record { on = λ finite. (search rules, search rules, omega arith); keeps = search rules; rests = search rules }
 

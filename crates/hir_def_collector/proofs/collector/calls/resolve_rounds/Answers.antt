@@ -1,6 +1,6 @@
 -- Turns, one after another, until nothing that waits leads anywhere and no attribute waits, or there were too many rounds.
 use Rattle.std.proofs.Common.{rules, ◌≡◌, ◌∙◌, ◌<◌, ap, length, refl, subst, sym, false, arith}
-use Rattle.hir_base.specs.declared.ids.MapId.{MapId}
+use Rattle.hir_base.specs.Types.{MapId}
 use Rattle.hir_tables.proofs.Growth.{KeepsTables-trans}
 use Rattle.hir_def_map_rules.specs.Overlay.{Maps}
 use Rattle.hir_def_map.specs.WorldParts.{part_of}
@@ -37,10 +37,13 @@ rounds-init g c = record {
   ready = c.requires.ready;
   own = refl;
   apart = c.new-queue.ensures.apart;
-  stale = stale_now (part_of c.args.world) c.new-queue.result c.args.run (up_to_date_first (part_of c.args.world) c.new-queue.result (core_in c.args.run) c.new-queue.ensures.none);
+  stale =
+      stale_now (part_of c.args.world) c.new-queue.result c.args.run (up_to_date_first (part_of c.args.world) c.new-queue.result (core_in c.args.run)
+      c.new-queue.ensures.none);
   between = record { over = ap (λ (q : Queue). q.current) c.new-queue.ensures.none; outside = ap (λ (q : Queue). q.end) c.new-queue.ensures.none };
   imports = λ lasting. absurd (let none : is_lasting c.none-imports.result ≡ false = c.none-imports.ensures.value in let no : ⊥ = cc in no);
-  behind = behind_first (part_of c.args.world) c.none-imports.result (joined c.everything-grown.result c.args.run.changed) c.args.run c.none-imports.ensures.value;
+  behind =
+      behind_first (part_of c.args.world) c.none-imports.result (joined c.everything-grown.result c.args.run.changed) c.args.run c.none-imports.ensures.value;
   rounds = λ grown k. record { last = at_rest (core_in c.args.run); rounds = rounds.none (at_rest (core_in c.args.run)) steps.none; after = steps.none };
   first = record { inside = omega arith; none = λ j w. omega arith };
 }
@@ -58,8 +61,10 @@ returns-in_err-next-clause-many g c = λ h grown k.
     let w = g.D.SourceDatabase.workspace c.args.db.now in
     let later = c.take_turn.new.locations in
     let far : OnceGrown later w (λ env. IsSpent env (part_of c.args.world) (at_rest (core_in c.rounds.run))) =
-    subst (λ (v : Workspace). OnceGrown later v (λ env. IsSpent env (part_of c.args.world) (at_rest (core_in c.rounds.run)))) c.rounds.invariant.same (c.in_err-next.ensures.many (search rules)) in
-    spent_after (has_rounds_steps (environment grown w) (part_of c.args.world) (core_in c.args.run) (at_rest (core_in c.rounds.run)) c.rounds.rounds (c.rounds.invariant.rounds grown (KeepsTables-trans c.rounds.locations later grown c.in_err-next.ensures.kept k))) (far grown k)
+    subst (λ (v : Workspace). OnceGrown later v (λ env. IsSpent env (part_of c.args.world) (at_rest (core_in c.rounds.run)))) c.rounds.invariant.same
+    (c.in_err-next.ensures.many (search rules)) in
+    spent_after (has_rounds_steps (environment grown w) (part_of c.args.world) (core_in c.args.run) (at_rest (core_in c.rounds.run)) c.rounds.rounds
+    (c.rounds.invariant.rounds grown (KeepsTables-trans c.rounds.locations later grown c.in_err-next.ensures.kept k))) (far grown k)
 
 -- ---- behind a turn
 
@@ -76,7 +81,8 @@ rounds-preserved-in-Round g c =
     subst (λ (v : Workspace). OnceGrown later v (λ env. Steps env part (at_rest now) (at_rest new))) c.rounds.invariant.same c.in_ok-next.ensures.ok in
     let turned : OnceGrown later w (λ env. EndsInRound env part now new c.rounds.first) =
     subst (λ (v : Workspace). OnceGrown later v (λ env. EndsInRound env part now new c.rounds.first)) c.rounds.invariant.same
-    (subst (λ (t : Turn). OnceGrown later (g.D.SourceDatabase.workspace c.rounds.db) (λ env. TakesTurn env part now new c.rounds.first t)) c.in-Round.is c.in_ok-next.ensures.turned) in
+    (subst (λ (t : Turn). OnceGrown later (g.D.SourceDatabase.workspace c.rounds.db) (λ env. TakesTurn env part now new c.rounds.first t)) c.in-Round.is
+    c.in_ok-next.ensures.turned) in
     let here : Steps (environment later w) part (at_rest now) (at_rest new) = step later (tables_stay later) in
     record {
       kept = KeepsTables-trans c.args.locations.now c.rounds.locations later c.rounds.invariant.kept kept;
@@ -108,7 +114,8 @@ rounds-preserved g c =
     subst (λ (v : Workspace). OnceGrown later v (λ env. Steps env part (at_rest now) (at_rest new))) c.rounds.invariant.same c.in_ok-next.ensures.ok in
     let turned : OnceGrown later w (λ env. NoneWaitsBefore new c.in-GaveUp.behind) =
     subst (λ (v : Workspace). OnceGrown later v (λ env. NoneWaitsBefore new c.in-GaveUp.behind)) c.rounds.invariant.same
-    (subst (λ (t : Turn). OnceGrown later (g.D.SourceDatabase.workspace c.rounds.db) (λ env. TakesTurn env part now new c.rounds.first t)) c.in-GaveUp.is c.in_ok-next.ensures.turned) in
+    (subst (λ (t : Turn). OnceGrown later (g.D.SourceDatabase.workspace c.rounds.db) (λ env. TakesTurn env part now new c.rounds.first t)) c.in-GaveUp.is
+    c.in_ok-next.ensures.turned) in
     let here : Steps (environment later w) part (at_rest now) (at_rest new) = step later (tables_stay later) in
     record {
       kept = KeepsTables-trans c.args.locations.now c.rounds.locations later c.rounds.invariant.kept kept;
@@ -130,12 +137,14 @@ rounds-preserved g c =
 -- the measure: steps are counted in each turn that isn't the last, and no more than may be
 pub rounds-smaller : goal.rounds-smaller
 rounds-smaller g c =
-    let on : CountsOn (core_in c.rounds.run) (core_in c.in_ok-next.next) (GaveUp c.in-GaveUp.behind) = subst (CountsOn (core_in c.rounds.run) (core_in c.in_ok-next.next)) c.in-GaveUp.is c.in_ok-next.ensures.counts in
+    let on : CountsOn (core_in c.rounds.run) (core_in c.in_ok-next.next) (GaveUp c.in-GaveUp.behind) = subst
+    (CountsOn (core_in c.rounds.run) (core_in c.in_ok-next.next)) c.in-GaveUp.is c.in_ok-next.ensures.counts in
     omega (arith, on, c.count-is_counted.ensures.value, c.count-is_counted.ensures.small)
 
 pub rounds-smaller-in-Round : goal.rounds-smaller-in-Round
 rounds-smaller-in-Round g c =
-    let on : CountsOn (core_in c.rounds.run) (core_in c.in_ok-next.next) Round = subst (CountsOn (core_in c.rounds.run) (core_in c.in_ok-next.next)) c.in-Round.is c.in_ok-next.ensures.counts in
+    let on : CountsOn (core_in c.rounds.run) (core_in c.in_ok-next.next) Round = subst (CountsOn (core_in c.rounds.run) (core_in c.in_ok-next.next))
+    c.in-Round.is c.in_ok-next.ensures.counts in
     omega (arith, on, c.count-is_counted.ensures.value, c.count-is_counted.ensures.small)
 
 -- ---- nothing leads anywhere
@@ -150,8 +159,10 @@ returns-in-Rests-clause-ok g c = λ grown k.
     let part = part_of c.args.world in
     let later = c.take_turn.new.locations in
     let step : OnceGrown later w (λ env. Steps env part (at_rest (core_in c.rounds.run)) (at_rest (core_in c.in_ok-next.next))) =
-    subst (λ (v : Workspace). OnceGrown later v (λ env. Steps env part (at_rest (core_in c.rounds.run)) (at_rest (core_in c.in_ok-next.next)))) c.rounds.invariant.same c.in_ok-next.ensures.ok in
-    Steps-append (has_rounds_steps (environment grown w) part (core_in c.args.run) (at_rest (core_in c.rounds.run)) c.rounds.rounds (c.rounds.invariant.rounds grown (KeepsTables-trans c.rounds.locations later grown c.in_ok-next.ensures.kept k))) (step grown k)
+    subst (λ (v : Workspace). OnceGrown later v (λ env. Steps env part (at_rest (core_in c.rounds.run)) (at_rest (core_in c.in_ok-next.next))))
+    c.rounds.invariant.same c.in_ok-next.ensures.ok in
+    Steps-append (has_rounds_steps (environment grown w) part (core_in c.args.run) (at_rest (core_in c.rounds.run)) c.rounds.rounds
+    (c.rounds.invariant.rounds grown (KeepsTables-trans c.rounds.locations later grown c.in_ok-next.ensures.kept k))) (step grown k)
 
 -- where a run rests doesn't say where it began
 rests_from : (env : Environment) (finished : Maps) (began old new : Core) → ComesToRest env finished old new false → ComesToRest env finished began new false
@@ -164,18 +175,23 @@ returns-in-Rests-clause-rests g c = λ grown k.
     let later = c.take_turn.new.locations in
     let turned : OnceGrown later w (λ env. ComesToRest env part (core_in c.rounds.run) (core_in c.in_ok-next.next) false) =
     subst (λ (v : Workspace). OnceGrown later v (λ env. ComesToRest env part (core_in c.rounds.run) (core_in c.in_ok-next.next) false)) c.rounds.invariant.same
-    (subst (λ (t : Turn). OnceGrown later (g.D.SourceDatabase.workspace c.rounds.db) (λ env. TakesTurn env part (core_in c.rounds.run) (core_in c.in_ok-next.next) c.rounds.first t)) c.in-Rests.is c.in_ok-next.ensures.turned) in
+    (subst (λ (t : Turn). OnceGrown later (g.D.SourceDatabase.workspace c.rounds.db)
+    (λ env. TakesTurn env part (core_in c.rounds.run) (core_in c.in_ok-next.next) c.rounds.first t)) c.in-Rests.is c.in_ok-next.ensures.turned) in
     rests_from (environment grown w) part (core_in c.args.run) (core_in c.rounds.run) (core_in c.in_ok-next.next) (turned grown k)
 
 -- ---- there were too many rounds
 
 pub returns-in_err-run-clause-many : goal.returns-in_err-run-clause-many
 returns-in_err-run-clause-many g c = λ h grown k.
-    spent_after (has_rounds_steps (environment grown (g.D.SourceDatabase.workspace c.args.db.now)) (part_of c.args.world) (core_in c.args.run) (at_rest (core_in c.rounds.run)) c.rounds.rounds (c.rounds.invariant.rounds grown k)) (c.in_err-run.ensures.many (search rules) (environment grown (g.D.SourceDatabase.workspace c.args.db.now)))
+    spent_after (has_rounds_steps (environment grown (g.D.SourceDatabase.workspace c.args.db.now)) (part_of c.args.world) (core_in c.args.run)
+    (at_rest (core_in c.rounds.run)) c.rounds.rounds (c.rounds.invariant.rounds grown k))
+    (c.in_err-run.ensures.many (search rules) (environment grown (g.D.SourceDatabase.workspace c.args.db.now)))
 
 pub returns-clause-ok : goal.returns-clause-ok
 returns-clause-ok g c = λ grown k.
-    Steps-append (has_rounds_steps (environment grown (g.D.SourceDatabase.workspace c.args.db.now)) (part_of c.args.world) (core_in c.args.run) (at_rest (core_in c.rounds.run)) c.rounds.rounds (c.rounds.invariant.rounds grown k)) (c.in_ok-run.ensures.ok (environment grown (g.D.SourceDatabase.workspace c.args.db.now)))
+    Steps-append (has_rounds_steps (environment grown (g.D.SourceDatabase.workspace c.args.db.now)) (part_of c.args.world) (core_in c.args.run)
+    (at_rest (core_in c.rounds.run)) c.rounds.rounds (c.rounds.invariant.rounds grown k))
+    (c.in_ok-run.ensures.ok (environment grown (g.D.SourceDatabase.workspace c.args.db.now)))
 
 pub returns-clause-rests : goal.returns-clause-rests
 returns-clause-rests g c = λ grown k.

@@ -25,7 +25,8 @@ invariant-rounds g l = record {
   between : IsBetweenPasses l.queue;
   imports : is_lasting l.imports ≡ true → are_apart l.imports ≡ l.apart;
   behind : IsBehind (part_of l.world) l.imports (joined l.grown l.run.changed) l.run;
-  rounds : OnceGrown l.locations (g.D.SourceDatabase.workspace l.initial.db) (λ env. HasRounds env (part_of l.world) (at_rest (core_in l.initial.run)) (at_rest (core_in l.run)) l.rounds);
+  rounds : OnceGrown l.locations (g.D.SourceDatabase.workspace l.initial.db) (λ env. HasRounds env (part_of l.world) (at_rest (core_in l.initial.run))
+      (at_rest (core_in l.run)) l.rounds);
   first : NoneWaitsBefore (core_in l.run) l.first;
 }
 

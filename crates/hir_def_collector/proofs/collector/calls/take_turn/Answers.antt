@@ -1,7 +1,7 @@
 -- One turn: imports rest, what is queued is tried, and where nothing was handled the first attribute that waits is given up.
 use Rattle.std.proofs.lemmas.Result.{err_from_is_err_and}
 use Rattle.std.proofs.Common.{Err, ◌≡◌, ◌∙◌, ◌<◌, None, Some, ap, false, length, subst, sym, true, arith}
-use Rattle.hir_base.specs.declared.ids.MapId.{MapId}
+use Rattle.hir_base.specs.Types.{MapId}
 use Rattle.hir_tables.proofs.Growth.{KeepsTables-trans}
 use Rattle.hir_def_map.specs.WorldParts.{part_of}
 use Rattle.hir_import_resolution.specs.Inner.State.{IsApart}
@@ -35,24 +35,28 @@ settle-requires-clause-apart g c = λ yes. c.requires.apart yes (core_in c.args.
 pub settle-requires-clause-resumable : goal.settle-requires-clause-resumable
 settle-requires-clause-resumable g c =
     let part = part_of c.args.world in
-    let all : c.append.new.self ≡ joined c.args.grown.now c.args.run.changed = c.in_ok-append.ensures.ok ∙ ap (joined c.args.grown.now) c.changed.ensures.value in
+    let all : c.append.new.self ≡ joined c.args.grown.now c.args.run.changed = c.in_ok-append.ensures.ok ∙ ap (joined c.args.grown.now) c.changed.ensures.value
+    in
     resumable_behind part c.args.imports c.append.new.self c.args.run c.args.apart c.requires.imports c.requires.apart
     (subst (λ (x : ChangedValue). IsBehind part c.args.imports x c.args.run) (sym all) c.requires.behind)
 
 pub settle-requires-clause-globs : goal.settle-requires-clause-globs
 settle-requires-clause-globs g c = λ lasting some.
-    let all : c.append.new.self ≡ joined c.args.grown.now c.args.run.changed = c.in_ok-append.ensures.ok ∙ ap (joined c.args.grown.now) c.changed.ensures.value in
+    let all : c.append.new.self ≡ joined c.args.grown.now c.args.run.changed = c.in_ok-append.ensures.ok ∙ ap (joined c.args.grown.now) c.changed.ensures.value
+    in
     (c.requires.behind lasting (ap (λ (x : ChangedValue). x.all) (sym all) ∙ some)).globs
 
 pub requeue-requires-clause-apart : goal.requeue-requires-clause-apart
 requeue-requires-clause-apart g c = λ yes local.
     let here = environment c.args.locations.now (g.D.SourceDatabase.workspace c.args.db.now) in
-    subst (λ (own : MapId). IsApart (part_of c.args.world) own local) (sym (id-Steps (c.in_ok-run.ensures.ok here))) (c.requires.apart (sym c.requires.queue ∙ yes) local)
+    subst (λ (own : MapId). IsApart (part_of c.args.world) own local) (sym (id-Steps (c.in_ok-run.ensures.ok here)))
+    (c.requires.apart (sym c.requires.queue ∙ yes) local)
 
 pub requeue-requires-clause-stale : goal.requeue-requires-clause-stale
 requeue-requires-clause-stale g c =
     stale_later (part_of c.args.world) c.args.queue.now c.args.run c.in_ok-run.run' c.requires.stale c.in_ok-run.ensures.noted
-    (keeps_waiting (core_in c.args.run) (core_in c.in_ok-run.run') (c.in_ok-run.ensures.ok (environment c.args.locations.now (g.D.SourceDatabase.workspace c.args.db.now))) c.requires.ready.fated)
+    (keeps_waiting (core_in c.args.run) (core_in c.in_ok-run.run')
+    (c.in_ok-run.ensures.ok (environment c.args.locations.now (g.D.SourceDatabase.workspace c.args.db.now))) c.requires.ready.fated)
 
 pub requeue-requires-clause-settled : goal.requeue-requires-clause-settled
 requeue-requires-clause-settled g c = c.in_ok-run.ensures.settled
@@ -68,7 +72,8 @@ try_calls-requires-clause-settled g c = subst (λ (core : Core). core.settled �
 pub try_calls-requires-clause-apart : goal.try_calls-requires-clause-apart
 try_calls-requires-clause-apart g c = λ yes local.
     let here = environment c.args.locations.now (g.D.SourceDatabase.workspace c.args.db.now) in
-    subst (λ (own : MapId). IsApart (part_of c.args.world) own local) (sym (ap (λ (core : Core). core.map.id) c.requeue.ensures.same ∙ id-Steps (c.in_ok-run.ensures.ok here)))
+    subst (λ (own : MapId). IsApart (part_of c.args.world) own local)
+    (sym (ap (λ (core : Core). core.map.id) c.requeue.ensures.same ∙ id-Steps (c.in_ok-run.ensures.ok here)))
     (c.requires.apart (sym c.requires.queue ∙ sym c.in_ok-requeue.ensures.queue ∙ yes) local)
 
 pub returns-in_err-try_calls-clause-many : goal.returns-in_err-try_calls-clause-many
@@ -78,7 +83,8 @@ returns-in_err-try_calls-clause-many g c = λ h grown k.
     let same : c.in_err-try_calls.field-0.0 ≡ TooMany = sym p.2 ∙ many in
     let env = environment grown (g.D.SourceDatabase.workspace c.args.db.now) in
     let part = part_of c.args.world in
-    spent_after (settles_requeued env part (core_in c.args.run) (core_in c.in_ok-run.run') (core_in c.requeue.new.run) c.requeue.ensures.same (c.in_ok-run.ensures.ok env))
+    spent_after (settles_requeued env part (core_in c.args.run) (core_in c.in_ok-run.run') (core_in c.requeue.new.run) c.requeue.ensures.same
+    (c.in_ok-run.ensures.ok env))
     (c.in_err-try_calls.ensures.many (λ i. Err (same i)) grown k)
 
 -- ---- something was handled
@@ -86,7 +92,8 @@ returns-in_err-try_calls-clause-many g c = λ h grown k.
 pub returns-then-branch-clause-ok : goal.returns-then-branch-clause-ok
 returns-then-branch-clause-ok g c = λ grown k.
     let env = environment grown (g.D.SourceDatabase.workspace c.args.db.now) in
-    Steps-append (settles_requeued env (part_of c.args.world) (core_in c.args.run) (core_in c.in_ok-run.run') (core_in c.requeue.new.run) c.requeue.ensures.same (c.in_ok-run.ensures.ok env)) (c.in_ok-try_calls.ensures.ok grown k)
+    Steps-append (settles_requeued env (part_of c.args.world) (core_in c.args.run) (core_in c.in_ok-run.run') (core_in c.requeue.new.run) c.requeue.ensures.same
+    (c.in_ok-run.ensures.ok env)) (c.in_ok-try_calls.ensures.ok grown k)
 
 pub returns-then-branch-clause-queue : goal.returns-then-branch-clause-queue
 returns-then-branch-clause-queue g c = c.in_ok-try_calls.ensures.queue ∙ c.in_ok-requeue.ensures.queue
@@ -98,7 +105,8 @@ pub returns-then-branch-clause-behind : goal.returns-then-branch-clause-behind
 returns-then-branch-clause-behind g c =
     let here = environment c.args.locations.now (g.D.SourceDatabase.workspace c.args.db.now) in
     let part = part_of c.args.world in
-    behind_tried part c.in_ok-run.imports c.clear.new.self c.try_calls.new.grown (core_in c.in_ok-run.run') c.requeue.new.run c.try_calls.new.run c.requeue.ensures.same
+    behind_tried part c.in_ok-run.imports c.clear.new.self c.try_calls.new.grown (core_in c.in_ok-run.run') c.requeue.new.run c.try_calls.new.run
+    c.requeue.ensures.same
     (c.in_ok-run.ensures.behind (ready_after (c.in_ok-run.ensures.ok here) c.requires.ready).paired) c.in_ok-try_calls.ensures.gathered
 
 -- what was handled doesn't wait any more, so steps were taken
@@ -109,8 +117,10 @@ returns-then-branch-clause-counts g c =
     let settled = core_in c.requeue.new.run in
     let new = core_in c.try_calls.new.run in
     let same : settled.count ≡ (core_in c.in_ok-run.run').count = ap (λ (core : Core). core.count) c.requeue.ensures.same in
-    let round = of_round env (part_of c.args.world) (core_in c.args.run) settled new c.in_ok-try_calls.field-0 c.if-branch.true (c.in_ok-try_calls.ensures.tried later (tables_stay later)) in
-    let on : settled.count < new.count = counts_on (c.in_ok-try_calls.ensures.ok later (tables_stay later)) (rises_on (at_rest settled) (at_rest new) round.rises) in
+    let round = of_round env (part_of c.args.world) (core_in c.args.run) settled new c.in_ok-try_calls.field-0 c.if-branch.true
+    (c.in_ok-try_calls.ensures.tried later (tables_stay later)) in
+    let on : settled.count < new.count = counts_on (c.in_ok-try_calls.ensures.ok later (tables_stay later))
+    (rises_on (at_rest settled) (at_rest new) round.rises) in
     omega (arith, c.in_ok-run.ensures.counts, same, on)
 
 pub returns-then-branch-clause-turned : goal.returns-then-branch-clause-turned
@@ -120,7 +130,8 @@ returns-then-branch-clause-turned g c = λ grown k.
     let now = core_in c.args.run in
     let settled = core_in c.requeue.new.run in
     let new = core_in c.try_calls.new.run in
-    let before : Steps env part (at_rest now) (at_rest settled) = settles_requeued env part now (core_in c.in_ok-run.run') settled c.requeue.ensures.same (c.in_ok-run.ensures.ok env) in
+    let before : Steps env part (at_rest now) (at_rest settled) = settles_requeued env part now (core_in c.in_ok-run.run') settled c.requeue.ensures.same
+    (c.in_ok-run.ensures.ok env) in
     record {
       begun = settled;
       before = before;
@@ -135,7 +146,8 @@ give_up-requires-clause-ready g c =
     let later = c.try_calls.new.locations in
     let env = environment later (g.D.SourceDatabase.workspace c.args.db.now) in
     let part = part_of c.args.world in
-    ready_after (Steps-append (settles_requeued env part (core_in c.args.run) (core_in c.in_ok-run.run') (core_in c.requeue.new.run) c.requeue.ensures.same (c.in_ok-run.ensures.ok env)) (c.in_ok-try_calls.ensures.ok later (tables_stay later)))
+    ready_after (Steps-append (settles_requeued env part (core_in c.args.run) (core_in c.in_ok-run.run') (core_in c.requeue.new.run) c.requeue.ensures.same
+    (c.in_ok-run.ensures.ok env)) (c.in_ok-try_calls.ensures.ok later (tables_stay later)))
     (ready_grown c.in_ok-try_calls.ensures.kept c.requires.ready)
 
 pub give_up-requires-clause-rests : goal.give_up-requires-clause-rests
@@ -143,7 +155,8 @@ give_up-requires-clause-rests g c =
     let later = c.try_calls.new.locations in
     let env = environment later (g.D.SourceDatabase.workspace c.args.db.now) in
     let part = part_of c.args.world in
-    let idle = none_handled env part (core_in c.args.run) (core_in c.requeue.new.run) (core_in c.try_calls.new.run) c.in_ok-try_calls.field-0 c.if-branch.false (c.in_ok-try_calls.ensures.tried later (tables_stay later)) in
+    let idle = none_handled env part (core_in c.args.run) (core_in c.requeue.new.run) (core_in c.try_calls.new.run) c.in_ok-try_calls.field-0 c.if-branch.false
+    (c.in_ok-try_calls.ensures.tried later (tables_stay later)) in
     subst (λ (core : Core). IsAtRest part (import_state (at_rest core))) (sym (idle.0 ∙ c.requeue.ensures.same)) c.in_ok-run.ensures.rests
 
 pub give_up-requires-clause-nowhere : goal.give_up-requires-clause-nowhere
@@ -151,7 +164,8 @@ give_up-requires-clause-nowhere g c = λ j.
     let later = c.try_calls.new.locations in
     let env = environment later (g.D.SourceDatabase.workspace c.args.db.now) in
     let part = part_of c.args.world in
-    let idle = none_handled env part (core_in c.args.run) (core_in c.requeue.new.run) (core_in c.try_calls.new.run) c.in_ok-try_calls.field-0 c.if-branch.false (c.in_ok-try_calls.ensures.tried later (tables_stay later)) in
+    let idle = none_handled env part (core_in c.args.run) (core_in c.requeue.new.run) (core_in c.try_calls.new.run) c.in_ok-try_calls.field-0 c.if-branch.false
+    (c.in_ok-try_calls.ensures.tried later (tables_stay later)) in
     subst (λ (core : Core). LeadsNowhere part (at_rest core) j) (sym idle.0) (idle.1 j)
 
 pub give_up-requires-clause-first : goal.give_up-requires-clause-first
@@ -160,14 +174,16 @@ give_up-requires-clause-first g c =
     let env = environment later (g.D.SourceDatabase.workspace c.args.db.now) in
     let part = part_of c.args.world in
     none_waits_later (core_in c.args.run) (core_in c.try_calls.new.run) c.args.first c.requires.ready.fated
-    (Steps-append (settles_requeued env part (core_in c.args.run) (core_in c.in_ok-run.run') (core_in c.requeue.new.run) c.requeue.ensures.same (c.in_ok-run.ensures.ok env)) (c.in_ok-try_calls.ensures.ok later (tables_stay later)))
+    (Steps-append (settles_requeued env part (core_in c.args.run) (core_in c.in_ok-run.run') (core_in c.requeue.new.run) c.requeue.ensures.same
+    (c.in_ok-run.ensures.ok env)) (c.in_ok-try_calls.ensures.ok later (tables_stay later)))
     c.requires.first
 
 -- ---- an attribute was given up, or none waits
 
 -- steps up to where what is queued was tried
 pub returns-in_err-given-clause-kept : goal.returns-in_err-given-clause-kept
-returns-in_err-given-clause-kept g c = KeepsTables-trans c.args.locations.now c.try_calls.new.locations c.give_up.new.locations c.in_ok-try_calls.ensures.kept c.in_err-given.ensures.kept
+returns-in_err-given-clause-kept g c =
+    KeepsTables-trans c.args.locations.now c.try_calls.new.locations c.give_up.new.locations c.in_ok-try_calls.ensures.kept c.in_err-given.ensures.kept
 
 pub returns-in_err-given-clause-many : goal.returns-in_err-given-clause-many
 returns-in_err-given-clause-many g c = λ h grown k.
@@ -179,11 +195,15 @@ returns-in_err-given-clause-many g c = λ h grown k.
     let part = part_of c.args.world in
     let later = c.give_up.new.locations in
     let far : OnceGrown later w (λ env. IsSpent env part (at_rest (core_in c.try_calls.new.run))) =
-    subst (λ (v : Workspace). OnceGrown later v (λ env. IsSpent env part (at_rest (core_in c.try_calls.new.run)))) c.in_ok-try_calls.ensures.same (c.in_err-given.ensures.many (λ i. Err (same i))) in
-    spent_after (Steps-append (settles_requeued env (part_of c.args.world) (core_in c.args.run) (core_in c.in_ok-run.run') (core_in c.requeue.new.run) c.requeue.ensures.same (c.in_ok-run.ensures.ok env)) (c.in_ok-try_calls.ensures.ok grown (KeepsTables-trans c.try_calls.new.locations later grown c.in_err-given.ensures.kept k))) (far grown k)
+    subst (λ (v : Workspace). OnceGrown later v (λ env. IsSpent env part (at_rest (core_in c.try_calls.new.run)))) c.in_ok-try_calls.ensures.same
+    (c.in_err-given.ensures.many (λ i. Err (same i))) in
+    spent_after (Steps-append (settles_requeued env (part_of c.args.world) (core_in c.args.run) (core_in c.in_ok-run.run') (core_in c.requeue.new.run)
+    c.requeue.ensures.same (c.in_ok-run.ensures.ok env))
+    (c.in_ok-try_calls.ensures.ok grown (KeepsTables-trans c.try_calls.new.locations later grown c.in_err-given.ensures.kept k))) (far grown k)
 
 pub returns-in-Some-clause-kept : goal.returns-in-Some-clause-kept
-returns-in-Some-clause-kept g c = KeepsTables-trans c.args.locations.now c.try_calls.new.locations c.give_up.new.locations c.in_ok-try_calls.ensures.kept c.in_ok-given.ensures.kept
+returns-in-Some-clause-kept g c =
+    KeepsTables-trans c.args.locations.now c.try_calls.new.locations c.give_up.new.locations c.in_ok-try_calls.ensures.kept c.in_ok-given.ensures.kept
 
 pub returns-in-Some-clause-ok : goal.returns-in-Some-clause-ok
 returns-in-Some-clause-ok g c = λ grown k.
@@ -192,8 +212,11 @@ returns-in-Some-clause-ok g c = λ grown k.
     let part = part_of c.args.world in
     let later = c.give_up.new.locations in
     let last : OnceGrown later w (λ env. Steps env part (at_rest (core_in c.try_calls.new.run)) (at_rest (core_in c.give_up.new.run))) =
-    subst (λ (v : Workspace). OnceGrown later v (λ env. Steps env part (at_rest (core_in c.try_calls.new.run)) (at_rest (core_in c.give_up.new.run)))) c.in_ok-try_calls.ensures.same c.in_ok-given.ensures.ok in
-    Steps-append (Steps-append (settles_requeued env (part_of c.args.world) (core_in c.args.run) (core_in c.in_ok-run.run') (core_in c.requeue.new.run) c.requeue.ensures.same (c.in_ok-run.ensures.ok env)) (c.in_ok-try_calls.ensures.ok grown (KeepsTables-trans c.try_calls.new.locations later grown c.in_ok-given.ensures.kept k))) (last grown k)
+    subst (λ (v : Workspace). OnceGrown later v (λ env. Steps env part (at_rest (core_in c.try_calls.new.run)) (at_rest (core_in c.give_up.new.run))))
+    c.in_ok-try_calls.ensures.same c.in_ok-given.ensures.ok in
+    Steps-append (Steps-append (settles_requeued env (part_of c.args.world) (core_in c.args.run) (core_in c.in_ok-run.run') (core_in c.requeue.new.run)
+    c.requeue.ensures.same (c.in_ok-run.ensures.ok env))
+    (c.in_ok-try_calls.ensures.ok grown (KeepsTables-trans c.try_calls.new.locations later grown c.in_ok-given.ensures.kept k))) (last grown k)
 
 pub returns-in-Some-clause-queue : goal.returns-in-Some-clause-queue
 returns-in-Some-clause-queue g c = c.in_ok-try_calls.ensures.queue ∙ c.in_ok-requeue.ensures.queue
@@ -204,8 +227,13 @@ returns-in-Some-clause-stale g c =
     let later = c.give_up.new.locations in
     let part = part_of c.args.world in
     let tried = core_in c.try_calls.new.run in
-    let fated = (ready_after (Steps-append (settles_requeued (environment c.try_calls.new.locations (g.D.SourceDatabase.workspace c.args.db.now)) (part_of c.args.world) (core_in c.args.run) (core_in c.in_ok-run.run') (core_in c.requeue.new.run) c.requeue.ensures.same (c.in_ok-run.ensures.ok (environment c.try_calls.new.locations (g.D.SourceDatabase.workspace c.args.db.now)))) (c.in_ok-try_calls.ensures.ok c.try_calls.new.locations (tables_stay c.try_calls.new.locations))) (ready_grown c.in_ok-try_calls.ensures.kept c.requires.ready)).fated in
-    stale_later part c.try_calls.new.queue c.try_calls.new.run c.give_up.new.run (stale_now part c.try_calls.new.queue c.try_calls.new.run c.in_ok-try_calls.ensures.up_to_date) c.in_ok-given.ensures.noted.slots
+    let fated = (ready_after (Steps-append (settles_requeued (environment c.try_calls.new.locations (g.D.SourceDatabase.workspace c.args.db.now))
+    (part_of c.args.world) (core_in c.args.run) (core_in c.in_ok-run.run') (core_in c.requeue.new.run) c.requeue.ensures.same
+    (c.in_ok-run.ensures.ok (environment c.try_calls.new.locations (g.D.SourceDatabase.workspace c.args.db.now))))
+    (c.in_ok-try_calls.ensures.ok c.try_calls.new.locations (tables_stay c.try_calls.new.locations)))
+    (ready_grown c.in_ok-try_calls.ensures.kept c.requires.ready)).fated in
+    stale_later part c.try_calls.new.queue c.try_calls.new.run c.give_up.new.run
+    (stale_now part c.try_calls.new.queue c.try_calls.new.run c.in_ok-try_calls.ensures.up_to_date) c.in_ok-given.ensures.noted.slots
     (keeps_waiting tried (core_in c.give_up.new.run) (c.in_ok-given.ensures.ok later (tables_stay later)) fated)
 
 pub returns-in-Some-clause-behind : goal.returns-in-Some-clause-behind
@@ -213,7 +241,8 @@ returns-in-Some-clause-behind g c =
     let here = environment c.args.locations.now (g.D.SourceDatabase.workspace c.args.db.now) in
     let part = part_of c.args.world in
     behind_later part c.in_ok-run.imports c.try_calls.new.grown c.try_calls.new.run c.give_up.new.run c.in_ok-given.ensures.noted
-    (behind_tried part c.in_ok-run.imports c.clear.new.self c.try_calls.new.grown (core_in c.in_ok-run.run') c.requeue.new.run c.try_calls.new.run c.requeue.ensures.same
+    (behind_tried part c.in_ok-run.imports c.clear.new.self c.try_calls.new.grown (core_in c.in_ok-run.run') c.requeue.new.run c.try_calls.new.run
+    c.requeue.ensures.same
     (c.in_ok-run.ensures.behind (ready_after (c.in_ok-run.ensures.ok here) c.requires.ready).paired) c.in_ok-try_calls.ensures.gathered)
 
 pub returns-in-Some-clause-counts : goal.returns-in-Some-clause-counts
@@ -221,11 +250,13 @@ returns-in-Some-clause-counts g c =
     let middle = c.try_calls.new.locations in
     let same = ap (λ (core : Core). core.count) c.requeue.ensures.same in
     let more = count-Steps (c.in_ok-try_calls.ensures.ok middle (tables_stay middle)) in
-    let given : IsGivenUp (core_in c.try_calls.new.run) (core_in c.give_up.new.run) (Some c.in-Some.next) = subst (IsGivenUp (core_in c.try_calls.new.run) (core_in c.give_up.new.run)) c.in-Some.is c.in_ok-given.ensures.given in
+    let given : IsGivenUp (core_in c.try_calls.new.run) (core_in c.give_up.new.run) (Some c.in-Some.next) = subst
+    (IsGivenUp (core_in c.try_calls.new.run) (core_in c.give_up.new.run)) c.in-Some.is c.in_ok-given.ensures.given in
     omega (arith, c.in_ok-run.ensures.counts, same, more, given.0)
 
 pub returns-in-None-clause-kept : goal.returns-in-None-clause-kept
-returns-in-None-clause-kept g c = KeepsTables-trans c.args.locations.now c.try_calls.new.locations c.give_up.new.locations c.in_ok-try_calls.ensures.kept c.in_ok-given.ensures.kept
+returns-in-None-clause-kept g c =
+    KeepsTables-trans c.args.locations.now c.try_calls.new.locations c.give_up.new.locations c.in_ok-try_calls.ensures.kept c.in_ok-given.ensures.kept
 
 pub returns-in-None-clause-ok : goal.returns-in-None-clause-ok
 returns-in-None-clause-ok g c = λ grown k.
@@ -234,8 +265,11 @@ returns-in-None-clause-ok g c = λ grown k.
     let part = part_of c.args.world in
     let later = c.give_up.new.locations in
     let last : OnceGrown later w (λ env. Steps env part (at_rest (core_in c.try_calls.new.run)) (at_rest (core_in c.give_up.new.run))) =
-    subst (λ (v : Workspace). OnceGrown later v (λ env. Steps env part (at_rest (core_in c.try_calls.new.run)) (at_rest (core_in c.give_up.new.run)))) c.in_ok-try_calls.ensures.same c.in_ok-given.ensures.ok in
-    Steps-append (Steps-append (settles_requeued env (part_of c.args.world) (core_in c.args.run) (core_in c.in_ok-run.run') (core_in c.requeue.new.run) c.requeue.ensures.same (c.in_ok-run.ensures.ok env)) (c.in_ok-try_calls.ensures.ok grown (KeepsTables-trans c.try_calls.new.locations later grown c.in_ok-given.ensures.kept k))) (last grown k)
+    subst (λ (v : Workspace). OnceGrown later v (λ env. Steps env part (at_rest (core_in c.try_calls.new.run)) (at_rest (core_in c.give_up.new.run))))
+    c.in_ok-try_calls.ensures.same c.in_ok-given.ensures.ok in
+    Steps-append (Steps-append (settles_requeued env (part_of c.args.world) (core_in c.args.run) (core_in c.in_ok-run.run') (core_in c.requeue.new.run)
+    c.requeue.ensures.same (c.in_ok-run.ensures.ok env))
+    (c.in_ok-try_calls.ensures.ok grown (KeepsTables-trans c.try_calls.new.locations later grown c.in_ok-given.ensures.kept k))) (last grown k)
 
 pub returns-in-None-clause-queue : goal.returns-in-None-clause-queue
 returns-in-None-clause-queue g c = c.in_ok-try_calls.ensures.queue ∙ c.in_ok-requeue.ensures.queue
@@ -246,8 +280,13 @@ returns-in-None-clause-stale g c =
     let later = c.give_up.new.locations in
     let part = part_of c.args.world in
     let tried = core_in c.try_calls.new.run in
-    let fated = (ready_after (Steps-append (settles_requeued (environment c.try_calls.new.locations (g.D.SourceDatabase.workspace c.args.db.now)) (part_of c.args.world) (core_in c.args.run) (core_in c.in_ok-run.run') (core_in c.requeue.new.run) c.requeue.ensures.same (c.in_ok-run.ensures.ok (environment c.try_calls.new.locations (g.D.SourceDatabase.workspace c.args.db.now)))) (c.in_ok-try_calls.ensures.ok c.try_calls.new.locations (tables_stay c.try_calls.new.locations))) (ready_grown c.in_ok-try_calls.ensures.kept c.requires.ready)).fated in
-    stale_later part c.try_calls.new.queue c.try_calls.new.run c.give_up.new.run (stale_now part c.try_calls.new.queue c.try_calls.new.run c.in_ok-try_calls.ensures.up_to_date) c.in_ok-given.ensures.noted.slots
+    let fated = (ready_after (Steps-append (settles_requeued (environment c.try_calls.new.locations (g.D.SourceDatabase.workspace c.args.db.now))
+    (part_of c.args.world) (core_in c.args.run) (core_in c.in_ok-run.run') (core_in c.requeue.new.run) c.requeue.ensures.same
+    (c.in_ok-run.ensures.ok (environment c.try_calls.new.locations (g.D.SourceDatabase.workspace c.args.db.now))))
+    (c.in_ok-try_calls.ensures.ok c.try_calls.new.locations (tables_stay c.try_calls.new.locations)))
+    (ready_grown c.in_ok-try_calls.ensures.kept c.requires.ready)).fated in
+    stale_later part c.try_calls.new.queue c.try_calls.new.run c.give_up.new.run
+    (stale_now part c.try_calls.new.queue c.try_calls.new.run c.in_ok-try_calls.ensures.up_to_date) c.in_ok-given.ensures.noted.slots
     (keeps_waiting tried (core_in c.give_up.new.run) (c.in_ok-given.ensures.ok later (tables_stay later)) fated)
 
 pub returns-in-None-clause-behind : goal.returns-in-None-clause-behind
@@ -255,7 +294,8 @@ returns-in-None-clause-behind g c =
     let here = environment c.args.locations.now (g.D.SourceDatabase.workspace c.args.db.now) in
     let part = part_of c.args.world in
     behind_later part c.in_ok-run.imports c.try_calls.new.grown c.try_calls.new.run c.give_up.new.run c.in_ok-given.ensures.noted
-    (behind_tried part c.in_ok-run.imports c.clear.new.self c.try_calls.new.grown (core_in c.in_ok-run.run') c.requeue.new.run c.try_calls.new.run c.requeue.ensures.same
+    (behind_tried part c.in_ok-run.imports c.clear.new.self c.try_calls.new.grown (core_in c.in_ok-run.run') c.requeue.new.run c.try_calls.new.run
+    c.requeue.ensures.same
     (c.in_ok-run.ensures.behind (ready_after (c.in_ok-run.ensures.ok here) c.requires.ready).paired) c.in_ok-try_calls.ensures.gathered)
 
 pub returns-in-None-clause-counts : goal.returns-in-None-clause-counts
@@ -263,7 +303,8 @@ returns-in-None-clause-counts g c = tt
 
 pub returns-in-Some-clause-turned : goal.returns-in-Some-clause-turned
 returns-in-Some-clause-turned g c = λ grown k.
-    let given : IsGivenUp (core_in c.try_calls.new.run) (core_in c.give_up.new.run) (Some c.in-Some.next) = subst (IsGivenUp (core_in c.try_calls.new.run) (core_in c.give_up.new.run)) c.in-Some.is c.in_ok-given.ensures.given in
+    let given : IsGivenUp (core_in c.try_calls.new.run) (core_in c.give_up.new.run) (Some c.in-Some.next) = subst
+    (IsGivenUp (core_in c.try_calls.new.run) (core_in c.give_up.new.run)) c.in-Some.is c.in_ok-given.ensures.given in
     given.1
 
 pub returns-in-None-clause-turned : goal.returns-in-None-clause-turned
@@ -272,7 +313,10 @@ returns-in-None-clause-turned g c = λ grown k.
     let env = environment middle (g.D.SourceDatabase.workspace c.args.db.now) in
     let part = part_of c.args.world in
     let settled = core_in c.requeue.new.run in
-    let none : IsGivenUp (core_in c.try_calls.new.run) (core_in c.give_up.new.run) None = subst (IsGivenUp (core_in c.try_calls.new.run) (core_in c.give_up.new.run)) c.in-None.is c.in_ok-given.ensures.given in
-    let idle = none_handled env part (core_in c.args.run) settled (core_in c.try_calls.new.run) c.in_ok-try_calls.field-0 c.if-branch.false (c.in_ok-try_calls.ensures.tried middle (tables_stay middle)) in
-    rests_idle (environment grown (g.D.SourceDatabase.workspace c.args.db.now)) part (core_in c.args.run) settled (core_in c.try_calls.new.run) (core_in c.give_up.new.run)
+    let none : IsGivenUp (core_in c.try_calls.new.run) (core_in c.give_up.new.run) None = subst
+    (IsGivenUp (core_in c.try_calls.new.run) (core_in c.give_up.new.run)) c.in-None.is c.in_ok-given.ensures.given in
+    let idle = none_handled env part (core_in c.args.run) settled (core_in c.try_calls.new.run) c.in_ok-try_calls.field-0 c.if-branch.false
+    (c.in_ok-try_calls.ensures.tried middle (tables_stay middle)) in
+    rests_idle (environment grown (g.D.SourceDatabase.workspace c.args.db.now)) part (core_in c.args.run) settled (core_in c.try_calls.new.run)
+    (core_in c.give_up.new.run)
     (subst (λ (core : Core). IsAtRest part (import_state (at_rest core))) (sym c.requeue.ensures.same) c.in_ok-run.ensures.rests) idle.0 idle.1 none.0 none.1

@@ -2,7 +2,7 @@
 use Rattle.std.proofs.Common.{◌∙◌, ◌≡◌, ℕ, ap, subst, List, length}
 use Rattle.hir_def_map_rules.specs.State.{Map}
 use Rattle.hir_def_map.specs.WorldParts.{part_of}
-use Rattle.hir_def_map.specs.declared.nameres.path_resolution.slots.Slot.{Slot}
+use Rattle.hir_def_map.specs.Types.{Slot}
 use Rattle.hir_call_queue.proofs.Woken.{goes_on_itself}
 use Rattle.hir_call_queue.specs.Waking.{IsWatching}
 use Rattle.hir_collector_rules.specs.Calls.{IsWaiting}
@@ -13,7 +13,8 @@ use Rattle.hir_def_collector.proofs.collector.calls.watch.Goals as goal
 
 pub returns-in_default-clause-up_to_date : goal.returns-in_default-clause-up_to_date
 returns-in_default-clause-up_to_date c =
-    up_to_date_over (part_of c.args.world) c.args.queue.now c.args.queue.now (core_in c.args.run.now) c.args.i c.requires.up_to_date (λ d. c.in_default.ensures.none d)
+    up_to_date_over (part_of c.args.world) c.args.queue.now c.args.queue.now (core_in c.args.run.now) c.args.i c.requires.up_to_date
+    (λ d. c.in_default.ensures.none d)
 
 pub returns-clause-up_to_date : goal.returns-clause-up_to_date
 returns-clause-up_to_date c =
@@ -23,8 +24,10 @@ returns-clause-up_to_date c =
     let count : c.module_count.result ≡ length core.map.modules = c.module_count.ensures.value ∙ ap (λ (m : Map). length m.modules) c.map.ensures.value in
     let watching : IsWatching (length core.map.modules) (call_reads (part_of c.args.world) core.local core.map d) c.args.i c.args.queue.now c.watch.new.self =
     subst (λ (n : ℕ). IsWatching n (call_reads (part_of c.args.world) core.local core.map d) c.args.i c.args.queue.now c.watch.new.self) count
-    (subst (λ (slots : List Slot). IsWatching c.module_count.result slots c.args.i c.args.queue.now c.watch.new.self) c.call_slots.ensures.value c.in_ok-watch.ensures.watching) in
-    up_to_date_watched (part_of c.args.world) c.args.queue.now c.watch.new.self core c.args.i c.requires.up_to_date d waits c.requires.nowhere (c.requires.low d waits.call) c.requires.in_order watching
+    (subst (λ (slots : List Slot). IsWatching c.module_count.result slots c.args.i c.args.queue.now c.watch.new.self) c.call_slots.ensures.value
+    c.in_ok-watch.ensures.watching) in
+    up_to_date_watched (part_of c.args.world) c.args.queue.now c.watch.new.self core c.args.i c.requires.up_to_date d waits c.requires.nowhere
+    (c.requires.low d waits.call) c.requires.in_order watching
 
 pub returns-in_default-clause-stays : goal.returns-in_default-clause-stays
 returns-in_default-clause-stays c = goes_on_itself c.args.queue.now

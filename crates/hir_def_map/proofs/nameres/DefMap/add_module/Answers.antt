@@ -12,7 +12,8 @@ invariant_of-self c =
     let others = c.self.inside.modules.modules in
     let same : length c.args.self.now.modules ≡ length others = ap (λ (m : Map). length m.modules) (sym c.self.view_is) in
     let in_range : c.args.parent < length c.args.self.now.modules = c.requires.in_range in
-    IsNumbered-inserted c.insert.result others c.insert.new.self.modules c.args.parent c.args.name (record { map = c.id.result; index = c.len-count.result }) c.args.module_data
+    IsNumbered-inserted c.insert.result others c.insert.new.self.modules c.args.parent c.args.name (record { map = c.id.result; index = c.len-count.result })
+    c.args.module_data
     (omega arith) c.insert.ensures.ok c.insert.ensures.err c.self.invariant
 
 pub invariant_of-self-2 : goal.invariant_of-self-2
@@ -20,7 +21,8 @@ invariant_of-self-2 c =
     let others = c.self.inside.modules.modules in
     let same : length c.args.self.now.modules ≡ length others = ap (λ (m : Map). length m.modules) (sym c.self.view_is) in
     let in_range : c.args.parent < length c.args.self.now.modules = c.requires.in_range in
-    IsNumbered-inserted c.insert.result others c.insert.new.self.modules c.args.parent c.args.name (record { map = c.id.result; index = c.len-count.result }) c.args.module_data
+    IsNumbered-inserted c.insert.result others c.insert.new.self.modules c.args.parent c.args.name (record { map = c.id.result; index = c.len-count.result })
+    c.args.module_data
     (omega arith) c.insert.ensures.ok c.insert.ensures.err c.self.invariant
 
 not_below : (n : ℕ) → 2147483647 ≤ n → nat_lt n 2147483647 ≡ false

@@ -9,4 +9,5 @@ modules-smaller c = steps_left-falls c.args.self.now c.pop.new.self.items _ _ c.
 pub modules-preserved : goal.modules-preserved
 modules-preserved c =
     c.modules.invariant
-    ∙ with_pages-kept c.args.self.now c.pop.new.self.items _ _ c.in-Some.branch _ _ c.in-Some.ensures.items c.in_ok-dump_branch.ensures.left c.in_ok-dump_branch.ensures.page
+    ∙ with_pages-kept c.args.self.now c.pop.new.self.items _ _ c.in-Some.branch _ _ c.in-Some.ensures.items c.in_ok-dump_branch.ensures.left
+    c.in_ok-dump_branch.ensures.page

@@ -7,4 +7,6 @@ use Rattle.hir_def_map.proofs.nameres.DefMap.leads_to_root.Goals as goal
 
 pub up-init : goal.up-init
 unfolding leads_to_root
-up-init c = ap (λ (n : ℕ). ends_within (parent_number (own_frame c.args.self.now)) n c.args.at) (length-map c.args.self.now.modules (λ (m : ModuleValue). m.parent) ∙ sym c.module_count-left.ensures.value)
+up-init c =
+    ap (λ (n : ℕ). ends_within (parent_number (own_frame c.args.self.now)) n c.args.at) (length-map c.args.self.now.modules (λ (m : ModuleValue). m.parent) ∙
+    sym c.module_count-left.ensures.value)

@@ -13,4 +13,7 @@ returns g c =
     let is : maps_of c.new-maps.result ≡ overlay (finished_in c.args.world.now.maps) c.args.self.now =
     c.new-maps.ensures.value ∙ ap (λ (finished : Maps). overlay finished c.args.self.now) c.all.ensures.value
     in
-    record { value = subst (λ (maps : Maps). AsksMaps (given.F-step g) c.args.f (with_maps maps (c.args.at ∷ holders_in maps c.args.at)) c.with_ancestor_maps.result) is c.with_ancestor_maps.ensures.value }
+    record {
+      value = subst (λ (maps : Maps). AsksMaps (given.F-step g) c.args.f (with_maps maps (c.args.at ∷ holders_in maps c.args.at))
+          c.with_ancestor_maps.result) is c.with_ancestor_maps.ensures.value;
+    }

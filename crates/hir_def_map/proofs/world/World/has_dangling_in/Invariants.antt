@@ -8,7 +8,8 @@ use Rattle.hir_def_map.proofs.world.World.has_dangling_in.Given as goal
 
 abbrev pub invariant-next : goal.invariant-next
 invariant-next l =
-    list_any (test_of (is_missing (overlay (finished_in l.self.maps) l.map))) l.initial.left ≡ list_any (test_of (is_missing (overlay (finished_in l.self.maps) l.map))) l.left
+    list_any (test_of (is_missing (overlay (finished_in l.self.maps) l.map))) l.initial.left
+    ≡ list_any (test_of (is_missing (overlay (finished_in l.self.maps) l.map))) l.left
 
 abbrev pub decreases-next : goal.decreases-next
 decreases-next l = length l.left

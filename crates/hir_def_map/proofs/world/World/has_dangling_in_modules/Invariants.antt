@@ -7,7 +7,9 @@ use Rattle.hir_def_map.specs.World.{finished_in}
 use Rattle.hir_def_map.proofs.world.World.has_dangling_in_modules.Given as goal
 
 abbrev pub invariant-next : goal.invariant-next
-invariant-next l = list_any (listed_in (is_missing (overlay (finished_in l.self.maps) l.map))) l.initial.left ≡ list_any (listed_in (is_missing (overlay (finished_in l.self.maps) l.map))) l.left
+invariant-next l =
+    list_any (listed_in (is_missing (overlay (finished_in l.self.maps) l.map))) l.initial.left
+    ≡ list_any (listed_in (is_missing (overlay (finished_in l.self.maps) l.map))) l.left
 
 abbrev pub decreases-next : goal.decreases-next
 decreases-next l = length l.left

@@ -3,12 +3,13 @@ use Rattle.std.proofs.Common.{◌≡◌, ◌∙◌, ap, sym, refl, Bool, true, f
 use Rattle.std.specs.Option.{option_map}
 use Rattle.std.specs.BTreeMap.{get, is_at}
 use Rattle.hir_base.specs.contracts.ids.MapIdOrd.TheImpl as map_order
-use Rattle.hir_def_map.specs.declared.world.finished.Finished.{Finished}
+use Rattle.hir_def_map.specs.Types.{Finished}
 use Rattle.hir_def_map.proofs.Entries.{absent_before}
 use Rattle.hir_def_map.proofs.Joined.{insert_checked, joined_under}
 use Rattle.hir_def_map.proofs.world.World.insert.Goals as goal
 
-local_there : (f : Finished) (b : Bool) (o : Option Finished) → option_map (λ (x : Finished). x.local) (cond b (Some f) o) ≡ cond b (Some f.local) (option_map (λ (x : Finished). x.local) o)
+local_there : (f : Finished) (b : Bool) (o : Option Finished) → option_map (λ (x : Finished). x.local) (cond b (Some f) o)
+    ≡ cond b (Some f.local) (option_map (λ (x : Finished). x.local) o)
 local_there f true o = refl
 local_there f false o = refl
 
@@ -24,7 +25,8 @@ invariant_of-self c =
     let f : Finished = record { map = c.args.map; local = c.args.local; holders = c.in-Ok.both.0; named = c.in-Ok.both.1 } in
     record {
       checked = insert_checked c.add_with_room.result c.args.self.now.maps c.add_with_room.new.maps f c.args.map.id refl
-          (sym c.may_join.ensures.value ∙ c.if-not-may_join.false) c.in-Ok.ensures.holders c.in-Ok.ensures.named c.add_with_room.ensures.maps c.add_with_room.ensures.err
+          (sym c.may_join.ensures.value ∙ c.if-not-may_join.false) c.in-Ok.ensures.holders c.in-Ok.ensures.named c.add_with_room.ensures.maps
+          c.add_with_room.ensures.err
           c.args.self.now.checked;
       indexed = c.add_with_room.ensures.indexed;
       room = c.add_with_room.ensures.room;
@@ -39,4 +41,5 @@ returns-in-Ok-add_with_room-clause-maps c =
 pub returns-in-Ok-add_with_room-clause-locals : goal.returns-in-Ok-add_with_room-clause-locals
 returns-in-Ok-add_with_room-clause-locals c =
     let f : Finished = record { map = c.args.map; local = c.args.local; holders = c.in-Ok.both.0; named = c.in-Ok.both.1 } in
-    λ id. ap (option_map (λ (x : Finished). x.local)) (c.in-Ok-add_with_room.ensures.maps.0 id) ∙ local_there f (is_at (map_order.ghosts.cmp c.args.map.id) id) (get map_order.ghosts.cmp c.args.self.now.maps id)
+    λ id. ap (option_map (λ (x : Finished). x.local)) (c.in-Ok-add_with_room.ensures.maps.0 id) ∙ local_there f (is_at (map_order.ghosts.cmp c.args.map.id) id)
+    (get map_order.ghosts.cmp c.args.self.now.maps id)

@@ -1,9 +1,9 @@
 -- The index has what joins, and loses what doesn't.
 use Rattle.std.proofs.Common.{subst, Some}
 use Rattle.std.specs.BTreeMap.{Updates}
-use Rattle.hir_base.specs.declared.ids.MapId.{MapId}
+use Rattle.hir_base.specs.Types.{MapId}
 use Rattle.hir_base.specs.contracts.ids.MapIdOrd.TheImpl as map_order
-use Rattle.hir_def_map.specs.declared.world.finished.Finished.{Finished}
+use Rattle.hir_def_map.specs.Types.{Finished}
 use Rattle.hir_def_map.specs.Inner.Dependents.{Leaves}
 use Rattle.hir_def_map.proofs.Entries.{alike_index, joined_index, refused_index}
 use Rattle.hir_def_map.proofs.world.insert.add_entered.Goals as goal
@@ -11,7 +11,8 @@ use Rattle.hir_def_map.proofs.world.insert.add_entered.Goals as goal
 pub returns-in-Ok-clause-indexed : goal.returns-in-Ok-clause-indexed
 returns-in-Ok-clause-indexed c =
     let P : MapId → Type 0 = λ x. Updates map_order.ghosts.cmp c.args.maps.now c.insert.new.self x (Some c.args.finished) in
-    joined_index c.args.maps.now c.insert.new.self c.args.dependents.now c.args.finished c.requires.absent c.requires.entered (subst P c.id-id.ensures.value c.in-Ok.ensures.updates)
+    joined_index c.args.maps.now c.insert.new.self c.args.dependents.now c.args.finished c.requires.absent c.requires.entered
+    (subst P c.id-id.ensures.value c.in-Ok.ensures.updates)
 
 pub returns-clause-indexed : goal.returns-clause-indexed
 returns-clause-indexed c =

@@ -5,7 +5,9 @@ use Rattle.hir_def_map.proofs.world.remove.take_away.Goals as goal
 
 pub fall-init : goal.fall-init
 fall-init c = record {
-  falls = half-start c.args.maps.now c.fell.new.maps c.args.falling.now.items c.fell.new.falling.items c.args.id c.requires.closed c.requires.room.none c.fell.ensures.items
+  falls =
+      half-start c.args.maps.now c.fell.new.maps c.args.falling.now.items c.fell.new.falling.items c.args.id c.requires.closed c.requires.room.none
+      c.fell.ensures.items
       c.fell.ensures.updates;
   indexed = c.fell.ensures.indexed;
   room = c.fell.ensures.room;
@@ -24,11 +26,13 @@ fall-preserved-in-Some-first c = record {
 
 pub fall-preserved : goal.fall-preserved
 fall-preserved c = record {
-  falls = half-popped c.args.maps.now c.fall.maps c.fall.falling.items c.pop.new.self.items c.in-Some.on c.args.id c.fall.invariant.falls c.in-Some.ensures.items
+  falls =
+      half-popped c.args.maps.now c.fall.maps c.fall.falling.items c.pop.new.self.items c.in-Some.on c.args.id c.fall.invariant.falls c.in-Some.ensures.items
       (none_listed c.fall.maps c.fall.dependents c.in-Some.on c.fall.invariant.indexed c.in_default-first.ensures.none);
   indexed = c.fall.invariant.indexed;
   room = omega (arith, c.fall.invariant.room, c.in-Some.ensures.len, c.pop.ensures.capacity);
 }
 
 pub returns-clause-closed : goal.returns-clause-closed
-returns-clause-closed c = half-end c.args.maps.now c.fall.maps c.fall.falling.items c.args.id c.fall.invariant.falls (emptied c.fall.falling c.in_default.ensures.cases.0)
+returns-clause-closed c =
+    half-end c.args.maps.now c.fall.maps c.fall.falling.items c.args.id c.fall.invariant.falls (emptied c.fall.falling c.in_default.ensures.cases.0)

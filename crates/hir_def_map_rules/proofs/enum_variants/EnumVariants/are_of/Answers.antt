@@ -12,5 +12,6 @@ not_other false e = absurd cc
 pub each-preserved : goal.each-preserved
 each-preserved c =
     let taken : c.each.left ≡ (c.in-Some.field-0-0.now, c.in-Some.variant.now) ∷ c.next.new.self = search rules in
-    let own : enum_id.ghosts.eq c.in-Some.variant.now.id.parent c.args.id ≡ true = not_other (enum_id.ghosts.eq c.in-Some.variant.now.id.parent c.args.id) (sym c.ne.ensures ∙ c.if-ne.false) in
+    let own : enum_id.ghosts.eq c.in-Some.variant.now.id.parent c.args.id ≡ true = not_other (enum_id.ghosts.eq c.in-Some.variant.now.id.parent c.args.id)
+    (sym c.ne.ensures ∙ c.if-ne.false) in
     c.each.invariant ∙ ap (are_variants_of c.args.id) taken ∙ ap (λ (b : Bool). b && are_variants_of c.args.id c.next.new.self) own

@@ -32,7 +32,8 @@ returns-then-branch-clause-kept g c = λ old.
 pub pending-preserved : goal.pending-preserved
 pending-preserved g c = record {
   looks =
-      looks_join_at g.N.Names.table false c.in_ok-look.field-0 c.if-branch.false c.args.names.now c.pending.names c.look.new.names c.args.self.now c.pending.self
+      looks_join_at g.N.Names.table false c.in_ok-look.field-0 c.if-branch.false c.args.names.now c.pending.names c.look.new.names c.args.self.now
+      c.pending.self
       (record { edges = c.self.inside.edges.items; brought = c.self.inside.brought.entries; pending = c.pop.new.self.items }) c.look.new.self
       c.args.count.now c.pending.count c.look.new.count c.args.changes.now.items c.pending.changes.items c.look.new.changes.items c.pending.invariant.looks
       (ap (λ (x : GlobsValue). x.edges) c.self.view_is) (ap (λ (x : GlobsValue). x.brought) c.self.view_is) c.in_ok-look.ensures.looks;

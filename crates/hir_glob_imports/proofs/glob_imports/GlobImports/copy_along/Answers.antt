@@ -20,7 +20,8 @@ returns-clause-takes g c =
 
 pub returns-clause-kept : goal.returns-clause-kept
 returns-clause-kept g c = λ but.
-    copy_keeps g.N.Names.table g.met.N.Names.writes c.args.names.now c.copy.new.names c.args.self.now c.copy.new.self c.spread.new.self c.args.count.now c.copy.new.count
+    copy_keeps g.N.Names.table g.met.N.Names.writes c.args.names.now c.copy.new.names c.args.self.now c.copy.new.self c.spread.new.self c.args.count.now
+    c.copy.new.count
     c.args.j c.args.edge c.args.slot.now c.requires.recorded c.requires.at but c.args.shown c.requires.update
     c.in_ok-copy.ensures.is c.in_ok-copy.ensures.pending
     (subst (λ (u : Bool). Spreads c.args.slot.now u c.copy.new.self c.spread.new.self) c.is_unnamed.ensures.value c.in_ok-spread.ensures.spreads)
@@ -28,5 +29,6 @@ returns-clause-kept g c = λ but.
 pub returns-in_err-copy-clause-many : goal.returns-in_err-copy-clause-many
 returns-in_err-copy-clause-many g c = λ h.
     spent_by g.N.Names.table (state_of c.args.names.now c.args.self.now c.args.count.now) (copies_along c.args.j c.args.edge c.args.slot.now c.args.shown)
-    (may_copy g.N.Names.table c.args.names.now c.args.self.now c.args.count.now c.args.j c.args.edge c.args.slot.now c.requires.recorded c.requires.at c.args.shown c.requires.update)
+    (may_copy g.N.Names.table c.args.names.now c.args.self.now c.args.count.now c.args.j c.args.edge c.args.slot.now c.requires.recorded c.requires.at
+    c.args.shown c.requires.update)
     (c.in_err-copy.ensures.many (search rules))

@@ -1,6 +1,6 @@
 -- Edges with the same ends are listed under the module that they lead to.
 use Rattle.std.proofs.Common.{◌≡◌, ◌∙◌, ap, List}
-use Rattle.hir_glob_imports.specs.declared.edge.Edge.{Edge}
+use Rattle.hir_glob_imports.specs.Types.{Edge}
 use Rattle.hir_glob_imports.specs.Inner.{first_matching}
 use Rattle.hir_glob_imports.specs.Waves.{GlobsValue}
 use Rattle.hir_glob_imports.proofs.Linking.{ends_found, ends_absent}
@@ -14,6 +14,7 @@ returns c =
     record {
       found = ends_found c.args.edge c.args.self.now.edges c.self.inside.edges.items c.at.result.now c.first_matching.result same is;
       absent =
-          ends_absent c.args.edge c.args.self.now.edges c.self.inside.edges.items c.self.inside.out_of c.self.inside.into c.at.result.now c.first_matching.result same
+          ends_absent c.args.edge c.args.self.now.edges c.self.inside.edges.items c.self.inside.out_of c.self.inside.into c.at.result.now
+          c.first_matching.result same
           c.self.invariant c.at.ensures.value is;
     }

@@ -19,7 +19,8 @@ returns-clause-takes g c =
 
 pub returns-clause-kept : goal.returns-clause-kept
 returns-clause-kept g c = λ but.
-    follow_keeps g.N.Names.table g.met.N.Names.writes c.args.names.now c.follow.new.names c.args.self.now c.follow.new.self c.spread.new.self c.args.count.now c.follow.new.count
+    follow_keeps g.N.Names.table g.met.N.Names.writes c.args.names.now c.follow.new.names c.args.self.now c.follow.new.self c.spread.new.self c.args.count.now
+    c.follow.new.count
     c.args.j c.args.edge c.args.slot.now c.requires.recorded c.requires.at but c.args.shown c.requires.update
     c.in_ok-follow.ensures.is c.in_ok-follow.ensures.pending
     c.in_ok-spread.ensures.spreads
@@ -27,5 +28,6 @@ returns-clause-kept g c = λ but.
 pub returns-in_err-follow-clause-many : goal.returns-in_err-follow-clause-many
 returns-in_err-follow-clause-many g c = λ h.
     spent_by g.N.Names.table (state_of c.args.names.now c.args.self.now c.args.count.now) (follows_along c.args.j c.args.edge c.args.slot.now c.args.shown)
-    (may_follow g.N.Names.table c.args.names.now c.args.self.now c.args.count.now c.args.j c.args.edge c.args.slot.now c.requires.recorded c.requires.at c.args.shown c.requires.update)
+    (may_follow g.N.Names.table c.args.names.now c.args.self.now c.args.count.now c.args.j c.args.edge c.args.slot.now c.requires.recorded c.requires.at
+    c.args.shown c.requires.update)
     (c.in_err-follow.ensures.many (search rules))

@@ -14,5 +14,6 @@ returns-clause-brought g c = on_ok_weaker c.add.result (λ linked. linked.brough
 pub returns-clause-kept : goal.returns-clause-kept
 returns-clause-kept g c =
     on_ok_weaker c.add.result
-    (λ linked. λ kept. linked_keeps (g.N.Names.table.view c.args.names.now) (length c.args.self.now.edges) c.args.edge c.args.self.now c.add.new.self linked c.requires.there kept)
+    (λ linked. λ kept. linked_keeps (g.N.Names.table.view c.args.names.now) (length c.args.self.now.edges) c.args.edge c.args.self.now c.add.new.self linked
+    c.requires.there kept)
     c.add.ensures.linked

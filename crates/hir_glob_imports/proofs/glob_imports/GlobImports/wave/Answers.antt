@@ -12,7 +12,8 @@ steps-init g c = record { steps = none_in; listed = λ s h. h; kept = λ old. ol
 pub returns-in_err-advance-clause-many : goal.returns-in_err-advance-clause-many
 returns-in_err-advance-clause-many g c = λ h.
     spent_after g.N.Names.table (state_of c.args.names.now c.args.self.now c.args.count.now) (state_of c.steps.names c.steps.self c.steps.count)
-    (steps_of g.N.Names.table c.steps.changes.items (state_of c.args.names.now c.args.self.now c.args.count.now) (state_of c.steps.names c.steps.self c.steps.count)
+    (steps_of g.N.Names.table c.steps.changes.items (state_of c.args.names.now c.args.self.now c.args.count.now)
+    (state_of c.steps.names c.steps.self c.steps.count)
     c.steps.invariant.steps)
     (c.in_err-advance.ensures.many (search rules))
 

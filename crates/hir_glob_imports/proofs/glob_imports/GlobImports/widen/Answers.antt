@@ -1,7 +1,7 @@
 -- The edge is listed as before, and is to be looked at at each key of its source.
 use Rattle.std.proofs.Common.{◌≡◌, ◌∙◌, ap, sym, subst, refl, List, Some, slice_get}
 use Rattle.std.specs.Prelude.{slice_set}
-use Rattle.hir_glob_imports.specs.declared.edge.Edge.{Edge}
+use Rattle.hir_glob_imports.specs.Types.{Edge}
 use Rattle.hir_glob_imports.specs.Waves.{GlobsValue, edge_with_vis}
 use Rattle.hir_glob_imports.proofs.Linking.{indexed_set, linked_from, one_or_written}
 use Rattle.hir_glob_imports.proofs.glob_imports.GlobImports.widen.Goals as goal
@@ -10,7 +10,8 @@ pub invariant_of-self-2 : goal.invariant_of-self-2
 invariant_of-self-2 g c =
     let there : slice_get c.self.inside.edges.items c.args.j ≡ Some c.args.edge =
     subst (λ (x : GlobsValue). slice_get x.edges c.args.j ≡ Some c.args.edge) (sym c.self.view_is) c.requires.recorded in
-    indexed_set c.self.inside.edges.items c.set_edge.new.edges.items c.args.edge c.args.j c.args.vis c.self.inside.out_of c.self.inside.into there c.set_edge.ensures.value c.self.invariant
+    indexed_set c.self.inside.edges.items c.set_edge.new.edges.items c.args.edge c.args.j c.args.vis c.self.inside.out_of c.self.inside.into there
+    c.set_edge.ensures.value c.self.invariant
 
 pub returns-clause-linked : goal.returns-clause-linked
 returns-clause-linked g c =

@@ -3,7 +3,7 @@ use Rattle.std.proofs.Common.{◌≡◌, subst, Some, rules}
 use Rattle.std.specs.Prelude.{slice_get, slice_set}
 use Rattle.hir_import_resolution.specs.Directives.{TakenValue, taken_for}
 use Rattle.hir_import_resolution.specs.Inner.State.{finished_by, state_by}
-use Rattle.hir_import_resolution.specs.declared.resolver.Resolver.{Resolver}
+use Rattle.hir_import_resolution.specs.Types.{Resolver}
 use Rattle.hir_import_resolution.proofs.Due.{linking_spent}
 use Rattle.hir_import_resolution.proofs.TakenImports.{WasLinked, linked}
 use Rattle.hir_import_resolution.proofs.resolver.Resolver.link.Goals as goal
@@ -14,7 +14,8 @@ all c = linked c.args.self.now (record c.tick.new.self { taken = c.note_target.n
     (λ j. record (c.in_ok-tick.ensures.ok j) { taken = c.note_target.new.taken })
     c.in_ok-link.ensures.records c.in_ok-link.ensures.brought
     (subst (λ (x : Resolver). (before : TakenValue) → slice_get x.taken.items c.args.i ≡ Some before
-    → c.note_target.new.taken.items ≡ slice_set x.taken.items c.args.i (taken_for before c.args.edge.source)) c.in_ok-tick.ensures.ok c.in_ok-note_target.ensures.noted)
+    → c.note_target.new.taken.items ≡ slice_set x.taken.items c.args.i (taken_for before c.args.edge.source)) c.in_ok-tick.ensures.ok
+    c.in_ok-note_target.ensures.noted)
     c.in_ok-link.ensures.kept
 
 pub returns-clause-step : goal.returns-clause-step
@@ -37,5 +38,6 @@ returns-clause-small c = c.in_ok-tick.ensures.small
 
 pub returns-in_err-tick-clause-many : goal.returns-in_err-tick-clause-many
 returns-in_err-tick-clause-many c = λ h.
-    linking_spent (finished_by c.args.self.now) (state_by c.args.self.now) c.args.i c.args.edge c.link.new.self.edges c.requires.due c.in_ok-link.ensures.records
+    linking_spent (finished_by c.args.self.now) (state_by c.args.self.now) c.args.i c.args.edge c.link.new.self.edges c.requires.due
+    c.in_ok-link.ensures.records
     (c.in_err-tick.ensures.many (search rules))

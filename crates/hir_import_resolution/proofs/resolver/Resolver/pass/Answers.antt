@@ -26,18 +26,22 @@ tries-preserved c = record {
   apart = c.in_ok-try_import.ensures.apart ∙ c.tries.invariant.apart;
   steps = steps_on c.args.self.now c.tries.self c.try_import.new.self c.tries.invariant.finished c.tries.invariant.steps c.in_ok-try_import.ensures.steps;
   reports = λ apart.
-      reports_join _ (record c.tries.self { worklist = c.take.new.self }) c.try_import.new.self (reports_queued _ c.tries.self c.take.new.self (c.tries.invariant.reports apart))
+      reports_join _ (record c.tries.self { worklist = c.take.new.self }) c.try_import.new.self
+      (reports_queued _ c.tries.self c.take.new.self (c.tries.invariant.reports apart))
       (c.in_ok-try_import.ensures.reports (c.tries.invariant.apart ∙ apart));
   moves =
-      nothing_later c.args.self.now c.tries.self c.try_import.new.self c.take.new.self c.in-Some.i c.tries.invariant.steps c.in_ok-try_import.ensures.steps c.tries.invariant.moves
+      nothing_later c.args.self.now c.tries.self c.try_import.new.self c.take.new.self c.in-Some.i c.tries.invariant.steps c.in_ok-try_import.ensures.steps
+      c.tries.invariant.moves
       c.in-Some.ensures.some c.in_ok-try_import.ensures.moves;
 }
 
 pub returns-in_err-try_import-clause-many : goal.returns-in_err-try_import-clause-many
-returns-in_err-try_import-clause-many c many = spent_on c.args.self.now c.tries.self c.tries.invariant.finished c.tries.invariant.steps (c.in_err-try_import.ensures.many (search rules))
+returns-in_err-try_import-clause-many c many =
+    spent_on c.args.self.now c.tries.self c.tries.invariant.finished c.tries.invariant.steps (c.in_err-try_import.ensures.many (search rules))
 
 pub returns-clause-reports : goal.returns-clause-reports
-returns-clause-reports c = λ apart. reports_from c.args.self.now _ c.open.new.self (reports_queued _ c.tries.self c.take.new.self (c.tries.invariant.reports apart))
+returns-clause-reports c =
+    λ apart. reports_from c.args.self.now _ c.open.new.self (reports_queued _ c.tries.self c.take.new.self (c.tries.invariant.reports apart))
 
 pub returns-clause-running : goal.returns-clause-running
 returns-clause-running c = closed_running c.tries.self c.take.new.self c.tries.invariant.running c.in_default.ensures.none

@@ -10,4 +10,5 @@ pub reopen-requires-clause-stands : goal.reopen-requires-clause-stands
 reopen-requires-clause-stands c = λ q by is. c.requires.sound.stands q by is
 
 pub returns-clause-state : goal.returns-clause-state
-returns-clause-state c = on_both c.reopen.result _ _ _ (λ edges brought. same_state c.args.self.now c.reopen.new.self edges brought) c.reopen.ensures.edges c.reopen.ensures.brought
+returns-clause-state c =
+    on_both c.reopen.result _ _ _ (λ edges brought. same_state c.args.self.now c.reopen.new.self edges brought) c.reopen.ensures.edges c.reopen.ensures.brought

@@ -20,8 +20,11 @@ passes-init c = record {
 
 pub passes-smaller : goal.passes-smaller
 passes-smaller c =
-    fewer MAX_STEPS c.passes.self.count c.pass.new.self.count c.passes.self.worklist.later c.pass.new.self.worklist.later (steps_count _ _ _ c.in_ok-pass.ensures.steps)
-    c.in_ok-pass.ensures.running.begun.small (λ none. absurd (let settled = c.is_settled.ensures.queued c.passes.invariant.over none in let unsettled = c.passes-test.true in cc)) c.in_ok-pass.ensures.moves
+    fewer MAX_STEPS c.passes.self.count c.pass.new.self.count c.passes.self.worklist.later c.pass.new.self.worklist.later
+    (steps_count _ _ _ c.in_ok-pass.ensures.steps)
+    c.in_ok-pass.ensures.running.begun.small
+    (λ none. absurd (let settled = c.is_settled.ensures.queued c.passes.invariant.over none in let unsettled = c.passes-test.true in cc))
+    c.in_ok-pass.ensures.moves
 
 pub passes-preserved : goal.passes-preserved
 passes-preserved c = record {
@@ -31,7 +34,9 @@ passes-preserved c = record {
   steps = steps_on c.wave.new.self c.passes.self c.pass.new.self c.passes.invariant.finished c.passes.invariant.steps c.in_ok-pass.ensures.steps;
   over = c.in_ok-pass.ensures.over;
   outside = c.in_ok-pass.ensures.outside;
-  reports = λ apart. reports_join c.wave.new.self c.passes.self c.pass.new.self (c.passes.invariant.reports apart) (c.in_ok-pass.ensures.reports (c.passes.invariant.apart ∙ apart));
+  reports =
+      λ apart. reports_join c.wave.new.self c.passes.self c.pass.new.self (c.passes.invariant.reports apart)
+      (c.in_ok-pass.ensures.reports (c.passes.invariant.apart ∙ apart));
 }
 
 pub returns-in_err-pass-clause-many : goal.returns-in_err-pass-clause-many
@@ -50,7 +55,8 @@ returns-clause-steps c =
 
 pub returns-clause-reports : goal.returns-clause-reports
 returns-clause-reports c = λ apart.
-    reports_join c.args.self.now c.wave.new.self c.passes.self (c.in_ok-wave.ensures.reports apart) (c.passes.invariant.reports (c.in_ok-wave.ensures.apart ∙ apart))
+    reports_join c.args.self.now c.wave.new.self c.passes.self (c.in_ok-wave.ensures.reports apart)
+    (c.passes.invariant.reports (c.in_ok-wave.ensures.apart ∙ apart))
 
 pub returns-clause-finished : goal.returns-clause-finished
 returns-clause-finished c = c.passes.invariant.finished ∙ c.in_ok-wave.ensures.finished

@@ -3,7 +3,7 @@ use Rattle.std.proofs.Common.{◌≡◌, ◌∙◌, sym, refl}
 use Rattle.std.proofs.lemmas.Result.{err_from_is_err_and}
 use Rattle.hir_glob_imports.specs.declared.step.GlobError.TheVariants as glob_errors
 use Rattle.hir_import_resolution.specs.declared.resolve.ImportError.TheVariants as errors
-use Rattle.hir_import_resolution.specs.declared.resolver.Resolver.{Resolver}
+use Rattle.hir_import_resolution.specs.Types.{Resolver}
 use Rattle.hir_import_resolution.proofs.Spread.{refused_many, spread_is, spread_lasts, spread_recorded, spread_spent, spread_steps}
 use Rattle.hir_import_resolution.proofs.resolver.Resolver.spread.Goals as goal
 
@@ -20,7 +20,8 @@ pub returns-clause-recorded : goal.returns-clause-recorded
 returns-clause-recorded c = spread_recorded c.args.self.now (left c) c.wave.new.changes.items c.in_ok-wave.ensures.steps refl refl refl refl refl refl refl refl
 
 pub returns-clause-lasts : goal.returns-clause-lasts
-returns-clause-lasts c = λ kept lasts. spread_lasts c.args.self.now (left c) c.wave.new.changes.items c.in_ok-wave.ensures.steps refl refl refl refl refl refl refl refl kept lasts
+returns-clause-lasts c =
+    λ kept lasts. spread_lasts c.args.self.now (left c) c.wave.new.changes.items c.in_ok-wave.ensures.steps refl refl refl refl refl refl refl refl kept lasts
 
 pub returns-in_err-wave-clause-many : goal.returns-in_err-wave-clause-many
 returns-in_err-wave-clause-many c = λ h.

@@ -4,17 +4,20 @@ use Rattle.std.specs.Prelude.{slice_get, slice_set}
 use Rattle.hir_glob_imports.specs.declared.step.TheConstants.{MAX_STEPS}
 use Rattle.hir_import_resolution.specs.Directives.{TakenValue, taken_after}
 use Rattle.hir_import_resolution.specs.Inner.State.{finished_by, state_by}
-use Rattle.hir_import_resolution.specs.declared.resolver.Resolver.{Resolver}
+use Rattle.hir_import_resolution.specs.Types.{Resolver}
 use Rattle.hir_import_resolution.proofs.Due.{taking_spent}
 use Rattle.hir_import_resolution.proofs.TakenImports.{Took, took}
 use Rattle.hir_import_resolution.proofs.resolver.Resolver.take.Goals as goal
 
 all : (c : goal.In_ok-keep) → Took c.args.self.now c.keep.new.self c.args.i c.args.taking.now
-all c = took c.args.self.now (record c.tick.new.self { taken = c.note_answer.new.taken }) c.bind.new.self c.keep.new.self c.args.i c.args.taking.now c.leaf.result c.note_answer.new.taken
+all c =
+    took c.args.self.now (record c.tick.new.self { taken = c.note_answer.new.taken }) c.bind.new.self c.keep.new.self c.args.i c.args.taking.now c.leaf.result
+    c.note_answer.new.taken
     c.requires.due
     (λ j. record (c.in_ok-tick.ensures.ok j) { taken = c.note_answer.new.taken })
     (subst (λ (x : Resolver). (before : TakenValue) → slice_get x.taken.items c.args.i ≡ Some before
-    → c.note_answer.new.taken.items ≡ slice_set x.taken.items c.args.i (taken_after before c.args.taking.now.answer)) c.in_ok-tick.ensures.ok c.note_answer.ensures.noted)
+    → c.note_answer.new.taken.items ≡ slice_set x.taken.items c.args.i (taken_after before c.args.taking.now.answer)) c.in_ok-tick.ensures.ok
+    c.note_answer.ensures.noted)
     c.in_ok-bind.ensures.ok c.in_ok-bind.ensures.rest c.in_ok-bind.ensures.world
     c.leaf.ensures.value
     c.in_ok-keep.ensures.ok c.in_ok-keep.ensures.rest c.in_ok-keep.ensures.world
@@ -39,7 +42,8 @@ pub returns-clause-edges : goal.returns-clause-edges
 returns-clause-edges c = (all c).edges
 
 pub returns-clause-small : goal.returns-clause-small
-returns-clause-small c = subst (λ (n : ℕ). n ≤ MAX_STEPS) (ap (λ (x : Resolver). x.count) c.in_ok-tick.ensures.ok ∙ sym (all c).count) c.in_ok-tick.ensures.small
+returns-clause-small c =
+    subst (λ (n : ℕ). n ≤ MAX_STEPS) (ap (λ (x : Resolver). x.count) c.in_ok-tick.ensures.ok ∙ sym (all c).count) c.in_ok-tick.ensures.small
 
 pub returns-clause-many : goal.returns-clause-many
 returns-clause-many c = λ e. absurd cc

@@ -1,7 +1,7 @@
 -- Names go along globs, and what read them is woken.
 use Rattle.std.proofs.Common.{◌∙◌, ap, subst, sym}
 use Rattle.hir_worklist.specs.Queue.{Queue}
-use Rattle.hir_import_resolution.specs.declared.resolver.Resolver.{Resolver}
+use Rattle.hir_import_resolution.specs.Types.{Resolver}
 use Rattle.hir_import_resolution.specs.Inner.Queue.{IsSamePass}
 use Rattle.hir_import_resolution.specs.Inner.State.{path_slots}
 use Rattle.hir_import_resolution.proofs.Running.{reports_slots, running_waved}
@@ -9,9 +9,11 @@ use Rattle.hir_import_resolution.proofs.resolver.Resolver.wave.Goals as goal
 
 pub returns-clause-running : goal.returns-clause-running
 returns-clause-running c =
-    running_waved c.args.self.now c.spread.new.self c.wake_changes.new.self (path_slots c.spread.new.self.changes.items) c.requires.begun c.in_ok-spread.ensures.is.changes c.in_ok-spread.ensures.is.taken
+    running_waved c.args.self.now c.spread.new.self c.wake_changes.new.self (path_slots c.spread.new.self.changes.items) c.requires.begun
+    c.in_ok-spread.ensures.is.changes c.in_ok-spread.ensures.is.taken
     (c.in_ok-spread.ensures.kept c.requires.begun.kept) (c.in_ok-spread.ensures.recorded c.requires.begun.recorded)
-    (λ e. c.in_ok-spread.ensures.lasts c.requires.begun.kept (c.requires.begun.lasts (sym c.in_ok-spread.ensures.is.changes.lasting ∙ e))) c.spread.ensures.small c.in_ok-spread.ensures.pending
+    (λ e. c.in_ok-spread.ensures.lasts c.requires.begun.kept (c.requires.begun.lasts (sym c.in_ok-spread.ensures.is.changes.lasting ∙ e)))
+    c.spread.ensures.small c.in_ok-spread.ensures.pending
     c.in_ok-wake_changes.ensures.rest c.in_ok-wake_changes.ensures.woken c.in_ok-wake_changes.ensures.changes
 
 pub returns-clause-reports : goal.returns-clause-reports

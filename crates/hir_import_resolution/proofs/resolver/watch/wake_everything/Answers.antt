@@ -11,7 +11,9 @@ itself n = grind (arith, nat_tests)
 
 pub loop-position-preserved : goal.loop-position-preserved
 loop-position-preserved c = record {
-  pass = pass_join c.args.worklist.now c.loop-position.worklist c.wake.new.self c.loop-position.invariant.pass (pass_woken c.loop-position.worklist c.wake.new.self _ c.in_ok-wake.ensures.ok);
+  pass =
+      pass_join c.args.worklist.now c.loop-position.worklist c.wake.new.self c.loop-position.invariant.pass
+      (pass_woken c.loop-position.worklist c.wake.new.self _ c.in_ok-wake.ensures.ok);
   queued = below_more (λ p. ¬ IsIdle c.wake.new.self p) c.loop-position.position
       (λ p low idle. c.loop-position.invariant.queued p low (idle-woken c.loop-position.worklist c.wake.new.self _ p c.in_ok-wake.ensures.ok idle).0)
       (λ idle.

@@ -2,7 +2,7 @@ use Rattle.std.proofs.Common.{◌≡◌, [], take, drop}
 use Rattle.std.specs.HashSet.{contains}
 use Rattle.std.specs.List.{list_any}
 use Rattle.hir_item_tree.specs.SyntaxIds.{repeat_after}
-use Rattle.hir_item_tree.specs.declared.check.NodeId.{NodeId}
+use Rattle.hir_item_tree.specs.Types.{NodeId}
 use Rattle.hir_item_tree.specs.contracts.check.NodeIdPartialEq.TheImpl.{ghosts}
 use Rattle.hir_item_tree.proofs.check.node_ids.first_repeat.Given as goal
 

@@ -11,4 +11,7 @@ returns c =
     let rows = c.self.inside.rows.items in
     let ns = numbers_of c.self.inside.top.items in
     let f : forest_at (rows_view rows) ns ≡ c.args.self.now.items = ap (λ (t : Tree). t.items) c.self.view_is in
-    record { value = subst (λ n. IsTrue c.has_row.result ↔ (c.args.id.0 < n)) (sym (length-laid rows ns c.args.self.now.items c.self.invariant f)) c.has_row.ensures.value }
+    record {
+      value = subst (λ n. IsTrue c.has_row.result ↔ (c.args.id.0 < n)) (sym (length-laid rows ns c.args.self.now.items c.self.invariant f))
+          c.has_row.ensures.value;
+    }

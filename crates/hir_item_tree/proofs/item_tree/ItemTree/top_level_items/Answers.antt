@@ -3,7 +3,7 @@ use Rattle.std.specs.List.{All}
 use Rattle.hir_item_tree.specs.KeptForest.{all_items}
 use Rattle.hir_item_tree.specs.Rows.{rows_view, numbers_of, items_at, forest_at}
 use Rattle.hir_item_tree.specs.ItemTree.{Tree}
-use Rattle.hir_item_tree.specs.declared.rows.ModItemId.{ModItemId}
+use Rattle.hir_item_tree.specs.Types.{ModItemId}
 use Rattle.hir_item_tree.proofs.Walked.{items_behind-laid, length-laid, AreBelow-rows, ids_below}
 use Rattle.hir_item_tree.proofs.item_tree.ItemTree.top_level_items.Goals as goal
 

@@ -7,7 +7,9 @@ use Rattle.hir_item_tree.proofs.trees.Trees.remove.Goals as goal
 -- the source is no more kept under this crate
 pub returns-in-Some : goal.returns-in-Some
 returns-in-Some c = record {
-  value = λ q. changed ids.cmp equal_id (λ t. t.value) c.args.key.id c.args.key.krate (get ids.cmp c.args.self.now.by_source) (get ids.cmp (c.get_mut.follows.lender c.remove.new.self)) c.in-Some.kept.now c.remove.new.self None
+  value =
+      λ q. changed ids.cmp equal_id (λ t. t.value) c.args.key.id c.args.key.krate (get ids.cmp c.args.self.now.by_source)
+      (get ids.cmp (c.get_mut.follows.lender c.remove.new.self)) c.in-Some.kept.now c.remove.new.self None
       (λ krate. ap (λ o. kept_under (λ t. t.value) o krate) (sym c.in-Some.ensures.value))
       ((c.get_mut.follows.holds c.remove.new.self).3 (ap is_some (sym c.in-Some.ensures.value))).0
       c.remove.ensures.updates.0 q.id q.krate;

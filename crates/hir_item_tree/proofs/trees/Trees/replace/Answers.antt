@@ -7,7 +7,8 @@ use Rattle.hir_item_tree.proofs.trees.Trees.replace.Goals as goal
 -- what is kept under this crate is this
 pub returns-in-Some-get_mut-clause-replaced : goal.returns-in-Some-get_mut-clause-replaced
 returns-in-Some-get_mut-clause-replaced c q =
-    changed ids.cmp equal_id (λ t. t.value) c.args.key.id c.args.key.krate (get ids.cmp c.args.self.now.by_source) (get ids.cmp (c.get_mut.follows.lender (c.get_mut-in-Some.follows.lender c.args.tree)))
+    changed ids.cmp equal_id (λ t. t.value) c.args.key.id c.args.key.krate (get ids.cmp c.args.self.now.by_source)
+    (get ids.cmp (c.get_mut.follows.lender (c.get_mut-in-Some.follows.lender c.args.tree)))
     c.in-Some.kept.now (c.get_mut-in-Some.follows.lender c.args.tree) (Some c.args.tree)
     (λ krate. ap (λ o. kept_under (λ t. t.value) o krate) (sym c.in-Some.ensures.value))
     ((c.get_mut.follows.holds (c.get_mut-in-Some.follows.lender c.args.tree)).3 (ap is_some (sym c.in-Some.ensures.value))).0
@@ -16,7 +17,8 @@ returns-in-Some-get_mut-clause-replaced c q =
 -- nothing is kept under it, and nothing changes
 pub returns-in-None-get_mut-clause-unchanged : goal.returns-in-None-get_mut-clause-unchanged
 returns-in-None-get_mut-clause-unchanged c q =
-    unchanged ids.cmp equal_id (λ t. t.value) c.args.key.id (get ids.cmp c.args.self.now.by_source) (get ids.cmp (c.get_mut.follows.lender c.get_mut-in-Some.follows.lender-at-none))
+    unchanged ids.cmp equal_id (λ t. t.value) c.args.key.id (get ids.cmp c.args.self.now.by_source)
+    (get ids.cmp (c.get_mut.follows.lender c.get_mut-in-Some.follows.lender-at-none))
     c.in-Some.kept.now c.get_mut-in-Some.follows.lender-at-none
     (λ krate. ap (λ o. kept_under (λ t. t.value) o krate) (sym c.in-Some.ensures.value))
     ((c.get_mut.follows.holds c.get_mut-in-Some.follows.lender-at-none).3 (ap is_some (sym c.in-Some.ensures.value))).0

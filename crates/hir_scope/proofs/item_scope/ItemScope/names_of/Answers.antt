@@ -10,12 +10,16 @@ returns-in-Types g c = record {
 
 pub returns-in-Values : goal.returns-in-Values
 returns-in-Values g c = record {
-  value = asked_values (goal.F-step g) c.args.cb c.args.self.now c.in-Values.id c.args.item c.entries_of-in-Values.result c.ask_names-in-Values.result c.in-Values.is
+  value =
+      asked_values (goal.F-step g) c.args.cb c.args.self.now c.in-Values.id c.args.item c.entries_of-in-Values.result c.ask_names-in-Values.result
+      c.in-Values.is
       (c.entries_of-in-Values.ensures.rest ∙ ap (λ s. s.values) c.self.view_is) c.ask_names-in-Values.ensures.value;
 }
 
 pub returns-in-Macros : goal.returns-in-Macros
 returns-in-Macros g c = record {
-  value = asked_macros (goal.F-step g) c.args.cb c.args.self.now c.in-Macros.id c.args.item c.entries_of-in-Macros.result c.ask_names-in-Macros.result c.in-Macros.is
+  value =
+      asked_macros (goal.F-step g) c.args.cb c.args.self.now c.in-Macros.id c.args.item c.entries_of-in-Macros.result c.ask_names-in-Macros.result
+      c.in-Macros.is
       (c.entries_of-in-Macros.ensures.rest ∙ ap (λ s. s.macros) c.self.view_is) c.ask_names-in-Macros.ensures.value;
 }

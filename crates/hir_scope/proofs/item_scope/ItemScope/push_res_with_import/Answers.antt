@@ -2,31 +2,39 @@ use Rattle.std.proofs.Common.{◌≡◌, ◌≢◌, true, false}
 use Rattle.hir_scope.specs.contracts.imports.ImportOrExternCrateOrd.TheImpl.Laws.{total-law as import_or_extern_crate_total}
 use Rattle.hir_scope.specs.contracts.imports.ImportOrGlobOrd.TheImpl.Laws.{total-law as import_or_glob_total}
 use Rattle.hir_scope.specs.PerNs.{is_nothing}
-use Rattle.hir_scope.specs.Scope.Push.{RecordsType, RecordsValue, RecordsMacro, pushed_scope, pushed_globs, push_changes, PushesType, PushesValue, PushesMacro, slots_of, IsNewlyUnresolved}
-use Rattle.hir_scope.proofs.Pushes.{type_pushed, value_pushed, macro_pushed, type_recorded, value_recorded, macro_recorded, scope_stays, globs_stay, name_is_new, slots_move, told_of, on_ok, on_ok_of}
+use Rattle.hir_scope.specs.Scope.Push.{RecordsType, RecordsValue, RecordsMacro, pushed_scope, pushed_globs, push_changes, PushesType, PushesValue, PushesMacro}
+use Rattle.hir_scope.specs.Scope.Push.{slots_of, IsNewlyUnresolved}
+use Rattle.hir_scope.proofs.Pushes.{type_pushed, value_pushed, macro_pushed, type_recorded, value_recorded, macro_recorded, scope_stays, globs_stay}
+use Rattle.hir_scope.proofs.Pushes.{name_is_new, slots_move, told_of, on_ok, on_ok_of}
 use Rattle.hir_scope.proofs.item_scope.ItemScope.push_res_with_import.Goals as goal
 
 -- the answer is whether the push changes anything
 pub returns-clause-stays : goal.returns-clause-stays
 returns-clause-stays c =
-    told_of false (λ scope globs. scope ≡ c.args.self.now) c.push.result (push_changes c.args.self.now c.args.glob_imports.now c.args.lookup c.args.def c.args.import)
+    told_of false (λ scope globs. scope ≡ c.args.self.now) c.push.result (push_changes c.args.self.now c.args.glob_imports.now c.args.lookup c.args.def
+    c.args.import)
     (pushed_scope c.args.glob_imports.now c.args.lookup c.args.def c.args.import c.args.self.now) c.push.new.self
-    (pushed_globs c.args.self.now c.args.lookup c.args.def c.args.import c.args.glob_imports.now) c.push.new.glob_imports c.push.ensures.ok c.push.ensures.globs c.push.ensures.changed
+    (pushed_globs c.args.self.now c.args.lookup c.args.def c.args.import c.args.glob_imports.now) c.push.new.glob_imports c.push.ensures.ok c.push.ensures.globs
+    c.push.ensures.changed
     (scope_stays c.args.self.now c.args.glob_imports.now c.args.lookup c.args.import c.args.def)
 
 pub returns-clause-stays_globs : goal.returns-clause-stays_globs
 returns-clause-stays_globs c =
-    told_of false (λ scope globs. globs ≡ c.args.glob_imports.now) c.push.result (push_changes c.args.self.now c.args.glob_imports.now c.args.lookup c.args.def c.args.import)
+    told_of false (λ scope globs. globs ≡ c.args.glob_imports.now) c.push.result (push_changes c.args.self.now c.args.glob_imports.now c.args.lookup c.args.def
+    c.args.import)
     (pushed_scope c.args.glob_imports.now c.args.lookup c.args.def c.args.import c.args.self.now) c.push.new.self
-    (pushed_globs c.args.self.now c.args.lookup c.args.def c.args.import c.args.glob_imports.now) c.push.new.glob_imports c.push.ensures.ok c.push.ensures.globs c.push.ensures.changed
+    (pushed_globs c.args.self.now c.args.lookup c.args.def c.args.import c.args.glob_imports.now) c.push.new.glob_imports c.push.ensures.ok c.push.ensures.globs
+    c.push.ensures.changed
     (globs_stay c.args.self.now c.args.glob_imports.now c.args.lookup c.args.import c.args.def)
 
 pub returns-clause-moves : goal.returns-clause-moves
 returns-clause-moves c =
-    told_of true (λ scope globs. is_nothing c.args.def ≡ false → slots_of scope globs c.args.lookup ≢ slots_of c.args.self.now c.args.glob_imports.now c.args.lookup)
+    told_of true (λ scope globs. is_nothing c.args.def ≡ false → slots_of scope globs c.args.lookup ≢ slots_of c.args.self.now c.args.glob_imports.now
+    c.args.lookup)
     c.push.result (push_changes c.args.self.now c.args.glob_imports.now c.args.lookup c.args.def c.args.import)
     (pushed_scope c.args.glob_imports.now c.args.lookup c.args.def c.args.import c.args.self.now) c.push.new.self
-    (pushed_globs c.args.self.now c.args.lookup c.args.def c.args.import c.args.glob_imports.now) c.push.new.glob_imports c.push.ensures.ok c.push.ensures.globs c.push.ensures.changed
+    (pushed_globs c.args.self.now c.args.lookup c.args.def c.args.import c.args.glob_imports.now) c.push.new.glob_imports c.push.ensures.ok c.push.ensures.globs
+    c.push.ensures.changed
     (slots_move c.args.self.now c.args.glob_imports.now c.args.lookup c.args.import c.is_ordered.ensures.total
     c.is_ordered.ensures.types c.is_ordered.ensures.values c.is_ordered.ensures.macros c.args.def)
 
@@ -35,7 +43,8 @@ returns-clause-notes c =
     told_of true (λ scope globs. is_nothing c.args.def ≡ true → IsNewlyUnresolved c.args.lookup.1 c.args.self.now scope)
     c.push.result (push_changes c.args.self.now c.args.glob_imports.now c.args.lookup c.args.def c.args.import)
     (pushed_scope c.args.glob_imports.now c.args.lookup c.args.def c.args.import c.args.self.now) c.push.new.self
-    (pushed_globs c.args.self.now c.args.lookup c.args.def c.args.import c.args.glob_imports.now) c.push.new.glob_imports c.push.ensures.ok c.push.ensures.globs c.push.ensures.changed
+    (pushed_globs c.args.self.now c.args.lookup c.args.def c.args.import c.args.glob_imports.now) c.push.new.glob_imports c.push.ensures.ok c.push.ensures.globs
+    c.push.ensures.changed
     (name_is_new c.args.self.now c.args.glob_imports.now c.args.lookup c.args.import c.args.def)
 
 -- scope and glob table are what the push makes of them, and that writes the name's slots

@@ -16,17 +16,22 @@ use Rattle.hir_session_core.proofs.session.Session.found_at.Goals as goal
 
 pub invariant_of-self : goal.invariant_of-self
 invariant_of-self c = (
-  rw c.resolve.ensures.same (grown_sound looks_stand asked_keys_have_meaning answers_stand _ _ c.resolve.ensures.kept c.resolve.ensures.placed c.self.invariant.0),
+  rw c.resolve.ensures.same (grown_sound looks_stand asked_keys_have_meaning answers_stand _ _ c.resolve.ensures.kept c.resolve.ensures.placed
+      c.self.invariant.0),
   noted_grown _ _ _ c.self.invariant.1 _ c.resolve.ensures.kept (kept_meant asked_keys_have_meaning _ c.self.invariant.0),
 )
 
 pub returns-clause-grown : goal.returns-clause-grown
-returns-clause-grown c = rw c.resolve.ensures.same (grown_of looks_stand asked_keys_have_meaning answers_stand _ _ c.resolve.ensures.kept c.resolve.ensures.placed _ c.self.view_is c.self.invariant.0)
+returns-clause-grown c =
+    rw c.resolve.ensures.same (grown_of looks_stand asked_keys_have_meaning answers_stand _ _ c.resolve.ensures.kept c.resolve.ensures.placed _ c.self.view_is
+    c.self.invariant.0)
 
 pub returns-clause-found : goal.returns-clause-found
 returns-clause-found c = rw c.resolve.ensures.same (on_ok c.resolve.result
-    (λ r resolved. found_of looks_stand asked_keys_have_meaning answers_stand _ _ c.resolve.ensures.kept c.resolve.ensures.placed _ c.self.view_is c.self.invariant.0 runs_name
-    c.args.k (subst (λ (s : SessionState). c.args.k < length s.crates) (sym c.self.view_is) c.requires.within) c.requires.first _ _ c.world.ensures.value resolved)
+    (λ r resolved. found_of looks_stand asked_keys_have_meaning answers_stand _ _ c.resolve.ensures.kept c.resolve.ensures.placed _ c.self.view_is
+    c.self.invariant.0 runs_name
+    c.args.k (subst (λ (s : SessionState). c.args.k < length s.crates) (sym c.self.view_is) c.requires.within) c.requires.first _ _ c.world.ensures.value
+    resolved)
     c.resolve.ensures.resolved)
 
 pub returns-clause-many : goal.returns-clause-many

@@ -17,6 +17,8 @@ returns-clause-ok g c =
     let before = c.or_default-positions.result.now in
     let found : (p : ℕ) → is_among p before.items ≡ is_watching cmp c.args.self.now c.args.slot p =
     watchers-found (get cmp c.args.self.now.positions c.args.slot) before
-    (subst (λ o. UnwrapsOrElse o (λ (made : Vec ℕ Global). (made.items ≡ []) × (vec_len made ≡ 0)) before) c.in_ok-self.ensures.value c.or_default-positions.ensures.value) in
-    λ other p. watches-pushed cmp g.met.K.Ord.total c.args.self.now c.args.slot c.args.position before c.push.new.self found c.in_ok-push.ensures.items other p _
+    (subst (λ o. UnwrapsOrElse o (λ (made : Vec ℕ Global). (made.items ≡ []) × (vec_len made ≡ 0)) before) c.in_ok-self.ensures.value
+    c.or_default-positions.ensures.value) in
+    λ other p. watches-pushed cmp g.met.K.Ord.total c.args.self.now c.args.slot c.args.position before c.push.new.self found c.in_ok-push.ensures.items other p
+    _
     (grind (arith, common_steps))

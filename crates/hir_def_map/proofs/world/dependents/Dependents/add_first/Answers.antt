@@ -8,7 +8,8 @@ use Rattle.hir_def_map.proofs.world.dependents.Dependents.add_first.Goals as goa
 
 pub returns-clause-ok : goal.returns-clause-ok
 returns-clause-ok c =
-    changed_at (λ (a b : Bool). a || b) or-false c.args.self.now.ids c.insert-2.new.self c.args.on c.args.id (Some c.insert.new.self) c.in_ok-insert-2.ensures.updates.0
+    changed_at (λ (a b : Bool). a || b) or-false c.args.self.now.ids c.insert-2.new.self c.args.on c.args.id (Some c.insert.new.self)
+    c.in_ok-insert-2.ensures.updates.0
     (λ id.
     c.in_ok-insert.ensures.updates.0 id
     ∙ takes_one (contains map_order.ghosts.cmp c.new-ids.result id) (is_id c.args.id id)

@@ -8,7 +8,8 @@ next-init c = leaving-start c.args.self.now c.args.named.now.keys c.iter-left.re
 
 pub next-preserved : goal.next-preserved
 next-preserved c =
-    leaving-step c.args.self.now c.next.self c.remove.new.self c.args.named.now.keys c.next.left c.next-in-next.new.self c.args.id c.in-Some.on.now (search rules)
+    leaving-step c.args.self.now c.next.self c.remove.new.self c.args.named.now.keys c.next.left c.next-in-next.new.self c.args.id c.in-Some.on.now
+    (search rules)
     c.next.invariant c.remove.ensures.left
 
 pub returns : goal.returns

@@ -14,9 +14,12 @@ returns-then-are_within c =
     let crates = option_copied c.args.self.now.crates in
     let holders = c.args.self.now.holders.now in
     let there : get map_order.ghosts.cmp c.args.self.now.world.now.maps c.args.id ≡ Some c.in-Some.finished.now = search rules in
-    let all : are_within crates holders c.in-Some.finished.now.holders.items ≡ true = ap (are_within crates holders) (sym c.as_slice.ensures.value) ∙ sym c.are_within.ensures.value ∙ c.if-are_within.true in
+    let all : are_within crates holders c.in-Some.finished.now.holders.items ≡ true = ap (are_within crates holders) (sym c.as_slice.ensures.value) ∙ sym
+    c.are_within.ensures.value ∙ c.if-are_within.true in
     record {
-      value = sym (part-within c.args.self.now c.args.id (placed_of c.in-Some.finished.now) (sym c.is_within.ensures.value ∙ c.if-not-is_within.false) (ap (option_map placed_of) there) all);
+      value =
+          sym (part-within c.args.self.now c.args.id (placed_of c.in-Some.finished.now) (sym c.is_within.ensures.value ∙ c.if-not-is_within.false)
+          (ap (option_map placed_of) there) all);
     }
 
 pub returns-else-are_within : goal.returns-else-are_within
@@ -25,7 +28,10 @@ returns-else-are_within c =
     let crates = option_copied c.args.self.now.crates in
     let holders = c.args.self.now.holders.now in
     let there : get map_order.ghosts.cmp c.args.self.now.world.now.maps c.args.id ≡ Some c.in-Some.finished.now = search rules in
-    let some : are_within crates holders c.in-Some.finished.now.holders.items ≡ false = ap (are_within crates holders) (sym c.as_slice.ensures.value) ∙ sym c.are_within.ensures.value ∙ c.if-are_within.false in
+    let some : are_within crates holders c.in-Some.finished.now.holders.items ≡ false = ap (are_within crates holders) (sym c.as_slice.ensures.value) ∙ sym
+    c.are_within.ensures.value ∙ c.if-are_within.false in
     record {
-      value = sym (part-cut c.args.self.now c.args.id (placed_of c.in-Some.finished.now) (sym c.is_within.ensures.value ∙ c.if-not-is_within.false) (ap (option_map placed_of) there) some);
+      value =
+          sym (part-cut c.args.self.now c.args.id (placed_of c.in-Some.finished.now) (sym c.is_within.ensures.value ∙ c.if-not-is_within.false)
+          (ap (option_map placed_of) there) some);
     }

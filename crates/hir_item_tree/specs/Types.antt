@@ -1,0 +1,20 @@
+-- The types of the crate, under their names.
+pub use Rattle.hir_item_tree.specs.declared.attrs.Attr.{Attr}
+pub use Rattle.hir_item_tree.specs.declared.check.CheckError.{CheckError}
+pub use Rattle.hir_item_tree.specs.declared.check.NodeId.{NodeId}
+pub use Rattle.hir_item_tree.specs.declared.kinds.ExternBlock.{ExternBlock}
+pub use Rattle.hir_item_tree.specs.declared.kinds.Mod.{Mod}
+pub use Rattle.hir_item_tree.specs.declared.kinds.ModItemKind.{ModItemKind}
+pub use Rattle.hir_item_tree.specs.declared.kinds.ModKind.{ModKind}
+pub use Rattle.hir_item_tree.specs.declared.raw_attr.RawAttr.{RawAttr}
+pub use Rattle.hir_item_tree.specs.declared.raw_visibility.RawVisibility.{RawVisibility}
+pub use Rattle.hir_item_tree.specs.declared.raw_visibility.VisibilityExplicitness.{VisibilityExplicitness}
+pub use Rattle.hir_item_tree.specs.declared.rows.ModItemId.{ModItemId}
+pub use Rattle.hir_item_tree.specs.declared.rows.Row.{Row}
+pub use Rattle.hir_item_tree.specs.declared.shape.ExternCrateName.{ExternCrateName}
+pub use Rattle.hir_item_tree.specs.declared.shape.FieldsShape.{FieldsShape}
+pub use Rattle.hir_item_tree.specs.declared.side_lists.VariantItem.{VariantItem}
+pub use Rattle.hir_item_tree.specs.declared.source.Node.{Node}
+pub use Rattle.hir_item_tree.specs.declared.source.Source.{Source}
+pub use Rattle.hir_item_tree.specs.declared.tree_id.TreeId.{TreeId}
+pub use Rattle.hir_item_tree.specs.declared.tree_id.TreeKey.{TreeKey}

@@ -1,0 +1,2 @@
+-- The types of the crate, under their names.
+pub use Rattle.hir_worklist.specs.declared.watchers.Watchers.{Watchers}
