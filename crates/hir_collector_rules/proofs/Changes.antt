@@ -14,7 +14,7 @@ use Rattle.hir_collector_rules.specs.Types.{Key, MacroDirective}
 use Rattle.hir_collector_rules.specs.Keys.{Environment}
 use Rattle.hir_collector_rules.specs.State.{State, import_state}
 use Rattle.hir_collector_rules.specs.Changes.{Change, lists, makes, gives_variants, begins_paths, reaches, awaits, ends, settles, changes_imports, adds_textual}
-use Rattle.hir_collector_rules.specs.Changes.{takes_textual, defines, describes, helps, lists_derive, exports, uses_macros, tells, goes_on, act, perform}
+use Rattle.hir_collector_rules.specs.Changes.{takes_textual, defines, describes, helps, lists_derive, notes, exports, uses_macros, tells, goes_on, act, perform}
 use Rattle.hir_collector_rules.specs.Calls.{path_of_call}
 use Rattle.hir_collector_rules.specs.Macros.{is_exported}
 use Rattle.hir_collector_rules.specs.Reports.{failed_call, is_unimplemented, unimplemented_macro}

@@ -26,8 +26,9 @@ use Rattle.hir_import_resolution.specs.Directives.{AreAmong, namespaces_of}
 use Rattle.hir_collector_rules.specs.Macros.{textual_at, with_macros_used}
 use Rattle.hir_collector_rules.specs.Moves.{begun}
 use Rattle.hir_collector_rules.specs.Changes.{Change, lists, makes, gives_variants, begins_paths, reaches, awaits, ends, settles, changes_imports, adds_textual}
-use Rattle.hir_collector_rules.specs.Changes.{takes_textual, defines, describes, helps, lists_derive, exports, uses_macros, tells, goes_on, act, perform}
+use Rattle.hir_collector_rules.specs.Changes.{takes_textual, defines, describes, helps, lists_derive, notes, exports, uses_macros, tells, goes_on, act, perform}
 use Rattle.hir_collector_rules.specs.Changes.{with_builtin_derive, with_derived}
+use Rattle.hir_collector_rules.specs.Invocations.{Invocation, with_invocation, with_noted}
 use Rattle.hir_collector_rules.specs.Steps.{Step, Steps, none, more, acts, asking, with_declaration}
 use Rattle.hir_collector_rules.proofs.Declared.{Lists, Lists-changed, Lists-longer, Lists-listed}
 use Rattle.hir_collector_rules.proofs.Bound.{AreAmong-same, AreAmong-trans, AreAmong-by, KeepsBindings, among-changed, keeps-edit}
@@ -139,6 +140,13 @@ keeps-derived imp = record { bound = λ scope name. AreAmong-same (namespaces_of
 Grows-derived : (m : Map) (home : ℕ) (imp : BuiltinDeriveImplId) → Grows m (with_derived m home imp)
 Grows-derived m home imp = Grows-scope m home (with_builtin_derive imp) (keeps-derived imp)
 
+-- and what a scope notes of calls, attributes and derives
+keeps-noted : (invocation : Invocation) → KeepsBindings (with_invocation invocation)
+keeps-noted invocation = record { bound = λ scope name. AreAmong-same (namespaces_of (binding_of scope name)); declared = λ scope. refl }
+
+Grows-noted : (m : Map) (home : ℕ) (invocation : Invocation) → Grows m (with_noted m home invocation)
+Grows-noted m home invocation = Grows-scope m home (with_invocation invocation) (keeps-noted invocation)
+
 -- ---- changes
 
 pub Grows-act : (s : State) (c : Change) → Grows s.core.map (act s c).core.map
@@ -153,6 +161,7 @@ Grows-act s (defines node makro) = Grows-defined s.core.map node makro
 Grows-act s (describes makro what) = Grows-described s.core.map makro what
 Grows-act s (helps node helper) = Grows-helped s.core.map node helper
 Grows-act s (lists_derive home imp) = Grows-derived s.core.map home imp
+Grows-act s (notes home invocation) = Grows-noted s.core.map home invocation
 Grows-act s (exports f makro) = Grows-exported s.core.map f.id makro
 Grows-act s (uses_macros macros by) = Grows-used s.core.map macros by
 Grows-act s (tells d) = Grows-told s.core.map d

@@ -27,7 +27,7 @@ use Rattle.hir_collector_rules.specs.Keys.{Environment, tree_at}
 use Rattle.hir_collector_rules.specs.State.{State, import_state, visits_over}
 use Rattle.hir_collector_rules.specs.Start.{Beginning, began, is_declared, krate_of, start_of, root_site, tree_key, tree_visits}
 use Rattle.hir_collector_rules.specs.Changes.{Change, lists, makes, gives_variants, begins_paths, reaches, awaits, ends, settles, changes_imports, adds_textual}
-use Rattle.hir_collector_rules.specs.Changes.{takes_textual, defines, describes, helps, lists_derive, exports, uses_macros, tells, goes_on, act, on_map}
+use Rattle.hir_collector_rules.specs.Changes.{takes_textual, defines, describes, helps, lists_derive, notes, exports, uses_macros, tells, goes_on, act, on_map}
 use Rattle.hir_collector_rules.specs.Steps.{Rule, drops_item, awaits_attribute, lists_derives, faults_derive, exports_macro, reaches_call, rests, expands_call}
 use Rattle.hir_collector_rules.specs.Steps.{drops_call, drops_reached, derives_builtin, skips_attribute, falls_back, defines_rules, defines_macro}
 use Rattle.hir_collector_rules.specs.Steps.{closes_module, declares_item, declares_enum, lists_constant, lists_impl, opens_module, opens_file, drops_file}
@@ -160,6 +160,7 @@ Holds-act s (defines node makro) h fine = Holds-grown s _ (Grows-act s (defines 
 Holds-act s (describes makro what) h fine = Holds-grown s _ (Grows-act s (describes makro what)) h
 Holds-act s (helps node helper) h fine = Holds-grown s _ (Grows-act s (helps node helper)) h
 Holds-act s (lists_derive home imp) h fine = Holds-grown s _ (Grows-act s (lists_derive home imp)) h
+Holds-act s (notes home invocation) h fine = Holds-grown s _ (Grows-act s (notes home invocation)) h
 Holds-act s (exports f makro) h fine = Holds-larger s (act s (exports f makro)) refl refl (Grows-act s (exports f makro)) h
 Holds-act s (uses_macros macros by) h fine = Holds-grown s _ (Grows-act s (uses_macros macros by)) h
 Holds-act s (tells d) h fine = Holds-grown s _ (Grows-act s (tells d)) h
@@ -260,13 +261,14 @@ takes_what_is_bound finished s (defines_rules site head name expander helpers re
     (tt, (tt, (tt, (tt, fine_macro TakesWhatIsBound _ _ expander (λ t. tt) head name _ (λ t. tt) _))))
 takes_what_is_bound finished s (defines_macro site head name expander helpers rest) may p h =
     (tt, (tt, (tt, (tt, (tt, fine_reporting TakesWhatIsBound _ _ expander (λ t. tt) _)))))
+takes_what_is_bound finished s (lists_derives v at a adt paths call rest) may p h = (tt, (tt, (tt, tt)))
 takes_what_is_bound finished s (exports_macro site head name d e rest) may p h = (tt, (tt, (tt, (tt, (tt, (tt, (tt, tt)))))))
 takes_what_is_bound finished s rests may p h = (tt, tt)
 takes_what_is_bound finished s (expands_call i d makro x) may p h =
-    (tt, (tt, fine_expanding TakesWhatIsBound _ (λ t helper. tt) _ _ d (error_of x.there) (λ t text. tt) _))
+    (tt, (tt, (tt, fine_expanding TakesWhatIsBound _ (λ t helper. tt) _ _ d (error_of x.there) (λ t text. tt) _)))
 takes_what_is_bound finished s (drops_call i d) may p h = (tt, tt)
 takes_what_is_bound finished s (drops_reached i d makro) may p h = (tt, fine_bringing TakesWhatIsBound _ (λ t helper. tt) _ _)
-takes_what_is_bound finished s (derives_builtin i d makro imp) may p h = (tt, (tt, fine_bringing TakesWhatIsBound _ (λ t helper. tt) _ _))
+takes_what_is_bound finished s (derives_builtin i d makro imp) may p h = (tt, (tt, (tt, fine_bringing TakesWhatIsBound _ (λ t helper. tt) _ _)))
 takes_what_is_bound finished s (falls_back i d k kept_item) may p h = (tt, (tt, (tt, tt)))
 takes_what_is_bound finished s (resolves_imports rule) may p h = imports_take finished s rule may p h
 takes_what_is_bound finished s other may p h = (tt, (tt, tt))

@@ -27,7 +27,7 @@ use Rattle.hir_collector_rules.specs.Imports.{reached_import}
 use Rattle.hir_collector_rules.specs.Macros.{is_macro_use}
 use Rattle.hir_collector_rules.specs.Moves.{begun}
 use Rattle.hir_collector_rules.specs.Changes.{Change, lists, makes, gives_variants, begins_paths, reaches, awaits, ends, settles, changes_imports, adds_textual}
-use Rattle.hir_collector_rules.specs.Changes.{takes_textual, defines, describes, helps, lists_derive, exports, uses_macros, tells, goes_on, act, on_map}
+use Rattle.hir_collector_rules.specs.Changes.{takes_textual, defines, describes, helps, lists_derive, notes, exports, uses_macros, tells, goes_on, act, on_map}
 use Rattle.hir_collector_rules.specs.Steps.{Rule, drops_item, awaits_attribute, lists_derives, faults_derive, exports_macro, reaches_call, rests, expands_call}
 use Rattle.hir_collector_rules.specs.Steps.{drops_call, drops_reached, derives_builtin, skips_attribute, falls_back, defines_rules, defines_macro}
 use Rattle.hir_collector_rules.specs.Steps.{closes_module, closing, declares_item, declares_enum, lists_constant, lists_impl, opens_module, opens_file}
@@ -160,6 +160,7 @@ in_range-act s (defines node makro) p fine = in_larger s _ (Grows-act s (defines
 in_range-act s (describes makro what) p fine = in_larger s _ (Grows-act s (describes makro what)) p
 in_range-act s (helps node helper) p fine = in_larger s _ (Grows-act s (helps node helper)) p
 in_range-act s (lists_derive home imp) p fine = in_larger s _ (Grows-act s (lists_derive home imp)) p
+in_range-act s (notes home invocation) p fine = in_larger s _ (Grows-act s (notes home invocation)) p
 in_range-act s (uses_macros macros by) p fine = in_larger s _ (Grows-act s (uses_macros macros by)) p
 in_range-act s (tells d) p fine = in_larger s _ (Grows-act s (tells d)) p
 in_range-act s (goes_on vs) p fine = record { visits = fine; imports = p.imports; calls = p.calls }
@@ -272,9 +273,14 @@ stays_in_range finished s (defines_macro site head name expander helpers rest) m
     (left s p _ rest may.next, (tt, (tt, (tt, (tt, fine_reporting StaysInRange _ _ expander (λ t. tt) _)))))
 stays_in_range finished s (closes_module parent child rest) may p = (subst (VisitsBelow (length s.core.map.modules)) may p.visits, (tt, tt))
 stays_in_range finished s (awaits_attribute v a k rest) may p = (left s p v rest may.has.on.next, ((next_home s p v rest may.has.on.next, tt), tt))
-stays_in_range finished s (lists_derives v at a adt paths rest) may p =
-    let here : v.site.home < length s.core.map.modules = next_home s p v rest may.has.on.next in
-    ((here, left s p v rest may.has.on.next), (derives_below (length s.core.map.modules) v.site (item_node v.site v.item) (attr_id a) adt here 0 paths, tt))
+stays_in_range finished s (lists_derives v at a adt paths call rest) may p =
+    let here : v.site.home < length s.core.map.modules = next_home s p v rest may.has.on.next in (
+      (here, left s p v rest may.has.on.next),
+      (
+        derives_below (length s.core.map.modules) v.site (item_node v.site v.item) (attr_id a) adt here 0 paths,
+        (tt, tt),
+      ),
+    )
 stays_in_range finished s (faults_derive v at report rest) may p = ((next_home s p v rest may.has.on.next, left s p v rest may.has.on.next), (tt, tt))
 stays_in_range finished s (exports_macro site head name d e rest) may p = (left s p _ rest may.here.next, (tt, (tt, (tt, (tt, (tt, (tt, tt)))))))
 stays_in_range finished s (reaches_call site head path rest) may p = (left s p _ rest may.next, ((next_home s p _ rest may.next, tt), tt))
@@ -284,13 +290,12 @@ stays_in_range finished s (expands_call i d makro x) may p =
       tt,
       (
         visits_of (length s.core.map.modules) (call_site d x.id) here x.tree.tree.items,
-        fine_expanding StaysInRange _ (λ t helper. tt) _ _ d
-            (error_of x.there) (λ t text. tt) _,
+        (tt, fine_expanding StaysInRange _ (λ t helper. tt) _ _ d (error_of x.there) (λ t text. tt) _),
       ),
     )
 stays_in_range finished s (drops_call i d) may p = (tt, tt)
 stays_in_range finished s (drops_reached i d makro) may p = (tt, fine_bringing StaysInRange _ (λ t helper. tt) _ _)
-stays_in_range finished s (derives_builtin i d makro imp) may p = (tt, (tt, fine_bringing StaysInRange _ (λ t helper. tt) _ _))
+stays_in_range finished s (derives_builtin i d makro imp) may p = (tt, (tt, (tt, fine_bringing StaysInRange _ (λ t helper. tt) _ _)))
 stays_in_range finished s (skips_attribute i d k kept_item) may p =
     (tt, ((call_below (length s.core.map.modules) s.core.calls i d p.calls may.due.waiting.call, tt), tt))
 stays_in_range finished s (falls_back i d k kept_item) may p =

@@ -35,9 +35,10 @@ use Rattle.hir_collector_rules.specs.ModuleFiles.{IsFileMeant, own_file, tried_i
 use Rattle.hir_collector_rules.specs.Calls.{Expanding, IsMeantAt, IsMeantCall, IsNumberedCall, call_site, call_tree, error_of, expansion_readings, item_kept}
 use Rattle.hir_collector_rules.specs.Calls.{text_readings, waiting_item}
 use Rattle.hir_collector_rules.specs.State.{State, Task, Visit, visits, closes, import_state, visits_over}
-use Rattle.hir_collector_rules.specs.Start.{began, held_keys, holders_by, is_declared, krate_of, read_by, root_key, root_site, tree_key, tree_visits}
+use Rattle.hir_collector_rules.specs.Start.{Beginning, began, begin_of, held_keys, holders_by, is_declared, krate_of, read_by, root_key, root_site, tree_key}
+use Rattle.hir_collector_rules.specs.Start.{tree_visits}
 use Rattle.hir_collector_rules.specs.Changes.{Change, lists, makes, gives_variants, begins_paths, reaches, awaits, ends, settles, changes_imports, adds_textual}
-use Rattle.hir_collector_rules.specs.Changes.{takes_textual, defines, describes, helps, lists_derive, exports, uses_macros, tells, goes_on, act}
+use Rattle.hir_collector_rules.specs.Changes.{takes_textual, defines, describes, helps, lists_derive, notes, exports, uses_macros, tells, goes_on, act}
 use Rattle.hir_collector_rules.specs.Steps.{Rule, drops_item, awaits_attribute, lists_derives, faults_derive, exports_macro, reaches_call, rests, expands_call}
 use Rattle.hir_collector_rules.specs.Steps.{drops_call, drops_reached, derives_builtin, skips_attribute, falls_back, defines_rules, defines_macro}
 use Rattle.hir_collector_rules.specs.Steps.{closes_module, closing, declares_item, declares_enum, lists_constant, lists_impl, opens_module, opens_file}
@@ -261,9 +262,9 @@ module _ (tables : TablesValue) where
   goes_on_meant finished s (awaits_attribute v a k rest) may numbered p =
       let here : IsMeantAt tables v.site = next_meant s p v rest may.has.on.next in
       (left s p v rest may.has.on.next, ((record { site = here; node = here.tree; item = kept_meant k v.item may.kept }, tt), tt))
-  goes_on_meant finished s (lists_derives v at a adt paths rest) may numbered p =
+  goes_on_meant finished s (lists_derives v at a adt paths call rest) may numbered p =
       let here : IsMeantAt tables v.site = next_meant s p v rest may.has.on.next in
-      ((here, left s p v rest may.has.on.next), (derives_meant v.site (item_node v.site v.item) (attr_id a) adt here here.tree 0 paths, tt))
+      ((here, left s p v rest may.has.on.next), (derives_meant v.site (item_node v.site v.item) (attr_id a) adt here here.tree 0 paths, (tt, tt)))
   goes_on_meant finished s (faults_derive v at report rest) may numbered p =
       ((next_meant s p v rest may.has.on.next, left s p v rest may.has.on.next), (tt, tt))
   goes_on_meant finished s (exports_macro site head name d e rest) may numbered p = (left s p _ rest may.here.next, (tt, (tt, (tt, (tt, (tt, (tt, tt)))))))
@@ -274,11 +275,20 @@ module _ (tables : TablesValue) where
   goes_on_meant finished s (expands_call i d makro x) may numbered p =
       let call : IsMeantCall tables d = call_meant s.core.calls i d p.calls may.called.due.waiting.call in
       let there : IsMeantAt tables (call_site d x.id) = record { tree = expansion_meant tables s.core.map.id.krate d makro x numbered; file = call.site.file }
-      in
-      (tt, (meant_visits (call_site d x.id) there x.tree.tree.items, fine_expanding GoesOnMeant _ (λ t helper. tt) _ _ d (error_of x.there) (λ t text. tt) _))
+      in (
+        tt,
+        (
+          meant_visits (call_site d x.id) there x.tree.tree.items,
+          (
+            tt,
+            fine_expanding GoesOnMeant _ (λ t helper. tt) _ _ d (error_of x.there) (λ t text. tt)
+                _,
+          ),
+        ),
+      )
   goes_on_meant finished s (drops_call i d) may numbered p = (tt, tt)
   goes_on_meant finished s (drops_reached i d makro) may numbered p = (tt, fine_bringing GoesOnMeant _ (λ t helper. tt) _ _)
-  goes_on_meant finished s (derives_builtin i d makro imp) may numbered p = (tt, (tt, fine_bringing GoesOnMeant _ (λ t helper. tt) _ _))
+  goes_on_meant finished s (derives_builtin i d makro imp) may numbered p = (tt, (tt, (tt, fine_bringing GoesOnMeant _ (λ t helper. tt) _ _)))
   goes_on_meant finished s (skips_attribute i d k waited) may numbered p =
       let call : IsMeantCall tables d = call_meant s.core.calls i d p.calls may.due.waiting.call in
       (tt, ((record { tree = call.site.tree; file = call.site.file }, tt), tt))
@@ -360,17 +370,23 @@ module _ (tables : TablesValue) where
         | inr now ↦ read_meant finished old step.rule step.may step.numbered (meant-Steps tables before p) key now
       ]
 
+-- so do those for which a run asked on its way
+pub passed_keys_have_meaning : (tables : TablesValue) (w : Workspace) (finished : Maps) (from : Beginning) (at : State) → IsMeantAt tables (root_site from.tree)
+    → Steps (environment tables w) (read_by w finished from.start) (begin_of tables w finished from) at → (key : Key) → Contains at.core.asked key
+    → HasMeaning tables key
+passed_keys_have_meaning tables w finished from at there steps key h =
+    let transitive : List Crate = transitive_dependencies_in w (krate_of from.start) in
+    asked_meant tables steps (meant-begun tables w (read_by w finished from.start) transitive (holders_by finished from.start) from.start from.tree there)
+    (λ k first. elim (head_or_later (root_key from.start from.tree) (held_keys from.start (holders_by finished from.start)) k first) [
+      | inl root ↦ subst (HasMeaning tables) root there.tree
+      | inr held ↦ let is_map = held_is_map from.start (holders_by finished from.start) k held in subst (HasMeaning tables) is_map.1 tt
+    ]) key h
+
 pub asked_keys_have_meaning : AskedKeysHaveMeaning
 asked_keys_have_meaning tables w finished from answer there e key h =
     let transitive : List Crate = transitive_dependencies_in w (krate_of from.start) in
     elim (Contains-append_cases e.last.core.asked (map_keys transitive) key (subst (λ (ks : List Key). Contains ks key) e.asked_is h)) [
-      | inl own ↦
-          asked_meant tables e.derived (meant-begun tables w (read_by w finished from.start) transitive (holders_by finished from.start) from.start from.tree
-          there)
-          (λ k first. elim (head_or_later (root_key from.start from.tree) (held_keys from.start (holders_by finished from.start)) k first) [
-            | inl root ↦ subst (HasMeaning tables) root there.tree
-            | inr held ↦ let is_map = held_is_map from.start (holders_by finished from.start) k held in subst (HasMeaning tables) is_map.1 tt
-          ]) key own
+      | inl own ↦ passed_keys_have_meaning tables w finished from e.last there e.derived key own
       | inr later ↦
           let found = mapped_from map_key transitive key later in
           subst (HasMeaning tables) found.2 tt

@@ -3,7 +3,7 @@ use Rattle.std.proofs.Common.{◌≡◌, ◌∙◌, ℕ, zero, suc, ◌<◌, fal
 use Rattle.std.proofs.Common.{Contains}
 use Rattle.std.specs.Prelude.{IsSome, option_map}
 use Rattle.std.specs.Option.{option_map_or, option_to_list}
-use Rattle.hir_base.specs.Types.{Crate, Edition, FileId, MacroId}
+use Rattle.hir_base.specs.Types.{AstId, AttrId, Crate, Edition, FileId, MacroCallId, MacroId}
 use Rattle.hir_base.specs.declared.macro_kind.MacroId.TheVariants as macros
 use Rattle.hir_item_tree.specs.Types.{TreeId}
 use Rattle.hir_mod_dir.specs.Directory.{Directory}
@@ -16,7 +16,9 @@ use Rattle.hir_collector_rules.specs.Types.{Key, MacroDirective, Site}
 use Rattle.hir_collector_rules.specs.declared.source_database.Key.TheVariants as keys
 use Rattle.hir_collector_rules.specs.Workspace.{TreeLook, Workspace, seen_of}
 use Rattle.hir_collector_rules.specs.Keys.{HasMeaning, IsMeant, Look, absent_source, environment, look, macro_tree, of_tree, source_under}
-use Rattle.hir_collector_rules.specs.Calls.{Expanding, IsMeantAt, IsNumberedCall, call_loc, call_style, expansion_of_call}
+use Rattle.hir_collector_rules.specs.Attributes.{attr_id, item_node}
+use Rattle.hir_collector_rules.specs.Calls.{Expanding, IsMeantAt, IsNumberedCall, IsNumberedDerive, call_loc, call_style, derive_expansion, derive_loc}
+use Rattle.hir_collector_rules.specs.Calls.{expansion_of_call}
 use Rattle.hir_collector_rules.specs.ModuleFiles.{AreAbsent, AreNumbered, AreTried, IsNumberOf, IsNumbered, LookedAt, ModuleFile, NoneIsThereBefore, Search}
 use Rattle.hir_collector_rules.specs.ModuleFiles.{Tried, file_key, file_reading, file_readings, file_tree, is_there, module_file, named_by, taken_by, tried_in}
 use Rattle.hir_collector_rules.specs.Steps.{Numbered, Rule, Sees, drops_item, awaits_attribute, lists_derives, faults_derive, exports_macro, reaches_call}
@@ -65,6 +67,14 @@ module _ (tables grown : TablesValue) (kept : KeepsTables tables grown) where
     call = kept.calls x.id.0 (call_loc d x.entry) h.call;
   }
 
+  pub derive_kept : (own : Crate) (item : AstId) (attr : AttrId) (id : MacroCallId) → IsNumberedDerive tables own item attr id → IsNumberedDerive grown own item
+      attr id
+  derive_kept own item attr id h = record {
+    entry = h.entry;
+    expansion = kept.entries h.entry.0 (derive_expansion own attr) h.expansion;
+    call = kept.calls id.0 (derive_loc item attr h.entry) h.call;
+  }
+
   -- and those of a site
   file_there : (id : FileId) → IsSome (file_at tables id) → IsSome (file_at grown id)
   file_there id h = go (file_at tables id) refl h
@@ -80,6 +90,7 @@ module _ (tables grown : TablesValue) (kept : KeepsTables tables grown) where
   Numbered-kept s (opens_file site head name search f rest) h = numbered_kept site.file search h
   Numbered-kept s (drops_file site head name search report rest) h = numbered_kept site.file search h
   Numbered-kept s (misses_file site head name search report rest) h = numbered_kept site.file search h
+  Numbered-kept s (lists_derives v at a adt paths call rest) h = derive_kept s.core.map.id.krate (item_node v.site v.item) (attr_id a) call h
   Numbered-kept s (expands_call i d makro x) h = call_kept s.core.map.id.krate d makro x h
   Numbered-kept s other h = tt
 

@@ -8,7 +8,7 @@ use Rattle.hir_collector_rules.specs.Calls.{IsWaiting, error_of}
 use Rattle.hir_collector_rules.specs.Keys.{Environment}
 use Rattle.hir_collector_rules.specs.State.{State, all_wait, import_state}
 use Rattle.hir_collector_rules.specs.Changes.{Change, lists, makes, gives_variants, begins_paths, reaches, awaits, ends, settles, changes_imports, adds_textual}
-use Rattle.hir_collector_rules.specs.Changes.{takes_textual, defines, describes, helps, lists_derive, exports, uses_macros, tells, goes_on, act, perform}
+use Rattle.hir_collector_rules.specs.Changes.{takes_textual, defines, describes, helps, lists_derive, notes, exports, uses_macros, tells, goes_on, act, perform}
 use Rattle.hir_collector_rules.specs.Rounds as rounds
 use Rattle.hir_collector_rules.specs.Rounds.{HasManyRounds, Rounds, WasTried, handled, met}
 use Rattle.hir_collector_rules.specs.Steps.{Rule, drops_item, awaits_attribute, lists_derives, faults_derive, exports_macro, reaches_call, rests, expands_call}
@@ -172,6 +172,7 @@ KeepsCalls-act s (defines node makro) fine = KeepsCalls-same s (act s (defines n
 KeepsCalls-act s (describes makro what) fine = KeepsCalls-same s (act s (describes makro what)) refl refl refl
 KeepsCalls-act s (helps node helper) fine = KeepsCalls-same s (act s (helps node helper)) refl refl refl
 KeepsCalls-act s (lists_derive home imp) fine = KeepsCalls-same s (act s (lists_derive home imp)) refl refl refl
+KeepsCalls-act s (notes home invocation) fine = KeepsCalls-same s (act s (notes home invocation)) refl refl refl
 KeepsCalls-act s (exports f makro) fine = KeepsCalls-same s (act s (exports f makro)) refl refl refl
 KeepsCalls-act s (uses_macros macros by) fine = KeepsCalls-same s (act s (uses_macros macros by)) refl refl refl
 KeepsCalls-act s (tells d) fine = KeepsCalls-same s (act s (tells d)) refl refl refl
@@ -190,14 +191,15 @@ ends_calls finished s (reaches_crate site head name alias rest) may = (tt, (tt, 
 ends_calls finished s (defines_rules site head name expander helpers rest) may =
     (tt, (tt, (tt, (tt, fine_macro EndsCalls _ _ expander (λ t. tt) head name _ (λ t. tt) _))))
 ends_calls finished s (defines_macro site head name expander helpers rest) may = (tt, (tt, (tt, (tt, (tt, fine_reporting EndsCalls _ _ expander (λ t. tt) _)))))
+ends_calls finished s (lists_derives v at a adt paths call rest) may = (tt, (tt, (tt, tt)))
 ends_calls finished s (exports_macro site head name d e rest) may = (tt, (tt, (tt, (tt, (tt, (tt, (tt, tt)))))))
 ends_calls finished s rests may = (tt, tt)
 ends_calls finished s (expands_call i d makro x) may =
-    (ending_handled (asking s (expands_call i d makro x)) i, (tt, fine_expanding EndsCalls _ (λ t helper. tt) _ _ d (error_of x.there) (λ t text. tt) _))
+    (ending_handled (asking s (expands_call i d makro x)) i, (tt, (tt, fine_expanding EndsCalls _ (λ t helper. tt) _ _ d (error_of x.there) (λ t text. tt) _)))
 ends_calls finished s (drops_call i d) may = (ending_handled (asking s (drops_call i d)) i, tt)
 ends_calls finished s (drops_reached i d makro) may = (ending_handled (asking s (drops_reached i d makro)) i, fine_bringing EndsCalls _ (λ t helper. tt) _ _)
 ends_calls finished s (derives_builtin i d makro imp) may =
-    (ending_handled (asking s (derives_builtin i d makro imp)) i, (tt, fine_bringing EndsCalls _ (λ t helper. tt) _ _))
+    (ending_handled (asking s (derives_builtin i d makro imp)) i, (tt, (tt, fine_bringing EndsCalls _ (λ t helper. tt) _ _)))
 ends_calls finished s (skips_attribute i d k item) may = (ending_handled (asking s (skips_attribute i d k item)) i, (tt, tt))
 ends_calls finished s (falls_back i d k item) may = (ending_given_up (asking s (falls_back i d k item)) i may.waiting.waits, (tt, (tt, tt)))
 ends_calls finished s (resolves_imports rule) may = all_fine EndsCalls (λ t c. tt) (import_acts finished (import_state s) rule) s

@@ -6,8 +6,8 @@ use Rattle.either.specs.declared.Either.{Either}
 use Rattle.hir_base.specs.Ids.{macro_module}
 use Rattle.hir_base.specs.MacroKind.{contains_styles, derive_alone, styles_of}
 use Rattle.hir_base.specs.ModPath.{Path}
-use Rattle.hir_base.specs.Types.{AstId, BuiltinDeriveImplId, CallStyle, Crate, EntryId, MacroCallId, MacroCallKind, MacroCallLoc, MacroExpander, MacroId}
-use Rattle.hir_base.specs.Types.{MacroSubNs}
+use Rattle.hir_base.specs.Types.{AstId, AttrId, BuiltinDeriveImplId, CallStyle, Crate, EntryId, MacroCallId, MacroCallKind, MacroCallLoc, MacroExpander}
+use Rattle.hir_base.specs.Types.{MacroId, MacroSubNs}
 use Rattle.hir_base.specs.declared.ast_id.HirFileId.TheVariants.{Macro}
 use Rattle.hir_base.specs.declared.macro_kind.CallStyle.TheVariants as styles
 use Rattle.hir_base.specs.declared.macro_kind.MacroExpander.TheVariants as expanders
@@ -193,6 +193,19 @@ expansion_of_call own style makro text input = record {
   input = unwrap_or input [];
   reached = [];
 }
+
+-- the call of a `derive` attribute depends on neither a macro's text nor an input: nothing is looked up or asked for, and it isn't expanded
+abbrev pub derive_expansion : Crate → AttrId → ExpansionValue
+derive_expansion own attr = record { caller = own; called = record { krate = own; text = [] }; call = styles.Attribute attr; input = []; reached = [] }
+
+abbrev pub derive_loc : AstId → AttrId → EntryId → MacroCallLoc
+derive_loc item attr entry = record { kind = call_kinds.Attr item attr; entry = entry }
+
+-- the number of such a call means it
+pub record IsNumberedDerive (tables : TablesValue) (own : Crate) (item : AstId) (attr : AttrId) (id : MacroCallId) : Type 0 where
+  pub entry : EntryId
+  pub expansion : entry_at tables entry ≡ Some (derive_expansion own attr)
+  pub call : call_at tables id ≡ Some (derive_loc item attr entry)
 
 -- the call as the value of its number
 abbrev pub call_loc : MacroDirective → EntryId → MacroCallLoc

@@ -6,7 +6,7 @@ use Rattle.hir_base.specs.declared.ast_id.AstKind.TheVariants as nodes
 use Rattle.hir_item_tree.specs.Collected.{Numbered as Attribute, is_enabled, numbered}
 use Rattle.hir_item_tree.specs.KeptForest.{Head}
 use Rattle.hir_base.specs.ModPath.{Path}
-use Rattle.hir_base.specs.Types.{AdtId, AstId, Crate, LocationsError}
+use Rattle.hir_base.specs.Types.{AdtId, AstId, AttrId, Crate, LocationsError, MacroCallId}
 use Rattle.hir_item_tree.specs.Types.{ModItemKind, TreeId}
 use Rattle.hir_item_tree.specs.declared.kinds.ModItemKind.TheVariants as kinds
 use Rattle.hir_mod_dir.specs.Types.{Candidate}
@@ -24,7 +24,9 @@ use Rattle.hir_def_map_rules.specs.declared.add_module_error.AddModuleError.TheV
 use Rattle.hir_import_resolution.specs.Types.{ImportError}
 use Rattle.hir_import_resolution.specs.declared.resolve.ImportError.TheVariants as imports
 use Rattle.hir_collector_rules.specs.declared.start.CollectError.{CollectError}
-use Rattle.hir_collector_rules.specs.declared.start.CollectError.TheVariants.{TooMany, Memory}
+use Rattle.hir_collector_rules.specs.declared.start.CollectError.TheVariants as runs
+use Rattle.hir_collector_rules.specs.declared.start.StepError.{StepError}
+use Rattle.hir_collector_rules.specs.declared.start.StepError.TheVariants.{TooMany, Memory}
 use Rattle.hir_item_tree.specs.SourceTree.{SourceTreeValue}
 use Rattle.hir_base.specs.declared.locations.LocationsError.TheVariants as numbers
 use Rattle.hir_tables.specs.SourcePlaces.{SourcePlaceValue}
@@ -34,6 +36,8 @@ use Rattle.hir_collector_rules.specs.Workspace.{Workspace}
 use Rattle.hir_collector_rules.specs.ModuleFiles.{AreNumbered, IsNumberOf, IsSearch, LookedAt, ModuleFile, Tried, file_reading, file_readings, module_file}
 use Rattle.hir_collector_rules.specs.ModuleFiles.{named_by}
 use Rattle.hir_collector_rules.specs.Attributes.{attr_id, next_attribute, paths_in, proc_macro_id}
+use Rattle.hir_collector_rules.specs.Calls.{IsNumberedDerive}
+use Rattle.hir_collector_rules.specs.Invocations.{derive_met, with_noted}
 use Rattle.hir_collector_rules.specs.ItemIds.{function_id, module_id, node_of}
 use Rattle.hir_collector_rules.specs.Items.{file_origin, own_visibility}
 use Rattle.hir_collector_rules.specs.Macros.{macro_declaration, textual_at, with_textual_scope}
@@ -43,6 +47,7 @@ use Rattle.hir_collector_rules.specs.Changes.{Change, perform}
 use Rattle.hir_collector_rules.specs.Steps.{Sees, Step, Steps, behind, derives_from, exported_function, keys_read, module_declaration, with_declaration}
 use Rattle.hir_collector_rules.specs.Steps.{with_keys}
 use Rattle.hir_collector_rules.specs.Derivation.{IsSpent}
+use Rattle.hir_collector_rules.specs.NumberedOut.{IsDeriveNumberedOut}
 
 -- it holds over the tables as they are, and over each that they grow to
 abbrev pub OnceGrown : TablesValue → Workspace → (Environment → Type 0) → Type 0
@@ -85,16 +90,30 @@ pub record Passes (env : Environment) (finished : Maps) (old new : Core) (v : Vi
 pub record PassesTooFar (env : Environment) (finished : Maps) (old : Core) (v : Visit) (from : ℕ) : Type 0 where
   pub spent : (rest : List Task) → IsSpent env finished (joined old (visits (behind v from) ∷ rest))
 
+-- the paths of a `derive` on a node wait, and it is noted where its module's scope notes derives; its call has a number
+pub record ListsDerive (tables : TablesValue) (site : Site) (node : AstId) (attr : AttrId) (adt : AdtId) (paths : List Path) (old new : Core) : Type 0 where
+  pub call : MacroCallId
+  pub numbered : IsNumberedDerive tables old.map.id.krate node attr call
+  pub is : new ≡ with_map (with_calls old (derives_from site node attr adt 0 paths)) (with_noted old.map site.home (derive_met node attr call paths))
+
 -- a `derive` on a node becomes calls of its paths, or is reported
-pub data TakesDerive (site : Site) (node : AstId) (a : Attribute) (adt : Option AdtId) (old new : Core) : Type 0 where
-  listed : (target : AdtId) (paths : List Path) → adt ≡ Some target → paths_in a.meta.input ≡ Some paths → new
-      ≡ with_calls old (derives_from site node (attr_id a) target 0 paths)
-      → TakesDerive site node a adt old new
+pub data TakesDerive (tables : TablesValue) (site : Site) (node : AstId) (a : Attribute) (adt : Option AdtId) (old new : Core) : Type 0 where
+  listed : (target : AdtId) (paths : List Path) → adt ≡ Some target → paths_in a.meta.input ≡ Some paths → ListsDerive tables site node (attr_id a) target paths
+      old new
+      → TakesDerive tables site node a adt old new
   no_target : adt ≡ None → new ≡ with_map old (with_diagnostic old.map (invalid_target (module_id old.map site.home) node (attr_id a)))
-      → TakesDerive site node a adt old new
+      → TakesDerive tables site node a adt old new
   no_paths : (target : AdtId) → adt ≡ Some target → paths_in a.meta.input ≡ None → new
       ≡ with_map old (with_diagnostic old.map (malformed_derive (module_id old.map site.home) node (attr_id a)))
-      → TakesDerive site node a adt old new
+      → TakesDerive tables site node a adt old new
+
+-- it lists paths, and its call can't get a number
+pub record LacksDeriveNumber (tables : TablesValue) (own : Crate) (node : AstId) (a : Attribute) (adt : Option AdtId) : Type 0 where
+  pub target : AdtId
+  pub is_target : adt ≡ Some target
+  pub paths : List Path
+  pub lists : paths_in a.meta.input ≡ Some paths
+  pub out : IsDeriveNumberedOut tables own node (attr_id a)
 
 -- what is to be done once the attribute at a place is handled: the item goes on behind it, unless it waits
 abbrev pub goes_behind : Visit → ℕ → Bool → List Task
@@ -117,20 +136,25 @@ pub record Walks (env : Environment) (finished : Maps) (old new : Core) (tasks :
 pub record WalksTooFar (env : Environment) (finished : Maps) (old : Core) (tasks : List Task) : Type 0 where
   pub spent : (rest : List Task) → IsSpent env finished (joined old (tasks ++ rest))
 
--- why a run is given up where a file can't get a number
-abbrev pub refusal_of_number : LocationsError → CollectError
+-- why a step isn't taken where a file or a call can't get a number
+abbrev pub refusal_of_number : LocationsError → StepError
 refusal_of_number numbers.TooMany = TooMany
 refusal_of_number numbers.Memory = Memory
 
--- why a run is given up where a module can't be added
-abbrev pub refusal_of : AddModuleError → CollectError
+-- why one isn't where a module can't be added
+abbrev pub refusal_of : AddModuleError → StepError
 refusal_of refusals.TooMany = TooMany
 refusal_of refusals.Memory = Memory
 
--- why a run is given up where its imports are
-abbrev pub refusal_of_import : ImportError → CollectError
+-- why one isn't where imports aren't taken
+abbrev pub refusal_of_import : ImportError → StepError
 refusal_of_import imports.TooMany = TooMany
 refusal_of_import imports.Memory = Memory
+
+-- why a run is given up where a step isn't taken
+abbrev pub refusal_of_step : StepError → CollectError
+refusal_of_step TooMany = runs.TooMany
+refusal_of_step Memory = runs.Memory
 
 -- a diagnostic like this is added, and nothing else changes
 pub record Tells (P : DefDiagnostic → Type 0) (old new : Core) : Type 0 where

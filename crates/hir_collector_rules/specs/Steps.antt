@@ -3,7 +3,7 @@ use Rattle.std.specs.Prelude.{◌≡◌, ◌<◌, ◌≤◌, ℕ, suc, ◌+◌, 
 use Rattle.either.specs.declared.Either.TheVariants as either
 use Rattle.hir_base.specs.Cfg.{Cfg}
 use Rattle.hir_base.specs.ModPath.{Path}
-use Rattle.hir_base.specs.Types.{AdtId, AstId, AttrId, BuiltinDeriveImplId, EnumId, ExternCrateId, MacroExpander, MacroId, ModuleId}
+use Rattle.hir_base.specs.Types.{AdtId, AstId, AttrId, BuiltinDeriveImplId, EnumId, ExternCrateId, MacroCallId, MacroExpander, MacroId, ModuleId}
 use Rattle.hir_base.specs.declared.ast_id.AstKind.TheVariants as nodes
 use Rattle.hir_base.specs.declared.ids.AdtId.TheVariants as adts
 use Rattle.hir_base.specs.declared.ids.ModuleDefId.TheVariants as definitions
@@ -45,13 +45,14 @@ use Rattle.hir_collector_rules.specs.Keys.{Environment, of_variants, look}
 use Rattle.hir_collector_rules.specs.ModuleFiles.{IsNumbered, IsSearch, ModuleFile, Reading, Search, file_readings, file_tree, module_file, path_attribute}
 use Rattle.hir_collector_rules.specs.ModuleFiles.{tried_in}
 use Rattle.hir_collector_rules.specs.Attributes.{adt_of, attr_id, export_at, is_derive, item_node, next_attribute, paths_in, proc_macro_id}
-use Rattle.hir_collector_rules.specs.Calls.{Expanding, IsNumberedCall, IsTextOf, IsWaiting, LeadsNowhere, builtin_impl, call_site, called_macro, error_of}
-use Rattle.hir_collector_rules.specs.Calls.{expansion_readings, has_expansion, helpers_brought, is_call, is_inert_now, item_kept, path_of_call, text_readings}
-use Rattle.hir_collector_rules.specs.Calls.{waiting_item}
+use Rattle.hir_collector_rules.specs.Calls.{Expanding, IsNumberedCall, IsNumberedDerive, IsTextOf, IsWaiting, LeadsNowhere, builtin_impl, call_site}
+use Rattle.hir_collector_rules.specs.Calls.{called_macro, error_of, expansion_readings, has_expansion, helpers_brought, is_call, is_inert_now, item_kept}
+use Rattle.hir_collector_rules.specs.Calls.{path_of_call, text_readings, waiting_item}
 use Rattle.hir_collector_rules.specs.Reports.{IsUnconfigured, IsUnresolvedModule, call_report, failed_call, invalid_target, is_unimplemented, malformed_derive}
 use Rattle.hir_collector_rules.specs.Reports.{unimplemented_macro}
 pub use Rattle.hir_collector_rules.specs.State.{behind, visit}
 use Rattle.hir_collector_rules.specs.State.{Core, Visit, Task, visits, closes, State, import_state, visits_over, ticked, with_bound, with_map}
+use Rattle.hir_collector_rules.specs.Invocations.{derive_met, impl_noted, invocation_of}
 use Rattle.hir_collector_rules.specs.ItemIds.{const_id, enum_id, impl_id, extern_block_id, extern_crate_id, function_id, macro_def_id, macro_rules_id}
 use Rattle.hir_collector_rules.specs.ItemIds.{module_id, node_of, use_id}
 use Rattle.hir_collector_rules.specs.Items.{declaration_of, declared_module, file_origin, inline_origin, own_visibility, type_declaration}
@@ -59,7 +60,7 @@ use Rattle.hir_collector_rules.specs.Enums.{variants_of}
 use Rattle.hir_collector_rules.specs.Imports.{crate_import, imports_by}
 use Rattle.hir_collector_rules.specs.Macros.{is_exported, is_macro_use, macro_declaration, macros_brought}
 use Rattle.hir_collector_rules.specs.Changes.{Change, lists, makes, gives_variants, begins_paths, reaches, awaits, ends, settles, changes_imports, adds_textual}
-use Rattle.hir_collector_rules.specs.Changes.{takes_textual, defines, describes, helps, lists_derive, exports, uses_macros, tells, goes_on, perform}
+use Rattle.hir_collector_rules.specs.Changes.{takes_textual, defines, describes, helps, lists_derive, notes, exports, uses_macros, tells, goes_on, perform}
 
 -- ---- what the rules are about
 
@@ -168,8 +169,8 @@ pub data Rule : Type 0 where
   closes_module : (parent child : ℕ) (rest : List Task) → Rule
   -- an attribute of the next item is looked up, and the item waits
   awaits_attribute : (v : Visit) (a : Attribute) (k : WaitingItem) (rest : List Task) → Rule
-  -- the next item has a `derive`, each of whose paths waits, and goes on behind it
-  lists_derives : (v : Visit) (at : ℕ) (a : Attribute) (adt : AdtId) (paths : List Path) (rest : List Task) → Rule
+  -- the next item has a `derive`, each of whose paths waits, and goes on behind it; the call of the `derive` itself has this number
+  lists_derives : (v : Visit) (at : ℕ) (a : Attribute) (adt : AdtId) (paths : List Path) (call : MacroCallId) (rest : List Task) → Rule
   -- the next item has a `derive` that is reported, and goes on behind it
   faults_derive : (v : Visit) (at : ℕ) (report : DefDiagnostic) (rest : List Task) → Rule
   -- the next item is a function that exports a macro
@@ -373,7 +374,7 @@ May finished s (defines_rules site head name expander helpers rest) = IsNext s (
 May finished s (defines_macro site head name expander helpers rest) = IsNext s (visit site (leaf head (macro_def name expander helpers))) rest
 May finished s (closes_module parent child rest) = s.agenda ≡ closes parent child ∷ rest
 May finished s (awaits_attribute v a k rest) = Awaits s v a k rest
-May finished s (lists_derives v at a adt paths rest) = ListsDerives s v at a adt paths rest
+May finished s (lists_derives v at a adt paths call rest) = ListsDerives s v at a adt paths rest
 May finished s (faults_derive v at report rest) = FaultsDerive s v at report rest
 May finished s (exports_macro site head name d e rest) = Exports finished s site head name d e rest
 May finished s (reaches_call site head path rest) = IsNext s (visit site (leaf head (macro_call path))) rest
@@ -409,7 +410,7 @@ reads s (defines_rules site head name expander helpers rest) = []
 reads s (defines_macro site head name expander helpers rest) = []
 reads s (closes_module parent child rest) = []
 reads s (awaits_attribute v a k rest) = []
-reads s (lists_derives v at a adt paths rest) = []
+reads s (lists_derives v at a adt paths call rest) = []
 reads s (faults_derive v at report rest) = []
 reads s (exports_macro site head name d e rest) = []
 reads s (reaches_call site head path rest) = []
@@ -440,7 +441,7 @@ Numbered tables s (defines_rules site head name expander helpers rest) = Unit {0
 Numbered tables s (defines_macro site head name expander helpers rest) = Unit {0}
 Numbered tables s (closes_module parent child rest) = Unit {0}
 Numbered tables s (awaits_attribute v a k rest) = Unit {0}
-Numbered tables s (lists_derives v at a adt paths rest) = Unit {0}
+Numbered tables s (lists_derives v at a adt paths call rest) = IsNumberedDerive tables s.core.map.id.krate (item_node v.site v.item) (attr_id a) call
 Numbered tables s (faults_derive v at report rest) = Unit {0}
 Numbered tables s (exports_macro site head name d e rest) = Unit {0}
 Numbered tables s (reaches_call site head path rest) = Unit {0}
@@ -533,8 +534,10 @@ acts finished s (defines_macro site head name expander helpers rest) =
     (module_id s.core.map site.home) node expander
 acts finished s (closes_module parent child rest) = goes_on rest ∷ takes_textual parent child ∷ []
 acts finished s (awaits_attribute v a k rest) = goes_on rest ∷ awaits (attribute_at v.site (item_node v.site v.item) (attr_id a) a.meta.path k ∷ []) ∷ []
-acts finished s (lists_derives v at a adt paths rest) =
-    goes_on (visits (behind v (suc at)) ∷ rest) ∷ awaits (derives_from v.site (item_node v.site v.item) (attr_id a) adt 0 paths) ∷ []
+acts finished s (lists_derives v at a adt paths call rest) =
+    let node : AstId = item_node v.site v.item in
+    goes_on (visits (behind v (suc at)) ∷ rest) ∷ awaits (derives_from v.site node (attr_id a) adt 0 paths) ∷ notes v.site.home
+    (derive_met node (attr_id a) call paths) ∷ []
 acts finished s (faults_derive v at report rest) = goes_on (visits (behind v (suc at)) ∷ rest) ∷ tells report ∷ []
 acts finished s (exports_macro site head name d e rest) =
     let makro = proc_macro_id s.core.map site head.id e.style in
@@ -543,13 +546,14 @@ acts finished s (exports_macro site head name d e rest) =
 acts finished s (reaches_call site head path rest) = goes_on rest ∷ awaits (call_at site head path ∷ []) ∷ []
 acts finished s rests = settles ∷ []
 acts finished s (expands_call i d makro x) =
-    ends i Handled ∷ goes_on (visits_over (call_site d x.id) x.tree.tree.items)
+    ends i Handled ∷ goes_on (visits_over (call_site d x.id) x.tree.tree.items) ∷ notes d.site.home (invocation_of d x.id)
     ∷ bringing d.ast_id (helpers_brought finished s.core.map d makro (Some (either.Left x.id))) ++ failing (module_id s.core.map d.site.home) d
     (error_of x.there)
 acts finished s (drops_call i d) = ends i Handled ∷ []
 acts finished s (drops_reached i d makro) = ends i Handled ∷ bringing d.ast_id (helpers_brought finished s.core.map d makro None)
 acts finished s (derives_builtin i d makro imp) =
-    ends i Handled ∷ lists_derive d.site.home imp ∷ bringing d.ast_id (helpers_brought finished s.core.map d makro (Some (either.Right imp)))
+    ends i Handled ∷ lists_derive d.site.home imp ∷ notes d.site.home (impl_noted d.ast_id imp)
+    ∷ bringing d.ast_id (helpers_brought finished s.core.map d makro (Some (either.Right imp)))
 acts finished s (skips_attribute i d k item) = ends i Handled ∷ goes_on (visits (visit_behind d k item) ∷ []) ∷ []
 acts finished s (falls_back i d k item) =
     ends i GivenUp ∷ tells (call_report s.core.map.id d) ∷ goes_on (visits (visit_behind d k item) ∷ []) ∷ []

@@ -13,3 +13,4 @@ pub use Rattle.hir_collector_rules.specs.declared.source_database.Dependency.{De
 pub use Rattle.hir_collector_rules.specs.declared.source_database.Key.{Key}
 pub use Rattle.hir_collector_rules.specs.declared.start.CollectError.{CollectError}
 pub use Rattle.hir_collector_rules.specs.declared.start.Start.{Start}
+pub use Rattle.hir_collector_rules.specs.declared.start.StepError.{StepError}

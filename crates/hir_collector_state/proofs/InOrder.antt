@@ -12,7 +12,7 @@ use Rattle.hir_collector_rules.specs.Calls.{error_of}
 use Rattle.hir_collector_rules.specs.Keys.{Environment}
 use Rattle.hir_collector_rules.specs.State.{State, import_state}
 use Rattle.hir_collector_rules.specs.Changes.{Change, lists, makes, gives_variants, begins_paths, reaches, awaits, ends, settles, changes_imports, adds_textual}
-use Rattle.hir_collector_rules.specs.Changes.{takes_textual, defines, describes, helps, lists_derive, exports, uses_macros, tells, goes_on, act}
+use Rattle.hir_collector_rules.specs.Changes.{takes_textual, defines, describes, helps, lists_derive, notes, exports, uses_macros, tells, goes_on, act}
 use Rattle.hir_collector_rules.specs.Steps.{Rule, drops_item, reaches_call, rests, expands_call, drops_call, defines_rules, defines_macro, closes_module}
 use Rattle.hir_collector_rules.specs.Steps.{declares_item, declares_enum, lists_constant, lists_impl, opens_module, opens_file, drops_file, misses_file}
 use Rattle.hir_collector_rules.specs.Steps.{enters_block, reaches_imports, reaches_crate, resolves_imports, May, acts, asking, Step, awaits_attribute}
@@ -92,6 +92,7 @@ in_order_act s (changes_imports c) p fine = subst IsInOrder (sym (map_after (imp
 in_order_act s (adds_textual home name makro) p fine = in_order_scope s.core.map p home _
 in_order_act s (takes_textual home from) p fine = in_order_scope s.core.map p home _
 in_order_act s (lists_derive home imp) p fine = in_order_scope s.core.map p home _
+in_order_act s (notes home invocation) p fine = in_order_scope s.core.map p home _
 in_order_act s other p fine = p
 
 -- ---- rules
@@ -108,12 +109,14 @@ made_inside finished s (defines_rules site head name expander helpers rest) may 
     (tt, (tt, (tt, (tt, fine_macro MadeInside _ _ expander (λ t. tt) head name _ (λ t. tt) _))))
 made_inside finished s (defines_macro site head name expander helpers rest) may p =
     (tt, (tt, (tt, (tt, (tt, fine_reporting MadeInside _ _ expander (λ t. tt) _)))))
+made_inside finished s (lists_derives v at a adt paths call rest) may p = (tt, (tt, (tt, tt)))
 made_inside finished s (exports_macro site head name d e rest) may p = (tt, (tt, (tt, (tt, (tt, (tt, (tt, tt)))))))
 made_inside finished s rests may p = (tt, tt)
-made_inside finished s (expands_call i d makro x) may p = (tt, (tt, fine_expanding MadeInside _ (λ t helper. tt) _ _ d (error_of x.there) (λ t text. tt) _))
+made_inside finished s (expands_call i d makro x) may p =
+    (tt, (tt, (tt, fine_expanding MadeInside _ (λ t helper. tt) _ _ d (error_of x.there) (λ t text. tt) _)))
 made_inside finished s (drops_call i d) may p = (tt, tt)
 made_inside finished s (drops_reached i d makro) may p = (tt, fine_bringing MadeInside _ (λ t helper. tt) _ _)
-made_inside finished s (derives_builtin i d makro imp) may p = (tt, (tt, fine_bringing MadeInside _ (λ t helper. tt) _ _))
+made_inside finished s (derives_builtin i d makro imp) may p = (tt, (tt, (tt, fine_bringing MadeInside _ (λ t helper. tt) _ _)))
 made_inside finished s (falls_back i d k kept_item) may p = (tt, (tt, (tt, tt)))
 made_inside finished s (resolves_imports rule) may p = all_fine MadeInside (λ t c. tt) (import_acts finished (import_state s) rule) s
 made_inside finished s other may p = (tt, (tt, tt))

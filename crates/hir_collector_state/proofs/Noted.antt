@@ -45,6 +45,7 @@ use Rattle.hir_import_resolution.specs.Types.{ImportDirective}
 use Rattle.hir_call_queue.specs.Changes.{ChangedValue, IsThere, IsUntouched, everything, with_preludes, with_slot}
 use Rattle.hir_collector_rules.specs.Attributes.{is_named_by}
 use Rattle.hir_collector_rules.specs.Changes.{with_builtin_derive, with_derived}
+use Rattle.hir_collector_rules.specs.Invocations.{Invocation, with_invocation, with_noted}
 use Rattle.hir_collector_rules.specs.Macros.{textual_at, with_textual_macro}
 use Rattle.hir_collector_rules.specs.Moves.{begun}
 use Rattle.hir_collector_rules.specs.State.{Run, at_rest, core_in, import_state}
@@ -533,6 +534,21 @@ noted_derived a b local changed stay home imp map =
     same (of_module at name) = record {
       entries = kept (λ (o : Option ModuleValue). entry_of o name) a.map.modules home (with_module_scope (with_builtin_derive imp)) (λ m. refl) at;
       legacy = kept (λ (o : Option ModuleValue). legacy_of o name) a.map.modules home (with_module_scope (with_builtin_derive imp)) (λ m. refl) at;
+    }
+    same (of_preludes name) = record { crates = refl; macro_uses = refl }
+
+-- what a scope notes of calls, attributes and derives
+pub noted_invocation : (a b : Run) → b.local ≡ a.local → b.changed ≡ a.changed → KeepsImports a b → (home : ℕ) (invocation : Invocation) → b.map
+    ≡ with_noted a.map home invocation → IsNoted a b
+noted_invocation a b local changed stay home invocation map =
+    noted_around a b local changed stay (with_noted a.map home invocation) map refl (scopes_around a.map home (with_invocation invocation) (λ s other. refl)
+    (λ s id. refl))
+    (λ h. in_order_scope a.map h home (with_invocation invocation)) (λ slot there. same slot)
+  where
+    same : (slot : PathSlot) → AgreeAt a.map a.local (with_noted a.map home invocation) a.local slot
+    same (of_module at name) = record {
+      entries = kept (λ (o : Option ModuleValue). entry_of o name) a.map.modules home (with_module_scope (with_invocation invocation)) (λ m. refl) at;
+      legacy = kept (λ (o : Option ModuleValue). legacy_of o name) a.map.modules home (with_module_scope (with_invocation invocation)) (λ m. refl) at;
     }
     same (of_preludes name) = record { crates = refl; macro_uses = refl }
 

@@ -33,8 +33,9 @@ use Rattle.hir_collector_rules.specs.Macros.{textual_at, with_macros_used}
 use Rattle.hir_collector_rules.specs.Start.{began, origin_of, root_site, root_visibility}
 use Rattle.hir_collector_rules.specs.State.{Core, State, at_rest, import_state, ticked}
 use Rattle.hir_collector_rules.specs.Changes.{Change, lists, makes, gives_variants, begins_paths, reaches, awaits, ends, settles, changes_imports, adds_textual}
-use Rattle.hir_collector_rules.specs.Changes.{takes_textual, defines, describes, helps, lists_derive, exports, uses_macros, tells, goes_on, act, on_map}
+use Rattle.hir_collector_rules.specs.Changes.{takes_textual, defines, describes, helps, lists_derive, notes, exports, uses_macros, tells, goes_on, act, on_map}
 use Rattle.hir_collector_rules.specs.Changes.{perform, with_builtin_derive}
+use Rattle.hir_collector_rules.specs.Invocations.{with_invocation}
 use Rattle.hir_collector_rules.specs.Steps.{Rule, drops_item, awaits_attribute, lists_derives, faults_derive, exports_macro, reaches_call, rests, expands_call}
 use Rattle.hir_collector_rules.specs.Steps.{drops_call, drops_reached, derives_builtin, skips_attribute, falls_back, defines_rules, defines_macro}
 use Rattle.hir_collector_rules.specs.Steps.{closes_module, declares_item, declares_enum, lists_constant, lists_impl, opens_module, opens_file, drops_file}
@@ -159,6 +160,8 @@ module _ (finished : Maps) where
       fast_steady s (with_derive_helper s.core.map node helper) (record { modules = omega arith; entries = λ at name. refl; traits = λ at trait. refl }) p
   steady-act s (lists_derive home imp) p fine =
       fast_steady s _ (around_fast (scopes_around s.core.map home (with_builtin_derive imp) (λ v other. refl) (λ v trait. refl))) p
+  steady-act s (notes home invocation) p fine =
+      fast_steady s _ (around_fast (scopes_around s.core.map home (with_invocation invocation) (λ v other. refl) (λ v trait. refl))) p
   steady-act s (exports f makro) p fine =
       let noted : IsSteady finished (on_map s (with_exported s.core.map f.id makro)) =
       fast_steady s (with_exported s.core.map f.id makro) (record { modules = omega arith; entries = λ at name. refl; traits = λ at trait. refl }) p in
@@ -188,13 +191,14 @@ only_declares finished s (defines_rules site head name expander helpers rest) =
     declares (tt, (tt, (tt, (tt, fine_macro OnlyDeclares _ _ expander (λ t. tt) head name _ (λ t. tt) _))))
 only_declares finished s (defines_macro site head name expander helpers rest) =
     declares (tt, (tt, (tt, (tt, (tt, fine_reporting OnlyDeclares _ _ expander (λ t. tt) _)))))
+only_declares finished s (lists_derives v at a adt paths call rest) = declares (tt, (tt, (tt, tt)))
 only_declares finished s (exports_macro site head name d e rest) = declares (tt, (tt, (tt, (tt, (tt, (tt, (tt, tt)))))))
 only_declares finished s rests = declares (tt, tt)
 only_declares finished s (expands_call i d makro x) =
-    declares (tt, (tt, fine_expanding OnlyDeclares _ (λ t helper. tt) _ _ d (error_of x.there) (λ t text. tt) _))
+    declares (tt, (tt, (tt, fine_expanding OnlyDeclares _ (λ t helper. tt) _ _ d (error_of x.there) (λ t text. tt) _)))
 only_declares finished s (drops_call i d) = declares (tt, tt)
 only_declares finished s (drops_reached i d makro) = declares (tt, fine_bringing OnlyDeclares _ (λ t helper. tt) _ _)
-only_declares finished s (derives_builtin i d makro imp) = declares (tt, (tt, fine_bringing OnlyDeclares _ (λ t helper. tt) _ _))
+only_declares finished s (derives_builtin i d makro imp) = declares (tt, (tt, (tt, fine_bringing OnlyDeclares _ (λ t helper. tt) _ _)))
 only_declares finished s (falls_back i d k item) = declares (tt, (tt, (tt, tt)))
 only_declares finished s (resolves_imports rule) = resolves rule refl
 only_declares finished s other = declares (tt, (tt, tt))

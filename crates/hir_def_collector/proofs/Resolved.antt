@@ -37,6 +37,16 @@ pub meant_by : (tables : TablesValue) (file : Option FileId) → is_file_meant t
 meant_by tables None h = λ id e. absurd (let no : ⊥ = cc in no)
 meant_by tables (Some f) h = λ id e. let same : f ≡ id = cc in subst (λ (k : FileId). IsSome (file_at tables k)) same h
 
+-- where it lacks the other, it is there and the other isn't
+pub lacking : {A : Type 0} (o : Option A) (b : Bool) → (is_some o && not b) ≡ true → IsSome o × (b ≡ false)
+lacking None b h = absurd (let no : ⊥ = cc in no)
+lacking (Some x) true h = absurd (let no : ⊥ = cc in no)
+lacking (Some x) false h = (refl, refl)
+
+pub unmeant_by : (tables : TablesValue) (file : Option FileId) → is_file_meant tables file ≡ false → ¬ IsFileMeant tables file
+unmeant_by tables None h meant = let no : ⊥ = cc in no
+unmeant_by tables (Some f) h meant = let there : is_some (file_at tables f) ≡ true = meant f refl in let no : ⊥ = cc in no
+
 -- the finished maps don't refer to the map of a crate that isn't among them
 pub apart : (maps : BTreeMap MapId Finished) (crates : List Crate) (holders : List ModuleId) (part : Maps) (own : MapId) (local : Local) → IsChecked maps
     → part ≡ among crates holders (finished_in maps) → finished_in maps own ≡ None → own.block ≡ None → IsApart part own local

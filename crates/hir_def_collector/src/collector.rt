@@ -49,6 +49,7 @@ ghost use Rattle.hir_collector_rules.specs.Calls.{AreCallsPlaced, IsMeantAt};
 ghost use Rattle.hir_collector_rules.specs.State.{at_rest, core_in, joined};
 ghost use Rattle.hir_collector_rules.specs.Steps.{Steps};
 ghost use Rattle.hir_collector_rules.specs.Derivation.{Ends, IsOverlong, IsSpent, collected_view};
+ghost use Rattle.hir_collector_rules.specs.UnknownSources.{MeetsUnknownSource};
 ghost use Rattle.hir_collector_rules.specs.Moves.{OnceGrown};
 
 pub mod calls;
@@ -64,7 +65,7 @@ use hir_collector_items::start_data::{start_data, start_local};
 use hir_collector_rules::collected::Collected;
 use hir_collector_rules::site::Site;
 use hir_collector_rules::source_database::{Config, CrateRoot, Dependency, SourceDatabase};
-pub use hir_collector_rules::start::{CollectError, STEP_LIMIT, Start};
+pub use hir_collector_rules::start::{CollectError, STEP_LIMIT, Start, StepError};
 pub use hir_collector_rules::{collected, declaration, macro_directive, shared_tree, site};
 use hir_collector_state::def_collector::DefCollector;
 use hir_crate_graph::crate_set::CrateSet;
@@ -109,6 +110,9 @@ pub fn collect_defs<D: SourceDatabase>(
     // Steps lead on from the start to as many as are counted.
     ensures many { result ≡ Err CollectError.TooMany
         → IsOverlong locations.new (D.workspace db.old) (finished_in world.now.maps) (beginning start tree (option_map (λ l. l.now) _local.entry)) }
+    // The file of the tree has no number, or steps lead to a macro that is written in a source which has none.
+    ensures unknown { result ≡ Err CollectError.UnknownSource
+        → MeetsUnknownSource locations.new (D.workspace db.old) (finished_in world.now.maps) (beginning start tree (option_map (λ l. l.now) _local.entry)) }
 {
     if lacks_its_file(locations, tree) {
         return Err(CollectError::UnknownSource);
@@ -286,7 +290,7 @@ fn begin<D: SourceDatabase>(
     holders: &[ModuleId],
     start: Start,
     id: TreeId,
-) -> Result<DefCollector, CollectError>
+) -> Result<DefCollector, StepError>
     requires file { IsSome (source_of locations.old id) → IsFileMeant locations.old (file_of_tree id) }
     ensures kept { KeepsTables locations.old locations.new }
     ensures same { D.workspace db.new ≡ D.workspace db.old }
@@ -297,7 +301,7 @@ fn begin<D: SourceDatabase>(
     ensures grown { IfOk result (λ run. IsSome (source_of locations.old id) → OnceGrown locations.new (D.workspace db.old) (λ env. Steps env (part_of world.entry)
         (began env.tables (D.workspace db.old) (part_of world.entry) transitive.now.value holders.now start id) (at_rest (core_in run)))) }
     ensures idle { IfOk result (λ run. source_of locations.old id ≡ None → (env : Environment) → ComesToRest env (part_of world.entry) (core_in run) (core_in run) false) }
-    ensures many { result ≡ Err CollectError.TooMany → IsSpent (environment locations.new (D.workspace db.old)) (part_of world.entry)
+    ensures many { result ≡ Err StepError.TooMany → IsSpent (environment locations.new (D.workspace db.old)) (part_of world.entry)
         (began locations.new (D.workspace db.old) (part_of world.entry) transitive.now.value holders.now start id) }
 {
     let krate = start.krate();
@@ -337,7 +341,7 @@ fn walk_root<D: SourceDatabase>(
     locations: &mut Tables,
     source: &Rc<SourceTree>,
     id: TreeId,
-) -> Result<(), CollectError>
+) -> Result<(), StepError>
     requires in_range { 0 < length (core_in run.old).map.modules }
     requires meant { IsMeantAt locations.old (root_site id) }
     ensures kept { KeepsTables locations.old locations.new }
@@ -345,7 +349,7 @@ fn walk_root<D: SourceDatabase>(
     ensures same { D.workspace db.new ≡ D.workspace db.old }
     ensures ok { OnOk result (OnceGrown locations.new (D.workspace db.old) (λ env. Steps env (part_of world.entry)
         (joined (core_in run.old) (tree_visits (root_site id) source.now.value.tree)) (at_rest (core_in run.new)))) }
-    ensures many { result ≡ Err CollectError.TooMany → IsSpent (environment locations.new (D.workspace db.old)) (part_of world.entry)
+    ensures many { result ≡ Err StepError.TooMany → IsSpent (environment locations.new (D.workspace db.old)) (part_of world.entry)
         (joined (core_in run.old) (tree_visits (root_site id) source.now.value.tree)) }
 {
     if !is_declared(id, source.tree()) {

@@ -32,8 +32,9 @@ use Rattle.hir_collector_rules.specs.declared.source_database.Key.TheVariants as
 use Rattle.hir_collector_rules.specs.Attributes.{attr_id, export_at, is_derive, is_passed, item_node, proc_macro_id}
 use Rattle.hir_collector_rules.specs.Calls.{Expanding, IsNumberedCall, call_key, call_site, error_of, expansion_readings, helpers_brought, text_readings}
 use Rattle.hir_collector_rules.specs.Causes.{declarations_of}
-use Rattle.hir_collector_rules.specs.Changes.{Change, act, adds_textual, changes_imports, defines, describes, ends, goes_on, lists_derive, makes, perform}
-use Rattle.hir_collector_rules.specs.Changes.{takes_textual, tells}
+use Rattle.hir_collector_rules.specs.Changes.{Change, act, adds_textual, changes_imports, defines, describes, ends, goes_on, lists_derive, notes, makes}
+use Rattle.hir_collector_rules.specs.Changes.{perform, takes_textual, tells}
+use Rattle.hir_collector_rules.specs.Invocations.{impl_noted, invocation_of}
 use Rattle.hir_collector_rules.specs.Derivation.{CollectedValue}
 use Rattle.hir_collector_rules.specs.Items.{declaration_of, declared_by, declared_by_leaf, file_origin, inline_origin, own_visibility}
 use Rattle.hir_collector_rules.specs.ItemIds.{enum_id, function_id, macro_def_id, macro_rules_id, module_id, node_of}
@@ -531,7 +532,7 @@ module _ (tables : TablesValue) (w : Workspace) (finished : Maps) (from : Beginn
         let helpers : List DeriveHelper = helpers_brought finished m d makro (Some (either.Left x.id)) in
         brought_back (expands_call i d makro x) d (visits_over site items) (altogether site items q.listed) q
         (call_below count s.core.calls i d inside.calls may.called.due.waiting.call)
-        (ap (λ (n : ℕ). 0 + (0 + n)) (expanding_makes_none d.ast_id helpers at d (error_of x.there)))
+        (ap (λ (n : ℕ). 0 + (0 + (0 + n))) (expanding_makes_none d.ast_id helpers at d (error_of x.there)))
         (λ k. ap (λ (xs : List ModuleDefId). xs ++ (gathered k (visits_over site items) q.listed ++ expanded_in es k))
         (expanding_unlisted d.ast_id helpers at d (error_of x.there) k)
         ∙ ap (λ (xs : List ModuleDefId). xs ++ expanded_in es k) (gathered_at k site items q.listed))
@@ -776,8 +777,8 @@ module _ (tables : TablesValue) (w : Workspace) (finished : Maps) (from : Beginn
               (waits_one v.site v.item v.done may.has.on.enabled waits) refl
               (λ n. sym (at_home-nothing v.site.home n)) q);
         }
-    back_rule (lists_derives v at a adt paths rest) may sees numbers read kept quiet q =
-        let r : Rule = lists_derives v at a adt paths rest in
+    back_rule (lists_derives v at a adt paths call rest) may sees numbers read kept quiet q =
+        let r : Rule = lists_derives v at a adt paths call rest in
         record {
           defs = [];
           ahead = at_next may.has.on.next
@@ -844,13 +845,13 @@ module _ (tables : TablesValue) (w : Workspace) (finished : Maps) (from : Beginn
     back_rule (derives_builtin i d makro imp) may sees numbers read kept quiet q =
         let r : Rule = derives_builtin i d makro imp in
         let helpers : List DeriveHelper = helpers_brought finished m d makro (Some (either.Right imp)) in
-        let begun : State = perform (asking s r) (ends i Handled ∷ lists_derive d.site.home imp ∷ []) in
+        let begun : State = perform (asking s r) (ends i Handled ∷ lists_derive d.site.home imp ∷ notes d.site.home (impl_noted d.ast_id imp) ∷ []) in
         let now : Ahead (MapAfter r) s.agenda = subst (λ (vs : List Task). Ahead (MapAfter r) vs) (bringing_agenda begun d.ast_id helpers) q in
         record {
           defs = [];
           ahead =
               back_same tables w finished from answer last es (asking s r) (acts finished s r) now now.listed
-              (ap (λ (n : ℕ). 0 + (0 + n)) (bringing_makes_none d.ast_id helpers))
+              (ap (λ (n : ℕ). 0 + (0 + (0 + n))) (bringing_makes_none d.ast_id helpers))
               (λ k. ap (λ (xs : List ModuleDefId). xs ++ gathered k s.agenda now.listed) (bringing_unlisted d.ast_id helpers k)) (λ more g. g);
         }
     back_rule (skips_attribute i d k waited_item) may sees numbers read kept quiet q =
@@ -879,7 +880,7 @@ module _ (tables : TablesValue) (w : Workspace) (finished : Maps) (from : Beginn
     back_rule (expands_call i d makro x) may sees numbers read kept quiet q =
         let r : Rule = expands_call i d makro x in
         let next : List Task = visits_over (call_site d x.id) x.tree.tree.items in
-        let begun : State = perform (asking s r) (ends i Handled ∷ goes_on next ∷ []) in
+        let begun : State = perform (asking s r) (ends i Handled ∷ goes_on next ∷ notes d.site.home (invocation_of d x.id) ∷ []) in
         let now : Ahead (MapAfter r) next = subst (λ (vs : List Task). Ahead (MapAfter r) vs)
         (expanding_agenda begun d.ast_id (helpers_brought finished m d makro (Some (either.Left x.id))) (module_id m d.site.home) d (error_of x.there)) q in
         let defs : List ModuleDefId = altogether (call_site d x.id) x.tree.tree.items now.listed in

@@ -53,8 +53,9 @@ use Rattle.hir_import_resolution.specs.Types.{ImportDirective, ImportSource}
 use Rattle.hir_import_resolution.specs.declared.directive.ImportSource.TheVariants as sources
 use Rattle.hir_collector_rules.specs.Calls.{error_of}
 use Rattle.hir_collector_rules.specs.Changes.{Change, lists, makes, gives_variants, begins_paths, reaches, awaits, ends, settles, changes_imports, adds_textual}
-use Rattle.hir_collector_rules.specs.Changes.{takes_textual, defines, describes, helps, lists_derive, exports, uses_macros, tells, goes_on, act, perform}
+use Rattle.hir_collector_rules.specs.Changes.{takes_textual, defines, describes, helps, lists_derive, notes, exports, uses_macros, tells, goes_on, act, perform}
 use Rattle.hir_collector_rules.specs.Changes.{with_builtin_derive}
+use Rattle.hir_collector_rules.specs.Invocations.{with_invocation}
 use Rattle.hir_collector_rules.specs.Types.{ExportedFunction}
 use Rattle.hir_collector_rules.specs.Derivation.{CollectedValue, Ends}
 use Rattle.hir_collector_rules.specs.Ended.{ended, exporting_scope, without_function, without_functions}
@@ -206,7 +207,8 @@ module _ (rs : List ImportDirective) where
         bound i false = f.types
 
         offered : (o : Option (Item ModuleDefId ImportOrExternCrate))
-            → AllValues (IsFineType home) (written_items place.1 (taken module_def.ghosts.eq item_import.ghosts.eq s.types globs.types place (type_candidate o by))
+            → AllValues (IsFineType home) (written_items place.1 (taken module_def.ghosts.eq item_import.ghosts.eq s.types globs.types place
+            (type_candidate o by))
             s.types)
         offered None = f.types
         offered (Some i) =
@@ -519,6 +521,11 @@ module _ (rs : List ImportDirective) where
         fine_changed s.core.map.modules home (with_module_scope (with_builtin_derive imp))
         (λ v g. record { types = g.types; values = g.values; macros = g.macros; traits = g.traits; alone = g.alone }) f.modules;
   }
+  fine-act s (notes home invocation) f fine = record {
+    modules =
+        fine_changed s.core.map.modules home (with_module_scope (with_invocation invocation))
+        (λ v g. record { types = g.types; values = g.values; macros = g.macros; traits = g.traits; alone = g.alone }) f.modules;
+  }
   fine-act s other f fine = record { modules = f.modules }
 
   -- ---- rules
@@ -588,12 +595,13 @@ module _ (rs : List ImportDirective) where
         (tt, (tt, (tt, (tt, fine_macro IsFineChange _ _ expander (λ t. tt) head name _ (λ t. none_fine 0) _))))
     fine_rule (defines_macro site head name expander helpers rest) may =
         (tt, (tt, (tt, (tt, (none_fine site.home, fine_reporting IsFineChange _ _ expander (λ t. tt) _)))))
+    fine_rule (lists_derives v at a adt paths call rest) may = (tt, (tt, (tt, tt)))
     fine_rule (exports_macro site head name d e rest) may = (tt, (tt, (tt, (tt, (none_fine site.home, (tt, (none_fine site.home, tt)))))))
     fine_rule rests may = (tt, tt)
-    fine_rule (expands_call i d makro x) may = (tt, (tt, fine_expanding IsFineChange _ (λ t helper. tt) _ _ d (error_of x.there) (λ t text. tt) _))
+    fine_rule (expands_call i d makro x) may = (tt, (tt, (tt, fine_expanding IsFineChange _ (λ t helper. tt) _ _ d (error_of x.there) (λ t text. tt) _)))
     fine_rule (drops_call i d) may = (tt, tt)
     fine_rule (drops_reached i d makro) may = (tt, fine_bringing IsFineChange _ (λ t helper. tt) _ _)
-    fine_rule (derives_builtin i d makro imp) may = (tt, (tt, fine_bringing IsFineChange _ (λ t helper. tt) _ _))
+    fine_rule (derives_builtin i d makro imp) may = (tt, (tt, (tt, fine_bringing IsFineChange _ (λ t helper. tt) _ _)))
     fine_rule (falls_back i d k waited) may = (tt, (tt, (tt, tt)))
     fine_rule (resolves_imports rule) may = imports_all (import_acts finished (import_state s) rule) (asking s (resolves_imports rule)) (rule_all rule may)
     fine_rule other may = (tt, (tt, tt))

@@ -22,7 +22,7 @@ use Rattle.hir_tables.specs.Tables.{TablesValue}
 use Rattle.hir_collector_rules.specs.Attributes.{attr_id, item_node}
 use Rattle.hir_collector_rules.specs.Calls.{by_style, called_macro, error_of, path_of_call, style_of, suited, suits}
 use Rattle.hir_collector_rules.specs.Changes.{Change, lists, makes, gives_variants, begins_paths, reaches, awaits, ends, settles, changes_imports, adds_textual}
-use Rattle.hir_collector_rules.specs.Changes.{takes_textual, defines, describes, helps, lists_derive, exports, uses_macros, tells, goes_on, act}
+use Rattle.hir_collector_rules.specs.Changes.{takes_textual, defines, describes, helps, lists_derive, notes, exports, uses_macros, tells, goes_on, act}
 use Rattle.hir_collector_rules.specs.ItemIds.{macro_rules_id, module_id}
 use Rattle.hir_collector_rules.specs.Keys.{Environment, environment, map_keys}
 use Rattle.hir_collector_rules.specs.ModuleFiles.{LookedAt, Tried, file_readings, tried_in}
@@ -178,11 +178,11 @@ module _ (answers : PathsAnswerFromSources) (paths : PathsLeadToWhatIsThere) (fi
     brings_written (defines_macro site head name expander helpers rest) may = (tt, (tt, (tt, (tt, (tt, fine_reporting Written _ _ expander (λ at. tt) _)))))
     brings_written (awaits_attribute v a k rest) may =
         (tt, (neither (is_some v.site.tree.block) false (next_visits in_blocks s.agenda v rest b.sourced.visits may.has.on.next).0 refl, tt))
-    brings_written (lists_derives v at a adt ps rest) may = (
+    brings_written (lists_derives v at a adt ps call rest) may = (
       tt,
       (
         derives_written v.site (item_node v.site v.item) (attr_id a) adt (next_visits in_blocks s.agenda v rest b.sourced.visits may.has.on.next).0 0 ps,
-        tt,
+        (tt, tt),
       ),
     )
     brings_written (exports_macro site head name d e rest) may = (tt, (tt, (tt, (tt, (tt, (tt, (tt, tt)))))))
@@ -190,10 +190,10 @@ module _ (answers : PathsAnswerFromSources) (paths : PathsLeadToWhatIsThere) (fi
         (tt, (neither (is_some site.tree.block) false (next_visits in_blocks s.agenda _ rest b.sourced.visits may.next).0 refl, tt))
     brings_written rests may = (tt, tt)
     brings_written (expands_call i d makro x) may =
-        (tt, (tt, fine_expanding Written _ (λ at helper. tt) _ (module_id s.core.map d.site.home) d (error_of x.there) (λ at text. tt) _))
+        (tt, (tt, (tt, fine_expanding Written _ (λ at helper. tt) _ (module_id s.core.map d.site.home) d (error_of x.there) (λ at text. tt) _)))
     brings_written (drops_call i d) may = (tt, tt)
     brings_written (drops_reached i d makro) may = (tt, fine_bringing Written _ (λ at helper. tt) _ _)
-    brings_written (derives_builtin i d makro imp) may = (tt, (tt, fine_bringing Written _ (λ at helper. tt) _ _))
+    brings_written (derives_builtin i d makro imp) may = (tt, (tt, (tt, fine_bringing Written _ (λ at helper. tt) _ _)))
     brings_written (falls_back i d k item) may = (tt, (tt, (tt, tt)))
     brings_written (resolves_imports rule) may = all_fine Written (λ at c. tt) (import_acts finished (import_state s) rule) _
     brings_written other may = (tt, (tt, tt))

@@ -17,8 +17,9 @@ use Rattle.hir_glob_imports.specs.declared.edge.Key.TheVariants.{Types, Values, 
 use Rattle.hir_import_resolution.specs.Names.{redefined, revised}
 use Rattle.hir_collector_rules.specs.Types.{ExportedFunction}
 use Rattle.hir_collector_rules.specs.Changes.{Change, lists, makes, gives_variants, begins_paths, reaches, awaits, ends, settles, changes_imports, adds_textual}
-use Rattle.hir_collector_rules.specs.Changes.{takes_textual, defines, describes, helps, lists_derive, exports, uses_macros, tells, goes_on, act, perform}
+use Rattle.hir_collector_rules.specs.Changes.{takes_textual, defines, describes, helps, lists_derive, notes, exports, uses_macros, tells, goes_on, act, perform}
 use Rattle.hir_collector_rules.specs.Changes.{with_builtin_derive}
+use Rattle.hir_collector_rules.specs.Invocations.{with_invocation}
 use Rattle.hir_collector_rules.specs.Ended.{ended, exporting_scope, without_function, without_functions}
 use Rattle.hir_collector_rules.specs.State.{Core, State, import_state}
 use Rattle.hir_collector_rules.proofs.ImportEdits.{Edit, edit, edit_of, edited, keeps_unnamed, map_after, pushes_to, redefines, revises}
@@ -94,6 +95,7 @@ StayDerived-act s (takes_textual home from_) k imp h = StayDerived-scope s.core.
 StayDerived-act s (lists_derive home new) k imp h =
     derived_changed s.core.map.modules home (with_module_scope (with_builtin_derive new)) (λ m i c. Contains-append_left m.scope.builtin_derive_impls (new ∷ [])
     i c) k imp h
+StayDerived-act s (notes home invocation) k imp h = StayDerived-scope s.core.map home (with_invocation invocation) (λ x. refl) k imp h
 StayDerived-act s other k imp h = h
 
 pub StayDerived-perform : (cs : List Change) (s : State) → StayDerived s.core.map (perform s cs).core.map

@@ -23,7 +23,7 @@ use Rattle.hir_collector_rules.specs.declared.macro_directive.MacroDirectiveKind
 use Rattle.hir_collector_rules.specs.Attributes.{item_node}
 use Rattle.hir_collector_rules.specs.Calls.{call_kind, error_of, kind_by, path_of_call}
 use Rattle.hir_collector_rules.specs.Changes.{Change, lists, makes, gives_variants, begins_paths, reaches, awaits, ends, settles, changes_imports, adds_textual}
-use Rattle.hir_collector_rules.specs.Changes.{takes_textual, defines, describes, helps, lists_derive, exports, uses_macros, tells, goes_on, act}
+use Rattle.hir_collector_rules.specs.Changes.{takes_textual, defines, describes, helps, lists_derive, notes, exports, uses_macros, tells, goes_on, act}
 use Rattle.hir_collector_rules.specs.Derivation.{CollectedValue, Ends}
 use Rattle.hir_collector_rules.specs.ItemIds.{module_id, node_of}
 use Rattle.hir_collector_rules.specs.Keys.{environment}
@@ -205,6 +205,7 @@ module _ (tables : TablesValue) (w : Workspace) (from : Beginning) (answer : Col
         let speaks : IsTold (unimplemented_macro (module_id s.core.map site.home) (node_of site.tree nodes.MacroDef head.id)) =
         next_told _ rest may.next (unimplemented_macro (module_id s.core.map site.home) (node_of site.tree nodes.MacroDef head.id)) refl refl in
         (tt, (tt, (tt, (tt, (tt, fine_reporting IsFine _ _ expander (λ t. speaks) _)))))
+    fine_rule (lists_derives v at a adt paths call rest) may = (tt, (tt, (tt, tt)))
     fine_rule (faults_derive v at report rest) may = (tt, (fault_told v rest may.has.on.next may.attribute report may.faulty, tt))
     fine_rule (exports_macro site head name d e rest) may = (tt, (tt, (tt, (tt, (tt, (tt, (tt, tt)))))))
     fine_rule rests may = (tt, tt)
@@ -212,13 +213,16 @@ module _ (tables : TablesValue) (w : Workspace) (from : Beginning) (answer : Col
       tt,
       (
         tt,
-        fine_expanding IsFine _ (λ t helper. tt) _ (module_id s.core.map d.site.home) d (error_of x.there)
-            (λ t text. call_told d i may.called.due.waiting.call text) _,
+        (
+          tt,
+          fine_expanding IsFine _ (λ t helper. tt) _ (module_id s.core.map d.site.home) d (error_of x.there)
+              (λ t text. call_told d i may.called.due.waiting.call text) _,
+        ),
       ),
     )
     fine_rule (drops_call i d) may = (tt, tt)
     fine_rule (drops_reached i d makro) may = (tt, fine_bringing IsFine _ (λ t helper. tt) _ _)
-    fine_rule (derives_builtin i d makro imp) may = (tt, (tt, fine_bringing IsFine _ (λ t helper. tt) _ _))
+    fine_rule (derives_builtin i d makro imp) may = (tt, (tt, (tt, fine_bringing IsFine _ (λ t helper. tt) _ _)))
     fine_rule (falls_back i d k waited) may = (tt, (given_up_told d i may.waiting.call, (tt, tt)))
     fine_rule (resolves_imports rule) may = all_fine IsFine (λ t c. tt) (import_acts finished (import_state s) rule) (asking s (resolves_imports rule))
     fine_rule other may = (tt, (tt, tt))

@@ -10,8 +10,9 @@ use Rattle.hir_collector_rules.specs.declared.macro_directive.Fate.TheVariants.{
 use Rattle.either.specs.declared.Either.TheVariants as either
 use Rattle.hir_collector_rules.specs.Calls.{error_of, helpers_brought}
 use Rattle.hir_collector_rules.specs.Changes.{Change, lists, makes, gives_variants, begins_paths, reaches, awaits, ends, settles, changes_imports, adds_textual}
-use Rattle.hir_collector_rules.specs.Changes.{takes_textual, defines, describes, helps, lists_derive, exports, uses_macros, tells, goes_on, act, perform}
+use Rattle.hir_collector_rules.specs.Changes.{takes_textual, defines, describes, helps, lists_derive, notes, exports, uses_macros, tells, goes_on, act, perform}
 use Rattle.hir_collector_rules.specs.Changes.{with_derived}
+use Rattle.hir_collector_rules.specs.Invocations.{impl_noted}
 use Rattle.hir_collector_rules.specs.Keys.{Environment}
 use Rattle.hir_collector_rules.specs.State.{Core, State, all_wait, import_state}
 use Rattle.hir_collector_rules.specs.Steps.{Rule, drops_item, awaits_attribute, lists_derives, faults_derive, exports_macro, reaches_call, rests, expands_call}
@@ -141,8 +142,8 @@ module _ (last : Core) (m : Map) where
         imp home in
         let listed : State = perform (asking old (derives_builtin i d makro imp)) (ends i Handled ∷ lists_derive d.site.home imp ∷ []) in
         let there : Contains (derived_in (module_at m d.site.home)) imp =
-        derived d.site.home imp (StayDerived-perform (bringing d.ast_id (helpers_brought finished old.core.map d makro (Some (either.Right imp)))) listed
-        d.site.home imp now) in
+        derived d.site.home imp (StayDerived-perform (notes d.site.home (impl_noted d.ast_id imp) ∷ bringing d.ast_id
+        (helpers_brought finished old.core.map d makro (Some (either.Right imp)))) listed d.site.home imp now) in
         subst (λ (c : MacroDirective). IsDone m es c) (done_here i d call may.due.waiting.call is) (builtin makro imp may.builtin may.is there)
 
     abbrev Done : Rule → List ModuleDefId → State → Change → Type 0
@@ -164,17 +165,18 @@ module _ (last : Core) (m : Map) where
         (tt, (tt, (tt, (tt, fine_macro (Done (defines_rules site head name expander helpers rest) defs) _ _ expander (λ t. tt) head name _ (λ t. tt) _))))
     done_rule (defines_macro site head name expander helpers rest) defs may derived =
         (tt, (tt, (tt, (tt, (tt, fine_reporting (Done (defines_macro site head name expander helpers rest) defs) _ _ expander (λ t. tt) _)))))
+    done_rule (lists_derives v at a adt paths call rest) defs may derived = (tt, (tt, (tt, tt)))
     done_rule (exports_macro site head name c e rest) defs may derived = (tt, (tt, (tt, (tt, (tt, (tt, (tt, tt)))))))
     done_rule rests defs may derived = (tt, tt)
     done_rule (expands_call i call makro x) defs may derived = (
       λ same d is. among _ (at_first _ es) (done_here i call d may.called.due.waiting.call is),
-      (tt, fine_expanding (Done (expands_call i call makro x) defs) _ (λ t helper. tt) _ _ call (error_of x.there) (λ t text. tt) _),
+      (tt, (tt, fine_expanding (Done (expands_call i call makro x) defs) _ (λ t helper. tt) _ _ call (error_of x.there) (λ t text. tt) _)),
     )
     done_rule (drops_call i call) defs may derived = (λ same. deep_here i call es may.due.waiting.call may.deep, tt)
     done_rule (drops_reached i call makro) defs may derived =
         (λ same. deep_here i call es may.called.due.waiting.call may.deep, fine_bringing (Done (drops_reached i call makro) defs) _ (λ t helper. tt) _ _)
     done_rule (derives_builtin i call makro imp) defs may derived =
-        (λ same. builtin_here i call makro imp may derived, (tt, fine_bringing (Done (derives_builtin i call makro imp) defs) _ (λ t helper. tt) _ _))
+        (λ same. builtin_here i call makro imp may derived, (tt, (tt, fine_bringing (Done (derives_builtin i call makro imp) defs) _ (λ t helper. tt) _ _)))
     done_rule (skips_attribute i call k item) defs may derived = (λ same d is. among _ (at_first _ es) (done_here i call d may.due.waiting.call is), (tt, tt))
     done_rule (falls_back i call k item) defs may derived = (λ same. absurd (let no : ⊥ = cc in no), (tt, (tt, tt)))
     done_rule (resolves_imports rule) defs may derived =
@@ -193,21 +195,18 @@ module _ (last : Core) (m : Map) where
         (tt, (tt, (tt, (tt, fine_macro (Went (defines_rules site head name expander helpers rest) defs) _ _ expander (λ t. tt) head name _ (λ t. tt) _))))
     went_rule (defines_macro site head name expander helpers rest) defs may =
         (tt, (tt, (tt, (tt, (tt, fine_reporting (Went (defines_macro site head name expander helpers rest) defs) _ _ expander (λ t. tt) _)))))
+    went_rule (lists_derives v at a adt paths call rest) defs may = (tt, (tt, (tt, tt)))
     went_rule (exports_macro site head name c e rest) defs may = (tt, (tt, (tt, (tt, (tt, (tt, (tt, tt)))))))
     went_rule rests defs may = (tt, tt)
     went_rule (expands_call i call makro x) defs may = (
       λ same. absurd (let no : ⊥ = cc in no),
-      (
-        tt,
-        fine_expanding (Went (expands_call i call makro x) defs) _ (λ t helper. tt) _ _ call (error_of x.there)
-            (λ t text. tt) _,
-      ),
+      (tt, (tt, fine_expanding (Went (expands_call i call makro x) defs) _ (λ t helper. tt) _ _ call (error_of x.there) (λ t text. tt) _)),
     )
     went_rule (drops_call i call) defs may = (λ same. absurd (let no : ⊥ = cc in no), tt)
     went_rule (drops_reached i call makro) defs may =
         (λ same. absurd (let no : ⊥ = cc in no), fine_bringing (Went (drops_reached i call makro) defs) _ (λ t helper. tt) _ _)
     went_rule (derives_builtin i call makro imp) defs may =
-        (λ same. absurd (let no : ⊥ = cc in no), (tt, fine_bringing (Went (derives_builtin i call makro imp) defs) _ (λ t helper. tt) _ _))
+        (λ same. absurd (let no : ⊥ = cc in no), (tt, (tt, fine_bringing (Went (derives_builtin i call makro imp) defs) _ (λ t helper. tt) _ _)))
     went_rule (skips_attribute i call k item) defs may = (λ same. absurd (let no : ⊥ = cc in no), (tt, tt))
     went_rule (falls_back i call k item) defs may = (λ same d is. (_, at_first _ es, done_here i call d may.waiting.call is), (tt, (tt, tt)))
     went_rule (resolves_imports rule) defs may =

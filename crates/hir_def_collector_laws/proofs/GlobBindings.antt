@@ -46,8 +46,9 @@ use Rattle.hir_import_resolution.specs.Types.{ImportDirective, ImportSource}
 use Rattle.hir_import_resolution.specs.declared.directive.ImportSource.TheVariants as sources
 use Rattle.hir_collector_rules.specs.Calls.{error_of}
 use Rattle.hir_collector_rules.specs.Changes.{Change, lists, makes, gives_variants, begins_paths, reaches, awaits, ends, settles, changes_imports, adds_textual}
-use Rattle.hir_collector_rules.specs.Changes.{takes_textual, defines, describes, helps, lists_derive, exports, uses_macros, tells, goes_on, act, perform}
+use Rattle.hir_collector_rules.specs.Changes.{takes_textual, defines, describes, helps, lists_derive, notes, exports, uses_macros, tells, goes_on, act, perform}
 use Rattle.hir_collector_rules.specs.Changes.{with_builtin_derive}
+use Rattle.hir_collector_rules.specs.Invocations.{with_invocation}
 use Rattle.hir_collector_rules.specs.Types.{ExportedFunction}
 use Rattle.hir_collector_rules.specs.Derivation.{CollectedValue, Ends}
 use Rattle.hir_collector_rules.specs.Ended.{ended, exporting_scope, without_function, without_functions}
@@ -128,6 +129,11 @@ noted-act s (takes_textual home from_) f fine =
 noted-act s (lists_derive home imp) f fine =
     record {
       modules = noted_rescoped s.core.map.modules home (with_module_scope (with_builtin_derive imp))
+          (λ m. record { types = refl; values = refl; macros = refl }) f.modules;
+    }
+noted-act s (notes home invocation) f fine =
+    record {
+      modules = noted_rescoped s.core.map.modules home (with_module_scope (with_invocation invocation))
           (λ m. record { types = refl; values = refl; macros = refl }) f.modules;
     }
 noted-act s other f fine = record { modules = f.modules }
@@ -356,16 +362,16 @@ module _ (finished : Maps) (s : State) (f : IsNotedState s) where
       by_changes (defines_macro site head name expander helpers rest) (tt, (tt, (tt, (tt, (refl, fine_reporting IsFine _ _ expander (λ t. tt) _)))))
   rule_noted (closes_module parent child rest) may = by_changes (closes_module parent child rest) (tt, (tt, tt))
   rule_noted (awaits_attribute v a k rest) may = by_changes (awaits_attribute v a k rest) (tt, (tt, tt))
-  rule_noted (lists_derives v at a adt paths rest) may = by_changes (lists_derives v at a adt paths rest) (tt, (tt, tt))
+  rule_noted (lists_derives v at a adt paths call rest) may = by_changes (lists_derives v at a adt paths call rest) (tt, (tt, (tt, tt)))
   rule_noted (faults_derive v at report rest) may = by_changes (faults_derive v at report rest) (tt, (tt, tt))
   rule_noted (exports_macro site head name d e rest) may = by_changes (exports_macro site head name d e rest) (tt, (tt, (tt, (tt, (refl, (tt, (refl, tt)))))))
   rule_noted (reaches_call site head path rest) may = by_changes (reaches_call site head path rest) (tt, (tt, tt))
   rule_noted rests may = by_changes rests (tt, tt)
   rule_noted (expands_call i d makro x) may =
-      by_changes (expands_call i d makro x) (tt, (tt, fine_expanding IsFine _ (λ t helper. tt) _ _ d (error_of x.there) (λ t text. tt) _))
+      by_changes (expands_call i d makro x) (tt, (tt, (tt, fine_expanding IsFine _ (λ t helper. tt) _ _ d (error_of x.there) (λ t text. tt) _)))
   rule_noted (drops_call i d) may = by_changes (drops_call i d) (tt, tt)
   rule_noted (drops_reached i d makro) may = by_changes (drops_reached i d makro) (tt, fine_bringing IsFine _ (λ t helper. tt) _ _)
-  rule_noted (derives_builtin i d makro imp) may = by_changes (derives_builtin i d makro imp) (tt, (tt, fine_bringing IsFine _ (λ t helper. tt) _ _))
+  rule_noted (derives_builtin i d makro imp) may = by_changes (derives_builtin i d makro imp) (tt, (tt, (tt, fine_bringing IsFine _ (λ t helper. tt) _ _)))
   rule_noted (skips_attribute i d k waited) may = by_changes (skips_attribute i d k waited) (tt, (tt, tt))
   rule_noted (falls_back i d k waited) may = by_changes (falls_back i d k waited) (tt, (tt, (tt, tt)))
   rule_noted (resolves_imports rule) may = import_noted rule may

@@ -19,8 +19,9 @@ use Rattle.hir_import_resolution.specs.Changes.{Change as ImportChange, pushes}
 use Rattle.hir_collector_rules.specs.Types.{ExportedFunction, MacroDirective}
 use Rattle.hir_collector_rules.specs.Causes.{declarations_of}
 use Rattle.hir_collector_rules.specs.Changes.{Change, lists, makes, gives_variants, begins_paths, reaches, awaits, ends, settles, changes_imports, adds_textual}
-use Rattle.hir_collector_rules.specs.Changes.{takes_textual, defines, describes, helps, lists_derive, exports, uses_macros, tells, goes_on, act, perform}
+use Rattle.hir_collector_rules.specs.Changes.{takes_textual, defines, describes, helps, lists_derive, notes, exports, uses_macros, tells, goes_on, act, perform}
 use Rattle.hir_collector_rules.specs.Changes.{with_builtin_derive}
+use Rattle.hir_collector_rules.specs.Invocations.{with_invocation}
 use Rattle.hir_collector_rules.specs.ItemIds.{module_id}
 use Rattle.hir_collector_rules.specs.Macros.{is_exported}
 use Rattle.hir_collector_rules.specs.Reports.{is_unimplemented, unimplemented_macro}
@@ -105,6 +106,7 @@ added-act s (changes_imports c) k low =
 added-act s (adds_textual home name makro) k low = added-scope s.core.map home _ (λ x. refl) k
 added-act s (takes_textual home from_) k low = added-scope s.core.map home _ (λ x. refl) k
 added-act s (lists_derive home imp) k low = added-scope s.core.map home (with_builtin_derive imp) (λ x. refl) k
+added-act s (notes home invocation) k low = added-scope s.core.map home (with_invocation invocation) (λ x. refl) k
 added-act s other k low = same_list (declarations_of (module_at s.core.map k)) refl
 
 pub added-perform : (cs : List Change) (s : State) (k : ℕ) → k < length s.core.map.modules
@@ -178,6 +180,7 @@ length-act s (changes_imports c) = ap (λ (m : Map). length m.modules) (map_afte
 length-act s (adds_textual home name makro) = length-scope s.core.map home _
 length-act s (takes_textual home from_) = length-scope s.core.map home _
 length-act s (lists_derive home imp) = length-scope s.core.map home (with_builtin_derive imp)
+length-act s (notes home invocation) = length-scope s.core.map home (with_invocation invocation)
 length-act s other = omega arith
 
 pub length-perform : (cs : List Change) (s : State) → length (perform s cs).core.map.modules ≡ length s.core.map.modules + all_made cs
@@ -312,6 +315,7 @@ Stays-act s (changes_imports c) =
 Stays-act s (adds_textual home name makro) = Stays-scope s.core.map home _
 Stays-act s (takes_textual home from_) = Stays-scope s.core.map home _
 Stays-act s (lists_derive home imp) = Stays-scope s.core.map home (with_builtin_derive imp)
+Stays-act s (notes home invocation) = Stays-scope s.core.map home (with_invocation invocation)
 Stays-act s (goes_on tasks) = Stays-same s.core.map
 Stays-act s other = λ k v e. record { value = v; there = e; origin = refl; parent = refl }
 

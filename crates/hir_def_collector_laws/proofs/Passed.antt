@@ -21,7 +21,7 @@ use Rattle.hir_def_map_rules.specs.Types.{DeriveHelper}
 use Rattle.hir_collector_rules.specs.Attributes.{first_looked_up, is_always_passed, is_helper, is_helper_among, is_named_by, is_passed, is_tool, next_among}
 use Rattle.hir_collector_rules.specs.BuiltinAttributes.{is_inert}
 use Rattle.hir_collector_rules.specs.Changes.{Change, lists, makes, gives_variants, begins_paths, reaches, awaits, ends, settles, changes_imports, adds_textual}
-use Rattle.hir_collector_rules.specs.Changes.{takes_textual, defines, describes, helps, lists_derive, exports, uses_macros, tells, goes_on, act, perform}
+use Rattle.hir_collector_rules.specs.Changes.{takes_textual, defines, describes, helps, lists_derive, notes, exports, uses_macros, tells, goes_on, act, perform}
 use Rattle.hir_collector_rules.specs.Ended.{ended}
 use Rattle.hir_collector_rules.specs.State.{Core, State, import_state}
 use Rattle.hir_collector_rules.proofs.ImportEdits.{Edit, edit_of, edited, map_after}

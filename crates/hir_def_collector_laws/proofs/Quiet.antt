@@ -17,7 +17,7 @@ use Rattle.hir_collector_rules.specs.Types.{MacroDirective, Site}
 use Rattle.hir_collector_rules.specs.Attributes.{AreAlwaysPassed, attr_id, is_always_passed, is_passed, item_node}
 use Rattle.hir_collector_rules.specs.Calls.{call_site, error_of}
 use Rattle.hir_collector_rules.specs.Changes.{Change, lists, makes, gives_variants, begins_paths, reaches, awaits, ends, settles, changes_imports, adds_textual}
-use Rattle.hir_collector_rules.specs.Changes.{takes_textual, defines, describes, helps, lists_derive, exports, uses_macros, tells, goes_on, act}
+use Rattle.hir_collector_rules.specs.Changes.{takes_textual, defines, describes, helps, lists_derive, notes, exports, uses_macros, tells, goes_on, act}
 use Rattle.hir_collector_rules.specs.Keys.{Environment}
 use Rattle.hir_collector_rules.specs.Macros.{is_macro_use}
 use Rattle.hir_collector_rules.specs.State.{State, Task, Visit, visits, closes, import_state, visits_over}
@@ -186,9 +186,9 @@ module _ (tools : List (List ℕ)) (k : ℕ) where
         (left _ rest may.next, (tt, (tt, (tt, (tt, fine_reporting StaysQuiet _ _ expander (λ t. tt) _)))))
     quiet_rule (closes_module parent child rest) may = (subst (NoCallNext tools k) may p.visits, (tt, tt))
     quiet_rule (awaits_attribute v a k_ rest) may = (left v rest may.has.on.next, ((λ e. attribute_apart v rest may.at a may.has e, tt), tt))
-    quiet_rule (lists_derives v at a adt paths rest) may =
+    quiet_rule (lists_derives v at a adt paths call rest) may =
         let apart : v.site.home ≢ k = λ e. attribute_apart v rest at a may.has e in
-        ((λ e. absurd (apart e), left v rest may.has.on.next), (derives_apart v.site (item_node v.site v.item) (attr_id a) adt apart 0 paths, tt))
+        ((λ e. absurd (apart e), left v rest may.has.on.next), (derives_apart v.site (item_node v.site v.item) (attr_id a) adt apart 0 paths, (tt, tt)))
     quiet_rule (faults_derive v at report rest) may = ((λ e. absurd (attribute_apart v rest at may.attribute may.has e), left v rest may.has.on.next), (tt, tt))
     quiet_rule (exports_macro site head name d e rest) may = (left _ rest may.here.next, (tt, (tt, (tt, (tt, (tt, (tt, tt)))))))
     quiet_rule (reaches_call site head path rest) may =
@@ -205,13 +205,12 @@ module _ (tools : List (List ℕ)) (k : ℕ) where
           tt,
           (
             quiet_of tools k (call_site d x.id) x.tree.tree.items (λ e. absurd (apart e)),
-            fine_expanding StaysQuiet _ (λ t helper. tt) _ _ d
-                (error_of x.there) (λ t text. tt) _,
+            (tt, fine_expanding StaysQuiet _ (λ t helper. tt) _ _ d (error_of x.there) (λ t text. tt) _),
           ),
         )
     quiet_rule (drops_call i d) may = (tt, tt)
     quiet_rule (drops_reached i d makro) may = (tt, fine_bringing StaysQuiet _ (λ t helper. tt) _ _)
-    quiet_rule (derives_builtin i d makro imp) may = (tt, (tt, fine_bringing StaysQuiet _ (λ t helper. tt) _ _))
+    quiet_rule (derives_builtin i d makro imp) may = (tt, (tt, (tt, fine_bringing StaysQuiet _ (λ t helper. tt) _ _)))
     quiet_rule (skips_attribute i d k_ waited) may =
         let apart : d.site.home ≢ k = call_apart k s.core.calls i d p.calls may.due.waiting.call in
         (tt, ((λ e. absurd (apart e), tt), tt))

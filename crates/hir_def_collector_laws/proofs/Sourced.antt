@@ -78,7 +78,7 @@ use Rattle.hir_collector_rules.specs.Start.{Beginning, begin_of, holders_by, is_
 use Rattle.hir_collector_rules.specs.Start.{root_site, root_tree, start_data, start_local, start_of, tree_key}
 use Rattle.hir_collector_rules.specs.State.{State, Task, Visit, visits, import_state, visits_over, behind}
 use Rattle.hir_collector_rules.specs.Changes.{Change, lists, makes, gives_variants, begins_paths, reaches, awaits, ends, settles, changes_imports, adds_textual}
-use Rattle.hir_collector_rules.specs.Changes.{takes_textual, defines, describes, helps, lists_derive, exports, uses_macros, tells, goes_on, act, on_map}
+use Rattle.hir_collector_rules.specs.Changes.{takes_textual, defines, describes, helps, lists_derive, notes, exports, uses_macros, tells, goes_on, act, on_map}
 use Rattle.hir_collector_rules.specs.Steps.{Rule, drops_item, awaits_attribute, lists_derives, faults_derive, exports_macro, reaches_call, rests, expands_call}
 use Rattle.hir_collector_rules.specs.Steps.{drops_call, drops_reached, derives_builtin, skips_attribute, falls_back, defines_rules, defines_macro}
 use Rattle.hir_collector_rules.specs.Steps.{closes_module, visits_in_file, declares_item, declares_enum, lists_constant, lists_impl, opens_module, opens_file}
@@ -106,7 +106,7 @@ use Rattle.hir_def_collector_laws.proofs.SourcedEdits.{key_clear, on_edge, own_c
 use Rattle.hir_def_collector_laws.proofs.SourcedMacros.{beside_clear, brought_macros_clear, textual_changed, textual_clear, textual_more, used_clear}
 use Rattle.hir_def_collector_laws.proofs.Whole.{begins, steps_keep}
 use Rattle.hir_def_collector_laws.proofs.WholeChanges.{NamesWhatIsThere}
-use Rattle.hir_def_collector_laws.proofs.SourcedEnded.{HoldsNowhereIn-derived, HoldsNowhereIn-ended, stays_ended}
+use Rattle.hir_def_collector_laws.proofs.SourcedEnded.{HoldsNowhereIn-derived, HoldsNowhereIn-ended, HoldsNowhereIn-noted, stays_ended}
 use Rattle.hir_def_collector_laws.proofs.SourcedState.{on_call, on_site, on_reached, IsSourced, AreClear, ShowsThere, stays_there}
 
 -- a call that reaches a macro asks for what it expands to
@@ -247,6 +247,7 @@ module _ (t : SourceTest) where
   sourced-act s (describes makro what) f fine = on_new_map s _ (HoldsNowhereIn-described s.core.map makro what f.map) f
   sourced-act s (helps node helper) f fine = on_new_map s _ (HoldsNowhereIn-helped s.core.map node helper f.map) f
   sourced-act s (lists_derive home imp) f fine = on_new_map s _ (HoldsNowhereIn-derived t s.core.map home imp f.map) f
+  sourced-act s (notes home invocation) f fine = on_new_map s _ (HoldsNowhereIn-noted t s.core.map home invocation f.map) f
   sourced-act s (exports x makro) f fine =
       let noted : IsSourced t (on_map s (with_exported s.core.map x.id makro)) = on_new_map s _ (HoldsNowhereIn-exported s.core.map x.id makro f.map) f in
       record { map = noted.map; local = noted.local; visits = noted.visits; reached = noted.reached; calls = noted.calls; edges = noted.edges }
@@ -666,9 +667,9 @@ module _ (t : SourceTest) where
           (subst (λ (ts : List Task). list_any (on_site t) ts ≡ false) may f.visits, (tt, tt))
       brings_none (awaits_attribute v a k rest) may read =
           let next = may.has.on.next in (left v rest next, (neither (t.holder v.site.tree.file v.site.tree.block) false (file v rest next) refl, tt))
-      brings_none (lists_derives v at a adt paths rest) may read =
+      brings_none (lists_derives v at a adt paths call rest) may read =
           let next = may.has.on.next in
-          (again v (suc at) rest next, (derives_none v.site (item_node v.site v.item) (attr_id a) adt (file v rest next) 0 paths, tt))
+          (again v (suc at) rest next, (derives_none v.site (item_node v.site v.item) (attr_id a) adt (file v rest next) 0 paths, (tt, tt)))
       brings_none (faults_derive v at report rest) may read = (again v (suc at) rest may.has.on.next, (tt, tt))
       brings_none (exports_macro site head name d e rest) may read =
           let next = may.here.next in
@@ -697,13 +698,12 @@ module _ (t : SourceTest) where
             tt,
             (
               site_visits t (call_site d x.id) own x.tree.tree.items,
-              fine_expanding BringsNone _ (λ at helper. tt) _ (module_id s.core.map d.site.home) d
-                  (error_of x.there) (λ at text. tt) _,
+              (tt, fine_expanding BringsNone _ (λ at helper. tt) _ (module_id s.core.map d.site.home) d (error_of x.there) (λ at text. tt) _),
             ),
           )
       brings_none (drops_call i d) may read = (tt, tt)
       brings_none (drops_reached i d makro) may read = (tt, fine_bringing BringsNone _ (λ at helper. tt) _ _)
-      brings_none (derives_builtin i d makro imp) may read = (tt, (tt, fine_bringing BringsNone _ (λ at helper. tt) _ _))
+      brings_none (derives_builtin i d makro imp) may read = (tt, (tt, (tt, fine_bringing BringsNone _ (λ at helper. tt) _ _)))
       brings_none (skips_attribute i d k item) may read =
           (tt, (neither (t.holder d.site.tree.file d.site.tree.block) false (none_at (on_call t) s.core.calls f.calls i d may.due.waiting.call) refl, tt))
       brings_none (falls_back i d k item) may read =
@@ -736,7 +736,7 @@ module _ (t : SourceTest) where
           })
 
     -- so are all states to which steps lead, as far as the test holds of no module there, and of no source that was asked for
-    all_sourced : (env : Environment) (from to : State) → IsInRange from → NamesWhatIsThere finished from → IsSourced t from → Steps env finished from to
+    pub all_sourced : (env : Environment) (from to : State) → IsInRange from → NamesWhatIsThere finished from → IsSourced t from → Steps env finished from to
         → ShowsThere t finished to.core.map
         → AreClear t to → IsSourced t to
     all_sourced env from to inside names first none shown clear = first

@@ -24,6 +24,7 @@ use Rattle.hir_def_map_rules.proofs.NoneOf.{neither, not_first, not_second}
 use Rattle.hir_def_map_rules.proofs.StaysSourced.{HoldsNowhereIn-scope, KeepsScope}
 use Rattle.hir_collector_rules.specs.Types.{ExportedFunction}
 use Rattle.hir_collector_rules.specs.Changes.{with_builtin_derive, with_derived}
+use Rattle.hir_collector_rules.specs.Invocations.{Invocation, with_invocation, with_noted}
 use Rattle.hir_collector_rules.specs.Ended.{ended, exporting_scope, without_function, without_functions}
 use Rattle.hir_collector_rules.specs.State.{Core}
 use Rattle.hir_def_collector_laws.proofs.SourcedState.{stays_longer}
@@ -33,6 +34,11 @@ module _ (t : SourceTest) where
   pub HoldsNowhereIn-derived : (m : Map) (home : ℕ) (imp : BuiltinDeriveImplId) → HoldsNowhereIn t m → HoldsNowhereIn t (with_derived m home imp)
   HoldsNowhereIn-derived m home imp f =
       HoldsNowhereIn-scope t m home (with_builtin_derive imp) (record { types = λ s g. g; values = λ s g. g; macros = λ s g. g; legacy = λ s g. g }) f
+
+  -- nor does what is noted of calls, attributes and derives
+  pub HoldsNowhereIn-noted : (m : Map) (home : ℕ) (invocation : Invocation) → HoldsNowhereIn t m → HoldsNowhereIn t (with_noted m home invocation)
+  HoldsNowhereIn-noted m home invocation f =
+      HoldsNowhereIn-scope t m home (with_invocation invocation) (record { types = λ s g. g; values = λ s g. g; macros = λ s g. g; legacy = λ s g. g }) f
 
   -- ---- items that others see less of
 

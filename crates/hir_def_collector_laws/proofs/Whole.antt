@@ -563,16 +563,17 @@ module _ (paths : PathsLeadToWhatIsThere) (finished : Maps) (whole : AreWellForm
         let node : AstId = node_of site.tree nodes.MacroDef head.id in
         let there = macro_made_there site head node (macro_def_id here site head.id expander) (macro_data_of name helpers) (low_next _ rest may.next) in
         (tt, (tt, (tt, (tt, ((there, tt), fine_reporting (BringsWhatIsThere finished) _ _ expander (λ t. tt) _)))))
+    brings_what_is_there (lists_derives v at a adt paths call rest) may = (tt, (tt, (tt, tt)))
     brings_what_is_there (exports_macro site head name d e rest) may =
         let there = exporting_there (visit site (leaf head (function name))) d (function_id here site head.id) (proc_macro_id here site head.id e.style) e.what
         (low_next _ rest may.here.next) may.declares in
         (tt, (tt, (tt, (tt, ((there, tt), (tt, ((public_macro _ _, tt), tt)))))))
     brings_what_is_there rests may = (tt, tt)
     brings_what_is_there (expands_call i d makro x) may =
-        (tt, (tt, fine_expanding (BringsWhatIsThere finished) _ (λ t helper. tt) _ (module_id here d.site.home) d (error_of x.there) (λ t text. tt) _))
+        (tt, (tt, (tt, fine_expanding (BringsWhatIsThere finished) _ (λ t helper. tt) _ (module_id here d.site.home) d (error_of x.there) (λ t text. tt) _)))
     brings_what_is_there (drops_call i d) may = (tt, tt)
     brings_what_is_there (drops_reached i d makro) may = (tt, fine_bringing (BringsWhatIsThere finished) _ (λ t helper. tt) _ _)
-    brings_what_is_there (derives_builtin i d makro imp) may = (tt, (tt, fine_bringing (BringsWhatIsThere finished) _ (λ t helper. tt) _ _))
+    brings_what_is_there (derives_builtin i d makro imp) may = (tt, (tt, (tt, fine_bringing (BringsWhatIsThere finished) _ (λ t helper. tt) _ _)))
     brings_what_is_there (falls_back i d k item) may = (tt, (tt, (tt, tt)))
     brings_what_is_there (resolves_imports rule) may = imports_bring rule may
     brings_what_is_there other may = (tt, (tt, tt))

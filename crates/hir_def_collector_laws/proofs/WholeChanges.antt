@@ -54,8 +54,9 @@ use Rattle.hir_import_resolution.specs.Names.{trait_vis}
 use Rattle.hir_import_resolution.specs.State.{ImportState}
 use Rattle.hir_collector_rules.specs.Imports.{extern_by, reached_import}
 use Rattle.hir_collector_rules.specs.Changes.{Change, lists, makes, gives_variants, begins_paths, reaches, awaits, ends, settles, changes_imports, adds_textual}
-use Rattle.hir_collector_rules.specs.Changes.{takes_textual, defines, describes, helps, lists_derive, exports, uses_macros, tells, goes_on, act, on_map}
+use Rattle.hir_collector_rules.specs.Changes.{takes_textual, defines, describes, helps, lists_derive, notes, exports, uses_macros, tells, goes_on, act, on_map}
 use Rattle.hir_collector_rules.specs.Changes.{with_builtin_derive}
+use Rattle.hir_collector_rules.specs.Invocations.{with_invocation}
 use Rattle.hir_collector_rules.specs.Macros.{textual_at, with_macros_used, with_used}
 use Rattle.hir_collector_rules.proofs.Lists.{none_joined}
 use Rattle.hir_collector_rules.proofs.ImportEdits.{Edit, edit, edit_of, edited, imports_after, local_after, map_after}
@@ -449,6 +450,9 @@ names-act finished s (helps node helper) f fine =
 names-act finished s (lists_derive home imp) f fine =
     with_larger finished s _ refl (Extends-scope finished s.core.map home (with_builtin_derive imp))
     (HasNoDanglingReference-scope finished s.core.map home (with_builtin_derive imp) (λ x g. g) f.names) f
+names-act finished s (notes home invocation) f fine =
+    with_larger finished s _ refl (Extends-scope finished s.core.map home (with_invocation invocation))
+    (HasNoDanglingReference-scope finished s.core.map home (with_invocation invocation) (λ x g. g) f.names) f
 names-act finished s (exports x makro) f fine =
     let new : Map = with_exported s.core.map x.id makro in
     let noted : NamesWhatIsThere finished (on_map s new) = with_larger finished s new refl (Extends-beside_of finished s.core.map new)

@@ -34,7 +34,7 @@ use Rattle.hir_collector_rules.specs.declared.source_database.Key.TheVariants as
 use Rattle.hir_collector_rules.specs.Attributes.{adt_by, adt_of, attr_id, is_always_passed, is_derive, item_node, paths_in}
 use Rattle.hir_collector_rules.specs.Calls.{Expanding, call_key, call_site, call_tree, error_of, expansion_readings, item_in, item_kept, text_readings}
 use Rattle.hir_collector_rules.specs.Changes.{Change, lists, makes, gives_variants, begins_paths, reaches, awaits, ends, settles, changes_imports, adds_textual}
-use Rattle.hir_collector_rules.specs.Changes.{takes_textual, defines, describes, helps, lists_derive, exports, uses_macros, tells, goes_on, act}
+use Rattle.hir_collector_rules.specs.Changes.{takes_textual, defines, describes, helps, lists_derive, notes, exports, uses_macros, tells, goes_on, act}
 use Rattle.hir_collector_rules.specs.Derivation.{CollectedValue}
 use Rattle.hir_collector_rules.specs.Imports.{crate_import, crate_named, reached_import}
 use Rattle.hir_collector_rules.specs.Keys.{environment, tree_at}
@@ -352,6 +352,7 @@ module _ (tables : TablesValue) (w : Workspace) (from : Beginning) (answer : Col
   written-act s (describes makro what) f fine = same_but s _ (Keeps-act s (describes makro what)) refl refl refl refl f
   written-act s (helps node helper) f fine = same_but s _ (Keeps-act s (helps node helper)) refl refl refl refl f
   written-act s (lists_derive home imp) f fine = same_but s _ (Keeps-act s (lists_derive home imp)) refl refl refl refl f
+  written-act s (notes home invocation) f fine = same_but s _ (Keeps-act s (notes home invocation)) refl refl refl refl f
   written-act s (exports function_of makro) f fine = same_but s _ (Keeps-act s (exports function_of makro)) refl refl refl refl f
   written-act s (uses_macros macros by) f fine = same_but s _ (Keeps-act s (uses_macros macros by)) refl refl refl refl f
   written-act s (tells d) f fine = same_but s _ (Keeps-act s (tells d)) refl refl refl refl f
@@ -548,14 +549,14 @@ module _ (tables : TablesValue) (w : Workspace) (from : Beginning) (answer : Col
             tt,
           ),
         )
-    all_fine (lists_derives v at a adt paths rest) may sees read =
+    all_fine (lists_derives v at a adt paths call rest) may sees read =
         let here : HasAttributeAt tables w answer v.site (item_node v.site v.item) (attr_id a) v.item a = attribute_there v rest at a may.has in
         let target : adt_of answer.map v.site v.item ≡ Some adt = sym (same_adt s.core.map answer.map f.id v.site v.item) ∙ may.target in (
           (next v rest may.has.on.next, left v rest may.has.on.next),
           (
             derives_written v.site (item_node v.site v.item) (attr_id a) adt v.item a here may.derives target paths may.lists 0 0 refl paths
                 (λ n path e. subst (λ (k : ℕ). slice_get paths k ≡ Some path) (omega arith) e),
-            tt,
+            (tt, tt),
           ),
         )
     all_fine (faults_derive v at report rest) may sees read = ((next v rest may.has.on.next, left v rest may.has.on.next), (tt, tt))
@@ -572,13 +573,12 @@ module _ (tables : TablesValue) (w : Workspace) (from : Beginning) (answer : Col
       tt,
       (
         placed_visits (call_site d x.id) x.tree.tree.items (call_inside d makro x sees read),
-        fine_expanding IsFine _ (λ t helper. tt) _ _ d
-            (error_of x.there) (λ t text. tt) _,
+        (tt, fine_expanding IsFine _ (λ t helper. tt) _ _ d (error_of x.there) (λ t text. tt) _),
       ),
     )
     all_fine (drops_call i d) may sees read = (tt, tt)
     all_fine (drops_reached i d makro) may sees read = (tt, fine_bringing IsFine _ (λ t helper. tt) _ _)
-    all_fine (derives_builtin i d makro imp) may sees read = (tt, (tt, fine_bringing IsFine _ (λ t helper. tt) _ _))
+    all_fine (derives_builtin i d makro imp) may sees read = (tt, (tt, (tt, fine_bringing IsFine _ (λ t helper. tt) _ _)))
     all_fine (skips_attribute i d k waited) may sees read =
         (tt, ((item_placed d k waited may.of (call_among s.core.calls d f.calls (standing s.core.calls i d may.due.waiting.call)), tt), tt))
     all_fine (falls_back i d k waited) may sees read =

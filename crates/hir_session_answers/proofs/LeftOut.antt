@@ -145,7 +145,7 @@ module _ (runs : RunsBindFromSources) (s : SessionState) (sound : IsSound s) (t 
           let own = reads s sound j f is id placed e in
           subst (λ (p : Placed). HoldsOfNoExtern t p.local) (sym own.map) (below id own.found own.is_kept own.lower (seen_in j f is shows id placed e)).1
 
-  binds : (n : ℕ) (j : MapId) (f : Resolution) → kept_of s j ≡ Some f → rank j f < n → ShowsThere j f → Nowhere f
+  pub binds : (n : ℕ) (j : MapId) (f : Resolution) → kept_of s j ≡ Some f → rank j f < n → ShowsThere j f → Nowhere f
   binds zero j f is low shows = absurd (let no : rank j f < 0 = low in omega arith)
   binds (suc n) j f is low shows =
       let start = sym (start_read s sound j f is) in

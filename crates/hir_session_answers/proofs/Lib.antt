@@ -3,6 +3,7 @@ pub mod Walks
 pub mod ReadMaps
 pub mod Defined
 pub mod LeftOut
+pub mod KnownSources
 pub mod Reported
 pub mod Told
 pub mod Growing

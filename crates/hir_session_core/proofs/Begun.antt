@@ -14,6 +14,7 @@ use Rattle.hir_collector_rules.proofs.ModuleFiles.{source_kept}
 use Rattle.hir_collector_rules.specs.Calls.{AreCallsPlaced, IsMeantAt}
 use Rattle.hir_collector_rules.specs.Derivation.{CollectedValue, IsOverlong}
 use Rattle.hir_collector_rules.specs.Growth.{AnswersStand, AskedKeysHaveMeaning, LooksStand}
+use Rattle.hir_collector_rules.specs.UnknownSources.{MeetsUnknownSource}
 use Rattle.hir_collector_rules.specs.Workspace.{Workspace}
 use Rattle.hir_def_collector_laws.specs.Whole.{RunsNameWhatIsThere}
 use Rattle.hir_def_map_rules.specs.Overlay.{Maps, holders_under}
@@ -39,6 +40,7 @@ use Rattle.hir_session_state.proofs.Standing.{IsBlockBegun, IsModuleKept, at_mod
 use Rattle.hir_session_state.proofs.Standing.{unmarked}
 use Rattle.hir_session_state.proofs.Truth.{clash, no_value, one_value}
 use Rattle.hir_session_state.proofs.Worlds.{AgreeOn-refl}
+use Rattle.hir_session_answers.proofs.KnownSources.{block_known}
 use Rattle.hir_session_core.specs.Progress.{AreCratesCurrent, AreFollowedCurrent, IsBlockResolved, IsModuleThere}
 use Rattle.hir_session_core.proofs.Growth.{grown_mark, resolved_later}
 use Rattle.hir_session_core.proofs.Waiting.{same_block, same_standing}
@@ -197,27 +199,32 @@ module _ (old mid : SessionState) (sound : IsSound old) (grown : Grows old mid) 
 
 -- ---- a run
 
-module _ (looks : LooksStand) (meaning : AskedKeysHaveMeaning) (answers : AnswersStand) (law : RunsNameWhatIsThere) (s : SessionState) (T : TablesValue) (keeps : KeepsTables s.tables T)
-    (placed : AreCallsPlaced s.tables → AreCallsPlaced T) where
-  -- what a run gives for a block is its resolution
-  pub found_held : (view : SessionState) → s ≡ view → IsSound s → (krate : Crate) (b : BlockId) (holder : ModuleId) (file : EditionedFileId) (id : SyntaxId)
-      → IsPlace view (block_map krate b)
-      → is_marked view (block_map krate b) ≡ true → beginning_of view (block_map krate b) ≡ Some (begins_in_block krate b holder file id)
-      → IsSome (file_at view.tables file.file_id)
-      → AreFollowedCurrent view (block_map krate b) (Some holder) → (r : CollectedValue) (finished : Maps) → finished ≡ finished_of s
-      → IsResolved T (workspace_of s) finished (begins_in_block krate b holder file id) r
-      → IsResolutionOf (record s { tables = T }) (block_map krate b) (held r (holders_under (finished_of s) r.map.id r.map.holder))
-  found_held view seen sound krate b holder file id place on begun there behind r finished is resolved =
+-- what holds of a block whose run may begin
+record BeginsHeld (s : SessionState) (krate : Crate) (b : BlockId) (from : Beginning) : Type 0 where
+  begun : IsBlockBegun s krate b from
+  own : begun.place.holder.krate ≡ krate
+  off : is_marked s (crate_map krate) ≡ false
+  none : kept_of s (block_map krate b) ≡ None
+  meant : IsMeantAt s.tables (root_site from.tree)
+
+module _ (s view : SessionState) (seen : s ≡ view) (krate : Crate) (b : BlockId) (holder : ModuleId) (file : EditionedFileId) (id : SyntaxId) (place : IsPlace view (block_map krate b))
+    (on : is_marked view (block_map krate b) ≡ true) (begun : beginning_of view (block_map krate b) ≡ Some (begins_in_block krate b holder file id))
+    (there : IsSome (file_at view.tables file.file_id))
+    (behind : AreFollowedCurrent view (block_map krate b) (Some holder)) where
+  begins_held : BeginsHeld s krate b (begins_in_block krate b holder file id)
+  begins_held =
       let back = sym seen in
       let here : beginning_of s (block_map krate b) ≡ Some (begins_in_block krate b holder file id) =
       subst (λ (v : SessionState). beginning_of v (block_map krate b) ≡ Some (begins_in_block krate b holder file id)) back begun in
       let q = block_begun s krate b (begins_in_block krate b holder file id) here in
       let numbered : IsSome (file_at s.tables file.file_id) = subst (λ (v : SessionState). IsSome (file_at v.tables file.file_id)) back there in
-      let off : is_marked s (crate_map krate) ≡ false = subst (λ (v : SessionState). is_marked v (crate_map krate) ≡ false) back
-      (behind (crate_map krate) (zero, omega arith, refl)) in
-      found_of_block looks meaning answers s T keeps placed sound law krate b (begins_in_block krate b holder file id) q
-      (own_krate q (subst (λ (v : SessionState). IsPlace v (block_map krate b)) back place))
-      off (none_there (subst (λ (v : SessionState). is_marked v (block_map krate b) ≡ true) back on)) (meant_at q numbered) r finished is resolved
+      record {
+        begun = q;
+        own = own_krate q (subst (λ (v : SessionState). IsPlace v (block_map krate b)) back place);
+        off = subst (λ (v : SessionState). is_marked v (crate_map krate) ≡ false) back (behind (crate_map krate) (zero, omega arith, refl));
+        none = none_there (subst (λ (v : SessionState). is_marked v (block_map krate b) ≡ true) back on);
+        meant = meant_at q numbered;
+      }
     where
       own_krate : (q : IsBlockBegun s krate b (begins_in_block krate b holder file id)) → IsPlace s (block_map krate b) → q.place.holder.krate ≡ krate
       own_krate q (of_crate none within) = no_value (sym none)
@@ -238,6 +245,24 @@ module _ (looks : LooksStand) (meaning : AskedKeysHaveMeaning) (answers : Answer
         tree = subst (λ (o : Option BlockPlace). IsSome (option_map block o)) (sym q.means) refl;
         file = λ f e. subst (λ (x : FileId). IsSome (file_at s.tables x)) (one_value e) numbered;
       }
+
+  -- what a run gives for a block is its resolution
+  pub found_held : LooksStand → AskedKeysHaveMeaning → AnswersStand → RunsNameWhatIsThere → (T : TablesValue) → KeepsTables s.tables T
+      → (AreCallsPlaced s.tables → AreCallsPlaced T) → IsSound s
+      → (r : CollectedValue) (finished : Maps) → finished ≡ finished_of s → IsResolved T (workspace_of s) finished (begins_in_block krate b holder file id) r
+      → IsResolutionOf (record s { tables = T }) (block_map krate b) (held r (holders_under (finished_of s) r.map.id r.map.holder))
+  found_held looks meaning answers law T keeps placed sound r finished is resolved =
+      let h : BeginsHeld s krate b (begins_in_block krate b holder file id) = begins_held in
+      found_of_block looks meaning answers s T keeps placed sound law krate b (begins_in_block krate b holder file id) h.begun h.own h.off h.none h.meant r
+      finished is resolved
+
+  -- and it meets no unknown source
+  pub known_held : IsSound s → (T : TablesValue) → KeepsTables s.tables T → (finished : Maps) → finished ≡ finished_of s
+      → ¬ MeetsUnknownSource T (workspace_of s) finished (begins_in_block krate b holder file id)
+  known_held sound T keeps finished is meets =
+      let h : BeginsHeld s krate b (begins_in_block krate b holder file id) = begins_held in
+      block_known s sound T keeps krate b (begins_in_block krate b holder file id) h.begun h.own h.off h.none h.meant
+      (subst (λ (maps : Maps). MeetsUnknownSource T (workspace_of s) maps (begins_in_block krate b holder file id)) is meets)
 
 -- its map is held as its run began
 pub holder_found : (tables : TablesValue) (w : Workspace) (finished : Maps) (from : Beginning) (r : CollectedValue) → IsResolved tables w finished from r

@@ -291,6 +291,19 @@ module _ (s : SessionState) (sound : IsSound s) (krate : Crate) (b : BlockId) (f
         (ap (λ (o : Option Placed). is_some (option_and_then (λ (p : Placed). module_at p.map q.holder.index) o)) holder_read ∙ held_there.there);
   }
 
+  -- it reads only what names what is there, and stands on it
+  pub block_whole : AreWellFormed (read_by (workspace_of s) (finished_of s) from.start)
+  block_whole =
+      subst (λ (x : Beginning). AreWellFormed (read_by (workspace_of s) (finished_of s) x.start)) q.is
+      (subst (λ (xs : List ModuleId). AreWellFormed (among (transitive_in s.crates krate.0) xs (finished_of s))) (sym same_holders)
+      (behind_whole s sound krate all_holders behind_off lie_in))
+
+  pub block_stands : kept_of s (block_map krate b) ≡ None → StandsOnWhole (workspace_of s) (read_by (workspace_of s) (finished_of s) from.start) from.start
+  block_stands none =
+      subst (λ (x : Beginning). StandsOnWhole (workspace_of s) (read_by (workspace_of s) (finished_of s) x.start) x.start) q.is
+      (subst (λ (xs : List ModuleId). StandsOnWhole (workspace_of s) (among (transitive_in s.crates krate.0) xs (finished_of s)) begins.start)
+      (sym same_holders) (stands none))
+
   -- what a run gives for it
   pub block_resolution : kept_of s (block_map krate b) ≡ None → IsMeantAt s.tables (root_site from.tree) → (r : CollectedValue) → RunsNameWhatIsThere
       → IsResolved s.tables (workspace_of s) (finished_of s) from r → IsResolutionOf s (block_map krate b)
@@ -299,15 +312,7 @@ module _ (s : SessionState) (sound : IsSound s) (krate : Crate) (b : BlockId) (f
       let ended : Ends s.tables (workspace_of s) (finished_of s) from r = resolved.ends (workspace_of s) (finished_of s) AgreeOn-refl in
       let own : r.map.id ≡ block_map krate b = ended.own ∙ ap (λ (x : Beginning). start_id x.start) (sym q.is) in
       let holder : r.map.holder ≡ Some q.holder = ends_held ended ∙ ap (λ (x : Beginning). holder_of x.start) (sym q.is) in
-      let whole : AreWellFormed (read_by (workspace_of s) (finished_of s) begins.start) =
-      subst (λ (xs : List ModuleId). AreWellFormed (among (transitive_in s.crates krate.0) xs (finished_of s))) (sym same_holders)
-      (behind_whole s sound krate all_holders behind_off lie_in) in
-      let standing : StandsOnWhole (workspace_of s) (read_by (workspace_of s) (finished_of s) begins.start) begins.start =
-      subst (λ (xs : List ModuleId). StandsOnWhole (workspace_of s) (among (transitive_in s.crates krate.0) xs (finished_of s)) begins.start) (sym same_holders)
-      (stands none) in
-      resolution_by s (block_map krate b) from (begun_block s krate b from q) meant r law
-      (subst (λ (x : Beginning). AreWellFormed (read_by (workspace_of s) (finished_of s) x.start)) q.is whole)
-      (subst (λ (x : Beginning). StandsOnWhole (workspace_of s) (read_by (workspace_of s) (finished_of s) x.start) x.start) q.is standing)
+      resolution_by s (block_map krate b) from (begun_block s krate b from q) meant r law block_whole (block_stands none)
       resolved own (ap (λ (x : Beginning). krate_of x.start) (sym q.is))
       (under r own holder ∙ ap (λ (x : Beginning). holders_by (finished_of s) x.start) q.is)
     where

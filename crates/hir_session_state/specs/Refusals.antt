@@ -12,8 +12,6 @@ use Rattle.hir_item_tree.specs.Check.{verdict_of_check}
 use Rattle.hir_item_tree.specs.Limits.{are_deep, have_long_attribute}
 use Rattle.hir_item_tree.specs.Types.{CheckError}
 use Rattle.hir_item_tree.specs.declared.check.CheckError.TheVariants as check_error
-use Rattle.hir_collector_rules.specs.Types.{CollectError}
-use Rattle.hir_collector_rules.specs.declared.start.CollectError.TheVariants as collect_error
 use Rattle.hir_wire.specs.CommandValue.{CrateInputValue}
 use Rattle.hir_wire.specs.Types.{Dependency}
 use Rattle.hir_wire.specs.Edits.{EditValue, set_file, remove_file, set_block, remove_block, set_expansion, remove_expansion}
@@ -53,13 +51,7 @@ IsTreeTextMemory e = e ≡ tree_text_error.Memory
 abbrev pub IsDiagnosticsMemory : DiagnosticsError → Type 0
 IsDiagnosticsMemory e = e ≡ diagnostics_error.Memory
 
--- why a refresh ends early where a run was given up
-abbrev pub refresh_error_of : CollectError → RefreshError
-refresh_error_of collect_error.TooMany = refresh_error.TooMany
-refresh_error_of collect_error.UnknownSource = refresh_error.Memory
-refresh_error_of collect_error.Memory = refresh_error.Memory
-
--- and where a block gets no number
+-- why a refresh ends early where a block gets no number
 abbrev pub refresh_error_of_number : LocationsError → RefreshError
 refresh_error_of_number number_error.TooMany = refresh_error.TooMany
 refresh_error_of_number number_error.Memory = refresh_error.Memory

@@ -4,7 +4,6 @@ use hir_base::ast_id::{AstKind, SyntaxId};
 use hir_base::ids::Crate;
 use hir_base::limit::Limit;
 use hir_base::locations::LocationsError;
-use hir_collector_rules::start::CollectError;
 use hir_item_tree::check::CheckError;
 use std::alloc::{AllocError, AllocFailed};
 use thiserror::Error;
@@ -154,21 +153,6 @@ impl<T: Drop> From<AllocFailed<T>> for RefreshError {
 
     fn from(_: AllocFailed<T>) -> RefreshError {
         RefreshError::Memory
-    }
-}
-
-impl From<CollectError> for RefreshError {
-    ghost use Rattle.std.specs.Prelude.{◌≡◌};
-    ghost use Rattle.hir_session_state.specs.Refusals.{refresh_error_of};
-
-    ghost from_gives = { λ error r. r ≡ refresh_error_of error };
-
-    fn from(error: CollectError) -> RefreshError {
-        match error {
-            CollectError::TooMany => RefreshError::TooMany,
-            // The maps beside a run were made over the session's own tables, so that no source is unknown.
-            CollectError::UnknownSource | CollectError::Memory => RefreshError::Memory,
-        }
     }
 }
 

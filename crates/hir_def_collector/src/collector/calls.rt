@@ -18,9 +18,10 @@ ghost use Rattle.hir_collector_rules.specs.Calls.{AreCallsPlaced, Expanding, IsM
 ghost use Rattle.hir_collector_rules.specs.Types.{MacroDirective, WaitingItem};
 ghost use Rattle.hir_collector_rules.specs.Derivation.{IsSpent};
 ghost use Rattle.hir_collector_rules.specs.ItemIds.{module_id};
-ghost use Rattle.hir_collector_rules.specs.Keys.{Environment, IsMeant, input_at, macro_key, macro_tree, source_in, text_at, text_of};
+ghost use Rattle.hir_collector_rules.specs.Keys.{Environment, IsMeant, environment, input_at, macro_key, macro_tree, source_in, text_at, text_of};
 ghost use Rattle.hir_collector_rules.specs.Moves.{Makes, OnceGrown};
 ghost use Rattle.hir_collector_rules.specs.NumberedOut.{LacksExpansion};
+ghost use Rattle.hir_collector_rules.specs.UnknownSources.{LeadsToUnknownSource, ReachesUnknownSource};
 ghost use Rattle.hir_collector_rules.specs.State.{Run, at_rest, core_in, import_state};
 ghost use Rattle.hir_collector_rules.specs.Steps.{CallsMacro, IsDue, Steps, failing, keys_read, with_keys};
 ghost use Rattle.hir_collector_rules.specs.Workspace.{entry_look};
@@ -40,7 +41,7 @@ use hir_collector_items::sources::source_at;
 use hir_collector_rules::macro_directive::{Fate, MacroDirective};
 use hir_collector_rules::site::Site;
 use hir_collector_rules::source_database::{ExpansionLook, Key, SourceDatabase};
-use hir_collector_rules::start::{CollectError, STEP_LIMIT};
+use hir_collector_rules::start::{CollectError, STEP_LIMIT, StepError};
 use hir_collector_state::def_collector::DefCollector;
 use hir_def_map::nameres::diagnostics::DefDiagnostic;
 use hir_def_map::world::part::WorldPart;
@@ -69,6 +70,7 @@ fn copied(alloc: Global, text: Option<&str>) -> Result<Option<Text>, AllocError>
 /// Whether the source that writes a macro has a number; a procedural macro is in no source.
 fn is_meant(locations: &Tables, makro: MacroId) -> bool
     ensures meant { result ≡ true → IsMeant locations.now makro }
+    ensures unknown { result ≡ false → ¬ IsMeant locations.now makro }
 {
     match makro {
         MacroId::Macro2Id(id) => locations.source_of(tree_of(id.loc)).is_some(),
@@ -248,19 +250,17 @@ fn look_at_call<D: SourceDatabase>(
     locations: &mut Tables,
     call: &MacroDirective,
     makro: MacroId,
-) -> Result<Expansion, CollectError>
+) -> Result<Expansion, StepError>
     requires meant { IsMeantCall locations.old call.now }
+    requires known { IsMeant locations.old makro }
     ensures kept { KeepsTables locations.old locations.new }
     ensures same { D.workspace db.new ≡ D.workspace db.old }
     ensures placed { AreCallsPlaced locations.old → AreCallsPlaced locations.new }
     ensures ok { IfOk result (λ e. (x : Expanding) × SeesCall locations.new (D.workspace db.old) (part_of world.entry) call.now makro (core_in run.old) (core_in run.new) x e.source.value
         × (e.id ≡ x.id) × (e.error ≡ error_of x.there)) }
     ensures noted { OnOk result (IsNoted run.old run.new) }
-    ensures many { result ≡ Err CollectError.TooMany → OnceGrown locations.new (D.workspace db.old) (λ env. LacksExpansion env (part_of world.entry) (core_in run.old).map call.now makro) }
+    ensures many { result ≡ Err StepError.TooMany → OnceGrown locations.new (D.workspace db.old) (λ env. LacksExpansion env (part_of world.entry) (core_in run.old).map call.now makro) }
 {
-    if !is_meant(locations, makro) {
-        return Err(CollectError::UnknownSource);
-    }
     let alloc = run.allocator();
     let krate = run.map().id().krate;
     let text = called_text(run, db, world, locations, makro)?;
@@ -321,7 +321,43 @@ fn report_failed(
     run.tell(DefDiagnostic::macro_error(at, call.ast_id, call.path().clone()?, error))
 }
 
-/// Expands what waits at the place, which reaches a macro: handles the items of its expansion, with all that is in them.
+/// Expands what waits at the place, which reaches a macro whose source has a number: notes the call in its module, and handles
+/// the items of its expansion, with all that is in them.
+fn expand_known<D: SourceDatabase>(
+    run: &mut DefCollector,
+    db: &mut D,
+    world: WorldPart<'_>,
+    locations: &mut Tables,
+    i: usize,
+    call: &MacroDirective,
+    makro: MacroId,
+) -> Result<(), StepError>
+    requires ready { IsReady locations.old (part_of world) (core_in run.old) }
+    requires called { CallsMacro (part_of world) (at_rest (core_in run.old)) i call.now makro }
+    requires shallow { call.now.site.level < (core_in run.old).map.crate_data.recursion_limit }
+    requires below { call.now.site.level < 4294967295 }
+    requires known { IsMeant locations.old makro }
+    ensures kept { KeepsTables locations.old locations.new }
+    ensures same { D.workspace db.new ≡ D.workspace db.old }
+    ensures placed { AreCallsPlaced locations.old → AreCallsPlaced locations.new }
+    ensures ok { OnOk result (OnceGrown locations.new (D.workspace db.old) (λ env. Steps env (part_of world.entry) (at_rest (core_in run.old)) (at_rest (core_in run.new)))) }
+    ensures noted { OnOk result (IsNotedBeside (part_of world.entry) run.old run.new) }
+    ensures handled { OnOk result (slice_get (core_in run.new).fates i ≡ Some Fate.Handled) }
+    ensures many { result ≡ Err StepError.TooMany → OnceGrown locations.new (D.workspace db.old) (λ env. IsSpent env (part_of world.entry) (at_rest (core_in run.old))) }
+{
+    let Expansion { id, error, source } = look_at_call(run, db, world, locations, call, makro)?;
+    let site = call_site(call, id)?;
+    run.end_call(i, Fate::Handled);
+    run.note_call(call, id)?;
+    bring_helpers(run, world, call, makro, Some(Either::Left(id)))?;
+    report_failed(run, call, error)?;
+    run.tick()?;
+    let ids = source.tree().top_level_items();
+    walk_all(run, db, world, locations, &source, &site, ids)?;
+    Ok(())
+}
+
+/// Expands what waits at the place, which reaches a macro, unless the source that writes the macro has no number.
 fn expand<D: SourceDatabase>(
     run: &mut DefCollector,
     db: &mut D,
@@ -342,15 +378,12 @@ fn expand<D: SourceDatabase>(
     ensures noted { OnOk result (IsNotedBeside (part_of world.entry) run.old run.new) }
     ensures handled { OnOk result (slice_get (core_in run.new).fates i ≡ Some Fate.Handled) }
     ensures many { result ≡ Err CollectError.TooMany → OnceGrown locations.new (D.workspace db.old) (λ env. IsSpent env (part_of world.entry) (at_rest (core_in run.old))) }
+    ensures unknown { result ≡ Err CollectError.UnknownSource → ReachesUnknownSource locations.new (part_of world.entry) (at_rest (core_in run.old)) }
 {
-    let Expansion { id, error, source } = look_at_call(run, db, world, locations, call, makro)?;
-    let site = call_site(call, id)?;
-    run.end_call(i, Fate::Handled);
-    bring_helpers(run, world, call, makro, Some(Either::Left(id)))?;
-    report_failed(run, call, error)?;
-    run.tick()?;
-    let ids = source.tree().top_level_items();
-    walk_all(run, db, world, locations, &source, &site, ids)?;
+    if !is_meant(locations, makro) {
+        return Err(CollectError::UnknownSource);
+    }
+    expand_known(run, db, world, locations, i, call, makro)?;
     Ok(())
 }
 
@@ -426,6 +459,7 @@ fn do_due<D: SourceDatabase>(
     ensures tried { IfOk result (λ done. TriesCall (part_of world.entry) (core_in run.old) (core_in run.new) i done) }
     ensures noted { OnOk result (IsNotedBeside (part_of world.entry) run.old run.new) }
     ensures many { result ≡ Err CollectError.TooMany → OnceGrown locations.new (D.workspace db.old) (λ env. IsSpent env (part_of world.entry) (at_rest (core_in run.old))) }
+    ensures unknown { result ≡ Err CollectError.UnknownSource → LeadsToUnknownSource (environment locations.new (D.workspace db.old)) (part_of world.entry) (at_rest (core_in run.old)) }
 {
     match due {
         Due::Nothing => return Ok(false),
@@ -465,6 +499,7 @@ fn try_call<D: SourceDatabase>(
     ensures noted { OnOk result (IsNotedBeside (part_of world.entry) run.old run.new) }
     ensures tried { IfOk result (λ done. TriesCall (part_of world.entry) (core_in run.old) (core_in run.new) i done) }
     ensures many { result ≡ Err CollectError.TooMany → OnceGrown locations.new (D.workspace db.old) (λ env. IsSpent env (part_of world.entry) (at_rest (core_in run.old))) }
+    ensures unknown { result ≡ Err CollectError.UnknownSource → LeadsToUnknownSource (environment locations.new (D.workspace db.old)) (part_of world.entry) (at_rest (core_in run.old)) }
 {
     let Some(call) = run.waiting(i) else {
         return Ok(false);
@@ -534,6 +569,7 @@ fn try_queued<D: SourceDatabase>(
     ensures stays { OnOk result (GoesOn queue.old queue.new) }
     ensures gathered { OnOk result (IsGathered (part_of world.entry) grown.old run.old grown.new run.new) }
     ensures many { result ≡ Err CollectError.TooMany → OnceGrown locations.new (D.workspace db.old) (λ env. IsSpent env (part_of world.entry) (at_rest (core_in run.old))) }
+    ensures unknown { result ≡ Err CollectError.UnknownSource → LeadsToUnknownSource (environment locations.new (D.workspace db.old)) (part_of world.entry) (at_rest (core_in run.old)) }
 {
     let done = try_call(run, db, world, locations, i)?;
     if !done {
@@ -579,6 +615,7 @@ fn try_calls<D: SourceDatabase>(
     ensures queue { OnOk result (is_apart queue.new ≡ is_apart queue.old) }
     ensures gathered { OnOk result (IsGathered (part_of world.entry) grown.old run.old grown.new run.new) }
     ensures many { result ≡ Err CollectError.TooMany → OnceGrown locations.new (D.workspace db.old) (λ env. IsSpent env (part_of world.entry) (at_rest (core_in run.old))) }
+    ensures unknown { result ≡ Err CollectError.UnknownSource → LeadsToUnknownSource (environment locations.new (D.workspace db.old)) (part_of world.entry) (at_rest (core_in run.old)) }
 {
     let mut progress = false;
     queue.open();
@@ -597,7 +634,7 @@ fn settle(
     apart: bool,
     imports: ImportQueue,
     grown: &Changed,
-) -> Result<(DefCollector, ImportQueue), CollectError>
+) -> Result<(DefCollector, ImportQueue), StepError>
     requires apart { apart ≡ true → IsApart (part_of world) (core_in run).map.id (core_in run).local }
     requires imports { (i : ℕ) (r : ImportDirective) → slice_get (core_in run).reached i ≡ Some r → r.home < length (core_in run).map.modules }
     requires in_order { IsInOrder (core_in run).map }
@@ -613,7 +650,7 @@ fn settle(
     ensures queue { IfOk result (λ r. are_apart r.1 ≡ apart) }
     // nothing has changed since, and it doesn't matter what is noted
     ensures behind { IfOk result (λ r. length (core_in r.0).taken ≡ length (core_in r.0).reached → (changed : ChangedValue) (now : Run) → core_in now ≡ core_in r.0 → IsBehind (part_of world.entry) r.1 changed now) }
-    ensures many { result ≡ Err CollectError.TooMany → (env : Environment) → IsSpent env (part_of world.entry) (at_rest (core_in run)) }
+    ensures many { result ≡ Err StepError.TooMany → (env : Environment) → IsSpent env (part_of world.entry) (at_rest (core_in run)) }
 {
     let (mut run, imports) = run.settle(world, apart, imports, grown)?;
     run.rest()?;
@@ -685,6 +722,7 @@ fn take_turn<D: SourceDatabase>(
     ensures counts { IfOk result (λ r. CountsOn (core_in run) (core_in r.0) r.2) }
     ensures turned { IfOk result (λ r. OnceGrown locations.new (D.workspace db.old) (λ env. TakesTurn env (part_of world.entry) (core_in run) (core_in r.0) first r.2)) }
     ensures many { result ≡ Err CollectError.TooMany → OnceGrown locations.new (D.workspace db.old) (λ env. IsSpent env (part_of world.entry) (at_rest (core_in run))) }
+    ensures unknown { result ≡ Err CollectError.UnknownSource → LeadsToUnknownSource (environment locations.new (D.workspace db.old)) (part_of world.entry) (at_rest (core_in run)) }
 {
     grown.append(run.changed())?;
     let (mut run, imports) = settle(run, world, apart, imports, grown)?;
@@ -722,6 +760,7 @@ pub fn resolve_rounds<D: SourceDatabase>(
     ensures ok { IfOk result (λ r. OnceGrown locations.new (D.workspace db.old) (λ env. Steps env (part_of world.entry) (at_rest (core_in run)) (at_rest (core_in r.0)))) }
     ensures rests { IfOk result (λ r. OnceGrown locations.new (D.workspace db.old) (λ env. ComesToRest env (part_of world.entry) (core_in run) (core_in r.0) r.1)) }
     ensures many { result ≡ Err CollectError.TooMany → OnceGrown locations.new (D.workspace db.old) (λ env. IsSpent env (part_of world.entry) (at_rest (core_in run))) }
+    ensures unknown { result ≡ Err CollectError.UnknownSource → LeadsToUnknownSource (environment locations.new (D.workspace db.old)) (part_of world.entry) (at_rest (core_in run)) }
 {
     let mut run = run;
     let alloc = run.allocator();

@@ -1,5 +1,5 @@
 -- The walk's steps lead on to where imports and calls rest.
-use Rattle.std.proofs.Common.{rules, ◌≡◌, ◌∙◌, false, List, None, Some, option_map, refl, ap, sym, subst}
+use Rattle.std.proofs.Common.{rules, ◌≡◌, ◌∙◌, false, List, None, option_map, ap, sym, subst}
 use Rattle.std.specs.Prelude.{IsSome}
 use Rattle.hir_base.specs.Types.{Crate, MapId}
 use Rattle.hir_tables.specs.SourcePlaces.{source_value}
@@ -14,16 +14,17 @@ use Rattle.hir_collector_rules.specs.Derivation.{IsSpent, collected_view}
 use Rattle.hir_collector_rules.specs.Keys.{environment}
 use Rattle.hir_collector_rules.specs.ModuleFiles.{file_of_tree, is_file_meant}
 use Rattle.hir_collector_rules.specs.Moves.{OnceGrown}
-use Rattle.hir_collector_rules.specs.Start.{began, beginning, block_of, holders_by, id_of, krate_of}
+use Rattle.hir_collector_rules.specs.Start.{beginning, block_of, holders_by, id_of, krate_of}
 use Rattle.hir_collector_rules.specs.State.{at_rest, core_in}
 use Rattle.hir_collector_rules.specs.Steps.{Steps, none}
+use Rattle.hir_collector_rules.specs.UnknownSources.{LeadsToUnknownSource, of_file, of_macro}
 use Rattle.hir_collector_rules.specs.Workspace.{Workspace, transitive_dependencies_in}
 use Rattle.hir_def_collector.proofs.Begun.{none_there, some_there}
 use Rattle.hir_collector_rules.proofs.Changes.{id-Steps}
 use Rattle.hir_collector_rules.proofs.Derived.{begun, depends_on, ends_from}
-use Rattle.hir_collector_rules.proofs.Moves.{spent_after}
-use Rattle.hir_collector_rules.proofs.Numbers.{tables_stay}
-use Rattle.hir_def_collector.proofs.Resolved.{apart, both_none, meant_by, no_map, not_lacking}
+use Rattle.hir_collector_rules.proofs.Moves.{spent_after, unknown_after}
+use Rattle.hir_collector_rules.proofs.Numbers.{known_step, refused_step, tables_stay}
+use Rattle.hir_def_collector.proofs.Resolved.{apart, both_none, lacking, meant_by, no_map, not_lacking, unmeant_by}
 use Rattle.hir_def_collector.proofs.collector.collect_defs.Goals as goal
 
 pub returns-in_err-run-clause-many : goal.returns-in_err-run-clause-many
@@ -40,7 +41,11 @@ returns-in_err-run-clause-many g c = λ h.
     c.among-part.ensures.value ∙ ap (λ (crates : List Crate). among crates holders all) c.deref.ensures in
     let held : holders ≡ holders_by all c.args.start = c.as_slice-holders.ensures.value ∙ c.in_ok-held_by.ensures.value in
     begun tables w all from (part_of c.among-part.result) c.in_ok-transitive.transitive.value holders reads depends held
-    (λ maps s. IsSpent (environment tables w) maps s) (c.in_err-run.ensures.many (search rules))
+    (λ maps s. IsSpent (environment tables w) maps s) (c.in_err-run.ensures.many (refused_step _ _ _ c.in_err-run.was c.from_residual-in_err-run.ensures.1 h))
+
+-- the walk meets no unknown source
+pub returns-in_err-run-clause-unknown : goal.returns-in_err-run-clause-unknown
+returns-in_err-run-clause-unknown g c = λ h. absurd (known_step _ _ c.from_residual-in_err-run.ensures.1 h)
 
 -- ---- no number leads to the tree: nothing is written in it
 
@@ -83,7 +88,15 @@ resolve_rounds-requires-clause-apart g c = λ yes local.
 pub returns-then-lacks_its_file-clause-kept : goal.returns-then-lacks_its_file-clause-kept
 returns-then-lacks_its_file-clause-kept g c = tables_stay c.args.locations.now
 
--- the file in which a block is written has a number
+-- the file in which a block is written has none
+pub returns-then-lacks_its_file-clause-unknown : goal.returns-then-lacks_its_file-clause-unknown
+returns-then-lacks_its_file-clause-unknown g c = λ h.
+    let tables = c.args.locations.now in
+    let file = file_of_tree c.args.tree in
+    let lacks = lacking (source_of tables c.args.tree) (is_file_meant tables file) (sym c.lacks_its_file.ensures.value ∙ c.if-lacks_its_file.true) in
+    of_file lacks.0 (unmeant_by tables file lacks.1)
+
+-- or it has one
 pub begin-requires : goal.begin-requires
 begin-requires g c = record {
   file = λ there.
@@ -121,6 +134,31 @@ returns-in_err-run-2-clause-many g c = λ h.
     begun later w all from part c.in_ok-transitive.transitive.value holders reads depends held
     (λ maps s. IsSpent (environment later w) maps s)
     (spent_after (c.in_ok-run.ensures.grown there later c.in_err-run-2.ensures.kept) (far later (tables_stay later)))
+
+pub returns-in_err-run-2-clause-unknown : goal.returns-in_err-run-2-clause-unknown
+returns-in_err-run-2-clause-unknown g c = λ h.
+    let later = c.resolve_rounds.new.locations in
+    let w = g.D.SourceDatabase.workspace c.args.db.now in
+    let all = finished_in c.args.world.now.maps in
+    let from = beginning c.args.start c.args.tree (option_map (λ l. l.now) c.args._local) in
+    let part = part_of c.among-part.result in
+    let run = core_in c.in_ok-run.run' in
+    let depends : c.in_ok-transitive.transitive.value ≡ transitive_dependencies_in w (krate_of c.args.start) =
+    c.in_ok-transitive.ensures.value ∙ depends_on w c.krate.result _ c.transitive_dependencies.ensures.value ∙ ap (transitive_dependencies_in w)
+    c.krate.ensures.value in
+    let holders = c.as_slice-holders.result.now in
+    let reads : part ≡ among c.in_ok-transitive.transitive.value holders all =
+    c.among-part.ensures.value ∙ ap (λ (crates : List Crate). among crates holders all) c.deref.ensures in
+    let held : holders ≡ holders_by all c.args.start = c.as_slice-holders.ensures.value ∙ c.in_ok-held_by.ensures.value in
+    let there : IsSome (source_of c.args.locations.now c.args.tree) =
+    some_there source_value c.source_of.result (source_of c.args.locations.now c.args.tree) c.is_none-is_unknown.result c.source_of.ensures.value
+    c.is_none-is_unknown.ensures c.if-is_unknown.false in
+    let leads : LeadsToUnknownSource (environment later w) part (at_rest run) =
+    subst (λ (v : Workspace). LeadsToUnknownSource (environment later v) part (at_rest run)) c.in_ok-run.ensures.same
+    (c.in_err-run-2.ensures.unknown (search rules)) in
+    of_macro (begun later w all from part c.in_ok-transitive.transitive.value holders reads depends held
+    (λ maps s. LeadsToUnknownSource (environment later w) maps s)
+    (unknown_after (c.in_ok-run.ensures.grown there later c.in_err-run-2.ensures.kept) leads))
 
 pub returns-in_err-finish-2-clause-kept : goal.returns-in_err-finish-2-clause-kept
 returns-in_err-finish-2-clause-kept g c =

@@ -11,6 +11,7 @@ use Rattle.hir_item_tree.specs.Kinds.{item_head, kind_content, kind_of}
 use Rattle.hir_item_tree.specs.Rows.{numbers_of, held_numbers, item_of, items_at}
 use Rattle.hir_item_tree.specs.SourceTree.{SourceTreeValue}
 use Rattle.hir_item_tree.specs.Types.{ModItemId}
+use Rattle.hir_tables.specs.Tables.{KeepsTables}
 use Rattle.hir_tables.proofs.Growth.{KeepsTables-trans}
 use Rattle.hir_def_map.specs.WorldParts.{part_of}
 use Rattle.hir_def_map_rules.specs.declared.diagnostics.DefDiagnosticKind.TheVariants as diagnostics
@@ -31,7 +32,7 @@ use Rattle.hir_mod_collector.proofs.Outline.{meant_inside}
 use Rattle.hir_mod_collector.proofs.Walked.{All-below, All-same_numbers, Walks-all, Walks-append, Walks-through, Walks-waits, WalksTo-next, WalksTo-none}
 use Rattle.hir_mod_collector.proofs.Walked.{WalksTooFar-behind, WalksTooFar-first, WalksTooFar-here, WalksTooFar-next, WalksTooFar-passed, WalksTooFar-passing}
 use Rattle.hir_mod_collector.proofs.Walked.{WalksTooFar-through, above_each, above_least, at_each, at_index, dropped_at, enabled_one, far_at, holds_of_one}
-use Rattle.hir_mod_collector.proofs.Walked.{longer_after, nowhere, past_none, past_one, still_there, there_behind, visits_alone, visits_one}
+use Rattle.hir_mod_collector.proofs.Walked.{longer_after, past_none, past_one, still_there, there_behind, visits_alone, visits_one}
 use Rattle.hir_collector_state.proofs.Noted.{beside_follow, noted_beside, noted_itself}
 use Rattle.hir_mod_collector.proofs.mod_collector.+walk.Goals as goal
 
@@ -212,7 +213,7 @@ walk_item-returns-in_err-pass-clause-many g t c = λ far_off grown k.
     let is : visits_behind tree site n done ≡ visits (behind v done) ∷ [] = visits_one tree n h (kind_content item) c.requires.there heads contents site done in
     let far = holds_of_one tree n h (kind_content item) c.requires.there heads contents
     (λ (i : KeptItem). PassesTooFar (environment grown w) part (core_in c.args.run.now) (visit site i) done)
-    (c.in_err-pass.ensures.many (search rules) (environment grown w) part) in
+    (c.in_err-pass.ensures.many (search rules) (environment grown w) part k) in
     WalksTooFar-passing (core_in c.args.run.now) v done (visits_behind tree site n done) is far
 
 pub walk_item-returns-then-is_none-clause-ok : goal.walk_item-returns-then-is_none-clause-ok
@@ -236,7 +237,7 @@ walk_item-returns-then-is_none-clause-ok g t c = λ grown k.
     let passed = core_in c.pass.new.run in
     let waits = holds_of_one tree n h (kind_content item) c.requires.there heads contents
     (λ (i : KeptItem). Passes (environment grown w) part (core_in c.args.run.now) passed (visit site i) done c.in_ok-pass.field-0)
-    (c.in_ok-pass.ensures.ok (environment grown w) part) in
+    (c.in_ok-pass.ensures.ok (environment grown w) part k) in
     Walks-waits (core_in c.args.run.now) passed v done (visits_behind tree site n done) is
     (subst (λ (o : Option ℕ). Passes (environment grown w) part (core_in c.args.run.now) passed v done o)
     (past_none c.in_ok-pass.field-0 (c.is_none.ensures ∙ ap not c.if-is_none.true)) waits)
@@ -259,9 +260,21 @@ walk_item-visit_item-requires-clause-in_range g t c =
     (c.tree-2.ensures.value ∙ ap (λ (s : SourceTreeValue). s.tree) c.deref-2.ensures) c.index-item.ensures.value in
     let v : Visit = visit site (item_of (all_items tree.items) h (kind_content item)) in
     let passed = core_in c.pass.new.run in
-    let passes = holds_of_one tree n h (kind_content item) c.requires.there heads contents (λ (i : KeptItem). Passes nowhere part (core_in c.args.run.now)
-    passed (visit site i) done c.in_ok-pass.field-0) (c.in_ok-pass.ensures.ok nowhere part) in
+    let passes = holds_of_one tree n h (kind_content item) c.requires.there heads contents (λ (i : KeptItem). Passes (environment c.pass.new.locations w) part
+    (core_in c.args.run.now) passed (visit site i) done c.in_ok-pass.field-0) (c.in_ok-pass.ensures.ok (environment c.pass.new.locations w) part
+    (tables_stay c.pass.new.locations)) in
     there_behind (core_in c.args.run.now) passed v done c.in_ok-pass.field-0 site.home passes c.requires.in_range
+
+pub walk_item-visit_item-requires-clause-meant : goal.walk_item-visit_item-requires-clause-meant
+walk_item-visit_item-requires-clause-meant g t c =
+    site_kept c.args.locations.now c.pass.new.locations c.in_ok-pass.ensures.kept c.args.site.now c.requires.meant
+
+pub walk_item-returns-in_err-inside-clause-kept : goal.walk_item-returns-in_err-inside-clause-kept
+walk_item-returns-in_err-inside-clause-kept g t c =
+    KeepsTables-trans c.args.locations.now c.pass.new.locations c.visit_item.new.locations c.in_ok-pass.ensures.kept c.in_err-inside.ensures.kept
+
+pub walk_item-returns-in_err-inside-clause-placed : goal.walk_item-returns-in_err-inside-clause-placed
+walk_item-returns-in_err-inside-clause-placed g t c = λ h. c.in_err-inside.ensures.placed (c.in_ok-pass.ensures.placed h)
 
 pub walk_item-returns-in_err-inside-clause-many : goal.walk_item-returns-in_err-inside-clause-many
 walk_item-returns-in_err-inside-clause-many g t c = λ far_off grown k.
@@ -283,12 +296,14 @@ walk_item-returns-in_err-inside-clause-many g t c = λ far_off grown k.
     let is : visits_behind tree site n done ≡ visits (behind v done) ∷ [] = visits_one tree n h (kind_content item) c.requires.there heads contents site done in
     let passed = core_in c.pass.new.run in
     let past = past_one c.in_ok-pass.field-0 (c.is_none.ensures ∙ ap not c.if-is_none.false) in
-    let passes : (env : Environment) → Passes env part (core_in c.args.run.now) passed v done (Some past.0) =
-    λ env. subst (λ (o : Option ℕ). Passes env part (core_in c.args.run.now) passed v done o) past.1
+    let passes : (env : Environment) → KeepsTables c.pass.new.locations env.tables → Passes env part (core_in c.args.run.now) passed v done (Some past.0) =
+    λ env keeps. subst (λ (o : Option ℕ). Passes env part (core_in c.args.run.now) passed v done o) past.1
     (holds_of_one tree n h (kind_content item) c.requires.there heads contents (λ (i : KeptItem). Passes env part (core_in c.args.run.now) passed (visit site i)
-    done c.in_ok-pass.field-0) (c.in_ok-pass.ensures.ok env part)) in
-    WalksTooFar-passed (core_in c.args.run.now) passed v done past.0 (visits_behind tree site n done) is (passes (environment grown w))
-    (WalksTooFar-here passed v past.0 (passes (environment grown w)).goes.0 (c.in_err-inside.ensures.many (search rules) grown k (all_items tree.items)))
+    done c.in_ok-pass.field-0) (c.in_ok-pass.ensures.ok env part keeps)) in
+    let since : KeepsTables c.pass.new.locations grown = KeepsTables-trans c.pass.new.locations c.visit_item.new.locations grown c.in_err-inside.ensures.kept k
+    in
+    WalksTooFar-passed (core_in c.args.run.now) passed v done past.0 (visits_behind tree site n done) is (passes (environment grown w) since)
+    (WalksTooFar-here passed v past.0 (passes (environment grown w) since).goes.0 (c.in_err-inside.ensures.many (search rules) grown k (all_items tree.items)))
 
 pub walk_item-walk_all-requires : goal.walk_item-walk_all-requires
 walk_item-walk_all-requires g t c =
@@ -310,10 +325,10 @@ walk_item-walk_all-requires g t c =
     let is : visits_behind tree site n done ≡ visits (behind v done) ∷ [] = visits_one tree n h (kind_content item) c.requires.there heads contents site done in
     let passed = core_in c.pass.new.run in
     let past = past_one c.in_ok-pass.field-0 (c.is_none.ensures ∙ ap not c.if-is_none.false) in
-    let passes : (env : Environment) → Passes env part (core_in c.args.run.now) passed v done (Some past.0) =
-    λ env. subst (λ (o : Option ℕ). Passes env part (core_in c.args.run.now) passed v done o) past.1
+    let passes : (env : Environment) → KeepsTables c.pass.new.locations env.tables → Passes env part (core_in c.args.run.now) passed v done (Some past.0) =
+    λ env keeps. subst (λ (o : Option ℕ). Passes env part (core_in c.args.run.now) passed v done o) past.1
     (holds_of_one tree n h (kind_content item) c.requires.there heads contents (λ (i : KeptItem). Passes env part (core_in c.args.run.now) passed (visit site i)
-    done c.in_ok-pass.field-0) (c.in_ok-pass.ensures.ok env part)) in
+    done c.in_ok-pass.field-0) (c.in_ok-pass.ensures.ok env part keeps)) in
     let now = c.visit_item.new.locations in
     let mid = core_in c.visit_item.new.run in
     let inner = c.in-Held.inner in
@@ -326,17 +341,20 @@ walk_item-walk_all-requires g t c =
     let least : above ns ≤ n = above_least n ns below in
     let there : n < size = c.requires.there in
     let falls = falls_inside site.dir.depth inner.dir.depth n (above ns) goes.0.deep least in
-    let meant : IsMeantAt now inner = meant_inside now site inner goes.0.tree goes.0.file (site_kept c.args.locations.now now c.in_ok-inside.ensures.kept site
-    c.requires.meant) in
+    let meant : IsMeantAt now inner = meant_inside now site inner goes.0.tree goes.0.file
+    (site_kept c.args.locations.now now (KeepsTables-trans c.args.locations.now c.pass.new.locations now c.in_ok-pass.ensures.kept c.in_ok-inside.ensures.kept)
+    site c.requires.meant) in
     λ κs lives. (omega (arith, falls, c.decreases), (lives, (goes.0.there, (meant, All-below n size ns (omega (arith, there)) below))))
 
 pub walk_item-returns-in_err-walk_all-in-Held-clause-kept : goal.walk_item-returns-in_err-walk_all-in-Held-clause-kept
 walk_item-returns-in_err-walk_all-in-Held-clause-kept g t c =
-    KeepsTables-trans c.args.locations.now c.visit_item.new.locations c.walk_all.new.locations c.in_ok-inside.ensures.kept
-    c.in_err-walk_all-in-Held.ensures.kept
+    KeepsTables-trans c.args.locations.now c.pass.new.locations c.walk_all.new.locations c.in_ok-pass.ensures.kept
+    (KeepsTables-trans c.pass.new.locations c.visit_item.new.locations c.walk_all.new.locations c.in_ok-inside.ensures.kept
+    c.in_err-walk_all-in-Held.ensures.kept)
 
 pub walk_item-returns-in_err-walk_all-in-Held-clause-placed : goal.walk_item-returns-in_err-walk_all-in-Held-clause-placed
-walk_item-returns-in_err-walk_all-in-Held-clause-placed g t c = λ h. c.in_err-walk_all-in-Held.ensures.placed (c.in_ok-inside.ensures.placed h)
+walk_item-returns-in_err-walk_all-in-Held-clause-placed g t c =
+    λ h. c.in_err-walk_all-in-Held.ensures.placed (c.in_ok-inside.ensures.placed (c.in_ok-pass.ensures.placed h))
 
 pub walk_item-returns-in_err-walk_all-in-Held-clause-many : goal.walk_item-returns-in_err-walk_all-in-Held-clause-many
 walk_item-returns-in_err-walk_all-in-Held-clause-many g t c = λ far_off grown k.
@@ -358,10 +376,10 @@ walk_item-returns-in_err-walk_all-in-Held-clause-many g t c = λ far_off grown k
     let is : visits_behind tree site n done ≡ visits (behind v done) ∷ [] = visits_one tree n h (kind_content item) c.requires.there heads contents site done in
     let passed = core_in c.pass.new.run in
     let past = past_one c.in_ok-pass.field-0 (c.is_none.ensures ∙ ap not c.if-is_none.false) in
-    let passes : (env : Environment) → Passes env part (core_in c.args.run.now) passed v done (Some past.0) =
-    λ env. subst (λ (o : Option ℕ). Passes env part (core_in c.args.run.now) passed v done o) past.1
+    let passes : (env : Environment) → KeepsTables c.pass.new.locations env.tables → Passes env part (core_in c.args.run.now) passed v done (Some past.0) =
+    λ env keeps. subst (λ (o : Option ℕ). Passes env part (core_in c.args.run.now) passed v done o) past.1
     (holds_of_one tree n h (kind_content item) c.requires.there heads contents (λ (i : KeptItem). Passes env part (core_in c.args.run.now) passed (visit site i)
-    done c.in_ok-pass.field-0) (c.in_ok-pass.ensures.ok env part)) in
+    done c.in_ok-pass.field-0) (c.in_ok-pass.ensures.ok env part keeps)) in
     let now = c.visit_item.new.locations in
     let mid = core_in c.visit_item.new.run in
     let inner = c.in-Held.inner in
@@ -375,16 +393,20 @@ walk_item-returns-in_err-walk_all-in-Held-clause-many g t c = λ far_off grown k
     subst (λ (v : Workspace). OnceGrown c.walk_all.new.locations v (λ env. WalksTooFar env part mid (visits_at tree inner ns))) c.in_ok-inside.ensures.same
     (c.in_err-walk_all-in-Held.ensures.many (search rules)) in
     let behind = closing c.in-Held.macro_use site.home inner.home in
+    let since : KeepsTables c.pass.new.locations grown = KeepsTables-trans c.pass.new.locations now grown c.in_ok-inside.ensures.kept
+    (KeepsTables-trans now c.walk_all.new.locations grown c.in_err-walk_all-in-Held.ensures.kept k) in
     WalksTooFar-through (core_in c.args.run.now) passed mid v done past.0 (visits_behind tree site n done) (visits_at tree inner ns ++ behind) is
-    (passes (environment grown w)) first (WalksTooFar-first mid (visits_at tree inner ns) behind (later grown k))
+    (passes (environment grown w) since) first (WalksTooFar-first mid (visits_at tree inner ns) behind (later grown k))
 
 pub walk_item-returns-in_err-walk_all-in-File-clause-kept : goal.walk_item-returns-in_err-walk_all-in-File-clause-kept
 walk_item-returns-in_err-walk_all-in-File-clause-kept g t c =
-    KeepsTables-trans c.args.locations.now c.visit_item.new.locations c.walk_all-in-File.new.locations c.in_ok-inside.ensures.kept
-    c.in_err-walk_all-in-File.ensures.kept
+    KeepsTables-trans c.args.locations.now c.pass.new.locations c.walk_all-in-File.new.locations c.in_ok-pass.ensures.kept
+    (KeepsTables-trans c.pass.new.locations c.visit_item.new.locations c.walk_all-in-File.new.locations c.in_ok-inside.ensures.kept
+    c.in_err-walk_all-in-File.ensures.kept)
 
 pub walk_item-returns-in_err-walk_all-in-File-clause-placed : goal.walk_item-returns-in_err-walk_all-in-File-clause-placed
-walk_item-returns-in_err-walk_all-in-File-clause-placed g t c = λ h. c.in_err-walk_all-in-File.ensures.placed (c.in_ok-inside.ensures.placed h)
+walk_item-returns-in_err-walk_all-in-File-clause-placed g t c =
+    λ h. c.in_err-walk_all-in-File.ensures.placed (c.in_ok-inside.ensures.placed (c.in_ok-pass.ensures.placed h))
 
 pub walk_item-returns-in_err-walk_all-in-File-clause-many : goal.walk_item-returns-in_err-walk_all-in-File-clause-many
 walk_item-returns-in_err-walk_all-in-File-clause-many g t c = λ far_off grown k.
@@ -406,10 +428,10 @@ walk_item-returns-in_err-walk_all-in-File-clause-many g t c = λ far_off grown k
     let is : visits_behind tree site n done ≡ visits (behind v done) ∷ [] = visits_one tree n h (kind_content item) c.requires.there heads contents site done in
     let passed = core_in c.pass.new.run in
     let past = past_one c.in_ok-pass.field-0 (c.is_none.ensures ∙ ap not c.if-is_none.false) in
-    let passes : (env : Environment) → Passes env part (core_in c.args.run.now) passed v done (Some past.0) =
-    λ env. subst (λ (o : Option ℕ). Passes env part (core_in c.args.run.now) passed v done o) past.1
+    let passes : (env : Environment) → KeepsTables c.pass.new.locations env.tables → Passes env part (core_in c.args.run.now) passed v done (Some past.0) =
+    λ env keeps. subst (λ (o : Option ℕ). Passes env part (core_in c.args.run.now) passed v done o) past.1
     (holds_of_one tree n h (kind_content item) c.requires.there heads contents (λ (i : KeptItem). Passes env part (core_in c.args.run.now) passed (visit site i)
-    done c.in_ok-pass.field-0) (c.in_ok-pass.ensures.ok env part)) in
+    done c.in_ok-pass.field-0) (c.in_ok-pass.ensures.ok env part keeps)) in
     let now = c.visit_item.new.locations in
     let mid = core_in c.visit_item.new.run in
     let inner = c.in-File.inner in
@@ -430,8 +452,10 @@ walk_item-returns-in_err-walk_all-in-File-clause-many g t c = λ far_off grown k
     (λ env. WalksTooFar env part mid (visits_at source.tree inner (numbers_of c.top_level_items-ids.result.now)))) c.in_ok-inside.ensures.same
     (c.in_err-walk_all-in-File.ensures.many (search rules))) in
     let behind = closing c.in-File.macro_use site.home inner.home in
+    let since : KeepsTables c.pass.new.locations grown = KeepsTables-trans c.pass.new.locations now grown c.in_ok-inside.ensures.kept
+    (KeepsTables-trans now c.walk_all-in-File.new.locations grown c.in_err-walk_all-in-File.ensures.kept k) in
     WalksTooFar-through (core_in c.args.run.now) passed mid v done past.0 (visits_behind tree site n done) (visits_over inner source.tree.items ++ behind) is
-    (passes (environment grown w)) first (WalksTooFar-first mid (visits_over inner source.tree.items) behind (later grown k))
+    (passes (environment grown w) since) first (WalksTooFar-first mid (visits_over inner source.tree.items) behind (later grown k))
 
 pub walk_item-walk_all-requires-in-File : goal.walk_item-walk_all-requires-in-File
 walk_item-walk_all-requires-in-File g t c =
@@ -453,10 +477,10 @@ walk_item-walk_all-requires-in-File g t c =
     let is : visits_behind tree site n done ≡ visits (behind v done) ∷ [] = visits_one tree n h (kind_content item) c.requires.there heads contents site done in
     let passed = core_in c.pass.new.run in
     let past = past_one c.in_ok-pass.field-0 (c.is_none.ensures ∙ ap not c.if-is_none.false) in
-    let passes : (env : Environment) → Passes env part (core_in c.args.run.now) passed v done (Some past.0) =
-    λ env. subst (λ (o : Option ℕ). Passes env part (core_in c.args.run.now) passed v done o) past.1
+    let passes : (env : Environment) → KeepsTables c.pass.new.locations env.tables → Passes env part (core_in c.args.run.now) passed v done (Some past.0) =
+    λ env keeps. subst (λ (o : Option ℕ). Passes env part (core_in c.args.run.now) passed v done o) past.1
     (holds_of_one tree n h (kind_content item) c.requires.there heads contents (λ (i : KeptItem). Passes env part (core_in c.args.run.now) passed (visit site i)
-    done c.in_ok-pass.field-0) (c.in_ok-pass.ensures.ok env part)) in
+    done c.in_ok-pass.field-0) (c.in_ok-pass.ensures.ok env part keeps)) in
     let now = c.visit_item.new.locations in
     let mid = core_in c.visit_item.new.run in
     let inner = c.in-File.inner in
@@ -473,17 +497,23 @@ walk_item-walk_all-requires-in-File g t c =
 
 pub walk_item-returns-in_err-close-in-Held-clause-kept : goal.walk_item-returns-in_err-close-in-Held-clause-kept
 walk_item-returns-in_err-close-in-Held-clause-kept g t c =
-    KeepsTables-trans c.args.locations.now c.visit_item.new.locations c.walk_all.new.locations c.in_ok-inside.ensures.kept c.in_ok-walk_all-in-Held.ensures.kept
+    KeepsTables-trans c.args.locations.now c.pass.new.locations c.walk_all.new.locations c.in_ok-pass.ensures.kept
+    (KeepsTables-trans c.pass.new.locations c.visit_item.new.locations c.walk_all.new.locations c.in_ok-inside.ensures.kept
+    c.in_ok-walk_all-in-Held.ensures.kept)
 
 pub walk_item-returns-in_err-close-in-Held-clause-placed : goal.walk_item-returns-in_err-close-in-Held-clause-placed
-walk_item-returns-in_err-close-in-Held-clause-placed g t c = λ h. c.in_ok-walk_all-in-Held.ensures.placed (c.in_ok-inside.ensures.placed h)
+walk_item-returns-in_err-close-in-Held-clause-placed g t c =
+    λ h. c.in_ok-walk_all-in-Held.ensures.placed (c.in_ok-inside.ensures.placed (c.in_ok-pass.ensures.placed h))
 
 pub walk_item-returns-in_ok-close-in-Held-clause-kept : goal.walk_item-returns-in_ok-close-in-Held-clause-kept
 walk_item-returns-in_ok-close-in-Held-clause-kept g t c =
-    KeepsTables-trans c.args.locations.now c.visit_item.new.locations c.walk_all.new.locations c.in_ok-inside.ensures.kept c.in_ok-walk_all-in-Held.ensures.kept
+    KeepsTables-trans c.args.locations.now c.pass.new.locations c.walk_all.new.locations c.in_ok-pass.ensures.kept
+    (KeepsTables-trans c.pass.new.locations c.visit_item.new.locations c.walk_all.new.locations c.in_ok-inside.ensures.kept
+    c.in_ok-walk_all-in-Held.ensures.kept)
 
 pub walk_item-returns-in_ok-close-in-Held-clause-placed : goal.walk_item-returns-in_ok-close-in-Held-clause-placed
-walk_item-returns-in_ok-close-in-Held-clause-placed g t c = λ h. c.in_ok-walk_all-in-Held.ensures.placed (c.in_ok-inside.ensures.placed h)
+walk_item-returns-in_ok-close-in-Held-clause-placed g t c =
+    λ h. c.in_ok-walk_all-in-Held.ensures.placed (c.in_ok-inside.ensures.placed (c.in_ok-pass.ensures.placed h))
 
 pub walk_item-returns-in_ok-close-in-Held-clause-ok : goal.walk_item-returns-in_ok-close-in-Held-clause-ok
 walk_item-returns-in_ok-close-in-Held-clause-ok g t c = λ grown k.
@@ -505,10 +535,10 @@ walk_item-returns-in_ok-close-in-Held-clause-ok g t c = λ grown k.
     let is : visits_behind tree site n done ≡ visits (behind v done) ∷ [] = visits_one tree n h (kind_content item) c.requires.there heads contents site done in
     let passed = core_in c.pass.new.run in
     let past = past_one c.in_ok-pass.field-0 (c.is_none.ensures ∙ ap not c.if-is_none.false) in
-    let passes : (env : Environment) → Passes env part (core_in c.args.run.now) passed v done (Some past.0) =
-    λ env. subst (λ (o : Option ℕ). Passes env part (core_in c.args.run.now) passed v done o) past.1
+    let passes : (env : Environment) → KeepsTables c.pass.new.locations env.tables → Passes env part (core_in c.args.run.now) passed v done (Some past.0) =
+    λ env keeps. subst (λ (o : Option ℕ). Passes env part (core_in c.args.run.now) passed v done o) past.1
     (holds_of_one tree n h (kind_content item) c.requires.there heads contents (λ (i : KeptItem). Passes env part (core_in c.args.run.now) passed (visit site i)
-    done c.in_ok-pass.field-0) (c.in_ok-pass.ensures.ok env part)) in
+    done c.in_ok-pass.field-0) (c.in_ok-pass.ensures.ok env part keeps)) in
     let now = c.visit_item.new.locations in
     let mid = core_in c.visit_item.new.run in
     let inner = c.in-Held.inner in
@@ -522,8 +552,10 @@ walk_item-returns-in_ok-close-in-Held-clause-ok g t c = λ grown k.
     subst (λ (v : Workspace). OnceGrown c.walk_all.new.locations v (λ env. Walks env part mid (core_in c.walk_all.new.run) (visits_at tree inner ns)))
     c.in_ok-inside.ensures.same c.in_ok-walk_all-in-Held.ensures.ok in
     let behind = closing c.in-Held.macro_use site.home inner.home in
+    let since : KeepsTables c.pass.new.locations grown = KeepsTables-trans c.pass.new.locations now grown c.in_ok-inside.ensures.kept
+    (KeepsTables-trans now c.walk_all.new.locations grown c.in_ok-walk_all-in-Held.ensures.kept k) in
     Walks-through (core_in c.args.run.now) passed mid (core_in c.close.new.run) v done past.0 (visits_behind tree site n done)
-    (visits_at tree inner ns ++ behind) is (passes (environment grown w)) first
+    (visits_at tree inner ns ++ behind) is (passes (environment grown w) since) first
     (Walks-append mid (core_in c.walk_all.new.run) (core_in c.close.new.run) (visits_at tree inner ns) behind (later grown k)
     (c.in_ok-close-in-Held.ensures.ok (environment grown w) part))
 
@@ -547,10 +579,10 @@ walk_item-returns-in_err-close-in-Held-clause-many g t c = λ far_off grown k.
     let is : visits_behind tree site n done ≡ visits (behind v done) ∷ [] = visits_one tree n h (kind_content item) c.requires.there heads contents site done in
     let passed = core_in c.pass.new.run in
     let past = past_one c.in_ok-pass.field-0 (c.is_none.ensures ∙ ap not c.if-is_none.false) in
-    let passes : (env : Environment) → Passes env part (core_in c.args.run.now) passed v done (Some past.0) =
-    λ env. subst (λ (o : Option ℕ). Passes env part (core_in c.args.run.now) passed v done o) past.1
+    let passes : (env : Environment) → KeepsTables c.pass.new.locations env.tables → Passes env part (core_in c.args.run.now) passed v done (Some past.0) =
+    λ env keeps. subst (λ (o : Option ℕ). Passes env part (core_in c.args.run.now) passed v done o) past.1
     (holds_of_one tree n h (kind_content item) c.requires.there heads contents (λ (i : KeptItem). Passes env part (core_in c.args.run.now) passed (visit site i)
-    done c.in_ok-pass.field-0) (c.in_ok-pass.ensures.ok env part)) in
+    done c.in_ok-pass.field-0) (c.in_ok-pass.ensures.ok env part keeps)) in
     let now = c.visit_item.new.locations in
     let mid = core_in c.visit_item.new.run in
     let inner = c.in-Held.inner in
@@ -564,8 +596,10 @@ walk_item-returns-in_err-close-in-Held-clause-many g t c = λ far_off grown k.
     subst (λ (v : Workspace). OnceGrown c.walk_all.new.locations v (λ env. Walks env part mid (core_in c.walk_all.new.run) (visits_at tree inner ns)))
     c.in_ok-inside.ensures.same c.in_ok-walk_all-in-Held.ensures.ok in
     let behind = closing c.in-Held.macro_use site.home inner.home in
+    let since : KeepsTables c.pass.new.locations grown = KeepsTables-trans c.pass.new.locations now grown c.in_ok-inside.ensures.kept
+    (KeepsTables-trans now c.walk_all.new.locations grown c.in_ok-walk_all-in-Held.ensures.kept k) in
     WalksTooFar-through (core_in c.args.run.now) passed mid v done past.0 (visits_behind tree site n done) (visits_at tree inner ns ++ behind) is
-    (passes (environment grown w)) first
+    (passes (environment grown w) since) first
     (WalksTooFar-behind mid (core_in c.walk_all.new.run) (visits_at tree inner ns) behind (later grown k)
     (c.in_err-close-in-Held.ensures.many (search rules) (environment grown w) part))
 
@@ -589,10 +623,10 @@ walk_item-close-requires g t c =
     let is : visits_behind tree site n done ≡ visits (behind v done) ∷ [] = visits_one tree n h (kind_content item) c.requires.there heads contents site done in
     let passed = core_in c.pass.new.run in
     let past = past_one c.in_ok-pass.field-0 (c.is_none.ensures ∙ ap not c.if-is_none.false) in
-    let passes : (env : Environment) → Passes env part (core_in c.args.run.now) passed v done (Some past.0) =
-    λ env. subst (λ (o : Option ℕ). Passes env part (core_in c.args.run.now) passed v done o) past.1
+    let passes : (env : Environment) → KeepsTables c.pass.new.locations env.tables → Passes env part (core_in c.args.run.now) passed v done (Some past.0) =
+    λ env keeps. subst (λ (o : Option ℕ). Passes env part (core_in c.args.run.now) passed v done o) past.1
     (holds_of_one tree n h (kind_content item) c.requires.there heads contents (λ (i : KeptItem). Passes env part (core_in c.args.run.now) passed (visit site i)
-    done c.in_ok-pass.field-0) (c.in_ok-pass.ensures.ok env part)) in
+    done c.in_ok-pass.field-0) (c.in_ok-pass.ensures.ok env part keeps)) in
     let now = c.visit_item.new.locations in
     let last = c.walk_all.new.locations in
     let mid = core_in c.visit_item.new.run in
@@ -606,28 +640,34 @@ walk_item-close-requires g t c =
     let later : OnceGrown c.walk_all.new.locations w (λ env. Walks env part mid (core_in c.walk_all.new.run) (visits_at tree inner ns)) =
     subst (λ (v : Workspace). OnceGrown c.walk_all.new.locations v (λ env. Walks env part mid (core_in c.walk_all.new.run) (visits_at tree inner ns)))
     c.in_ok-inside.ensures.same c.in_ok-walk_all-in-Held.ensures.ok in
+    let since : KeepsTables c.pass.new.locations last = KeepsTables-trans c.pass.new.locations now last c.in_ok-inside.ensures.kept
+    c.in_ok-walk_all-in-Held.ensures.kept in
     let there : site.home < length mid.map.modules = still_there passed mid v (visits_at tree inner ns ++ closing c.in-Held.macro_use site.home inner.home)
-    site.home past.0 (passes (environment last w)).goes.0 first
-    (there_behind (core_in c.args.run.now) passed v done (Some past.0) site.home (passes (environment last w)) c.requires.in_range) in
+    site.home past.0 (passes (environment last w) since).goes.0 first
+    (there_behind (core_in c.args.run.now) passed v done (Some past.0) site.home (passes (environment last w) since) c.requires.in_range) in
     let longer : length mid.map.modules ≤ length (core_in c.walk_all.new.run).map.modules = longer_after mid (core_in c.walk_all.new.run)
     (visits_at tree inner ns) (later last (tables_stay last)) in
     record { in_range = omega (arith, there, longer) }
 
 pub walk_item-returns-in_err-close-in-File-clause-kept : goal.walk_item-returns-in_err-close-in-File-clause-kept
 walk_item-returns-in_err-close-in-File-clause-kept g t c =
-    KeepsTables-trans c.args.locations.now c.visit_item.new.locations c.walk_all-in-File.new.locations c.in_ok-inside.ensures.kept
-    c.in_ok-walk_all-in-File.ensures.kept
+    KeepsTables-trans c.args.locations.now c.pass.new.locations c.walk_all-in-File.new.locations c.in_ok-pass.ensures.kept
+    (KeepsTables-trans c.pass.new.locations c.visit_item.new.locations c.walk_all-in-File.new.locations c.in_ok-inside.ensures.kept
+    c.in_ok-walk_all-in-File.ensures.kept)
 
 pub walk_item-returns-in_err-close-in-File-clause-placed : goal.walk_item-returns-in_err-close-in-File-clause-placed
-walk_item-returns-in_err-close-in-File-clause-placed g t c = λ h. c.in_ok-walk_all-in-File.ensures.placed (c.in_ok-inside.ensures.placed h)
+walk_item-returns-in_err-close-in-File-clause-placed g t c =
+    λ h. c.in_ok-walk_all-in-File.ensures.placed (c.in_ok-inside.ensures.placed (c.in_ok-pass.ensures.placed h))
 
 pub walk_item-returns-in_ok-close-in-File-clause-kept : goal.walk_item-returns-in_ok-close-in-File-clause-kept
 walk_item-returns-in_ok-close-in-File-clause-kept g t c =
-    KeepsTables-trans c.args.locations.now c.visit_item.new.locations c.walk_all-in-File.new.locations c.in_ok-inside.ensures.kept
-    c.in_ok-walk_all-in-File.ensures.kept
+    KeepsTables-trans c.args.locations.now c.pass.new.locations c.walk_all-in-File.new.locations c.in_ok-pass.ensures.kept
+    (KeepsTables-trans c.pass.new.locations c.visit_item.new.locations c.walk_all-in-File.new.locations c.in_ok-inside.ensures.kept
+    c.in_ok-walk_all-in-File.ensures.kept)
 
 pub walk_item-returns-in_ok-close-in-File-clause-placed : goal.walk_item-returns-in_ok-close-in-File-clause-placed
-walk_item-returns-in_ok-close-in-File-clause-placed g t c = λ h. c.in_ok-walk_all-in-File.ensures.placed (c.in_ok-inside.ensures.placed h)
+walk_item-returns-in_ok-close-in-File-clause-placed g t c =
+    λ h. c.in_ok-walk_all-in-File.ensures.placed (c.in_ok-inside.ensures.placed (c.in_ok-pass.ensures.placed h))
 
 pub walk_item-returns-in_ok-close-in-File-clause-ok : goal.walk_item-returns-in_ok-close-in-File-clause-ok
 walk_item-returns-in_ok-close-in-File-clause-ok g t c = λ grown k.
@@ -649,10 +689,10 @@ walk_item-returns-in_ok-close-in-File-clause-ok g t c = λ grown k.
     let is : visits_behind tree site n done ≡ visits (behind v done) ∷ [] = visits_one tree n h (kind_content item) c.requires.there heads contents site done in
     let passed = core_in c.pass.new.run in
     let past = past_one c.in_ok-pass.field-0 (c.is_none.ensures ∙ ap not c.if-is_none.false) in
-    let passes : (env : Environment) → Passes env part (core_in c.args.run.now) passed v done (Some past.0) =
-    λ env. subst (λ (o : Option ℕ). Passes env part (core_in c.args.run.now) passed v done o) past.1
+    let passes : (env : Environment) → KeepsTables c.pass.new.locations env.tables → Passes env part (core_in c.args.run.now) passed v done (Some past.0) =
+    λ env keeps. subst (λ (o : Option ℕ). Passes env part (core_in c.args.run.now) passed v done o) past.1
     (holds_of_one tree n h (kind_content item) c.requires.there heads contents (λ (i : KeptItem). Passes env part (core_in c.args.run.now) passed (visit site i)
-    done c.in_ok-pass.field-0) (c.in_ok-pass.ensures.ok env part)) in
+    done c.in_ok-pass.field-0) (c.in_ok-pass.ensures.ok env part keeps)) in
     let now = c.visit_item.new.locations in
     let mid = core_in c.visit_item.new.run in
     let inner = c.in-File.inner in
@@ -673,8 +713,10 @@ walk_item-returns-in_ok-close-in-File-clause-ok g t c = λ grown k.
     (subst (λ (v : Workspace). OnceGrown c.walk_all-in-File.new.locations v (λ env. Walks env part mid (core_in c.walk_all-in-File.new.run)
     (visits_at source.tree inner (numbers_of c.top_level_items-ids.result.now)))) c.in_ok-inside.ensures.same c.in_ok-walk_all-in-File.ensures.ok) in
     let behind = closing c.in-File.macro_use site.home inner.home in
+    let since : KeepsTables c.pass.new.locations grown = KeepsTables-trans c.pass.new.locations now grown c.in_ok-inside.ensures.kept
+    (KeepsTables-trans now c.walk_all-in-File.new.locations grown c.in_ok-walk_all-in-File.ensures.kept k) in
     Walks-through (core_in c.args.run.now) passed mid (core_in c.close-in-File.new.run) v done past.0 (visits_behind tree site n done)
-    (visits_over inner source.tree.items ++ behind) is (passes (environment grown w)) first
+    (visits_over inner source.tree.items ++ behind) is (passes (environment grown w) since) first
     (Walks-append mid (core_in c.walk_all-in-File.new.run) (core_in c.close-in-File.new.run) (visits_over inner source.tree.items) behind (later grown k)
     (c.in_ok-close-in-File.ensures.ok (environment grown w) part))
 
@@ -698,10 +740,10 @@ walk_item-returns-in_err-close-in-File-clause-many g t c = λ far_off grown k.
     let is : visits_behind tree site n done ≡ visits (behind v done) ∷ [] = visits_one tree n h (kind_content item) c.requires.there heads contents site done in
     let passed = core_in c.pass.new.run in
     let past = past_one c.in_ok-pass.field-0 (c.is_none.ensures ∙ ap not c.if-is_none.false) in
-    let passes : (env : Environment) → Passes env part (core_in c.args.run.now) passed v done (Some past.0) =
-    λ env. subst (λ (o : Option ℕ). Passes env part (core_in c.args.run.now) passed v done o) past.1
+    let passes : (env : Environment) → KeepsTables c.pass.new.locations env.tables → Passes env part (core_in c.args.run.now) passed v done (Some past.0) =
+    λ env keeps. subst (λ (o : Option ℕ). Passes env part (core_in c.args.run.now) passed v done o) past.1
     (holds_of_one tree n h (kind_content item) c.requires.there heads contents (λ (i : KeptItem). Passes env part (core_in c.args.run.now) passed (visit site i)
-    done c.in_ok-pass.field-0) (c.in_ok-pass.ensures.ok env part)) in
+    done c.in_ok-pass.field-0) (c.in_ok-pass.ensures.ok env part keeps)) in
     let now = c.visit_item.new.locations in
     let mid = core_in c.visit_item.new.run in
     let inner = c.in-File.inner in
@@ -722,8 +764,10 @@ walk_item-returns-in_err-close-in-File-clause-many g t c = λ far_off grown k.
     (subst (λ (v : Workspace). OnceGrown c.walk_all-in-File.new.locations v (λ env. Walks env part mid (core_in c.walk_all-in-File.new.run)
     (visits_at source.tree inner (numbers_of c.top_level_items-ids.result.now)))) c.in_ok-inside.ensures.same c.in_ok-walk_all-in-File.ensures.ok) in
     let behind = closing c.in-File.macro_use site.home inner.home in
+    let since : KeepsTables c.pass.new.locations grown = KeepsTables-trans c.pass.new.locations now grown c.in_ok-inside.ensures.kept
+    (KeepsTables-trans now c.walk_all-in-File.new.locations grown c.in_ok-walk_all-in-File.ensures.kept k) in
     WalksTooFar-through (core_in c.args.run.now) passed mid v done past.0 (visits_behind tree site n done) (visits_over inner source.tree.items ++ behind) is
-    (passes (environment grown w)) first
+    (passes (environment grown w) since) first
     (WalksTooFar-behind mid (core_in c.walk_all-in-File.new.run) (visits_over inner source.tree.items) behind (later grown k)
     (c.in_err-close-in-File.ensures.many (search rules) (environment grown w) part))
 
@@ -747,10 +791,10 @@ walk_item-close-requires-in-File g t c =
     let is : visits_behind tree site n done ≡ visits (behind v done) ∷ [] = visits_one tree n h (kind_content item) c.requires.there heads contents site done in
     let passed = core_in c.pass.new.run in
     let past = past_one c.in_ok-pass.field-0 (c.is_none.ensures ∙ ap not c.if-is_none.false) in
-    let passes : (env : Environment) → Passes env part (core_in c.args.run.now) passed v done (Some past.0) =
-    λ env. subst (λ (o : Option ℕ). Passes env part (core_in c.args.run.now) passed v done o) past.1
+    let passes : (env : Environment) → KeepsTables c.pass.new.locations env.tables → Passes env part (core_in c.args.run.now) passed v done (Some past.0) =
+    λ env keeps. subst (λ (o : Option ℕ). Passes env part (core_in c.args.run.now) passed v done o) past.1
     (holds_of_one tree n h (kind_content item) c.requires.there heads contents (λ (i : KeptItem). Passes env part (core_in c.args.run.now) passed (visit site i)
-    done c.in_ok-pass.field-0) (c.in_ok-pass.ensures.ok env part)) in
+    done c.in_ok-pass.field-0) (c.in_ok-pass.ensures.ok env part keeps)) in
     let now = c.visit_item.new.locations in
     let last = c.walk_all-in-File.new.locations in
     let mid = core_in c.visit_item.new.run in
@@ -770,9 +814,11 @@ walk_item-close-requires-in-File g t c =
     subst (λ (vs : List Task). OnceGrown c.walk_all-in-File.new.locations w (λ env. Walks env part mid (core_in c.walk_all-in-File.new.run) vs)) items_same
     (subst (λ (v : Workspace). OnceGrown c.walk_all-in-File.new.locations v (λ env. Walks env part mid (core_in c.walk_all-in-File.new.run)
     (visits_at source.tree inner (numbers_of c.top_level_items-ids.result.now)))) c.in_ok-inside.ensures.same c.in_ok-walk_all-in-File.ensures.ok) in
+    let since : KeepsTables c.pass.new.locations last = KeepsTables-trans c.pass.new.locations now last c.in_ok-inside.ensures.kept
+    c.in_ok-walk_all-in-File.ensures.kept in
     let there : site.home < length mid.map.modules = still_there passed mid v (visits_over inner source.tree.items ++ closing c.in-File.macro_use site.home
-    inner.home) site.home past.0 (passes (environment last w)).goes.0 first
-    (there_behind (core_in c.args.run.now) passed v done (Some past.0) site.home (passes (environment last w)) c.requires.in_range) in
+    inner.home) site.home past.0 (passes (environment last w) since).goes.0 first
+    (there_behind (core_in c.args.run.now) passed v done (Some past.0) site.home (passes (environment last w) since) c.requires.in_range) in
     let longer : length mid.map.modules ≤ length (core_in c.walk_all-in-File.new.run).map.modules = longer_after mid (core_in c.walk_all-in-File.new.run)
     (visits_over inner source.tree.items) (later last (tables_stay last)) in
     record { in_range = omega (arith, there, longer) }
@@ -797,16 +843,25 @@ walk_item-returns-in-Nothing-clause-ok g t c = λ grown k.
     let is : visits_behind tree site n done ≡ visits (behind v done) ∷ [] = visits_one tree n h (kind_content item) c.requires.there heads contents site done in
     let passed = core_in c.pass.new.run in
     let past = past_one c.in_ok-pass.field-0 (c.is_none.ensures ∙ ap not c.if-is_none.false) in
-    let passes : (env : Environment) → Passes env part (core_in c.args.run.now) passed v done (Some past.0) =
-    λ env. subst (λ (o : Option ℕ). Passes env part (core_in c.args.run.now) passed v done o) past.1
+    let passes : (env : Environment) → KeepsTables c.pass.new.locations env.tables → Passes env part (core_in c.args.run.now) passed v done (Some past.0) =
+    λ env keeps. subst (λ (o : Option ℕ). Passes env part (core_in c.args.run.now) passed v done o) past.1
     (holds_of_one tree n h (kind_content item) c.requires.there heads contents (λ (i : KeptItem). Passes env part (core_in c.args.run.now) passed (visit site i)
-    done c.in_ok-pass.field-0) (c.in_ok-pass.ensures.ok env part)) in
+    done c.in_ok-pass.field-0) (c.in_ok-pass.ensures.ok env part keeps)) in
     let first : HandlesAndSpreads (environment grown w) part passed (core_in c.visit_item.new.run) v [] =
     subst (λ (o : Inside). HandlesAndSpreads (environment grown w) part passed (core_in c.visit_item.new.run) v (tasks_of site.home (all_items tree.items) o))
     c.in-Nothing.is
     (c.in_ok-inside.ensures.ok grown k (all_items tree.items)) in
+    let since : KeepsTables c.pass.new.locations grown = KeepsTables-trans c.pass.new.locations c.visit_item.new.locations grown c.in_ok-inside.ensures.kept k
+    in
     Walks-through (core_in c.args.run.now) passed (core_in c.visit_item.new.run) (core_in c.visit_item.new.run) v done past.0 (visits_behind tree site n done)
-    [] is (passes (environment grown w)) first (record { steps = λ rest. none })
+    [] is (passes (environment grown w) since) first (record { steps = λ rest. none })
+
+pub walk_item-returns-in-Nothing-clause-kept : goal.walk_item-returns-in-Nothing-clause-kept
+walk_item-returns-in-Nothing-clause-kept g t c =
+    KeepsTables-trans c.args.locations.now c.pass.new.locations c.visit_item.new.locations c.in_ok-pass.ensures.kept c.in_ok-inside.ensures.kept
+
+pub walk_item-returns-in-Nothing-clause-placed : goal.walk_item-returns-in-Nothing-clause-placed
+walk_item-returns-in-Nothing-clause-placed g t c = λ h. c.in_ok-inside.ensures.placed (c.in_ok-pass.ensures.placed h)
 
 pub walk_item-returns-in_ok-close-in-Held-clause-noted : goal.walk_item-returns-in_ok-close-in-Held-clause-noted
 walk_item-returns-in_ok-close-in-Held-clause-noted g t c =

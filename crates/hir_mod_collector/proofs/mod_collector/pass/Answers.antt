@@ -1,4 +1,4 @@
-use Rattle.std.proofs.Common.{◌≡◌, ◌∙◌, ◌<◌, ℕ, List, Option, length, map, slice_get, sym, ap, subst}
+use Rattle.std.proofs.Common.{◌≡◌, ◌∙◌, List, map, slice_get, ap, subst}
 use Rattle.std.specs.Option.{IfSome}
 use Rattle.std.proofs.lemmas.Result.{IfOk-weaker}
 use Rattle.hir_item_tree.specs.Collected.{numbered}
@@ -9,9 +9,7 @@ use Rattle.hir_item_tree.specs.Rows.{item_of}
 use Rattle.hir_item_tree.specs.SourceTree.{SourceTreeValue}
 use Rattle.hir_item_tree.specs.Types.{Attr}
 use Rattle.hir_base.specs.Types.{AstKind}
-use Rattle.hir_def_map_rules.specs.Overlay.{Maps}
 use Rattle.hir_collector_rules.specs.ItemIds.{node_of}
-use Rattle.hir_collector_rules.specs.Keys.{Environment}
 use Rattle.hir_collector_rules.specs.Moves.{Passes, PassesTooFar}
 use Rattle.hir_mod_collector.specs.Walking.{IsVisited}
 use Rattle.hir_collector_rules.specs.State.{core_in}
@@ -50,11 +48,11 @@ returns-clause-ok c =
     c.kind_of.ensures.value)
     (ap (λ (attrs : List Attr). map numbered attrs) c.as_slice.ensures.value) (c.adt_of.ensures.value (all_items tree.items)) in
     IfOk-weaker c.pass_attributes.result _ _
-    (λ passed goes env finished. holds_at_one old.map seen h item c.requires.there heads contents (λ (i : KeptItem). Passes env finished old new (visit site i)
-    c.args.done passed) (goes env finished _ is)) c.pass_attributes.ensures.ok
+    (λ passed goes env finished keeps. holds_at_one old.map seen h item c.requires.there heads contents
+    (λ (i : KeptItem). Passes env finished old new (visit site i) c.args.done passed) (goes env finished _ keeps is)) c.pass_attributes.ensures.ok
 
 pub returns-clause-many : goal.returns-clause-many
-returns-clause-many c = λ far env finished.
+returns-clause-many c = λ far env finished keeps.
     let n = c.args.id.0 in
     let site = c.args.site.now in
     let tree = c.args.source.now.value.tree in
@@ -81,4 +79,8 @@ returns-clause-many c = λ far env finished.
     c.kind_of.ensures.value)
     (ap (λ (attrs : List Attr). map numbered attrs) c.as_slice.ensures.value) (c.adt_of.ensures.value (all_items tree.items)) in
     holds_at_one old.map seen h item c.requires.there heads contents (λ (i : KeptItem). PassesTooFar env finished old (visit site i) c.args.done)
-    (c.pass_attributes.ensures.many far env finished _ is)
+    (c.pass_attributes.ensures.many far env finished _ keeps is)
+
+-- the node of the item lies in the tree of its site
+pub pass_attributes-requires-clause-meant : goal.pass_attributes-requires-clause-meant
+pass_attributes-requires-clause-meant c = c.requires.meant.tree

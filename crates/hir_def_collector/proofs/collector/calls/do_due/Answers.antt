@@ -1,5 +1,5 @@
 -- What is due is done about what waits.
-use Rattle.std.proofs.Common.{rules, ◌≡◌, ◌∙◌, ◌≤◌, ◌<◌, Some, None, ap, refl, slice_get, subst, sym}
+use Rattle.std.proofs.Common.{rules, ◌≡◌, ◌∙◌, Some, None, ap, refl, slice_get, subst, sym}
 use Rattle.hir_def_map.specs.WorldParts.{part_of}
 use Rattle.hir_def_collector.specs.declared.collector.calls.Due.TheVariants.{Derives, Drops, Nothing, Reaches, Skips, TooDeep}
 use Rattle.hir_collector_rules.specs.declared.macro_directive.Fate.TheVariants.{Handled, Waits}
@@ -11,6 +11,7 @@ use Rattle.hir_collector_rules.specs.State.{Core, at_rest, core_in}
 use Rattle.hir_collector_rules.specs.Steps.{IsDeep, drops_call, none}
 use Rattle.hir_collector_items.proofs.CallSteps.{dropped, past_rule}
 use Rattle.hir_collector_rules.proofs.Lists.{get_inside, get_set_same}
+use Rattle.hir_collector_rules.proofs.Numbers.{known_step, refused_step}
 use Rattle.hir_def_collector.proofs.GivingUp.{has_impl, nothing_due}
 use Rattle.hir_collector_state.proofs.Noted.{noted_beside, noted_itself}
 use Rattle.hir_def_collector.proofs.collector.calls.do_due.Goals as goal
@@ -37,7 +38,7 @@ returns-in_err-drop_call-in-TooDeep-clause-many g c = λ h grown k.
     c.requires.due in
     let deep : IsDeep (at_rest (core_in c.args.run.now)) c.args.i c.args.call.now = record { due = c.requires.waits; is_call = due.0; deep = due.1 } in
     past_rule (environment grown (g.D.SourceDatabase.workspace c.args.db.now)) part (core_in c.args.run.now) (drops_call c.args.i c.args.call.now) deep tt tt
-    (c.in_err-drop_call-in-TooDeep.ensures.many (search rules))
+    (c.in_err-drop_call-in-TooDeep.ensures.many (refused_step _ _ _ c.in_err-drop_call-in-TooDeep.was c.from_residual.ensures.1 h))
 
 pub returns-in_ok-drop_call-in-TooDeep-clause-ok : goal.returns-in_ok-drop_call-in-TooDeep-clause-ok
 returns-in_ok-drop_call-in-TooDeep-clause-ok g c = λ grown k.
@@ -113,7 +114,9 @@ derive_builtin-requires-clause-builtin g c =
 
 pub returns-in_err-derive_builtin-in-Derives-clause-many : goal.returns-in_err-derive_builtin-in-Derives-clause-many
 returns-in_err-derive_builtin-in-Derives-clause-many g c = λ h grown k.
-    c.in_err-derive_builtin-in-Derives.ensures.many (search rules) (environment grown (g.D.SourceDatabase.workspace c.args.db.now))
+    c.in_err-derive_builtin-in-Derives.ensures.many
+    (refused_step _ _ _ c.in_err-derive_builtin-in-Derives.was c.from_residual-in_err-derive_builtin-in-Derives.ensures.1 h)
+    (environment grown (g.D.SourceDatabase.workspace c.args.db.now))
 
 pub returns-in_ok-derive_builtin-in-Derives-clause-ok : goal.returns-in_ok-derive_builtin-in-Derives-clause-ok
 returns-in_ok-derive_builtin-in-Derives-clause-ok g c =
@@ -138,7 +141,8 @@ drop_reached-requires g c =
 
 pub returns-in_err-drop_reached-in-Drops-clause-many : goal.returns-in_err-drop_reached-in-Drops-clause-many
 returns-in_err-drop_reached-in-Drops-clause-many g c = λ h grown k.
-    c.in_err-drop_reached-in-Drops.ensures.many (search rules) (environment grown (g.D.SourceDatabase.workspace c.args.db.now))
+    c.in_err-drop_reached-in-Drops.ensures.many (refused_step _ _ _ c.in_err-drop_reached-in-Drops.was c.from_residual-in_err-drop_reached-in-Drops.ensures.1 h)
+    (environment grown (g.D.SourceDatabase.workspace c.args.db.now))
 
 pub returns-in_ok-drop_reached-in-Drops-clause-ok : goal.returns-in_ok-drop_reached-in-Drops-clause-ok
 returns-in_ok-drop_reached-in-Drops-clause-ok g c =
@@ -177,3 +181,25 @@ returns-in_ok-derive_builtin-in-Derives-clause-noted g c = noted_beside c.in_ok-
 
 pub returns-in_ok-drop_reached-in-Drops-clause-noted : goal.returns-in_ok-drop_reached-in-Drops-clause-noted
 returns-in_ok-drop_reached-in-Drops-clause-noted g c = noted_beside c.in_ok-drop_reached-in-Drops.ensures.noted
+
+-- ---- no step meets an unknown source, and what is expanded may
+
+pub returns-in_err-drop_call-in-TooDeep-clause-unknown : goal.returns-in_err-drop_call-in-TooDeep-clause-unknown
+returns-in_err-drop_call-in-TooDeep-clause-unknown g c = λ h. absurd (known_step _ _ c.from_residual.ensures.1 h)
+
+pub returns-in_err-skip-in-Skips-clause-many : goal.returns-in_err-skip-in-Skips-clause-many
+returns-in_err-skip-in-Skips-clause-many g c =
+    λ h. c.in_err-skip-in-Skips.ensures.many (refused_step _ _ _ c.in_err-skip-in-Skips.was c.from_residual-in_err-skip-in-Skips.ensures.1 h)
+
+pub returns-in_err-skip-in-Skips-clause-unknown : goal.returns-in_err-skip-in-Skips-clause-unknown
+returns-in_err-skip-in-Skips-clause-unknown g c = λ h. absurd (known_step _ _ c.from_residual-in_err-skip-in-Skips.ensures.1 h)
+
+pub returns-in_err-derive_builtin-in-Derives-clause-unknown : goal.returns-in_err-derive_builtin-in-Derives-clause-unknown
+returns-in_err-derive_builtin-in-Derives-clause-unknown g c = λ h. absurd (known_step _ _ c.from_residual-in_err-derive_builtin-in-Derives.ensures.1 h)
+
+pub returns-in_err-drop_reached-in-Drops-clause-unknown : goal.returns-in_err-drop_reached-in-Drops-clause-unknown
+returns-in_err-drop_reached-in-Drops-clause-unknown g c = λ h. absurd (known_step _ _ c.from_residual-in_err-drop_reached-in-Drops.ensures.1 h)
+
+pub returns-in_err-expand-in-Reaches-clause-unknown : goal.returns-in_err-expand-in-Reaches-clause-unknown
+returns-in_err-expand-in-Reaches-clause-unknown g c = λ h.
+    record { at = at_rest (core_in c.args.run.now); steps = none; reaches = c.in_err-expand-in-Reaches.ensures.unknown (search rules) }

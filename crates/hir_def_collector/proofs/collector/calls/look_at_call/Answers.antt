@@ -32,7 +32,7 @@ returns-in_err-source-clause-kept g c =
 pub returns-in_err-source-clause-placed : goal.returns-in_err-source-clause-placed
 returns-in_err-source-clause-placed g c =
     placed_call c.args.locations.now c.intern_entry.new.self c.intern_call.new.self c.args.call.now c.in_ok-entry.entry c.intern_entry.ensures.kept
-    c.intern_call.ensures.kept c.intern_entry.ensures.others c.intern_call.ensures.others
+    c.intern_call.ensures.kept c.intern_entry.ensures.others
     (subst (λ (k : MacroCallKind). Interns c.intern_entry.new.self.calls c.intern_call.new.self.calls (record { kind = k; entry = c.in_ok-entry.entry }))
     c.call_kind.ensures.value c.in_ok-id.ensures.grown) c.requires.meant.node
 
@@ -43,7 +43,7 @@ returns-in_err-ask_text-clause-kept g c =
 pub returns-in_err-ask_text-clause-placed : goal.returns-in_err-ask_text-clause-placed
 returns-in_err-ask_text-clause-placed g c =
     placed_call c.args.locations.now c.intern_entry.new.self c.intern_call.new.self c.args.call.now c.in_ok-entry.entry c.intern_entry.ensures.kept
-    c.intern_call.ensures.kept c.intern_entry.ensures.others c.intern_call.ensures.others
+    c.intern_call.ensures.kept c.intern_entry.ensures.others
     (subst (λ (k : MacroCallKind). Interns c.intern_entry.new.self.calls c.intern_call.new.self.calls (record { kind = k; entry = c.in_ok-entry.entry }))
     c.call_kind.ensures.value c.in_ok-id.ensures.grown) c.requires.meant.node
 
@@ -54,7 +54,7 @@ returns-in_err-ask-clause-kept g c =
 pub returns-in_err-ask-clause-placed : goal.returns-in_err-ask-clause-placed
 returns-in_err-ask-clause-placed g c =
     placed_call c.args.locations.now c.intern_entry.new.self c.intern_call.new.self c.args.call.now c.in_ok-entry.entry c.intern_entry.ensures.kept
-    c.intern_call.ensures.kept c.intern_entry.ensures.others c.intern_call.ensures.others
+    c.intern_call.ensures.kept c.intern_entry.ensures.others
     (subst (λ (k : MacroCallKind). Interns c.intern_entry.new.self.calls c.intern_call.new.self.calls (record { kind = k; entry = c.in_ok-entry.entry }))
     c.call_kind.ensures.value c.in_ok-id.ensures.grown) c.requires.meant.node
 
@@ -65,7 +65,7 @@ returns-in_err-ask-2-clause-kept g c =
 pub returns-in_err-ask-2-clause-placed : goal.returns-in_err-ask-2-clause-placed
 returns-in_err-ask-2-clause-placed g c =
     placed_call c.args.locations.now c.intern_entry.new.self c.intern_call.new.self c.args.call.now c.in_ok-entry.entry c.intern_entry.ensures.kept
-    c.intern_call.ensures.kept c.intern_entry.ensures.others c.intern_call.ensures.others
+    c.intern_call.ensures.kept c.intern_entry.ensures.others
     (subst (λ (k : MacroCallKind). Interns c.intern_entry.new.self.calls c.intern_call.new.self.calls (record { kind = k; entry = c.in_ok-entry.entry }))
     c.call_kind.ensures.value c.in_ok-id.ensures.grown) c.requires.meant.node
 
@@ -76,7 +76,7 @@ returns-in_err-ask-3-clause-kept g c =
 pub returns-in_err-ask-3-clause-placed : goal.returns-in_err-ask-3-clause-placed
 returns-in_err-ask-3-clause-placed g c =
     placed_call c.args.locations.now c.intern_entry.new.self c.intern_call.new.self c.args.call.now c.in_ok-entry.entry c.intern_entry.ensures.kept
-    c.intern_call.ensures.kept c.intern_entry.ensures.others c.intern_call.ensures.others
+    c.intern_call.ensures.kept c.intern_entry.ensures.others
     (subst (λ (k : MacroCallKind). Interns c.intern_entry.new.self.calls c.intern_call.new.self.calls (record { kind = k; entry = c.in_ok-entry.entry }))
     c.call_kind.ensures.value c.in_ok-id.ensures.grown) c.requires.meant.node
 
@@ -87,7 +87,7 @@ returns-clause-kept g c =
 pub returns-clause-placed : goal.returns-clause-placed
 returns-clause-placed g c =
     placed_call c.args.locations.now c.intern_entry.new.self c.intern_call.new.self c.args.call.now c.in_ok-entry.entry c.intern_entry.ensures.kept
-    c.intern_call.ensures.kept c.intern_entry.ensures.others c.intern_call.ensures.others
+    c.intern_call.ensures.kept c.intern_entry.ensures.others
     (subst (λ (k : MacroCallKind). Interns c.intern_entry.new.self.calls c.intern_call.new.self.calls (record { kind = k; entry = c.in_ok-entry.entry }))
     c.call_kind.ensures.value c.in_ok-id.ensures.grown) c.requires.meant.node
 
@@ -112,7 +112,7 @@ returns-clause-ok g c =
       x,
       sees_call c.args.locations.now c.intern_entry.new.self c.intern_call.new.self w (part_of c.args.world) old (core_in c.ask-3.new.self) c.args.call.now
           c.args.makro x c.in_ok-source.source.value
-          c.intern_entry.ensures.kept c.intern_call.ensures.kept c.requires.meant (c.is_meant.ensures.meant c.if-not-is_meant.false)
+          c.intern_entry.ensures.kept c.intern_call.ensures.kept c.requires.meant c.requires.known
           (c.in_ok-entry.ensures.found ∙ ap Some key)
           (c.in_ok-id.ensures.found ∙ ap (λ (k : MacroCallKind). Some (record { kind = k; entry = x.entry })) c.call_kind.ensures.value)
           c.in_ok-text.ensures.value
@@ -145,7 +145,7 @@ returns-in_err-entry-clause-many g c = λ h.
     let call = c.args.call.now in
     let makro = c.args.makro in
     let kept = tables_stay tables in
-    let of_macro = c.is_meant.ensures.meant c.if-not-is_meant.false in
+    let of_macro = c.requires.known in
     let own : c.id.result ≡ map.id = c.id.ensures.value ∙ ap (λ (m : Map). m.id) c.map.ensures.value in
     let after_text = c.in_ok-text.ensures.same in
     let key : ExpansionValue = expansion_value c.in_ok-key.key in
@@ -168,7 +168,7 @@ returns-in_err-id-clause-many g c = λ h.
     let call = c.args.call.now in
     let makro = c.args.makro in
     let kept = tables_stay tables in
-    let of_macro = c.is_meant.ensures.meant c.if-not-is_meant.false in
+    let of_macro = c.requires.known in
     let own : c.id.result ≡ map.id = c.id.ensures.value ∙ ap (λ (m : Map). m.id) c.map.ensures.value in
     let after_text = c.in_ok-text.ensures.same in
     let key : ExpansionValue = expansion_value c.in_ok-key.key in

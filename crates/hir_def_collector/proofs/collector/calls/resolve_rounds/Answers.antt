@@ -1,5 +1,5 @@
 -- Turns, one after another, until nothing that waits leads anywhere and no attribute waits, or there were too many rounds.
-use Rattle.std.proofs.Common.{rules, ◌≡◌, ◌∙◌, ◌<◌, ap, length, refl, subst, sym, false, arith}
+use Rattle.std.proofs.Common.{rules, ◌≡◌, ◌∙◌, ap, refl, subst, sym, false, arith}
 use Rattle.hir_base.specs.Types.{MapId}
 use Rattle.hir_tables.proofs.Growth.{KeepsTables-trans}
 use Rattle.hir_def_map_rules.specs.Overlay.{Maps}
@@ -19,9 +19,10 @@ use Rattle.hir_collector_rules.specs.Rounds as rounds
 use Rattle.hir_collector_rules.specs.State.{Core, at_rest, core_in}
 use Rattle.hir_collector_rules.specs.Steps as steps
 use Rattle.hir_collector_rules.specs.Steps.{Steps}
+use Rattle.hir_collector_rules.specs.UnknownSources.{LeadsToUnknownSource}
 use Rattle.hir_collector_rules.specs.Workspace.{Workspace}
-use Rattle.hir_collector_rules.proofs.Moves.{Steps-append, spent_after}
-use Rattle.hir_collector_rules.proofs.Numbers.{tables_stay}
+use Rattle.hir_collector_rules.proofs.Moves.{Steps-append, spent_after, unknown_after}
+use Rattle.hir_collector_rules.proofs.Numbers.{known_step, refused_step, tables_stay}
 use Rattle.hir_def_collector.proofs.Ready.{ready_after, ready_grown}
 use Rattle.hir_collector_rules.proofs.Changes.{id-Steps}
 use Rattle.hir_def_collector.proofs.Queued.{has_rounds_steps, rounds_next, rounds_then}
@@ -65,6 +66,15 @@ returns-in_err-next-clause-many g c = λ h grown k.
     (c.in_err-next.ensures.many (search rules)) in
     spent_after (has_rounds_steps (environment grown w) (part_of c.args.world) (core_in c.args.run) (at_rest (core_in c.rounds.run)) c.rounds.rounds
     (c.rounds.invariant.rounds grown (KeepsTables-trans c.rounds.locations later grown c.in_err-next.ensures.kept k))) (far grown k)
+
+pub returns-in_err-next-clause-unknown : goal.returns-in_err-next-clause-unknown
+returns-in_err-next-clause-unknown g c = λ h.
+    let w = g.D.SourceDatabase.workspace c.args.db.now in
+    let later = c.take_turn.new.locations in
+    unknown_after (has_rounds_steps (environment later w) (part_of c.args.world) (core_in c.args.run) (at_rest (core_in c.rounds.run)) c.rounds.rounds
+    (c.rounds.invariant.rounds later c.in_err-next.ensures.kept))
+    (subst (λ (v : Workspace). LeadsToUnknownSource (environment later v) (part_of c.args.world) (at_rest (core_in c.rounds.run))) c.rounds.invariant.same
+    (c.in_err-next.ensures.unknown (search rules)))
 
 -- ---- behind a turn
 
@@ -185,7 +195,11 @@ pub returns-in_err-run-clause-many : goal.returns-in_err-run-clause-many
 returns-in_err-run-clause-many g c = λ h grown k.
     spent_after (has_rounds_steps (environment grown (g.D.SourceDatabase.workspace c.args.db.now)) (part_of c.args.world) (core_in c.args.run)
     (at_rest (core_in c.rounds.run)) c.rounds.rounds (c.rounds.invariant.rounds grown k))
-    (c.in_err-run.ensures.many (search rules) (environment grown (g.D.SourceDatabase.workspace c.args.db.now)))
+    (c.in_err-run.ensures.many (refused_step _ _ _ c.in_err-run.was c.from_residual-in_err-run.ensures.1 h)
+    (environment grown (g.D.SourceDatabase.workspace c.args.db.now)))
+
+pub returns-in_err-run-clause-unknown : goal.returns-in_err-run-clause-unknown
+returns-in_err-run-clause-unknown g c = λ h. absurd (known_step _ _ c.from_residual-in_err-run.ensures.1 h)
 
 pub returns-clause-ok : goal.returns-clause-ok
 returns-clause-ok g c = λ grown k.

@@ -7,10 +7,10 @@ use Rattle.hir_def_map.specs.WorldParts.{part_of}
 use Rattle.hir_import_resolution.specs.Inner.State.{IsApart}
 use Rattle.hir_import_resolution.specs.Rest.{IsAtRest}
 use Rattle.hir_call_queue.specs.Changes.{ChangedValue, joined}
-use Rattle.hir_collector_rules.specs.CallMoves.{IsGivenUp, IsReady, NoneWaitsBefore, TriesCalls}
+use Rattle.hir_collector_rules.specs.CallMoves.{IsGivenUp, IsReady}
 use Rattle.hir_collector_rules.specs.Calls.{LeadsNowhere}
 use Rattle.hir_collector_rules.specs.Derivation.{IsSpent}
-use Rattle.hir_collector_rules.specs.Keys.{Environment, environment}
+use Rattle.hir_collector_rules.specs.Keys.{environment}
 use Rattle.hir_collector_rules.specs.Moves.{OnceGrown}
 use Rattle.hir_collector_rules.specs.State.{Core, at_rest, core_in, import_state}
 use Rattle.hir_collector_rules.specs.Steps.{Steps}
@@ -18,13 +18,13 @@ use Rattle.hir_collector_rules.specs.Waiting.{IsBehind}
 use Rattle.hir_collector_rules.specs.Workspace.{Workspace}
 use Rattle.hir_collector_rules.proofs.Changes.{count-Steps, counts_on, id-Steps}
 use Rattle.hir_def_collector.proofs.GivingUp.{none_waits_later}
-use Rattle.hir_collector_rules.proofs.Moves.{Steps-append, spent_after}
-use Rattle.hir_collector_rules.proofs.Numbers.{tables_stay}
+use Rattle.hir_collector_rules.proofs.Moves.{Steps-append, spent_after, unknown_after}
+use Rattle.hir_collector_rules.proofs.Numbers.{known_step, refused_step, tables_stay}
 use Rattle.hir_def_collector.proofs.Queued.{none_handled, of_round, rests_idle, rises_on, settles_requeued}
 use Rattle.hir_def_collector.proofs.Ready.{ready_after, ready_grown}
 use Rattle.hir_def_collector.proofs.Resuming.{behind_later, behind_tried, one_error, resumable_behind}
 use Rattle.hir_def_collector.proofs.Waiting.{keeps_waiting, stale_later, stale_now}
-use Rattle.hir_collector_rules.specs.declared.start.CollectError.TheVariants.{TooMany}
+use Rattle.hir_collector_rules.specs.declared.start.CollectError.TheVariants.{TooMany, UnknownSource}
 use Rattle.hir_def_collector.proofs.collector.calls.take_turn.Goals as goal
 
 -- what each goal below needs: `now` is where the turn begins, `settled` where imports rest and the queue is up to date, `tried` where what is queued was tried
@@ -86,6 +86,25 @@ returns-in_err-try_calls-clause-many g c = λ h grown k.
     spent_after (settles_requeued env part (core_in c.args.run) (core_in c.in_ok-run.run') (core_in c.requeue.new.run) c.requeue.ensures.same
     (c.in_ok-run.ensures.ok env))
     (c.in_err-try_calls.ensures.many (λ i. Err (same i)) grown k)
+
+pub returns-in_err-try_calls-clause-unknown : goal.returns-in_err-try_calls-clause-unknown
+returns-in_err-try_calls-clause-unknown g c = λ h.
+    let p = err_from_is_err_and c.from_residual-in_err-try_calls.result c.from_residual-in_err-try_calls.ensures.1 in
+    let unknown : p.0 ≡ UnknownSource = one_error _ p.0 UnknownSource p.1 h in
+    let same : c.in_err-try_calls.field-0.0 ≡ UnknownSource = sym p.2 ∙ unknown in
+    let env = environment c.try_calls.new.locations (g.D.SourceDatabase.workspace c.args.db.now) in
+    unknown_after (settles_requeued env (part_of c.args.world) (core_in c.args.run) (core_in c.in_ok-run.run') (core_in c.requeue.new.run)
+    c.requeue.ensures.same (c.in_ok-run.ensures.ok env))
+    (c.in_err-try_calls.ensures.unknown (λ i. Err (same i)))
+
+-- imports are resolved by steps, which meet no unknown source
+pub returns-in_err-run-clause-many : goal.returns-in_err-run-clause-many
+returns-in_err-run-clause-many g c = λ h grown k.
+    c.in_err-run.ensures.many (refused_step _ _ _ c.in_err-run.was c.from_residual-in_err-run.ensures.1 h)
+    (environment grown (g.D.SourceDatabase.workspace c.args.db.now))
+
+pub returns-in_err-run-clause-unknown : goal.returns-in_err-run-clause-unknown
+returns-in_err-run-clause-unknown g c = λ h. absurd (known_step _ _ c.from_residual-in_err-run.ensures.1 h)
 
 -- ---- something was handled
 
@@ -187,19 +206,19 @@ returns-in_err-given-clause-kept g c =
 
 pub returns-in_err-given-clause-many : goal.returns-in_err-given-clause-many
 returns-in_err-given-clause-many g c = λ h grown k.
-    let p = err_from_is_err_and c.from_residual-in_err-given.result c.from_residual-in_err-given.ensures.1 in
-    let many : p.0 ≡ TooMany = one_error _ p.0 TooMany p.1 h in
-    let same : c.in_err-given.field-0.0 ≡ TooMany = sym p.2 ∙ many in
     let w = g.D.SourceDatabase.workspace c.args.db.now in
     let env = environment grown w in
     let part = part_of c.args.world in
     let later = c.give_up.new.locations in
     let far : OnceGrown later w (λ env. IsSpent env part (at_rest (core_in c.try_calls.new.run))) =
     subst (λ (v : Workspace). OnceGrown later v (λ env. IsSpent env part (at_rest (core_in c.try_calls.new.run)))) c.in_ok-try_calls.ensures.same
-    (c.in_err-given.ensures.many (λ i. Err (same i))) in
+    (c.in_err-given.ensures.many (refused_step _ _ _ c.in_err-given.was c.from_residual-in_err-given.ensures.1 h)) in
     spent_after (Steps-append (settles_requeued env (part_of c.args.world) (core_in c.args.run) (core_in c.in_ok-run.run') (core_in c.requeue.new.run)
     c.requeue.ensures.same (c.in_ok-run.ensures.ok env))
     (c.in_ok-try_calls.ensures.ok grown (KeepsTables-trans c.try_calls.new.locations later grown c.in_err-given.ensures.kept k))) (far grown k)
+
+pub returns-in_err-given-clause-unknown : goal.returns-in_err-given-clause-unknown
+returns-in_err-given-clause-unknown g c = λ h. absurd (known_step _ _ c.from_residual-in_err-given.ensures.1 h)
 
 pub returns-in-Some-clause-kept : goal.returns-in-Some-clause-kept
 returns-in-Some-clause-kept g c =

@@ -11,9 +11,10 @@ use Rattle.hir_collector_rules.specs.Keys.{environment}
 use Rattle.hir_collector_rules.specs.Moves.{OnceGrown}
 use Rattle.hir_collector_rules.specs.State.{at_rest, core_in}
 use Rattle.hir_collector_rules.specs.Steps.{Steps, none}
+use Rattle.hir_collector_rules.specs.UnknownSources.{LeadsToUnknownSource}
 use Rattle.hir_collector_rules.specs.Workspace.{Workspace}
 use Rattle.hir_collector_rules.proofs.Changes.{id-Steps}
-use Rattle.hir_collector_rules.proofs.Moves.{Steps-append, spent_after}
+use Rattle.hir_collector_rules.proofs.Moves.{Steps-append, spent_after, unknown_after}
 use Rattle.hir_collector_rules.proofs.Numbers.{tables_stay}
 use Rattle.hir_def_collector.proofs.Queued.{AreTried, left_or_tried, tried_all, tried_first, tried_next}
 use Rattle.hir_def_collector.proofs.Ready.{ready_after, ready_grown}
@@ -130,6 +131,13 @@ returns-in_err-done-clause-many g c = λ h grown k.
     subst (λ (v : Workspace). OnceGrown later v (λ env. IsSpent env part (at_rest (core_in c.tries.run)))) c.tries.invariant.same
     (c.in_err-done.ensures.many (search rules)) in
     spent_after (c.tries.invariant.steps grown (KeepsTables-trans c.tries.locations later grown c.in_err-done.ensures.kept k)) (far grown k)
+
+pub returns-in_err-done-clause-unknown : goal.returns-in_err-done-clause-unknown
+returns-in_err-done-clause-unknown g c = λ h.
+    let later = c.try_queued.new.locations in
+    unknown_after (c.tries.invariant.steps later c.in_err-done.ensures.kept)
+    (subst (λ (v : Workspace). LeadsToUnknownSource (environment later v) (part_of c.args.world) (at_rest (core_in c.tries.run))) c.tries.invariant.same
+    (c.in_err-done.ensures.unknown (search rules)))
 
 pub returns-clause-tried : goal.returns-clause-tried
 returns-clause-tried g c = λ grown k.
