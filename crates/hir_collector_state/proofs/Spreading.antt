@@ -4,7 +4,7 @@ use Rattle.std.proofs.Common.{cond, slice_get, arith}
 use Rattle.std.proofs.lemmas.List.Elements.{Contains-append_cases, Contains-append_left, Contains-append_right, Contains-push_cases}
 use Rattle.std.specs.Option.{option_and_then}
 use Rattle.std.specs.Prelude.{Result, Ok, Err, IfOk, IsOkAnd, OnOk}
-use Rattle.hir_base.specs.Types.{ModuleId}
+use Rattle.hir_base.specs.Types.{AstId, ModuleId}
 use Rattle.hir_scope.specs.Types.{GlobId, Visibility}
 use Rattle.hir_def_map_rules.proofs.WellFormed.{parent_listed}
 use Rattle.hir_def_map_rules.specs.Overlay.{Maps}
@@ -25,11 +25,11 @@ use Rattle.hir_import_resolution.specs.Names.{ScopesValue, bound_of, copied, cop
 use Rattle.hir_import_resolution.specs.Rules.{Step, Steps, acts, more, none}
 use Rattle.hir_import_resolution.specs.State.{ImportState, scopes_of}
 use Rattle.hir_import_resolution.specs.Types.{ImportDirective}
-use Rattle.hir_call_queue.specs.Changes.{ChangedValue, IsUntouched, with_slots}
+use Rattle.hir_call_queue.specs.Changes.{ChangedValue, IsUnhelped, IsUntouched, with_slots}
 use Rattle.hir_collector_rules.specs.State.{Run, at_rest, core_in, import_state}
 use Rattle.hir_collector_rules.specs.Waiting.{IsNotedBeside, KeepsModules, LeavesGlobs, LeavesImports, NotesSlots, noted_along, noted_name}
 use Rattle.hir_collector_rules.proofs.Lists.{length_mapped}
-use Rattle.hir_collector_state.proofs.Noted.{helped_alike, some_before, untouched_before, untouched_other}
+use Rattle.hir_collector_state.proofs.Noted.{helped_alike, some_before, unhelped_before, untouched_before, untouched_other}
 
 -- ---- slots that are noted
 
@@ -48,6 +48,14 @@ module _ (c : ChangedValue) (slots : List PathSlot) where
       go : (all : Bool) → c.all ≡ all → IsUntouched (cond all c (record c { slots = c.slots ++ slots })) slot → IsUntouched c slot
       go true is e = e
       go false is e = record { some = is; other = λ among. e.other (Contains-append_left c.slots slots slot among) }
+
+  -- and no helper came into scope before where none did
+  unhelped_before_each : (item : AstId) → IsUnhelped (with_slots slots c) item → IsUnhelped c item
+  unhelped_before_each item e = go c.all refl e
+    where
+      go : (all : Bool) → c.all ≡ all → IsUnhelped (cond all c (record c { slots = c.slots ++ slots })) item → IsUnhelped c item
+      go true is e = e
+      go false is e = record { some = is; other = e.other }
 
   -- and it isn't one of the slots
   untouched_apart : (slot : PathSlot) → IsUntouched (with_slots slots c) slot → ¬ Contains slots slot
@@ -84,6 +92,10 @@ named_before : (at : ℕ) (name : Option (List ℕ)) (c : ChangedValue) (slot : 
 named_before at None c slot e = let wrong : true ≡ false = e.some in absurd (let no : ⊥ = cc in no)
 named_before at (Some name) c slot e = untouched_before (of_module at name) c slot e
 
+named_unhelped : (at : ℕ) (name : Option (List ℕ)) (c : ChangedValue) (item : AstId) → IsUnhelped (noted_name at name c) item → IsUnhelped c item
+named_unhelped at None c item e = let wrong : true ≡ false = e.some in absurd (let no : ⊥ = cc in no)
+named_unhelped at (Some name) c item e = unhelped_before (of_module at name) c item e
+
 named_apart : (at : ℕ) (name : Option (List ℕ)) (c : ChangedValue) (slot : PathSlot) → IsUntouched (noted_name at name c) slot
     → ¬ Contains (slots_named at name) slot
 named_apart at None c slot e has = absurd (no_member slot has)
@@ -100,6 +112,10 @@ along_some (s ∷ ss) c e = named_some s.at (name_of s.key) c (along_some ss (no
 along_before : (slots : List GlobSlot) (c : ChangedValue) (slot : PathSlot) → IsUntouched (noted_along slots c) slot → IsUntouched c slot
 along_before [] c slot e = e
 along_before (s ∷ ss) c slot e = named_before s.at (name_of s.key) c slot (along_before ss (noted_name s.at (name_of s.key) c) slot e)
+
+along_unhelped : (slots : List GlobSlot) (c : ChangedValue) (item : AstId) → IsUnhelped (noted_along slots c) item → IsUnhelped c item
+along_unhelped [] c item e = e
+along_unhelped (s ∷ ss) c item e = named_unhelped s.at (name_of s.key) c item (along_unhelped ss (noted_name s.at (name_of s.key) c) item e)
 
 along_apart : (slots : List GlobSlot) (c : ChangedValue) (slot : PathSlot) → IsUntouched (noted_along slots c) slot → ¬ Contains (path_slots slots) slot
 along_apart [] c slot e has = no_member slot has
@@ -191,12 +207,14 @@ module _ (finished : Maps) (a b : Run) (slots : List PathSlot) (steps : Steps fi
   same_helpers = steps_helpers finished (import_state (at_rest (core_in a))) (import_state (at_rest (core_in b))) steps
 
   slots_among : (b.changed.all ≡ false → a.changed.all ≡ false) → ((slot : PathSlot) → IsUntouched b.changed slot → IsUntouched a.changed slot)
-      → ((slot : PathSlot) → IsUntouched b.changed slot → ¬ Contains slots slot) → NotesSlots a b
-  slots_among some noted apart = record {
+      → ((slot : PathSlot) → IsUntouched b.changed slot → ¬ Contains slots slot) → ((item : AstId) → IsUnhelped b.changed item → IsUnhelped a.changed item)
+      → NotesSlots a b
+  slots_among some noted apart items = record {
     some = some;
     noted = noted;
     keeps = λ e. differs_kept a.map b.map among.differs;
     others = λ slot e there. subst (λ l. AgreeAt a.map a.local b.map l slot) (sym local) (among.others slot (apart slot e));
+    items = items;
     helpers = λ node name e. helped_alike a.map b.map same_helpers node name;
   }
 
@@ -207,6 +225,7 @@ module _ (finished : Maps) (a b : Run) (slots : List PathSlot) (steps : Steps fi
       (λ e. some_before_each a.changed slots (ap (λ (c : ChangedValue). c.all) (sym changed) ∙ e))
       (λ slot e. untouched_before_each a.changed slots slot (subst (λ (c : ChangedValue). IsUntouched c slot) changed e))
       (λ slot e. untouched_apart a.changed slots slot (subst (λ (c : ChangedValue). IsUntouched c slot) changed e))
+      (λ item e. unhelped_before_each a.changed slots item (subst (λ (c : ChangedValue). IsUnhelped c item) changed e))
 
 module _ (finished : Maps) (a b : Run) (slots : List GlobSlot) (steps : Steps finished (import_state (at_rest (core_in a))) (import_state (at_rest (core_in b))))
     (among : ScopesChangeAmong a.map b.map a.local (path_slots slots)) (local : b.local ≡ a.local) (changed : b.changed ≡ noted_along slots a.changed) where
@@ -228,7 +247,8 @@ module _ (finished : Maps) (a b : Run) (slots : List GlobSlot) (steps : Steps fi
         slots_among finished a b (path_slots slots) steps among local
         (λ e. along_some slots a.changed (ap (λ (c : ChangedValue). c.all) (sym changed) ∙ e))
         (λ slot e. along_before slots a.changed slot (along_slot slot e))
-        (λ slot e. along_apart slots a.changed slot (along_slot slot e));
+        (λ slot e. along_apart slots a.changed slot (along_slot slot e))
+        (λ item e. along_unhelped slots a.changed item (subst (λ (c : ChangedValue). IsUnhelped c item) changed e));
     imports = λ e. left_along reached taken;
     globs = λ e. globs;
   }

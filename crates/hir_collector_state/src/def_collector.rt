@@ -241,6 +241,13 @@ impl DefCollector {
         &self.map
     }
 
+    /// The crates that paths may begin with.
+    pub fn local(&self) -> &LocalDefMap
+        ensures value { result.now ≡ (core_in self.now).local }
+    {
+        &self.local
+    }
+
     /// The module of a number.
     pub fn module_id(&self, home: u32) -> ModuleId
         ensures value { result ≡ module_id (core_in self.now).map home }
@@ -314,10 +321,15 @@ impl DefCollector {
         ensures ok { OnOk result (core_in self.new ≡ with_bound (core_in self.old) home name items) }
         ensures noted { OnOk result (IsNoted self.old self.new) }
     {
-        self.changed.add(home, &name)?;
+        let bound = name.clone()?;
         forget(&mut self.globs, home, &name, items)?;
-        self.map
+        let changes = self
+            .map
             .push(&mut self.from_glob_import, home, name, items, None)?;
+        if !changes {
+            return Ok(());
+        }
+        self.changed.add(home, &bound)?;
         Ok(())
     }
 

@@ -1,3 +1,4 @@
+pub mod Outside
 pub mod Resolved
 pub mod Resuming
 pub mod Ready

@@ -4,9 +4,8 @@ use Rattle.std.proofs.Common.{Contains, Some, cond, append-nil, arith}
 use Rattle.std.proofs.lemmas.List.Elements.{Contains-append_cases, Contains-append_left, Contains-append_right}
 use Rattle.hir_base.specs.Types.{MapId}
 use Rattle.hir_def_map_rules.specs.Overlay.{Maps}
-use Rattle.hir_def_map_rules.specs.State.{Local}
 use Rattle.hir_def_map.specs.declared.nameres.path_resolution.slots.Slot.{Slot as PathSlot}
-use Rattle.hir_import_resolution.specs.Inner.State.{IsApart}
+use Rattle.hir_def_map_laws.specs.ReadLaw.{BeginsOutside, KeepApart}
 use Rattle.hir_import_resolution.specs.Rounds.{GlobsLast, Grew, HaveGlobs, IsResumable, IsUpToDate as AreUpToDate, is_apart, is_lasting}
 use Rattle.hir_import_resolution.specs.Rest.{BroughtStands}
 use Rattle.hir_import_resolution.specs.State.{ImportState}
@@ -15,7 +14,7 @@ use Rattle.hir_import_resolution.specs.Types.{ImportQueue}
 use Rattle.hir_call_queue.specs.Changes.{ChangedValue, IsUntouched, everything, joined, nothing, with_slots}
 use Rattle.hir_collector_rules.specs.CallMoves.{Rested, already, moved}
 use Rattle.hir_collector_rules.specs.State.{Core, Run, at_rest, core_in, import_state}
-use Rattle.hir_collector_rules.specs.Waiting.{IsBehind, IsGathered, IsNotedBeside, IsOutgrown, KeepsModules, LeavesImports, NotesSlots}
+use Rattle.hir_collector_rules.specs.Waiting.{IsBehind, IsGathered, IsNotedBeside, IsOutgrown, KeepsApart, KeepsModules, LeavesImports, NotesSlots}
 use Rattle.hir_collector_state.proofs.CallReads.{agree_itself, agree_later}
 use Rattle.hir_collector_rules.proofs.Lists.{get_inside, get_there}
 use Rattle.hir_collector_state.proofs.Noted.{around_itself, grown_kept, have_globs, modules_kept_later, there_later}
@@ -48,7 +47,7 @@ joined_nothing g = go g.all
   where
     go : (b : Bool) → cond b g (record g { slots = g.slots ++ [] }) ≡ g
     go true = refl
-    go false = λ i. record { all = g.all; slots = append-nil g.slots i }
+    go false = λ i. record { all = g.all; slots = append-nil g.slots i; items = g.items }
 
 -- ---- what has grown grows on
 
@@ -92,6 +91,7 @@ module _ (finished : Maps) (queue : ImportQueue) (g : ChangedValue) (a b : Run) 
     grew =
         grew_on old.before a b (joined g a.changed).slots (joined g b.changed).slots old.grew old.paired noted.slots (noted.imports some) some untouched unread;
     globs = noted.globs some old.globs;
+    outside = old.outside;
   }
     where
       untouched : (slot : PathSlot) → ¬ Contains (joined g b.changed).slots slot → IsUntouched b.changed slot
@@ -130,6 +130,7 @@ same_outgrown finished queue a b slots same globs old = record {
   globs =
       subst (λ (c : Core). GlobsLast finished (import_state (at_rest c)) b.globs) (sym same)
       (subst (GlobsLast finished (import_state (at_rest (core_in a)))) (sym globs) old.globs);
+  outside = old.outside;
 }
 
 -- what was noted is gathered, and then nothing is noted
@@ -144,8 +145,9 @@ behind_gathered finished queue g h a b gathered same globs none behind =
 -- where imports rest nothing has changed since, whatever is counted and which calls may be expanded
 behind_with : (settled count : ℕ) (finished : Maps) (queue : ImportQueue) (changed : ChangedValue) (c d : Core) (now : Run)
     → AreUpToDate finished queue (import_state (at_rest c)) → BroughtStands finished (import_state (at_rest c))
-    → d ≡ record c { settled = settled; count = count } → core_in now ≡ d → length d.taken ≡ length d.reached → IsBehind finished queue changed now
-behind_with settled count finished queue changed c d now up stand is same paired lasting all = record {
+    → (is_apart queue ≡ true → BeginsOutside c.map.id c.local) → d ≡ record c { settled = settled; count = count } → core_in now ≡ d → length d.taken
+    ≡ length d.reached → IsBehind finished queue changed now
+behind_with settled count finished queue changed c d now up stand outside is same paired lasting all = record {
   before = import_state (at_rest c);
   up_to_date = up;
   paired = ap (λ (x : Core). length x.taken) (sym is) ∙ paired ∙ ap (λ (x : Core). length x.reached) is;
@@ -157,6 +159,7 @@ behind_with settled count finished queue changed c d now up stand is same paired
     taken = λ i low. refl;
   });
   globs = subst (λ (x : Core). GlobsLast finished (import_state (at_rest x)) now.globs) (sym there) globs;
+  outside = outside;
 }
   where
     there : core_in now ≡ record c { settled = settled; count = count }
@@ -187,15 +190,17 @@ behind_with settled count finished queue changed c d now up stand is same paired
 -- so it is where calls may be expanded from now on
 pub behind_settled : (finished : Maps) (queue : ImportQueue) (changed : ChangedValue) (c d : Core) (now : Run)
     → AreUpToDate finished queue (import_state (at_rest c)) → BroughtStands finished (import_state (at_rest c))
-    → Rested c d → core_in now ≡ d → length d.taken ≡ length d.reached → IsBehind finished queue changed now
-behind_settled finished queue changed c d now up stand (already all is) = behind_with c.settled c.count finished queue changed c d now up stand is
-behind_settled finished queue changed c d now up stand (moved more is) = behind_with (length c.calls) (c.count + 1) finished queue changed c d now up stand is
+    → (is_apart queue ≡ true → BeginsOutside c.map.id c.local) → Rested c d → core_in now ≡ d → length d.taken ≡ length d.reached
+    → IsBehind finished queue changed now
+behind_settled finished queue changed c d now up stand outside (already all is) =
+    behind_with c.settled c.count finished queue changed c d now up stand outside is
+behind_settled finished queue changed c d now up stand outside (moved more is) =
+    behind_with (length c.calls) (c.count + 1) finished queue changed c d now up stand outside is
 
 -- imports that lie apart may be resumed
 pub resumable_behind : (finished : Maps) (queue : ImportQueue) (changed : ChangedValue) (now : Run) (apart : Bool)
     → (is_lasting queue ≡ true → is_apart queue ≡ apart)
-    → (apart ≡ true → (local : Local) → IsApart finished (core_in now).map.id local) → IsBehind finished queue changed now → is_lasting queue ≡ true
-    → changed.all ≡ false
+    → (apart ≡ true → KeepsApart finished (core_in now)) → IsBehind finished queue changed now → is_lasting queue ≡ true → changed.all ≡ false
     → IsResumable finished queue (import_state (at_rest (core_in now))) changed.slots
 resumable_behind finished queue changed now apart same lies behind lasting some =
     let old : IsOutgrown finished queue now changed.slots = behind lasting some in
@@ -204,8 +209,8 @@ resumable_behind finished queue changed now apart same lies behind lasting some 
       before = old.before;
       up_to_date = old.up_to_date;
       grew = old.grew;
-      apart = λ e. subst (λ (own : MapId). IsApart finished own old.before.local) old.grew.grows.id (lies (yes e) old.before.local);
-      apart_now = λ e. lies (yes e) (core_in now).local;
+      apart = λ e. record { apart = subst (λ (own : MapId). KeepApart finished own) old.grew.grows.id (lies (yes e)).apart; outside = old.outside e };
+      apart_now = λ e. lies (yes e);
     }
 
 -- where nothing lasts, nothing is asked

@@ -5,20 +5,20 @@ use Rattle.std.proofs.lemmas.Bool.Decides.{nat_tests}
 use Rattle.std.proofs.lemmas.List.Elements.{All-contains_itself, All-nil}
 use Rattle.std.specs.List.{All}
 use Rattle.std.specs.Prelude.{not, slice_index_or}
-use Rattle.hir_base.specs.Types.{AstId, MapId}
+use Rattle.hir_base.specs.Types.{AstId}
+use Rattle.hir_def_map_laws.specs.ReadLaw.{BeginsOutside}
 use Rattle.hir_def_map_rules.specs.Overlay.{Maps}
 use Rattle.hir_def_map_rules.specs.State.{CrateData, IsInOrder}
 use Rattle.hir_def_map.specs.declared.nameres.path_resolution.slots.Slot.{Slot as PathSlot}
-use Rattle.hir_def_map.specs.declared.nameres.path_resolution.slots.Slot.TheVariants.{Preludes as of_preludes}
 use Rattle.hir_worklist.proofs.Idle.{idle-closed, idle-opened, idle-taken}
 use Rattle.hir_worklist.specs.Moves.{Takes, closed, empty_queue, opened}
 use Rattle.hir_worklist.specs.Queue.{IsIdle, Queue, count_of, is_unfinished}
 use Rattle.hir_worklist.specs.Settling.{AreWatched, WatchesEach}
 use Rattle.hir_import_resolution.proofs.Growing.{idle_below}
 use Rattle.hir_import_resolution.specs.Inner.Queue.{IsLonger, KeepsWatched, slot_cmp}
-use Rattle.hir_import_resolution.specs.Inner.State.{IsApart}
-use Rattle.hir_call_queue.specs.Changes.{IsThere, IsUntouched}
-use Rattle.hir_call_queue.specs.Waking.{AreWatching, IsWatching, IsWoken, is_apart, watchers_of, with_worklist, worklist_of}
+use Rattle.hir_call_queue.specs.Changes.{IsThere, IsUnhelped, IsUntouched}
+use Rattle.hir_call_queue.specs.Waking.{AreWatching, IsUnhelpedOn, IsWatching, IsWoken, attributes_of, is_apart, watchers_of, watches_item, with_worklist}
+use Rattle.hir_call_queue.specs.Waking.{worklist_of}
 use Rattle.hir_call_queue.specs.declared.queue.CallQueue.{CallQueue}
 use Rattle.hir_collector_rules.specs.declared.macro_directive.Fate.TheVariants.{Handled, Waits}
 use Rattle.hir_collector_rules.specs.Types.{MacroDirective}
@@ -26,10 +26,11 @@ use Rattle.hir_collector_rules.specs.Calls.{IsWaiting, LeadsNowhere, called_macr
 use Rattle.hir_collector_rules.specs.Keys.{Environment}
 use Rattle.hir_collector_rules.specs.State.{Core, Run, at_rest, core_in}
 use Rattle.hir_collector_rules.specs.Steps.{Steps}
-use Rattle.hir_collector_rules.specs.Waiting.{IsStale, IsUpToDate, KeepsWaiting, LiesApart, NotesSlots, StandsStill, call_reads, is_helped}
+use Rattle.hir_collector_rules.specs.Waiting.{IsStale, IsUpToDate, KeepsWaiting, LiesApart, NotesSlots, StandsStill, call_reads, is_helped, item_of}
 use Rattle.hir_collector_state.proofs.CallReads.{agree_itself, agree_later, inert_by_kind, modules_kept_itself, stands_nowhere}
 use Rattle.hir_collector_state.proofs.Noted.{modules_kept_later, slots_follow, slots_same, there_later}
 use Rattle.hir_collector_rules.proofs.Tried.{calls_longer, waiting_before}
+use Rattle.hir_def_collector.proofs.Outside.{apart-Steps}
 
 -- ---- what a call has seen
 
@@ -47,6 +48,7 @@ stands_later finished before now d seen noted some untouched s = record {
   in_order = s.in_order;
   there = s.there;
   keeps = modules_kept_later s.map before.map now.map s.keeps (noted.keeps some);
+  outside = s.outside;
   agree = λ n x l.
       let slot : PathSlot = get_or seen n x in
       agree_later s.map before.map now.map s.local before.local now.local slot (s.agree n x l)
@@ -55,10 +57,10 @@ stands_later finished before now d seen noted some untouched s = record {
 }
 
 -- a call that is tried in vain stands still
-stands_now : (finished : Maps) (c : Core) (d : MacroDirective) → called_macro finished c.local c.map d ≡ None → d.site.home < length c.map.modules
-    → IsInOrder c.map
+stands_now : (finished : Maps) (c : Core) (d : MacroDirective) → BeginsOutside c.map.id c.local → called_macro finished c.local c.map d ≡ None
+    → d.site.home < length c.map.modules → IsInOrder c.map
     → All (IsThere (length c.map.modules)) (call_reads finished c.local c.map d) → StandsStill finished c d (call_reads finished c.local c.map d)
-stands_now finished c d nowhere low in_order there = record {
+stands_now finished c d outside nowhere low in_order there = record {
   map = c.map;
   local = c.local;
   nowhere = nowhere;
@@ -67,6 +69,7 @@ stands_now finished c d nowhere low in_order there = record {
   in_order = in_order;
   there = there;
   keeps = modules_kept_itself c.map;
+  outside = outside;
   agree = λ n x l. agree_itself c.map c.local (get_or (call_reads finished c.local c.map d) n x);
 }
 
@@ -101,6 +104,9 @@ record Remains (finished : Maps) (q : CallQueue) (before now : Run) : Type 0 whe
   watched : is_apart q ≡ true → AreWatching seen q
   stands : is_apart q ≡ true → (p : ℕ) (d : MacroDirective) → IsIdle (worklist_of q) p → IsWaiting (at_rest (core_in now)) p d
       → StandsStill finished (core_in before) d (seen p)
+  on_items : is_apart q ≡ true → (p : ℕ) (d : MacroDirective) → IsIdle (worklist_of q) p → IsWaiting (at_rest (core_in now)) p d → (item : AstId) → item_of d
+      ≡ Some item
+      → watches_item (attributes_of q) item p ≡ true
   shallow : (p : ℕ) (d : MacroDirective) → IsIdle (worklist_of q) p → IsWaiting (at_rest (core_in now)) p d → is_call d ≡ true
       → d.site.level < (core_in before).map.crate_data.recursion_limit
   active : (p : ℕ) (d : MacroDirective) → IsIdle (worklist_of q) p → IsWaiting (at_rest (core_in now)) p d → is_inert_now (core_in before).map d ≡ false
@@ -117,6 +123,7 @@ module _ (finished : Maps) (q : CallQueue) (before now : Run) (waits : KeepsWait
     seen = up.seen;
     watched = up.watched;
     stands = λ a p d idle waiting. up.stands a p d idle (λ none. absurd cc) (waits.before p d (inside_of up.count p idle) waiting);
+    on_items = λ a p d idle waiting. up.on_items a p d idle (λ none. absurd cc) (waits.before p d (inside_of up.count p idle) waiting);
     shallow = λ p d idle waiting. up.shallow p d idle (λ none. absurd cc) (waits.before p d (inside_of up.count p idle) waiting);
     active = λ p d idle waiting. up.active p d idle (λ none. absurd cc) (waits.before p d (inside_of up.count p idle) waiting);
     unfinished = up.unfinished;
@@ -130,12 +137,19 @@ module _ (finished : Maps) (q : CallQueue) (before now : Run) (waits : KeepsWait
     seen = seen_with i [] up.seen;
     watched = λ a. watched_with i [] up.seen q q (up.watched a) (λ p idle. idle) (λ slot p e. e) (λ idle. All-nil (λ slot. _));
     stands = λ a p d idle waiting. go a p d (i == p) refl idle waiting;
+    on_items = λ a p d idle waiting. on_items a p d (i == p) refl idle waiting;
     shallow = λ p d idle waiting. low p d (i == p) refl idle waiting;
     active = λ p d idle waiting. active p d (i == p) refl idle waiting;
     unfinished = up.unfinished;
     count = up.count;
   }
     where
+      on_items : is_apart q ≡ true → (p : ℕ) (d : MacroDirective) (b : Bool) → (i == p) ≡ b → IsIdle (worklist_of q) p → IsWaiting (at_rest (core_in now)) p d
+          → (item : AstId) → item_of d ≡ Some item
+          → watches_item (attributes_of q) item p ≡ true
+      on_items a p d true e idle waiting = absurd (over d (subst (λ (k : ℕ). IsWaiting (at_rest (core_in now)) k d) (sym (same_place i p e)) waiting))
+      on_items a p d false e idle waiting = up.on_items a p d idle (other_place i p e) (waits.before p d (inside_of up.count p idle) waiting)
+
       low : (p : ℕ) (d : MacroDirective) (b : Bool) → (i == p) ≡ b → IsIdle (worklist_of q) p → IsWaiting (at_rest (core_in now)) p d → is_call d ≡ true
           → d.site.level < (core_in before).map.crate_data.recursion_limit
       low p d true e idle waiting = absurd (over d (subst (λ (k : ℕ). IsWaiting (at_rest (core_in now)) k d) (sym (same_place i p e)) waiting))
@@ -170,7 +184,7 @@ module _ (finished : Maps) (q r : CallQueue) (before now : Run) (noted : NotesSl
       where
         go : (b : Bool) → is_apart r ≡ b → called_macro finished (core_in now).local (core_in now).map d ≡ None
         go true a =
-            stands_nowhere finished (core_in now) d (m.seen p) (still a p d idle waiting) (apart a (core_in now).local).apart (λ local. (apart a local).outside)
+            stands_nowhere finished (core_in now) d (m.seen p) (still a p d idle waiting) (apart a).apart
         go false a = absurd (woken.alone (sym woken.on.apart ∙ a) p idle)
 
     same_limit : now.changed.all ≡ false → (core_in now).map.crate_data.recursion_limit ≡ (core_in before).map.crate_data.recursion_limit
@@ -187,26 +201,27 @@ module _ (finished : Maps) (q r : CallQueue) (before now : Run) (noted : NotesSl
             in omega (arith, same, before_low)
         go false a = absurd (woken.alone (sym woken.on.apart ∙ a) p idle)
 
-    same_helper : (node : AstId) (name : List ℕ) → IsUntouched now.changed (of_preludes name) → is_helped (core_in now).map node name
-        ≡ is_helped (core_in before).map node name
+    same_helper : (node : AstId) (name : List ℕ) → IsUnhelped now.changed node → is_helped (core_in now).map node name ≡ is_helped (core_in before).map node
+        name
     unfolding core_in
     same_helper node name e = noted.helpers node name e
 
-    -- what stands still has read, of each name that would be a helper, what is noted where one comes into scope
-    inert_alike : is_apart r ≡ true → (p : ℕ) (d : MacroDirective) → IsIdle (worklist_of r) p → StandsStill finished (core_in before) d (m.seen p)
+    -- an attribute watches the item that it stands on, and no helper came into scope there
+    unhelped : is_apart r ≡ true → (p : ℕ) (d : MacroDirective) → IsIdle (worklist_of r) p → IsWaiting (at_rest (core_in now)) p d → (item : AstId) → item_of d
+        ≡ Some item → IsUnhelpedOn now.changed r p item
+    unhelped a p d idle waiting item is = woken.items (was_apart a) p idle item (m.on_items (was_apart a) p d (woken.idle p idle) waiting item is)
+
+    inert_alike : is_apart r ≡ true → (p : ℕ) (d : MacroDirective) → IsIdle (worklist_of r) p → IsWaiting (at_rest (core_in now)) p d
         → is_inert_now (core_in now).map d ≡ is_inert_now (core_in before).map d
-    inert_alike a p d idle s =
-        inert_by_kind finished s.local s.map (core_in before).map (core_in now).map d.ast_id d.site.home d.kind
-        (λ name has.
-        same_helper d.ast_id name
-        (woken.untouched (was_apart a) m.seen (m.watched (was_apart a)) p idle (of_preludes name)
-        (subst (λ (slots : List PathSlot). Contains slots (of_preludes name)) (sym s.read) has)))
+    inert_alike a p d idle waiting =
+        inert_by_kind (core_in before).map (core_in now).map d.ast_id d.kind
+        (λ item is name. same_helper item name (unhelped a p d idle waiting item is).unhelped)
 
     active_now : (p : ℕ) (d : MacroDirective) → IsIdle (worklist_of r) p → IsWaiting (at_rest (core_in now)) p d → is_inert_now (core_in now).map d ≡ false
     active_now p d idle waiting = go (is_apart r) refl
       where
         go : (b : Bool) → is_apart r ≡ b → is_inert_now (core_in now).map d ≡ false
-        go true a = inert_alike a p d idle (m.stands (was_apart a) p d (woken.idle p idle) waiting) ∙ m.active p d (woken.idle p idle) waiting
+        go true a = inert_alike a p d idle waiting ∙ m.active p d (woken.idle p idle) waiting
         go false a = absurd (woken.alone (sym woken.on.apart ∙ a) p idle)
 
     up_to_date_by : IsUpToDate finished r (core_in now) None
@@ -214,6 +229,7 @@ module _ (finished : Maps) (q r : CallQueue) (before now : Run) (noted : NotesSl
       seen = m.seen;
       watched = λ a. woken.watching (was_apart a) m.seen (m.watched (was_apart a));
       stands = λ a p d idle other waiting. still a p d idle waiting;
+      on_items = λ a p d idle other waiting item is. (unhelped a p d idle waiting item is).still;
       shallow = λ p d idle other waiting. shallow_now p d idle waiting;
       active = λ p d idle other waiting. active_now p d idle waiting;
       nowhere = λ p d idle other waiting. nowhere_now p d idle waiting;
@@ -241,6 +257,7 @@ module _ (finished : Maps) (q r : CallQueue) (c : Core) (i : ℕ) (up : IsUpToDa
     seen = seen_with i [] up.seen;
     watched = λ a. watched_with i [] up.seen q q (up.watched a) (λ p idle. idle) (λ slot p e. e) (λ idle. All-nil (λ slot. _));
     stands = λ a p d idle other waiting. stands a p d (i == p) refl idle waiting;
+    on_items = λ a p d idle other waiting. on_items a p d (i == p) refl idle waiting;
     shallow = λ p d idle other waiting. shallow p d (i == p) refl idle waiting;
     nowhere = λ p d idle other waiting. nowhere p d (i == p) refl idle waiting;
     active = λ p d idle other waiting. active p d (i == p) refl idle waiting;
@@ -248,6 +265,12 @@ module _ (finished : Maps) (q r : CallQueue) (c : Core) (i : ℕ) (up : IsUpToDa
     count = up.count;
   }
     where
+      on_items : is_apart q ≡ true → (p : ℕ) (d : MacroDirective) (b : Bool) → (i == p) ≡ b → IsIdle (worklist_of q) p → IsWaiting (at_rest c) p d
+          → (item : AstId) → item_of d ≡ Some item
+          → watches_item (attributes_of q) item p ≡ true
+      on_items a p d true e idle waiting = absurd (over d (subst (λ (k : ℕ). IsWaiting (at_rest c) k d) (sym (same_place i p e)) waiting))
+      on_items a p d false e idle waiting = up.on_items a p d idle (other_place i p e) waiting
+
       shallow : (p : ℕ) (d : MacroDirective) (b : Bool) → (i == p) ≡ b → IsIdle (worklist_of q) p → IsWaiting (at_rest c) p d → is_call d ≡ true
           → d.site.level < c.map.crate_data.recursion_limit
       shallow p d true e idle waiting = absurd (over d (subst (λ (k : ℕ). IsWaiting (at_rest c) k d) (sym (same_place i p e)) waiting))
@@ -268,13 +291,14 @@ module _ (finished : Maps) (q r : CallQueue) (c : Core) (i : ℕ) (up : IsUpToDa
       active p d false e idle waiting = up.active p d idle (other_place i p e) waiting
 
   -- one that reaches no macro, and watches what it has read
-  pub up_to_date_watched : (d : MacroDirective) → IsWaiting (at_rest c) i d → LeadsNowhere finished (at_rest c) i → d.site.home < length c.map.modules
-      → IsInOrder c.map
-      → IsWatching (length c.map.modules) (call_reads finished c.local c.map d) i q r → IsUpToDate finished r c None
-  up_to_date_watched d here nowhere_here low in_order watching = record {
+  pub up_to_date_watched : (d : MacroDirective) → LiesApart finished q c → IsWaiting (at_rest c) i d → LeadsNowhere finished (at_rest c) i
+      → d.site.home < length c.map.modules → IsInOrder c.map
+      → IsWatching (length c.map.modules) (call_reads finished c.local c.map d) (item_of d) i q r → IsUpToDate finished r c None
+  up_to_date_watched d apart here nowhere_here low in_order watching = record {
     seen = seen_with i slots up.seen;
     watched = λ a. watched_with i slots up.seen q r (up.watched (was a)) watching.idle watching.others (watching.each (was a));
     stands = λ a p e idle other waiting. stands a p e (i == p) refl idle waiting;
+    on_items = λ a p e idle other waiting. on_items a p e (i == p) refl idle waiting;
     shallow = λ p e idle other waiting. shallow p e (i == p) refl idle waiting;
     nowhere = λ p e idle other waiting. nowhere p e (i == p) refl idle waiting;
     active = λ p e idle other waiting. active p e (i == p) refl idle waiting;
@@ -299,7 +323,7 @@ module _ (finished : Maps) (q r : CallQueue) (c : Core) (i : ℕ) (up : IsUpToDa
       stands_here : is_apart r ≡ true → (e : MacroDirective) → IsIdle (worklist_of r) i → IsWaiting (at_rest c) i e → StandsStill finished c e slots
       stands_here a e idle waiting =
           subst (λ (x : MacroDirective). StandsStill finished c x slots) (same_call e waiting)
-          (stands_now finished c d (nowhere_here.nowhere d here) low in_order (watching.there (was a) idle))
+          (stands_now finished c d (apart (was a)).outside (nowhere_here.nowhere d here) low in_order (watching.there (was a) idle))
 
       stands : is_apart r ≡ true → (p : ℕ) (e : MacroDirective) (b : Bool) → (i == p) ≡ b → IsIdle (worklist_of r) p → IsWaiting (at_rest c) p e
           → StandsStill finished c e (cond b slots (up.seen p))
@@ -307,6 +331,15 @@ module _ (finished : Maps) (q r : CallQueue) (c : Core) (i : ℕ) (up : IsUpToDa
           stands_here a e (subst (IsIdle (worklist_of r)) (sym (same_place i p f)) idle) (subst (λ (k : ℕ). IsWaiting (at_rest c) k e) (sym (same_place i p f))
           waiting)
       stands a p e false f idle waiting = up.stands (was a) p e (watching.idle p idle) (other_place i p f) waiting
+
+      on_items : is_apart r ≡ true → (p : ℕ) (e : MacroDirective) (b : Bool) → (i == p) ≡ b → IsIdle (worklist_of r) p → IsWaiting (at_rest c) p e
+          → (item : AstId) → item_of e ≡ Some item
+          → watches_item (attributes_of r) item p ≡ true
+      on_items a p e true f idle waiting item is =
+          subst (λ (k : ℕ). watches_item (attributes_of r) item k ≡ true) (same_place i p f)
+          (watching.on_its_item (was a) item (ap item_of (same_call e (subst (λ (k : ℕ). IsWaiting (at_rest c) k e) (sym (same_place i p f)) waiting)) ∙ is))
+      on_items a p e false f idle waiting item is =
+          watching.other_items item p (up.on_items (was a) p e (watching.idle p idle) (other_place i p f) waiting item is)
 
       shallow : (p : ℕ) (e : MacroDirective) (b : Bool) → (i == p) ≡ b → IsIdle (worklist_of r) p → IsWaiting (at_rest c) p e → is_call e ≡ true
           → e.site.level < c.map.crate_data.recursion_limit
@@ -333,6 +366,7 @@ module _ (finished : Maps) (q : CallQueue) (w : Queue) (c : Core) (tried now : O
     seen = up.seen;
     watched = λ a. record { each = λ p rests other. let before = idle p rests other in (up.watched a).each p before.0 before.1 };
     stands = λ a p d rests other waiting. let before = idle p rests other in up.stands a p d before.0 before.1 waiting;
+    on_items = λ a p d rests other waiting. let before = idle p rests other in up.on_items a p d before.0 before.1 waiting;
     shallow = λ p d rests other waiting. let before = idle p rests other in up.shallow p d before.0 before.1 waiting;
     nowhere = λ p d rests other waiting. let before = idle p rests other in up.nowhere p d before.0 before.1 waiting;
     active = λ p d rests other waiting. let before = idle p rests other in up.active p d before.0 before.1 waiting;
@@ -373,6 +407,7 @@ up_to_date_first finished q c none = record {
   seen = λ p. [];
   watched = λ a. record { each = λ p idle other. absurd (no p idle) };
   stands = λ a p d idle other waiting. absurd (no p idle);
+  on_items = λ a p d idle other waiting item is. absurd (no p idle);
   shallow = λ p d idle other waiting. absurd (no p idle);
   nowhere = λ p d idle other waiting. absurd (no p idle);
   active = λ p d idle other waiting. absurd (no p idle);
@@ -415,6 +450,6 @@ pub waits_no_more : (c : Core) (i : ℕ) → slice_get c.fates i ≡ Some Handle
 waits_no_more c i done d waiting = let still : slice_get c.fates i ≡ Some Waits = waiting.waits in absurd (let no : ⊥ = cc in no)
 
 -- the maps lie apart still
-pub apart_later : (finished : Maps) (q r : CallQueue) (c d : Core) → is_apart r ≡ is_apart q → d.map.id ≡ c.map.id → LiesApart finished q c
-    → LiesApart finished r d
-apart_later finished q r c d same id apart = λ a local. subst (λ (own : MapId). IsApart finished own local) (sym id) (apart (sym same ∙ a) local)
+pub apart_later : {env : Environment} (finished : Maps) (q r : CallQueue) (c d : Core) → is_apart r ≡ is_apart q → Steps env finished (at_rest c) (at_rest d)
+    → LiesApart finished q c → LiesApart finished r d
+apart_later finished q r c d same steps apart = λ a. apart-Steps c d steps (apart (sym same ∙ a))

@@ -3,9 +3,8 @@ ghost use Rattle.std.specs.Prelude.{◌≡◌, ◌<◌, ◌≤◌, ℕ, cond, tr
 ghost use Rattle.hir_item_tree.specs.SyntaxIds.{node_id};
 ghost use Rattle.hir_tables.specs.SourcePlaces.{expansion_value};
 ghost use Rattle.hir_tables.specs.Tables.{KeepsTables};
-ghost use Rattle.hir_def_map_rules.specs.State.{IsInOrder, Local};
+ghost use Rattle.hir_def_map_rules.specs.State.{IsInOrder};
 ghost use Rattle.hir_def_map.specs.WorldParts.{part_of};
-ghost use Rattle.hir_import_resolution.specs.Inner.State.{IsApart};
 ghost use Rattle.hir_import_resolution.specs.Rest.{IsAtRest, IsSound};
 ghost use Rattle.hir_import_resolution.specs.Rounds.{GlobsLast, IsResumable, is_apart as are_apart, is_lasting};
 ghost use Rattle.hir_import_resolution.specs.Types.{ImportDirective};
@@ -25,7 +24,7 @@ ghost use Rattle.hir_collector_rules.specs.UnknownSources.{LeadsToUnknownSource,
 ghost use Rattle.hir_collector_rules.specs.State.{Run, at_rest, core_in, import_state};
 ghost use Rattle.hir_collector_rules.specs.Steps.{CallsMacro, IsDue, Steps, failing, keys_read, with_keys};
 ghost use Rattle.hir_collector_rules.specs.Workspace.{entry_look};
-ghost use Rattle.hir_collector_rules.specs.Waiting.{IsBehind, IsBetweenPasses, IsGathered, IsNoted, IsNotedBeside, IsStale, IsUpToDate, LiesApart, NotesSlots};
+ghost use Rattle.hir_collector_rules.specs.Waiting.{IsBehind, IsBetweenPasses, IsGathered, IsNoted, IsNotedBeside, IsStale, IsUpToDate, KeepsApart, LiesApart, NotesSlots, item_of};
 
 use crate::collector::resume::{give_up, skip};
 use either::Either;
@@ -512,13 +511,25 @@ fn try_call<D: SourceDatabase>(
     do_due(run, db, world, locations, i, &call, due)
 }
 
-/// Has the call at the place, if it waits, watch the slots that its path reads.
+/// The item that an attribute stands on, where that is what waits.
+fn item_of(call: &MacroDirective) -> Option<AstId>
+    ensures value { result ≡ item_of call.now }
+{
+    match call.waiting_item() {
+        Some(_) => Some(call.ast_id),
+        None => None,
+    }
+}
+
+/// Has the call at the place, if it waits, watch the slots that its path reads, an attribute besides the item that it stands
+/// on.
 fn watch(
     run: &DefCollector,
     world: WorldPart<'_>,
     queue: &mut CallQueue,
     i: usize,
 ) -> Result<(), AllocError>
+    requires apart { LiesApart (part_of world) queue.old (core_in run.now) }
     requires low { (d : MacroDirective) → slice_get (core_in run.now).calls i ≡ Some d → d.site.home < length (core_in run.now).map.modules }
     requires in_order { IsInOrder (core_in run.now).map }
     requires up_to_date { IsUpToDate (part_of world) queue.old (core_in run.now) (Some i) }
@@ -529,7 +540,8 @@ fn watch(
     let Some(call) = run.waiting(i) else {
         return Ok(());
     };
-    queue.watch(i, run.call_slots(world, call), run.map().module_count())?;
+    let slots = run.call_slots(world, call);
+    queue.watch(i, slots, run.map().module_count(), item_of(call))?;
     Ok(())
 }
 
@@ -635,7 +647,7 @@ fn settle(
     imports: ImportQueue,
     grown: &Changed,
 ) -> Result<(DefCollector, ImportQueue), StepError>
-    requires apart { apart ≡ true → IsApart (part_of world) (core_in run).map.id (core_in run).local }
+    requires apart { apart ≡ true → KeepsApart (part_of world) (core_in run) }
     requires imports { (i : ℕ) (r : ImportDirective) → slice_get (core_in run).reached i ≡ Some r → r.home < length (core_in run).map.modules }
     requires in_order { IsInOrder (core_in run).map }
     requires sound { IsSound (part_of world) (import_state (at_rest (core_in run))) }
@@ -702,7 +714,7 @@ fn take_turn<D: SourceDatabase>(
     apart: bool,
     first: usize,
 ) -> Result<(DefCollector, ImportQueue, Turn), CollectError>
-    requires apart { apart ≡ true → (local : Local) → IsApart (part_of world) (core_in run).map.id local }
+    requires apart { apart ≡ true → KeepsApart (part_of world) (core_in run) }
     requires queue { is_apart queue.old ≡ apart }
     requires stale { IsStale (part_of world) queue.old run }
     requires between { IsBetweenPasses queue.old }
@@ -752,7 +764,7 @@ pub fn resolve_rounds<D: SourceDatabase>(
     locations: &mut Tables,
     apart: bool,
 ) -> Result<(DefCollector, bool), CollectError>
-    requires apart { apart ≡ true → (local : Local) → IsApart (part_of world) (core_in run).map.id local }
+    requires apart { apart ≡ true → KeepsApart (part_of world) (core_in run) }
     requires ready { IsReady locations.old (part_of world) (core_in run) }
     ensures kept { KeepsTables locations.old locations.new }
     ensures same { D.workspace db.new ≡ D.workspace db.old }

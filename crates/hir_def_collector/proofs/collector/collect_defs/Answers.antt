@@ -1,30 +1,30 @@
 -- The walk's steps lead on to where imports and calls rest.
 use Rattle.std.proofs.Common.{rules, ◌≡◌, ◌∙◌, false, List, None, option_map, ap, sym, subst}
 use Rattle.std.specs.Prelude.{IsSome}
-use Rattle.hir_base.specs.Types.{Crate, MapId}
+use Rattle.hir_base.specs.Types.{Crate}
 use Rattle.hir_tables.specs.SourcePlaces.{source_value}
 use Rattle.hir_tables.specs.Tables.{source_of}
 use Rattle.hir_tables.proofs.Growth.{KeepsTables-trans}
 use Rattle.hir_def_map.specs.WorldParts.{among, part_of}
 use Rattle.hir_def_map_rules.specs.Overlay.{map_in}
-use Rattle.hir_def_map_rules.specs.Types.{BlockInfo}
 use Rattle.hir_def_map.specs.World.{finished_in}
 use Rattle.hir_collector_rules.specs.CallMoves.{ComesToRest}
 use Rattle.hir_collector_rules.specs.Derivation.{IsSpent, collected_view}
 use Rattle.hir_collector_rules.specs.Keys.{environment}
 use Rattle.hir_collector_rules.specs.ModuleFiles.{file_of_tree, is_file_meant}
 use Rattle.hir_collector_rules.specs.Moves.{OnceGrown}
-use Rattle.hir_collector_rules.specs.Start.{beginning, block_of, holders_by, id_of, krate_of}
+use Rattle.hir_collector_rules.specs.Start.{beginning, block_of, holders_by, id_of, krate_of, began}
 use Rattle.hir_collector_rules.specs.State.{at_rest, core_in}
 use Rattle.hir_collector_rules.specs.Steps.{Steps, none}
 use Rattle.hir_collector_rules.specs.UnknownSources.{LeadsToUnknownSource, of_file, of_macro}
 use Rattle.hir_collector_rules.specs.Workspace.{Workspace, transitive_dependencies_in}
+use Rattle.hir_def_collector.specs.Outside.{begins_outside}
 use Rattle.hir_def_collector.proofs.Begun.{none_there, some_there}
 use Rattle.hir_collector_rules.proofs.Changes.{id-Steps}
 use Rattle.hir_collector_rules.proofs.Derived.{begun, depends_on, ends_from}
 use Rattle.hir_collector_rules.proofs.Moves.{spent_after, unknown_after}
 use Rattle.hir_collector_rules.proofs.Numbers.{known_step, refused_step, tables_stay}
-use Rattle.hir_def_collector.proofs.Resolved.{apart, both_none, lacking, meant_by, no_map, not_lacking, unmeant_by}
+use Rattle.hir_def_collector.proofs.Resolved.{apart, both_none, lacking, meant_by, no_map, not_lacking, unmeant_by, none_and}
 use Rattle.hir_def_collector.proofs.collector.collect_defs.Goals as goal
 
 pub returns-in_err-run-clause-many : goal.returns-in_err-run-clause-many
@@ -72,18 +72,18 @@ returns-then-is_unknown-clause-ends g c = λ v finished agrees.
 
 -- ---- rounds follow the walk
 
--- the crate's own map isn't finished
+-- the run's own map isn't finished, and paths begin outside of it
 pub resolve_rounds-requires-clause-apart : goal.resolve_rounds-requires-clause-apart
-resolve_rounds-requires-clause-apart g c = λ yes local.
+resolve_rounds-requires-clause-apart g c = λ yes.
     let all = finished_in c.args.world.now.maps in
     let run = core_in c.in_ok-run.run' in
     let holders = c.as_slice-holders.result.now in
     let reads : part_of c.among-part.result ≡ among c.in_ok-transitive.transitive.value holders all =
     c.among-part.ensures.value ∙ ap (λ (crates : List Crate). among crates holders all) c.deref.ensures in
     let own : run.map.id ≡ id_of c.args.start = id-Steps c.in_ok-run.ensures.ok in
-    let none = both_none (block_of c.args.start) (map_in all (id_of c.args.start)) (sym c.is_apart.ensures.value ∙ yes) in
-    apart c.args.world.now.maps c.in_ok-transitive.transitive.value holders (part_of c.among-part.result) run.map.id local c.args.world.now.checked reads
-    (ap all own ∙ no_map (all (id_of c.args.start)) none.1) (ap (λ (id : MapId). id.block) own ∙ ap (option_map (λ (b : BlockInfo). b.block)) none.0)
+    let tested = none_and (map_in all (id_of c.args.start)) (begins_outside run.map.id run.local) (sym c.is_apart-apart.ensures.value ∙ yes) in
+    apart c.args.world.now.maps c.in_ok-transitive.transitive.value holders (part_of c.among-part.result) run.map.id run.local c.args.world.now.checked reads
+    (ap all own ∙ no_map (all (id_of c.args.start)) tested.0) tested.1
 
 pub returns-then-lacks_its_file-clause-kept : goal.returns-then-lacks_its_file-clause-kept
 returns-then-lacks_its_file-clause-kept g c = tables_stay c.args.locations.now

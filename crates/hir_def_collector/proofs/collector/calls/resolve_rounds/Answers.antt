@@ -1,11 +1,10 @@
 -- Turns, one after another, until nothing that waits leads anywhere and no attribute waits, or there were too many rounds.
-use Rattle.std.proofs.Common.{rules, ◌≡◌, ◌∙◌, ap, refl, subst, sym, false, arith}
+use Rattle.std.proofs.Common.{rules, ◌≡◌, ◌∙◌, ap, refl, subst, sym, false, arith, ◌<◌, length}
 use Rattle.hir_base.specs.Types.{MapId}
 use Rattle.hir_tables.proofs.Growth.{KeepsTables-trans}
 use Rattle.hir_def_map_rules.specs.Overlay.{Maps}
 use Rattle.hir_def_map.specs.WorldParts.{part_of}
 use Rattle.hir_worklist.specs.Queue.{Queue}
-use Rattle.hir_import_resolution.specs.Inner.State.{IsApart}
 use Rattle.hir_import_resolution.specs.Rounds.{is_lasting}
 use Rattle.hir_call_queue.specs.Changes.{joined}
 use Rattle.hir_def_collector.specs.declared.collector.calls.Turn.{Turn}
@@ -24,7 +23,7 @@ use Rattle.hir_collector_rules.specs.Workspace.{Workspace}
 use Rattle.hir_collector_rules.proofs.Moves.{Steps-append, spent_after, unknown_after}
 use Rattle.hir_collector_rules.proofs.Numbers.{known_step, refused_step, tables_stay}
 use Rattle.hir_def_collector.proofs.Ready.{ready_after, ready_grown}
-use Rattle.hir_collector_rules.proofs.Changes.{id-Steps}
+use Rattle.hir_def_collector.proofs.Outside.{apart-Steps}
 use Rattle.hir_def_collector.proofs.Queued.{has_rounds_steps, rounds_next, rounds_then}
 use Rattle.hir_def_collector.proofs.Resuming.{behind_first}
 use Rattle.hir_def_collector.proofs.Waiting.{stale_now, up_to_date_first}
@@ -36,7 +35,7 @@ rounds-init g c = record {
   same = refl;
   placed = λ placed. placed;
   ready = c.requires.ready;
-  own = refl;
+  lies = c.requires.apart;
   apart = c.new-queue.ensures.apart;
   stale =
       stale_now (part_of c.args.world) c.new-queue.result c.args.run (up_to_date_first (part_of c.args.world) c.new-queue.result (core_in c.args.run)
@@ -50,8 +49,7 @@ rounds-init g c = record {
 }
 
 pub take_turn-requires-clause-apart : goal.take_turn-requires-clause-apart
-take_turn-requires-clause-apart g c = λ yes local.
-    subst (λ (own : MapId). IsApart (part_of c.args.world) own local) (sym c.rounds.invariant.own) (c.requires.apart yes local)
+take_turn-requires-clause-apart g c = c.rounds.invariant.lies
 
 pub returns-in_err-next-clause-kept : goal.returns-in_err-next-clause-kept
 returns-in_err-next-clause-kept g c =
@@ -99,7 +97,7 @@ rounds-preserved-in-Round g c =
       same = c.in_ok-next.ensures.same ∙ c.rounds.invariant.same;
       placed = λ placed. c.in_ok-next.ensures.placed (c.rounds.invariant.placed placed);
       ready = ready_after here (ready_grown kept c.rounds.invariant.ready);
-      own = id-Steps here ∙ c.rounds.invariant.own;
+      lies = λ yes. apart-Steps now new here (c.rounds.invariant.lies yes);
       apart = c.in_ok-next.ensures.queue ∙ c.rounds.invariant.apart;
       stale = c.in_ok-next.ensures.stale;
       between = c.in_ok-next.ensures.between;
@@ -132,7 +130,7 @@ rounds-preserved g c =
       same = c.in_ok-next.ensures.same ∙ c.rounds.invariant.same;
       placed = λ placed. c.in_ok-next.ensures.placed (c.rounds.invariant.placed placed);
       ready = ready_after here (ready_grown kept c.rounds.invariant.ready);
-      own = id-Steps here ∙ c.rounds.invariant.own;
+      lies = λ yes. apart-Steps now new here (c.rounds.invariant.lies yes);
       apart = c.in_ok-next.ensures.queue ∙ c.rounds.invariant.apart;
       stale = c.in_ok-next.ensures.stale;
       between = c.in_ok-next.ensures.between;

@@ -9,7 +9,7 @@ use Rattle.hir_collector_rules.specs.declared.start.TheConstants.{STEP_LIMIT}
 use Rattle.hir_collector_rules.specs.Calls.{AreCallsPlaced}
 use Rattle.hir_collector_rules.specs.Moves.{OnceGrown}
 use Rattle.hir_collector_rules.specs.State.{at_rest, core_in}
-use Rattle.hir_collector_rules.specs.Waiting.{IsBehind, IsBetweenPasses, IsStale}
+use Rattle.hir_collector_rules.specs.Waiting.{IsBehind, IsBetweenPasses, IsStale, KeepsApart}
 use Rattle.hir_def_collector.proofs.Queued.{HasRounds}
 use Rattle.hir_def_collector.proofs.collector.calls.resolve_rounds.Given as goal
 
@@ -19,7 +19,7 @@ invariant-rounds g l = record {
   same : g.D.SourceDatabase.workspace l.db ≡ g.D.SourceDatabase.workspace l.initial.db;
   placed : AreCallsPlaced l.initial.locations → AreCallsPlaced l.locations;
   ready : IsReady l.locations (part_of l.world) (core_in l.run);
-  own : (core_in l.run).map.id ≡ (core_in l.initial.run).map.id;
+  lies : l.apart ≡ true → KeepsApart (part_of l.world) (core_in l.run);
   apart : is_apart l.queue ≡ l.apart;
   stale : IsStale (part_of l.world) l.queue l.run;
   between : IsBetweenPasses l.queue;

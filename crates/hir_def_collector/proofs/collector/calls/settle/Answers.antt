@@ -8,6 +8,7 @@ use Rattle.hir_collector_rules.proofs.Changes.{count-Steps}
 use Rattle.hir_collector_items.proofs.CallSteps.{count_rested, rest_rested, rested, rested_past, settled_rested}
 use Rattle.hir_collector_rules.proofs.Moves.{Steps-append, spent_after}
 use Rattle.hir_collector_state.proofs.Noted.{slots_follow}
+use Rattle.hir_def_collector.proofs.Outside.{outside-Steps}
 use Rattle.hir_def_collector.proofs.Resuming.{behind_settled}
 use Rattle.hir_mod_collector.proofs.Walked.{nowhere}
 use Rattle.hir_def_collector.proofs.collector.calls.settle.Goals as goal
@@ -42,5 +43,5 @@ returns-clause-noted c = slots_follow c.in_ok-run.ensures.noted c.in_ok-rest.ens
 pub returns-clause-behind : goal.returns-clause-behind
 returns-clause-behind c = λ paired changed now same.
     behind_settled (part_of c.args.world) c.in_ok-run.imports changed (core_in c.in_ok-run.run') (core_in c.rest.new.self) now c.in_ok-run.ensures.up_to_date
-    c.in_ok-run.ensures.rests.stands c.in_ok-rest.ensures.ok
-    same paired
+    c.in_ok-run.ensures.rests.stands
+    (λ yes. outside-Steps (c.in_ok-run.ensures.ok nowhere) (c.requires.apart (sym c.in_ok-run.ensures.apart ∙ yes)).outside) c.in_ok-rest.ensures.ok same paired

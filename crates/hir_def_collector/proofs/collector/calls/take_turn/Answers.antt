@@ -1,10 +1,8 @@
 -- One turn: imports rest, what is queued is tried, and where nothing was handled the first attribute that waits is given up.
 use Rattle.std.proofs.lemmas.Result.{err_from_is_err_and}
 use Rattle.std.proofs.Common.{Err, ◌≡◌, ◌∙◌, ◌<◌, None, Some, ap, false, length, subst, sym, true, arith}
-use Rattle.hir_base.specs.Types.{MapId}
 use Rattle.hir_tables.proofs.Growth.{KeepsTables-trans}
 use Rattle.hir_def_map.specs.WorldParts.{part_of}
-use Rattle.hir_import_resolution.specs.Inner.State.{IsApart}
 use Rattle.hir_import_resolution.specs.Rest.{IsAtRest}
 use Rattle.hir_call_queue.specs.Changes.{ChangedValue, joined}
 use Rattle.hir_collector_rules.specs.CallMoves.{IsGivenUp, IsReady}
@@ -14,12 +12,13 @@ use Rattle.hir_collector_rules.specs.Keys.{environment}
 use Rattle.hir_collector_rules.specs.Moves.{OnceGrown}
 use Rattle.hir_collector_rules.specs.State.{Core, at_rest, core_in, import_state}
 use Rattle.hir_collector_rules.specs.Steps.{Steps}
-use Rattle.hir_collector_rules.specs.Waiting.{IsBehind}
+use Rattle.hir_collector_rules.specs.Waiting.{IsBehind, KeepsApart}
 use Rattle.hir_collector_rules.specs.Workspace.{Workspace}
-use Rattle.hir_collector_rules.proofs.Changes.{count-Steps, counts_on, id-Steps}
+use Rattle.hir_collector_rules.proofs.Changes.{count-Steps, counts_on}
 use Rattle.hir_def_collector.proofs.GivingUp.{none_waits_later}
 use Rattle.hir_collector_rules.proofs.Moves.{Steps-append, spent_after, unknown_after}
 use Rattle.hir_collector_rules.proofs.Numbers.{known_step, refused_step, tables_stay}
+use Rattle.hir_def_collector.proofs.Outside.{apart-Steps}
 use Rattle.hir_def_collector.proofs.Queued.{none_handled, of_round, rests_idle, rises_on, settles_requeued}
 use Rattle.hir_def_collector.proofs.Ready.{ready_after, ready_grown}
 use Rattle.hir_def_collector.proofs.Resuming.{behind_later, behind_tried, one_error, resumable_behind}
@@ -28,9 +27,6 @@ use Rattle.hir_collector_rules.specs.declared.start.CollectError.TheVariants.{To
 use Rattle.hir_def_collector.proofs.collector.calls.take_turn.Goals as goal
 
 -- what each goal below needs: `now` is where the turn begins, `settled` where imports rest and the queue is up to date, `tried` where what is queued was tried
-
-pub settle-requires-clause-apart : goal.settle-requires-clause-apart
-settle-requires-clause-apart g c = λ yes. c.requires.apart yes (core_in c.args.run).local
 
 pub settle-requires-clause-resumable : goal.settle-requires-clause-resumable
 settle-requires-clause-resumable g c =
@@ -47,10 +43,9 @@ settle-requires-clause-globs g c = λ lasting some.
     (c.requires.behind lasting (ap (λ (x : ChangedValue). x.all) (sym all) ∙ some)).globs
 
 pub requeue-requires-clause-apart : goal.requeue-requires-clause-apart
-requeue-requires-clause-apart g c = λ yes local.
+requeue-requires-clause-apart g c = λ yes.
     let here = environment c.args.locations.now (g.D.SourceDatabase.workspace c.args.db.now) in
-    subst (λ (own : MapId). IsApart (part_of c.args.world) own local) (sym (id-Steps (c.in_ok-run.ensures.ok here)))
-    (c.requires.apart (sym c.requires.queue ∙ yes) local)
+    apart-Steps (core_in c.args.run) (core_in c.in_ok-run.run') (c.in_ok-run.ensures.ok here) (c.requires.apart (sym c.requires.queue ∙ yes))
 
 pub requeue-requires-clause-stale : goal.requeue-requires-clause-stale
 requeue-requires-clause-stale g c =
@@ -70,11 +65,11 @@ pub try_calls-requires-clause-settled : goal.try_calls-requires-clause-settled
 try_calls-requires-clause-settled g c = subst (λ (core : Core). core.settled ≡ length core.calls) (sym c.requeue.ensures.same) c.in_ok-run.ensures.settled
 
 pub try_calls-requires-clause-apart : goal.try_calls-requires-clause-apart
-try_calls-requires-clause-apart g c = λ yes local.
+try_calls-requires-clause-apart g c = λ yes.
     let here = environment c.args.locations.now (g.D.SourceDatabase.workspace c.args.db.now) in
-    subst (λ (own : MapId). IsApart (part_of c.args.world) own local)
-    (sym (ap (λ (core : Core). core.map.id) c.requeue.ensures.same ∙ id-Steps (c.in_ok-run.ensures.ok here)))
-    (c.requires.apart (sym c.requires.queue ∙ sym c.in_ok-requeue.ensures.queue ∙ yes) local)
+    subst (KeepsApart (part_of c.args.world)) (sym c.requeue.ensures.same)
+    (apart-Steps (core_in c.args.run) (core_in c.in_ok-run.run') (c.in_ok-run.ensures.ok here)
+    (c.requires.apart (sym c.requires.queue ∙ sym c.in_ok-requeue.ensures.queue ∙ yes)))
 
 pub returns-in_err-try_calls-clause-many : goal.returns-in_err-try_calls-clause-many
 returns-in_err-try_calls-clause-many g c = λ h grown k.

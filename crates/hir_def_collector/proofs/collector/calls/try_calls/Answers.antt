@@ -35,7 +35,6 @@ tries-init g c =
       placed = λ placed. placed;
       steps = λ grown k. none;
       ready = c.requires.ready;
-      own = refl;
       more = omega arith;
       bounded = omega (arith, c.requires.settled);
       apart = refl;
@@ -62,7 +61,8 @@ try_queued-requires-clause-settled g c =
 pub try_queued-requires-clause-apart : goal.try_queued-requires-clause-apart
 try_queued-requires-clause-apart g c =
     apart_later (part_of c.args.world) c.args.queue.now c.take.new.self (core_in c.args.run.now) (core_in c.tries.run)
-    (ap is_apart c.in-Some.ensures.rest ∙ c.tries.invariant.apart ∙ ap is_apart c.open.ensures.value) c.tries.invariant.own c.requires.apart
+    (ap is_apart c.in-Some.ensures.rest ∙ c.tries.invariant.apart ∙ ap is_apart c.open.ensures.value)
+    (c.tries.invariant.steps c.tries.locations (tables_stay c.tries.locations)) c.requires.apart
 
 pub try_queued-requires-clause-up_to_date : goal.try_queued-requires-clause-up_to_date
 try_queued-requires-clause-up_to_date g c =
@@ -90,7 +90,6 @@ tries-preserved g c =
       placed = λ placed. c.in_ok-done.ensures.placed (c.tries.invariant.placed placed);
       steps = λ grown k. Steps-append (c.tries.invariant.steps grown (KeepsTables-trans c.tries.locations later grown kept k)) (step grown k);
       ready = ready_after here (ready_grown kept c.tries.invariant.ready);
-      own = id-Steps here ∙ c.tries.invariant.own;
       more = let longer : now.settled ≤ new.settled = settled_more here c.tries.invariant.bounded in omega (arith, longer, c.tries.invariant.more);
       bounded = settled_bounded here c.tries.invariant.bounded;
       apart = on.apart ∙ ap is_apart c.in-Some.ensures.rest ∙ c.tries.invariant.apart;

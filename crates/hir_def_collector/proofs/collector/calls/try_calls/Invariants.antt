@@ -19,7 +19,6 @@ invariant-tries g l = record {
   steps : OnceGrown l.locations (g.D.SourceDatabase.workspace l.initial.db) (λ env. Steps env (part_of l.world) (at_rest (core_in l.initial.run))
       (at_rest (core_in l.run)));
   ready : IsReady l.locations (part_of l.world) (core_in l.run);
-  own : (core_in l.run).map.id ≡ (core_in l.initial.run).map.id;
   more : (core_in l.initial.run).settled ≤ (core_in l.run).settled;
   bounded : (core_in l.run).settled ≤ length (core_in l.run).calls;
   apart : is_apart l.queue ≡ is_apart l.initial.queue;

@@ -8,9 +8,8 @@ use Rattle.hir_collector_rules.specs.Calls.{LeadsNowhere}
 use Rattle.hir_collector_rules.specs.Keys.{environment}
 use Rattle.hir_collector_rules.specs.State.{Core, at_rest, core_in}
 use Rattle.hir_collector_rules.specs.Steps.{Steps}
-use Rattle.hir_collector_rules.specs.Waiting.{IsUpToDate}
+use Rattle.hir_collector_rules.specs.Waiting.{IsUpToDate, LiesApart}
 use Rattle.hir_collector_rules.specs.Types.{MacroDirective}
-use Rattle.hir_collector_rules.proofs.Changes.{id-Steps}
 use Rattle.hir_collector_rules.proofs.Numbers.{tables_stay}
 use Rattle.hir_def_collector.proofs.Queued.{was_handled, was_left}
 use Rattle.hir_def_collector.proofs.Resuming.{behind_gathered, behind_later}
@@ -30,11 +29,17 @@ returns-clause-up_to_date g c =
     subst (λ (core : Core). IsUpToDate part c.wake.new.queue core None) (sym c.wake.ensures.same)
     (up_to_date_handled part c.args.queue.now c.wake.new.queue c.args.run.now c.try_call.new.run c.in_ok-done.ensures.noted.slots
     (keeps_waiting old new steps c.requires.ready.fated) c.in_ok-wake.ensures.woken
-    (apart_later part c.args.queue.now c.wake.new.queue old new c.in_ok-wake.ensures.woken.on.apart (id-Steps steps) c.requires.apart)
+    (apart_later part c.args.queue.now c.wake.new.queue old new c.in_ok-wake.ensures.woken.on.apart steps c.requires.apart)
     c.args.i c.requires.up_to_date
     (waits_no_more new c.args.i (was_handled part old new c.args.i _ c.in_ok-done.ensures.tried c.if-not-done.false)))
 
 -- ---- where it was left
+
+pub watch-requires-clause-apart : goal.watch-requires-clause-apart
+watch-requires-clause-apart g c =
+    let stays = (was_left (part_of c.args.world) (core_in c.args.run.now) (core_in c.try_call.new.run) c.args.i _ c.in_ok-done.ensures.tried
+    c.if-not-done.true).0 in
+    subst (λ (core : Core). LiesApart (part_of c.args.world) c.args.queue.now core) (sym stays) c.requires.apart
 
 pub watch-requires-clause-low : goal.watch-requires-clause-low
 watch-requires-clause-low g c =
