@@ -1,8 +1,13 @@
 -- The diagnostics that were told so far.
-use Rattle.std.proofs.Common.{◌≡◌, ◌∙◌, ap, sym, refl, append-nil, ℕ, ◌+◌, ◌<◌, List, [], ◌∷◌, ◌++◌, length, take, get_or, Option, Some, None}
+use Rattle.std.proofs.Common.{◌≡◌, ◌∙◌, ap, sym, refl, append-nil, ℕ, ◌+◌, ◌<◌, List, [], ◌∷◌, ◌++◌, length, map, take, get_or, Option, Some, None}
 use Rattle.std.proofs.lemmas.List.{take_more}
 use Rattle.std.proofs.lemmas.List.Elements.{filter_map-append}
-use Rattle.std.specs.List.{filter_map}
+use Rattle.std.specs.List.{cons_option, filter_map}
+
+-- what something gives of what each is seen as
+pub filter_mapped : {X Y Z : Type 0} (seen : X → Y) (f : Y → Option Z) (xs : List X) → filter_map (λ x. f (seen x)) xs ≡ filter_map f (map seen xs)
+filter_mapped seen f [] = refl
+filter_mapped seen f (x ∷ xs) = ap (cons_option (f (seen x))) (filter_mapped seen f xs)
 
 module _ {X Y : Type 0} (f : X → Option Y) where
   single : (z : X) (y : Y) → f z ≡ Some y → filter_map f (z ∷ []) ≡ y ∷ []

@@ -27,7 +27,7 @@ use Rattle.hir_wire.specs.declared.reply.Status.TheVariants as status
 use Rattle.hir_session_state.specs.Types.{QueryError}
 use Rattle.hir_session_state.specs.Blocks.{Blocks}
 use Rattle.hir_session_state.specs.Crates.{CrateValue, dependency_maps, transitive_in}
-use Rattle.hir_session_state.specs.Kept.{Resolutions, placed_by}
+use Rattle.hir_session_state.specs.Kept.{Resolutions, kept_in, placed_by}
 use Rattle.hir_session_state.specs.SourceEdits.{edit_of, edited}
 use Rattle.hir_session_state.specs.SourceTable.{SourceTable}
 use Rattle.hir_session_state.specs.SessionState.{SessionState, Resolution, workspace_of, finished_of, follows, follows_by, held_maps, read_of, kept_of}
@@ -40,13 +40,13 @@ use Rattle.hir_session_state.specs.Standing.{to_child, to_root}
 use Rattle.hir_session_state.specs.Standing.{Standing as way}
 use Rattle.hir_session_state.specs.Marks.{IsAltered, IsTouched}
 use Rattle.hir_session_state.specs.Marks.IsTouched.{before, asked_for}
-use Rattle.hir_session_state.specs.Due.{IsBehind, IsAskedBehind}
+use Rattle.hir_session_state.specs.Due.{Grows, IsBehind, IsAskedBehind}
 use Rattle.hir_session_state.specs.Due.IsBehind.{itself, next}
 use Rattle.hir_session_state.specs.Changes.{Becomes, Applies, Resolves, with_sources}
 use Rattle.hir_session_answers.specs.Status.{status_by}
 use Rattle.hir_session_answers.specs.Answers.{answer_at, answer_by, answer_from, answer_in, answer_kept, answer_of}
 use Rattle.hir_session_answers.specs.Histories.{History, WasAltered, DifferOnlyWhereAltered}
-use Rattle.hir_session_answers.specs.Histories.History.{none, edit, refresh}
+use Rattle.hir_session_answers.specs.Histories.History.{none, edit, refresh, numbers}
 use Rattle.hir_session_state.proofs.Depending.{found-any}
 use Rattle.hir_session_state.proofs.Holding.{holders_hold}
 use Rattle.hir_session_state.proofs.Following.{followed_crate}
@@ -133,6 +133,16 @@ same_after_refresh same is = record {
   sound = is.sound;
 }
 
+-- so it stays as tables grow
+pub same_once_grown : {from mid to : SessionState} {k : MapId} → IsSame from mid k → Grows mid to → IsSame from to k
+same_once_grown same grown = record {
+  crates = grown.crates ∙ same.crates;
+  tables = KeepsTables-trans _ _ _ same.tables grown.tables;
+  off = λ j behind. ap (λ (kept : Resolutions). is_none (kept_in kept j)) grown.kept ∙ same.off j behind;
+  kept = λ j behind. ap (λ (kept : Resolutions). kept_in kept j) grown.kept ∙ same.kept j behind;
+  sound = grown.sound;
+}
+
 pub same_at_first : {from : SessionState} {k : MapId} → IsSound from → is_marked from k ≡ false → IsSame from from k
 same_at_first sound off =
     record { crates = refl; tables = KeepsTables-refl _; off = λ j behind. unmarked_behind sound off behind; kept = λ j behind. refl; sound = sound }
@@ -149,6 +159,10 @@ same_or_altered sound off (edit mid to e earlier is) = elim (same_or_altered sou
 ]
 same_or_altered sound off (refresh mid to done earlier is) = elim (same_or_altered sound off earlier) [
   | inl same ↦ inl (same_after_refresh same is)
+  | inr hit ↦ inr (hit.0, hit.1, hit.2)
+]
+same_or_altered sound off (numbers mid to earlier grown) = elim (same_or_altered sound off earlier) [
+  | inl same ↦ inl (same_once_grown same grown)
   | inr hit ↦ inr (hit.0, hit.1, hit.2)
 ]
 

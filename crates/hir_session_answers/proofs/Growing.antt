@@ -1,8 +1,10 @@
 -- An answer that leaves nothing out stays as tables grow.
-use Rattle.std.proofs.Common.{◌≡◌, ◌⊎◌, inl, inr, ℕ, zero, suc, is_some, List, Option, None, Some, option_map, slice_get, refl, sym, ap, ◌∙◌, subst}
+use Rattle.std.proofs.Common.{◌≡◌, ◌⊎◌, inl, inr, ℕ, zero, suc, is_some, List, [], ◌∷◌, map, Option, None, Some, option_map, slice_get, refl, sym, ap, ◌∙◌}
+use Rattle.std.proofs.Common.{subst}
+use Rattle.std.specs.List.{cons_option}
 use Rattle.std.specs.Option.{option_and_then}
 use Rattle.hir_base.specs.ModPath.{Path}
-use Rattle.hir_base.specs.Types.{AdtId, BlockId, BlockPlace, Crate, HirFileId, MacroCallLoc, MacroId, ModuleDefId, ModuleId, SyntaxId}
+use Rattle.hir_base.specs.Types.{AdtId, AstId, BlockId, BlockPlace, Crate, HirFileId, MacroCallLoc, MacroId, ModuleDefId, ModuleId, SyntaxId}
 use Rattle.hir_base.specs.declared.ast_id.HirFileId.TheVariants.{File, Macro}
 use Rattle.hir_base.specs.declared.ids.AdtId.TheVariants as adt
 use Rattle.hir_base.specs.declared.ids.ModuleDefId.TheVariants as def
@@ -13,14 +15,16 @@ use Rattle.hir_scope.specs.declared.imports.ImportOrExternCrate.TheVariants as i
 use Rattle.hir_scope.specs.declared.imports.ImportOrGlob.TheVariants as value_import
 use Rattle.hir_scope.specs.declared.visibility.Visibility.TheVariants as vis
 use Rattle.hir_tables.specs.Tables.{TablesValue, KeepsTables, block_at, call_at}
-use Rattle.hir_def_map_rules.specs.Diagnostics.{call_node}
+use Rattle.hir_def_map_rules.specs.Diagnostics.{DiagnosticValue, KindValue, call_node, diagnostic_view, node_of}
 use Rattle.hir_def_map_rules.specs.Scoping.{resolution_of}
 use Rattle.hir_def_map_rules.specs.State.{Local, ModuleValue}
 use Rattle.hir_def_map_rules.specs.Overlay.{Maps, module_in}
-use Rattle.hir_def_map_rules.specs.Types.{ModuleOrigin}
+use Rattle.hir_def_map_rules.specs.Types.{DefDiagnostic, ModuleOrigin}
 use Rattle.hir_def_map_rules.specs.declared.origin.ModuleOrigin.TheVariants as origin
-use Rattle.hir_wire.specs.Types.{AnswerItem, AnswerVisibility, Definition, ImportSource, ItemSource, MacroStyle, Shadow, SourceKind}
+use Rattle.hir_wire.specs.Types.{AnswerItem, AnswerVisibility, Definition, Diagnostic, ImportSource, ItemSource, MacroStyle, Shadow, SourceItem, SourceKind}
 use Rattle.hir_session_answers.specs.Answers.{answer_in, asking_of}
+use Rattle.hir_session_answers.specs.Diagnostics.{diagnostic_source, diagnostic_with, diagnostics_in, node_in, node_source}
+use Rattle.hir_session_answers.specs.DiagnosticsStand.{AreTold}
 use Rattle.hir_session_state.specs.Standing.{most_calls}
 use Rattle.hir_session_answers.specs.LeavesOut.{LeavesNothingOut}
 use Rattle.hir_session_answers.specs.SourceCalls.{and_call, block_source, file_source, source_call, source_of, source_within}
@@ -182,3 +186,41 @@ module _ (few more : TablesValue) (keeps : KeepsTables few more) where
         let values = not_left_out (answered_value few maps) (answered_value more maps) value_stays found.resolved_def.values whole.values in
         let macros = not_left_out (answered_macro few maps) (answered_macro more maps) macro_item_stays found.resolved_def.macros whole.macros in
         λ k. record { types = types k; values = values k; macros = macros k; stop = found.segment_index }
+
+-- a diagnostic is told alike where its module and its item are
+with_stays : (kind : KindValue) (a b : Option Definition) (i j : Option SourceItem) → Stays a b → Stays i j → Stays (diagnostic_with kind a i)
+    (diagnostic_with kind b j)
+with_stays kind a b i j (inl none) second = inl (ap (λ (x : Option Definition). diagnostic_with kind x i) none)
+with_stays kind None b i j (inr same) second = inl refl
+with_stays kind (Some d) b i j (inr same) (inl none) = inl (ap (diagnostic_with kind (Some d)) none)
+with_stays kind (Some d) b i j (inr same) (inr alike) = inr (λ k. diagnostic_with kind (same k) (alike k))
+
+module _ (few more : TablesValue) (keeps : KeepsTables few more) (maps : Maps) where
+  node_stays : (n : AstId) → Stays (node_source few n) (node_source more n)
+  node_stays n = mapped (node_in n) (source_of few n.file_id n.block) (source_of more n.file_id n.block) (source_stays few more keeps n.file_id n.block)
+
+  diagnostic_stays : (d : DiagnosticValue) → Stays (diagnostic_source few maps d) (diagnostic_source more maps d)
+  diagnostic_stays d =
+      with_stays d.kind (module_definition few maps d.in_module) (module_definition more maps d.in_module) (node_source few (node_of d.kind))
+      (node_source more (node_of d.kind))
+      (module_stays few more keeps maps d.in_module) (node_stays (node_of d.kind))
+
+  abbrev told_by : TablesValue → DefDiagnostic → Option Diagnostic
+  told_by tables d = diagnostic_source tables maps (diagnostic_view d)
+
+  -- one that is told stays
+  told_stays : (d : DefDiagnostic) (t : Diagnostic) → told_by few d ≡ Some t → told_by more d ≡ told_by few d
+  told_stays d t is = elim (diagnostic_stays (diagnostic_view d)) [
+    | inl none ↦ let wrong : Some t ≡ None = sym is ∙ none in absurd (let never : ⊥ = cc in never)
+    | inr same ↦ same
+  ]
+
+  -- all stay where none is left out
+  pub kept_diagnostics : (ds : List DefDiagnostic) (told : List Diagnostic) → AreTold few maps ds told → diagnostics_in more maps ds
+      ≡ diagnostics_in few maps ds
+  kept_diagnostics [] told all = refl
+  kept_diagnostics (d ∷ ds) [] all = absurd (let wrong : ⊥ = cc in wrong)
+  kept_diagnostics (d ∷ ds) (t ∷ ts) all =
+      let first : told_by few d ≡ Some t = cc in
+      let others : AreTold few maps ds ts = cc in
+      λ k. cons_option (told_stays d t first k) (kept_diagnostics ds ts others k)

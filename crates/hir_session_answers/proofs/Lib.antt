@@ -10,3 +10,4 @@ pub mod Growing
 pub mod Differ
 pub mod Stand
 pub mod Diagnosing
+pub mod Listed

@@ -17,6 +17,9 @@ ghost use Rattle.hir_session_state.specs.SessionState.{IsResolved};
 ghost use Rattle.hir_session_state.specs.SourceTable.{source_at, tree_under};
 ghost use Rattle.hir_session_sources.specs.SourceTrees.{AreTreesOf};
 
+mod assoc_items;
+
+pub use self::assoc_items::AssocList;
 use crate::sources::{HeldBlock, Sources, collect, collect_block};
 use hir_base::file_path::FilePath;
 use hir_base::ids::Crate;

@@ -5,9 +5,9 @@ use Rattle.hir_base.specs.ModPath.{Path}
 use Rattle.hir_base.specs.Place.{PlaceValue}
 use Rattle.hir_base.specs.Types.{Crate, MapId}
 use Rattle.hir_collector_rules.specs.Types.{Key}
-use Rattle.hir_wire.specs.CommandValue.{CommandValue, diagnostics, resolve}
+use Rattle.hir_wire.specs.CommandValue.{CommandValue, diagnostics, impl_items, resolve, trait_items}
 use Rattle.hir_wire.specs.Commands.{reading_of}
-use Rattle.hir_wire.specs.Types.{Answer, Diagnostic, MacroStyle, Reply, Shadow}
+use Rattle.hir_wire.specs.Types.{Answer, Diagnostic, Items, MacroStyle, Reply, Shadow}
 use Rattle.hir_wire.specs.declared.reply.Reply.TheVariants as reply
 use Rattle.hir_session_state.specs.Types.{QueryError}
 use Rattle.hir_session_state.specs.declared.error.QueryError.TheVariants as query_error
@@ -20,16 +20,20 @@ use Rattle.hir_def_map_rules.specs.Closed.{PathsLeadToWhatIsThere}
 use Rattle.hir_def_map_rules.specs.Sources.{PathsAnswerFromSources}
 use Rattle.hir_session_state.specs.Due.{IsAskedBehind}
 use Rattle.hir_session_machine.specs.Machine.{MachineState, first_state, query_reply, Moves, AnswersCommand, AnswersLine}
-use Rattle.hir_session_machine.specs.Machine.Moves.{applies, refuses, refreshes, refreshes_partly, resolves, tells, shows, shows_none, dumps, dumps_none, lists}
+use Rattle.hir_session_machine.specs.Machine.Moves.{applies, refuses, refreshes, refreshes_partly, resolves, tells, shows, shows_none, dumps, dumps_none}
+use Rattle.hir_session_machine.specs.Machine.Moves.{asks_for_trait, asks_for_impl, lists}
 use Rattle.hir_session_machine.specs.Machine.AnswersCommand.{finds_no_memory, begins, refuses_session, comes_too_soon, comes_too_late, calls}
 use Rattle.hir_session_machine.specs.Machine.AnswersLine.{finds_no_memory_for_line, reads_no_command, carries_out}
 use Rattle.hir_session_machine.specs.AnsweredLines.{AnswersWithin, AnswersInput, AnswersLines}
-use Rattle.hir_session_machine.specs.Headline.{Query, Asks, AsksDiagnostics, Alters, IsAlteredBetween, Stands, AreAllTold, RepliesHoldTheHeadline, state_at}
+use Rattle.hir_session_machine.specs.Headline.{Query, Asks, AsksDiagnostics, AsksImplItems, AsksTraitItems, Alters, IsAlteredBetween, Stands, AreAllTold}
+use Rattle.hir_session_machine.specs.Headline.{AreOfImpl, AreOfTrait, RepliesHoldTheHeadline, state_at}
 use Rattle.hir_session_state.proofs.Standing.{at_module, unmarked}
-use Rattle.hir_session_answers.proofs.Differ.{IsSame, same_after_edit, same_after_refresh, same_at_first, same_answer}
+use Rattle.hir_session_answers.proofs.Differ.{IsSame, same_after_edit, same_after_refresh, same_at_first, same_answer, same_once_grown}
 use Rattle.hir_session_machine.proofs.Histories.{after_input, begun_input, history_sound, one_value}
 use Rattle.hir_session_answers.proofs.Stand.{stands}
 use Rattle.hir_session_machine.proofs.Telling.{told_within}
+use Rattle.hir_session_machine.proofs.Listing.{impl_within, trait_within}
+use Rattle.hir_session_answers.proofs.Listed.{impl_stands, trait_stands}
 use Rattle.hir_session_answers.proofs.Told.{tell}
 use Rattle.hir_session_answers.specs.Histories.History.{none as nothing_yet}
 
@@ -67,6 +71,8 @@ answered_by_call asks (shows krate page text is_tree same found told) = absurd (
 answered_by_call asks (shows_none krate page why is_tree same refused told) = absurd (let wrong : ⊥ = cc in wrong)
 answered_by_call asks (dumps at text is_dump same found told) = absurd (let wrong : ⊥ = cc in wrong)
 answered_by_call asks (dumps_none at why is_dump same refused told) = absurd (let wrong : ⊥ = cc in wrong)
+answered_by_call asks (asks_for_trait at query is_trait grown told) = absurd (let wrong : ⊥ = cc in wrong)
+answered_by_call asks (asks_for_impl at number is_impl grown told) = absurd (let wrong : ⊥ = cc in wrong)
 answered_by_call asks (lists krate is_list same told) = absurd (let wrong : ⊥ = cc in wrong)
 
 answered_by_command : {old new : MachineState} {c : CommandValue} {a : Answer} {place : PlaceValue} {path : Path} {shadow : Shadow} {style : Option MacroStyle}
@@ -114,6 +120,8 @@ kept_by_call {from} {k = k} read same (shows_none krate path why is_tree still r
     inl (subst (λ (x : SessionState). IsSame from x k) (sym still) same)
 kept_by_call {from} {k = k} read same (dumps at text is_dump still found told) = inl (subst (λ (x : SessionState). IsSame from x k) (sym still) same)
 kept_by_call {from} {k = k} read same (dumps_none at why is_dump still refused told) = inl (subst (λ (x : SessionState). IsSame from x k) (sym still) same)
+kept_by_call read same (asks_for_trait at path is_trait grown told) = inl (same_once_grown same grown)
+kept_by_call read same (asks_for_impl at number is_impl grown told) = inl (same_once_grown same grown)
 kept_by_call {from} {k = k} read same (lists krate is_list still told) = inl (subst (λ (x : SessionState). IsSame from x k) (sym still) same)
 
 -- nothing changed
@@ -218,6 +226,52 @@ module _ (runs : RunsBindFromSources) (paths : PathsAnswerFromSources) (leads : 
       let rest = told_at n krate list done.0 lines answers new done.2 (good_next line answer good done.1)
       (record { line = asks.line; is = asks.is; read = asks.read }) told in
       record { session = rest.session; is = rest.is; stands = rest.stands }
+
+-- the items of the traits of each number
+traits_at : (n : ℕ) (place : PlaceValue) (path : Path) (told : Items) (old : MachineState) (lines : List (List ℕ)) (answers : List Reply) (new : MachineState)
+    (done : AnswersLines old lines answers new)
+    → IsGood old → AsksTraitItems lines n place path → slice_get answers n ≡ Some (reply.Items told) → AreOfTrait old lines answers new done n place path told
+traits_at n place path told old [] [] new done good asks is = absurd (let wrong = is in cc)
+traits_at n place path told old [] (answer ∷ answers) new done good asks is = absurd done
+traits_at n place path told old (line ∷ lines) [] new done good asks is = absurd done
+traits_at zero place path told old (line ∷ lines) (answer ∷ answers) new done good asks is =
+    let read : reading_of line ≡ Ok (trait_items place path) = ap reading_of (first_of asks.is) ∙ asks.read in
+    let here = trait_within done.0 (nat_le (length line) LINE_LIMIT) line read (subst (λ (r : Reply). AnswersInput old line r done.0) (first_of is) done.1) in
+    record {
+      session = here.at;
+      is = here.before;
+      grown = here.grown;
+      is_grown = here.after;
+      grows = here.grows;
+      stands = trait_stands here.at place path here.id told here.grown (good here.at here.before) here.found here.is;
+    }
+traits_at (suc n) place path told old (line ∷ lines) (answer ∷ answers) new done good asks is =
+    let rest = traits_at n place path told done.0 lines answers new done.2 (good_next line answer good done.1)
+    (record { line = asks.line; is = asks.is; read = asks.read }) is in
+    record { session = rest.session; is = rest.is; grown = rest.grown; is_grown = rest.is_grown; grows = rest.grows; stands = rest.stands }
+
+-- the items of the impls of each number
+impls_at : (n : ℕ) (place : PlaceValue) (number : ℕ) (told : Items) (old : MachineState) (lines : List (List ℕ)) (answers : List Reply) (new : MachineState)
+    (done : AnswersLines old lines answers new)
+    → IsGood old → AsksImplItems lines n place number → slice_get answers n ≡ Some (reply.Items told) → AreOfImpl old lines answers new done n place number told
+impls_at n place number told old [] [] new done good asks is = absurd (let wrong = is in cc)
+impls_at n place number told old [] (answer ∷ answers) new done good asks is = absurd done
+impls_at n place number told old (line ∷ lines) [] new done good asks is = absurd done
+impls_at zero place number told old (line ∷ lines) (answer ∷ answers) new done good asks is =
+    let read : reading_of line ≡ Ok (impl_items place number) = ap reading_of (first_of asks.is) ∙ asks.read in
+    let here = impl_within done.0 (nat_le (length line) LINE_LIMIT) line read (subst (λ (r : Reply). AnswersInput old line r done.0) (first_of is) done.1) in
+    record {
+      session = here.at;
+      is = here.before;
+      grown = here.grown;
+      is_grown = here.after;
+      grows = here.grows;
+      stands = impl_stands here.at place number here.id told here.grown (good here.at here.before) here.found here.is;
+    }
+impls_at (suc n) place number told old (line ∷ lines) (answer ∷ answers) new done good asks is =
+    let rest = impls_at n place number told done.0 lines answers new done.2 (good_next line answer good done.1)
+    (record { line = asks.line; is = asks.is; read = asks.read }) is in
+    record { session = rest.session; is = rest.is; grown = rest.grown; is_grown = rest.is_grown; grows = rest.grows; stands = rest.stands }
 
 -- where what is behind a place was as it is in a session, it is so up to a number, or a line before altered a key that was asked for
 record IsKeptUpTo (from : SessionState) (id : MapId) (old : MachineState) (lines : List (List ℕ)) (answers : List Reply) (new : MachineState)
@@ -336,6 +390,8 @@ pub headline : RunsBindFromSources → PathsAnswerFromSources → PathsLeadToWha
 headline runs paths leads lines answers last done = record {
   stands = λ n query answer asks told. stands_at runs paths leads n query answer first_state lines answers last done good_first asks told;
   tells = λ n krate told asks is. told_at runs paths leads n krate told first_state lines answers last done good_first asks is;
+  lists_traits = λ n place path told asks is. traits_at n place path told first_state lines answers last done good_first asks is;
+  lists_impls = λ n place number told asks is. impls_at n place number told first_state lines answers last done good_first asks is;
   differ =
       λ m n query one other low first second told again. differ_at runs paths leads m n query one other first_state lines answers last done good_first low first
       second told again;

@@ -10,14 +10,15 @@ use Rattle.hir_session_state.specs.Refusals.{first_out_of_order, is_too_deep, is
 use Rattle.hir_session_state.proofs.Truth.{on_bool}
 use Rattle.hir_session_sources.proofs.Start.{begins_sound}
 use Rattle.hir_session_machine.specs.Machine.{MachineState, Moves, AnswersCommand, AnswersLine}
-use Rattle.hir_session_machine.specs.Machine.Moves.{applies, refuses, refreshes, refreshes_partly, resolves, tells, shows, shows_none, dumps, dumps_none, lists}
+use Rattle.hir_session_machine.specs.Machine.Moves.{applies, refuses, refreshes, refreshes_partly, resolves, tells, shows, shows_none, dumps, dumps_none}
+use Rattle.hir_session_machine.specs.Machine.Moves.{asks_for_trait, asks_for_impl, lists}
 use Rattle.hir_session_machine.specs.Machine.AnswersCommand.{finds_no_memory, begins, refuses_session, comes_too_soon, comes_too_late, calls}
 use Rattle.hir_session_machine.specs.Machine.AnswersLine.{finds_no_memory_for_line, reads_no_command, carries_out}
 use Rattle.hir_lines.specs.declared.open_line.TheConstants.{LINE_LIMIT}
 use Rattle.hir_session_machine.specs.AnsweredLines.{AnswersInput, AnswersWithin, AnswersLines}
 use Rattle.hir_session_answers.specs.Histories.{History}
 use Rattle.hir_session_machine.specs.MachineHistories.{HasBegun, LinesBeginHistories}
-use Rattle.hir_session_answers.specs.Histories.History.{none, edit, refresh}
+use Rattle.hir_session_answers.specs.Histories.History.{none, edit, refresh, numbers}
 
 -- one call lengthens the history, or changes nothing
 pub after_call : {from s t : SessionState} {c : CommandValue} {answer : Reply} → History from s → Moves s c answer t → History from t
@@ -31,6 +32,8 @@ after_call {from} h (shows krate path text is_tree same found told) = subst (λ 
 after_call {from} h (shows_none krate path why is_tree same refused told) = subst (λ (x : SessionState). History from x) (sym same) h
 after_call {from} h (dumps at text is_dump same found told) = subst (λ (x : SessionState). History from x) (sym same) h
 after_call {from} h (dumps_none at why is_dump same refused told) = subst (λ (x : SessionState). History from x) (sym same) h
+after_call h (asks_for_trait at path is_trait grown told) = numbers _ _ h grown
+after_call h (asks_for_impl at number is_impl grown told) = numbers _ _ h grown
 after_call {from} h (lists krate is_list same told) = subst (λ (x : SessionState). History from x) (sym same) h
 
 -- a session is there, and its history goes on
@@ -85,6 +88,7 @@ pub history_sound : {from to : SessionState} → IsSound from → History from t
 history_sound sound none = sound
 history_sound sound (edit mid to e earlier is) = is.sound
 history_sound sound (refresh mid to done earlier is) = is.sound
+history_sound sound (numbers mid to earlier grown) = grown.sound
 
 -- crates that are within the limits are few
 within_limits : (inputs : List CrateInputValue) → verdict_of_limits inputs ≡ Ok tt → length inputs ≤ 10000

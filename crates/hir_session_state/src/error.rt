@@ -1,5 +1,6 @@
 //! What the calls of a session are refused for, each in the order in which it is looked for.
 
+use hir_assoc_items::error::AssocItemsError;
 use hir_base::ast_id::{AstKind, SyntaxId};
 use hir_base::ids::Crate;
 use hir_base::limit::Limit;
@@ -54,6 +55,41 @@ pub enum QueryError {
     StalePlace,
     #[error("there is no such crate, module or block")]
     UnknownPlace,
+    #[error("out of memory")]
+    Memory,
+}
+
+/// Why the items of a trait aren't listed.
+#[derive(Clone, Copy, Debug, PartialEq, Eq, Drop, Error)]
+pub enum TraitItemsError {
+    /// What is kept of the place may be out of date.
+    #[error("what is kept of the place may be out of date")]
+    StalePlace,
+    #[error("there is no such crate, module or block")]
+    UnknownPlace,
+    /// The path names no trait, or goes on past one.
+    #[error("the path names no trait")]
+    NotATrait,
+    /// No number was left for a macro call or for what one expands to, or more items came up than are counted.
+    #[error("more macro calls or items came up than are counted")]
+    TooMany,
+    #[error("out of memory")]
+    Memory,
+}
+
+/// Why the items of an impl aren't listed.
+#[derive(Clone, Copy, Debug, PartialEq, Eq, Drop, Error)]
+pub enum ImplItemsError {
+    /// What is kept of the place may be out of date.
+    #[error("what is kept of the place may be out of date")]
+    StalePlace,
+    #[error("there is no such crate, module or block")]
+    UnknownPlace,
+    #[error("the module has no impl of that number")]
+    NoSuchImpl,
+    /// No number was left for a macro call or for what one expands to, or more items came up than are counted.
+    #[error("more macro calls or items came up than are counted")]
+    TooMany,
     #[error("out of memory")]
     Memory,
 }
@@ -178,6 +214,58 @@ impl From<AllocError> for QueryError {
 
     fn from(_: AllocError) -> QueryError {
         QueryError::Memory
+    }
+}
+
+impl From<AllocError> for TraitItemsError {
+    ghost use Rattle.std.specs.Prelude.{◌≡◌};
+    ghost use Rattle.hir_session_state.specs.declared.error.TraitItemsError.TheVariants.{Memory};
+
+    ghost from_gives = { λ _ e. e ≡ Memory };
+
+    fn from(_: AllocError) -> TraitItemsError {
+        TraitItemsError::Memory
+    }
+}
+
+impl From<AssocItemsError> for TraitItemsError {
+    ghost use Rattle.std.specs.Prelude.{◌≡◌};
+    ghost use Rattle.hir_session_state.specs.Refusals.{trait_items_error_of};
+
+    ghost from_gives = { λ error e. e ≡ trait_items_error_of error };
+
+    fn from(error: AssocItemsError) -> TraitItemsError {
+        match error {
+            AssocItemsError::TooMany => TraitItemsError::TooMany,
+            // The maps of a session were made over its own tables, so that no source is unknown.
+            AssocItemsError::UnknownSource | AssocItemsError::Memory => TraitItemsError::Memory,
+        }
+    }
+}
+
+impl From<AllocError> for ImplItemsError {
+    ghost use Rattle.std.specs.Prelude.{◌≡◌};
+    ghost use Rattle.hir_session_state.specs.declared.error.ImplItemsError.TheVariants.{Memory};
+
+    ghost from_gives = { λ _ e. e ≡ Memory };
+
+    fn from(_: AllocError) -> ImplItemsError {
+        ImplItemsError::Memory
+    }
+}
+
+impl From<AssocItemsError> for ImplItemsError {
+    ghost use Rattle.std.specs.Prelude.{◌≡◌};
+    ghost use Rattle.hir_session_state.specs.Refusals.{impl_items_error_of};
+
+    ghost from_gives = { λ error e. e ≡ impl_items_error_of error };
+
+    fn from(error: AssocItemsError) -> ImplItemsError {
+        match error {
+            AssocItemsError::TooMany => ImplItemsError::TooMany,
+            // The maps of a session were made over its own tables, so that no source is unknown.
+            AssocItemsError::UnknownSource | AssocItemsError::Memory => ImplItemsError::Memory,
+        }
     }
 }
 

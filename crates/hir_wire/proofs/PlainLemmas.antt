@@ -9,8 +9,8 @@ use Rattle.serde_json.specs.Written.{has_float, items_have_float, members_have_f
 use Rattle.hir_base.specs.Place.{PlaceValue}
 use Rattle.hir_base.specs.Types.{PlaceElement}
 use Rattle.hir_base.specs.declared.place.PlaceElement.TheVariants as element
-use Rattle.hir_wire.specs.Types.{Answer, AnswerItem, AnswerVisibility, CalledItem, Definition, Diagnostic, DiagnosticKind, ImportOrigin, ImportSource}
-use Rattle.hir_wire.specs.Types.{ItemSource, Reply, SourceCall, SourceCallKind, SourceItem, SourceRoot}
+use Rattle.hir_wire.specs.Types.{Answer, AnswerItem, AnswerVisibility, AssocItem, CalledItem, Definition, Diagnostic, DiagnosticKind, ImportOrigin}
+use Rattle.hir_wire.specs.Types.{ImportSource, ItemSource, Items, Reply, SourceCall, SourceCallKind, SourceItem, SourceRoot}
 use Rattle.hir_wire.specs.Types.call
 use Rattle.hir_wire.specs.Types.definition
 use Rattle.hir_wire.specs.Types.diagnostic
@@ -18,9 +18,9 @@ use Rattle.hir_wire.specs.Types.origin
 use Rattle.hir_wire.specs.Types.reply
 use Rattle.hir_wire.specs.Types.root
 use Rattle.hir_wire.specs.Types.visibility
-use Rattle.hir_wire.specs.Replies.{element_data, place_data, root_data, call_data, call_members, source_data, definition_data, origin_data, import_data}
-use Rattle.hir_wire.specs.Replies.{or_null, visibility_data, item_data, item_members, number_data, answer_data, called_data, diagnostic_data}
-use Rattle.hir_wire.specs.Replies.{diagnostic_members, reply_data, source_item_members}
+use Rattle.hir_wire.specs.Replies.{assoc_item_data, element_data, place_data, root_data, call_data, call_members, source_data, definition_data, origin_data}
+use Rattle.hir_wire.specs.Replies.{import_data, or_null, visibility_data, item_data, item_members, number_data, answer_data, called_data, diagnostic_data}
+use Rattle.hir_wire.specs.Replies.{diagnostic_members, items_data, reply_data, source_item_members}
 
 neither : (a b : Bool) → a ≡ false → b ≡ false → (a || b) ≡ false
 neither a b p q = ap (λ x. x || b) p ∙ q
@@ -126,12 +126,30 @@ plain_diagnostics [] = refl
 plain_diagnostics (d ∷ ds) =
     neither (has_float (diagnostic_data d)) _ (plain_kind d.kind (definition_data d.in_module) (plain_definition d.in_module)) (plain_diagnostics ds)
 
+plain_called_items : (cs : List CalledItem) → items_have_float (items_of (map called_data cs)) ≡ false
+plain_called_items [] = refl
+plain_called_items (c ∷ cs) = neither (has_float (called_data c)) _ (plain_called c) (plain_called_items cs)
+
+plain_assoc_item : (i : AssocItem) → has_float (assoc_item_data i) ≡ false
+plain_assoc_item i = neither (members_have_float (source_item_members i.def)) false (plain_source_item i.def) refl
+
+plain_assoc_items : (is : List AssocItem) → items_have_float (items_of (map assoc_item_data is)) ≡ false
+plain_assoc_items [] = refl
+plain_assoc_items (i ∷ is) = neither (has_float (assoc_item_data i)) _ (plain_assoc_item i) (plain_assoc_items is)
+
+plain_items : (i : Items) → has_float (items_data i) ≡ false
+plain_items i =
+    neither (items_have_float (items_of (map called_data i.calls))) _ (plain_called_items i.calls)
+    (neither (items_have_float (items_of (map diagnostic_data i.diagnostics))) _ (plain_diagnostics i.diagnostics)
+    (neither (items_have_float (items_of (map assoc_item_data i.items))) false (plain_assoc_items i.items) refl))
+
 pub plain_reply : (r : Reply) → has_float (reply_data r) ≡ false
 plain_reply reply.Done = refl
 plain_reply (reply.Places places) = neither (items_have_float (items_of (map place_data places))) false (plain_places places) refl
 plain_reply (reply.Answer answer) = neither (has_float (answer_data answer)) false (plain_answer answer) refl
 plain_reply (reply.Status status) = refl
 plain_reply (reply.Diagnostics diagnostics) = neither (items_have_float (items_of (map diagnostic_data diagnostics))) false (plain_diagnostics diagnostics) refl
+plain_reply (reply.Items held) = neither (has_float (items_data held)) false (plain_items held) refl
 plain_reply (reply.Text text) = refl
 plain_reply reply.Json = refl
 plain_reply reply.Command = refl

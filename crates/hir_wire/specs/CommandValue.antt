@@ -34,6 +34,10 @@ pub data CommandValue : Type 0 where
   edit : EditValue → CommandValue
   refresh : CommandValue
   resolve : PlaceValue → Path → Shadow → Option MacroStyle → CommandValue
+  -- of a trait, by a path
+  trait_items : PlaceValue → Path → CommandValue
+  -- of an impl, by its number
+  impl_items : PlaceValue → ℕ → CommandValue
   dump : PlaceValue → CommandValue
   status : PlaceValue → CommandValue
   -- of a crate
@@ -47,6 +51,8 @@ command_view (command.Crates inputs) = crates (map crate_input_view inputs.items
 command_view (command.Edit e) = edit (edit_view e)
 command_view command.Refresh = refresh
 command_view (command.Resolve at path shadow sub) = resolve at path shadow sub
+command_view (command.TraitItems at path) = trait_items at path
+command_view (command.ImplItems at number) = impl_items at number
 command_view (command.Dump at) = dump at
 command_view (command.Status at) = status at
 command_view (command.Diagnostics krate) = diagnostics krate

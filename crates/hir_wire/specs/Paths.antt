@@ -97,6 +97,10 @@ id_of d = option_and_then id_of_items (as_array d)
 abbrev pub id_meant : Data → Reading SyntaxId
 id_meant d = formed (id_of d)
 
+-- a value as a number of 32 bits
+abbrev pub number_of : Data → Reading ℕ
+number_of d = formed (natural_of 32 d)
+
 -- a value as a crate's number
 abbrev pub crate_of : Data → Reading Crate
 crate_of d = formed (option_map (λ n. record { 0 = n }) (natural_of 32 d))
