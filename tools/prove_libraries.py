@@ -1,8 +1,8 @@
 #!/usr/bin/env python3
 """Proves each library by itself with `rt ci NAME`, as many at a time as --jobs says (2).
 
-A library starts once those that it stands on have ended, and of those that can start the one that the longest chain stands on
-comes first. What stands on one that failed is left out. `rt ci` fails too then, and says why; so this prints a line a library,
+A library starts once those that it stands on have been proved, and of those that can start the one that the longest chain stands
+on comes first. The must-fail edits of a library are tried beside those that stand on it. What stands on one that failed is left out. `rt ci` fails too then, and says why; so this prints a line a library,
 and ends with 0.
 """
 import argparse
@@ -51,13 +51,17 @@ def chains(uses):
     return {name: chain(name) for name in uses}
 
 
-def prove(name):
-    """Whether it passed."""
+def prove(name, proved):
+    """Whether it passed. Calls `proved` as soon as it is kept, before its must-fail edits are tried."""
     started = time.monotonic()
-    ended = subprocess.run(["rt", "ci", name], cwd=TOP, stdout=subprocess.PIPE, stderr=subprocess.STDOUT, text=True)
-    said = ended.stdout.strip().rsplit("\n", 1)[-1]
+    with subprocess.Popen(["rt", "ci", name], cwd=TOP, stdout=subprocess.PIPE, stderr=subprocess.STDOUT, text=True) as running:
+        said = ""
+        for line in running.stdout:
+            said = line.strip() or said
+            if f"{name}: trying its must-fail edits" in line:
+                proved()
     print(f"{name}: {time.monotonic() - started:.0f} seconds; {said}", flush=True)
-    return ended.returncode == 0
+    return running.returncode == 0
 
 
 def main():
@@ -69,6 +73,11 @@ def main():
     left, passed, running = set(uses), set(), set()
     changed = threading.Condition()
 
+    def end(name):
+        with changed:
+            passed.add(name)
+            changed.notify_all()
+
     def worker():
         while True:
             with changed:
@@ -79,12 +88,25 @@ def main():
                 name = max(ready, key=lambda it: (length[it], it))
                 left.remove(name)
                 running.add(name)
-            has_passed = prove(name)
+            replaced = []
+
+            def proved():
+                # another worker goes on beside the edits
+                if replaced:
+                    return
+                end(name)
+                replaced.append(threading.Thread(target=worker))
+                replaced[0].start()
+
+            has_passed = prove(name, proved)
             with changed:
                 running.remove(name)
-                if has_passed:
-                    passed.add(name)
                 changed.notify_all()
+            if has_passed:
+                end(name)
+            if replaced:
+                replaced[0].join()
+                return
 
     workers = [threading.Thread(target=worker) for _ in range(jobs)]
     for it in workers:
