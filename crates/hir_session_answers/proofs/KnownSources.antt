@@ -1,9 +1,12 @@
 -- The run for a place meets no unknown source: what is kept binds only what sources write that have numbers.
 use Rattle.std.specs.Prelude.{not}
 use Rattle.std.proofs.Common.{◌≡◌, ◌<◌, ℕ, suc, true, false, List, [], length, Option, Some, None, option_map, ap, refl, subst, arith, Contains}
-use Rattle.hir_base.specs.Types.{BlockId, Crate, MapId, ModuleId}
+use Rattle.hir_base.specs.declared.ast_id.BlockId.{BlockId}
+use Rattle.hir_base.specs.declared.ids.Crate.{Crate}
+use Rattle.hir_base.specs.declared.ids.MapId.{MapId}
+use Rattle.hir_base.specs.declared.ids.ModuleId.{ModuleId}
 use Rattle.hir_crate_graph.specs.CrateSet.{has_crate}
-use Rattle.hir_item_tree.specs.Types.{TreeKey}
+use Rattle.hir_item_tree.specs.declared.tree_id.TreeKey.{TreeKey}
 use Rattle.hir_tables.specs.Tables.{KeepsTables, TablesValue}
 use Rattle.hir_def_map.specs.Inner.PartLaws.{among-only}
 use Rattle.hir_def_map.specs.WorldParts.{among}
