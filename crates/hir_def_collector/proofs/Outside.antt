@@ -13,9 +13,7 @@ use Rattle.hir_def_map.specs.Scoping.Slots.{is_in}
 use Rattle.hir_def_map_laws.specs.ReadLaw.{BeginsOutside, KeepApart}
 use Rattle.hir_def_map_rules.specs.Overlay.{Maps}
 use Rattle.hir_def_map_rules.specs.State.{Local, at_name}
-use Rattle.hir_collector_rules.specs.Changes.{Change, act, adds_textual, awaits, begins_paths, changes_imports, defines, describes, ends, exports}
-use Rattle.hir_collector_rules.specs.Changes.{gives_variants, goes_on, helps, lists, lists_derive, makes, perform, reaches, settles, takes_textual, tells}
-use Rattle.hir_collector_rules.specs.Changes.{uses_macros}
+use Rattle.hir_collector_rules.specs.Changes.{Change, act, begins_paths, changes_imports, perform}
 use Rattle.hir_collector_rules.specs.Imports.{extern_by}
 use Rattle.hir_import_resolution.specs.Directives.{name_of}
 use Rattle.hir_collector_rules.specs.Keys.{Environment}
@@ -88,14 +86,15 @@ neither true b e = absurd cc
 found_outside : (own : MapId) (local : Local) (name : List ℕ) (entry : ModuleId × Option ExternCrateId) → begins_inside own local ≡ false → at_name local name
     ≡ Some entry → is_in own entry.0 ≡ false
 found_outside own [] name entry out found = absurd cc
-found_outside own (e ∷ es) name entry out found = go (is_at (slice_cmp nat_cmp name) e.0) found
+found_outside own (e ∷ es) name entry out found = go (is_at (slice_cmp nat_cmp name) e.0) (found_outside own es name entry both.1) found
   where
     both : (is_in own e.1.0 ≡ false) × (begins_inside own es ≡ false)
     both = neither (is_in own e.1.0) (begins_inside own es) out
 
-    go : (b : Bool) → cond b (Some e.1) (lookup (is_at (slice_cmp nat_cmp name)) es) ≡ Some entry → is_in own entry.0 ≡ false
-    go true here = let same : e.1 ≡ entry = cc in subst (λ (x : ModuleId × Option ExternCrateId). is_in own x.0 ≡ false) same both.0
-    go false later = found_outside own es name entry both.1 later
+    go : (b : Bool) → (at_name es name ≡ Some entry → is_in own entry.0 ≡ false)
+        → cond b (Some e.1) (lookup (is_at (slice_cmp nat_cmp name)) es) ≡ Some entry → is_in own entry.0 ≡ false
+    go true among here = let same : e.1 ≡ entry = cc in subst (λ (x : ModuleId × Option ExternCrateId). is_in own x.0 ≡ false) same both.0
+    go false among later = among later
 
 pub outside_by : (own : MapId) (local : Local) → begins_outside own local ≡ true → BeginsOutside own local
 outside_by own local h name entry e = go own.block refl

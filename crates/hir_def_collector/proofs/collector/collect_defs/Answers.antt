@@ -13,7 +13,7 @@ use Rattle.hir_collector_rules.specs.Derivation.{IsSpent, collected_view}
 use Rattle.hir_collector_rules.specs.Keys.{environment}
 use Rattle.hir_collector_rules.specs.ModuleFiles.{file_of_tree, is_file_meant}
 use Rattle.hir_collector_rules.specs.Moves.{OnceGrown}
-use Rattle.hir_collector_rules.specs.Start.{beginning, block_of, holders_by, id_of, krate_of, began}
+use Rattle.hir_collector_rules.specs.Start.{beginning, holders_by, id_of, krate_of}
 use Rattle.hir_collector_rules.specs.State.{at_rest, core_in}
 use Rattle.hir_collector_rules.specs.Steps.{Steps, none}
 use Rattle.hir_collector_rules.specs.UnknownSources.{LeadsToUnknownSource, of_file, of_macro}
@@ -24,7 +24,7 @@ use Rattle.hir_collector_rules.proofs.Changes.{id-Steps}
 use Rattle.hir_collector_rules.proofs.Derived.{begun, depends_on, ends_from}
 use Rattle.hir_collector_rules.proofs.Moves.{spent_after, unknown_after}
 use Rattle.hir_collector_rules.proofs.Numbers.{known_step, refused_step, tables_stay}
-use Rattle.hir_def_collector.proofs.Resolved.{apart, both_none, lacking, meant_by, no_map, not_lacking, unmeant_by, none_and}
+use Rattle.hir_def_collector.proofs.Resolved.{apart, lacking, meant_by, no_map, none_and, not_lacking, unmeant_by}
 use Rattle.hir_def_collector.proofs.collector.collect_defs.Goals as goal
 
 pub returns-in_err-run-clause-many : goal.returns-in_err-run-clause-many
