@@ -45,6 +45,8 @@ pub struct Parsed {
 }
 
 struct Sent {
+    /// The crate by whose options it was built: the first of which it is a file.
+    krate: u32,
     unit: Arc<Unit>,
     /// What stands in place of its calls, in their order.
     replaced: Vec<Arc<Unit>>,
@@ -313,20 +315,23 @@ impl Workspace {
         let mut asked: HashSet<String> = HashSet::new();
         for round in 1.. {
             let mut lines = Vec::new();
-            let due = std::mem::take(&mut walk);
+            let mut walked = std::mem::take(&mut walk);
+            let mut keys = self.keys_of(&walked);
             let mut pending = Vec::new();
-            on_a_thread(|| due.iter().try_for_each(|it| self.walk(*it, &mut lines, &mut pending)))?;
+            on_a_thread(|| walked.iter().try_for_each(|it| self.walk(*it, &mut lines, &mut pending)))?;
             let changed = self.leave_out(&mut lines);
             if !changed.is_empty() {
                 asked.clear();
-                let mut more = changed.iter().filter(|it| !due.contains(it));
-                on_a_thread(|| more.try_for_each(|it| self.walk(*it, &mut lines, &mut pending)))?;
+                let more: Vec<u32> = changed.into_iter().filter(|it| !walked.contains(it)).collect();
+                on_a_thread(|| more.iter().try_for_each(|it| self.walk(*it, &mut lines, &mut pending)))?;
+                walked.extend(more);
             }
             for (krate, key, expansion) in pending {
                 self.set_expansion(krate, key, &expansion, &mut lines);
             }
-            self.build_files(&mut lines)?;
-            self.set_blocks(&mut lines);
+            keys.extend(self.keys_of(&walked));
+            let built = self.build_files(keys, &mut lines)?;
+            self.set_blocks(&walked, &built, &mut lines);
             self.hand_in(lines)?;
             let reply = self.program.ask("{\"do\":\"refresh\"}".to_owned())?;
             let Some(places) = reply["ok"].as_array() else {
@@ -459,7 +464,8 @@ impl Workspace {
         }
         let (path, unit, text, given) = (parsed.path.clone(), parsed.unit.clone(), parsed.text, parsed.given);
         let (replaced, with_blocks) = (sent.replaced.clone(), sent.with_blocks.clone());
-        let sent = Sent { unit: unit.clone(), replaced, with_blocks, left_out, built: Arc::new(built), blocks };
+        let krate = sent.krate;
+        let sent = Sent { krate, unit: unit.clone(), replaced, with_blocks, left_out, built: Arc::new(built), blocks };
         self.sent.insert(key.clone(), sent);
         self.parsed.insert(key.clone(), Arc::new(Parsed { path, unit, error: None, text, given }));
         true
@@ -501,6 +507,11 @@ impl Workspace {
         lines.extend(self.expansions.values().map(|it| it.line.clone()));
         lines.push("{\"do\":\"refresh\"}".to_owned());
         lines
+    }
+
+    /// The number of the program's process.
+    pub fn program_id(&self) -> u32 {
+        self.program.id()
     }
 
     /// Whether the program runs.
