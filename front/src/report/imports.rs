@@ -164,7 +164,7 @@ impl Workspace {
             within.extend(holders.flat_map(|it| it.0.split("::")));
         }
         let builtin = BUILTIN_TYPES.iter().copied().filter(|it| within.contains(it));
-        let declared = self.type_names().map(|it| &**it).filter(|it| within.contains(it));
+        let declared = within.iter().copied().filter(|it| self.is_type_name(it));
         builtin.chain(declared).map(str::to_owned).collect()
     }
 

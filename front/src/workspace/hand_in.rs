@@ -129,7 +129,9 @@ impl Workspace {
                 continue;
             };
             let mut replaced = Vec::new();
-            replaced_in(&parsed.unit.items, &self.replaced, &mut replaced);
+            if !parsed.is_plain {
+                replaced_in(&parsed.unit.items, &self.replaced, &mut replaced);
+            }
             let with_blocks = self.states[krate].expansions_with_blocks.get(&key).unwrap_or(&none);
             let is_same = self.sent.get(&key).is_some_and(|it| {
                 Arc::ptr_eq(&it.unit, &parsed.unit)
@@ -161,6 +163,10 @@ impl Workspace {
             let left_out = left_out_of(&key, &self.states);
             let sent = Sent { krate, unit, replaced, with_blocks, left_out, built: built.clone(), blocks };
             let before = self.sent.insert(key.clone(), sent);
+            self.type_names.add(&built);
+            if let Some(it) = &before {
+                self.type_names.remove(&it.built);
+            }
             if !before.is_some_and(|it| it.built.json == built.json) {
                 lines.push(set_file(&key, &built.json));
             }
