@@ -222,6 +222,8 @@ fn namespaces(kind: &str, is_import: bool) -> &'static [&'static str] {
 
 fn main() -> Result<ExitCode> {
     let cli = Cli::parse();
+    // The packages are read by the same Cargo.
+    std::env::set_var("CARGO", &cli.cargo);
     let target = cli.path.join("target/compare");
     std::fs::create_dir_all(&target)?;
     let target = target.canonicalize()?;

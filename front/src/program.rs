@@ -60,6 +60,11 @@ impl Program {
         Ok(Program { path: path.to_owned(), child, input, output, answered: 0 })
     }
 
+    /// The number of the process.
+    pub fn id(&self) -> u32 {
+        self.child.id()
+    }
+
     /// Whether the process hasn't ended.
     pub fn is_running(&mut self) -> bool {
         matches!(self.child.try_wait(), Ok(None))

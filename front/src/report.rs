@@ -409,5 +409,3 @@ impl Texts {
         it.text(&text.lines().collect::<Vec<_>>(), colored)
     }
 }
-
-impl Workspace {}

@@ -70,6 +70,16 @@ pub struct Node {
     pub is_associated: bool,
 }
 
+impl Node {
+    /// The leaves of an import, none of another node.
+    pub fn leaves(&self) -> &[Leaf] {
+        match &self.detail {
+            Detail::Use(leaves) => leaves,
+            _ => &[],
+        }
+    }
+}
+
 /// A unit as it is handed in, and its nodes.
 #[derive(Clone, Default, Debug)]
 pub struct Built {
@@ -78,6 +88,10 @@ pub struct Built {
     /// In the order in which they are written.
     pub nodes: Vec<Node>,
     by_id: HashMap<(&'static str, Id), usize>,
+    /// Which nodes are imports.
+    uses: Vec<usize>,
+    /// The names of its types, and those that its imports give to anything.
+    type_names: Vec<Arc<str>>,
 }
 
 impl Built {
@@ -87,16 +101,27 @@ impl Built {
         self.by_id.get(&(*kind, id)).map(|at| &self.nodes[*at])
     }
 
+    /// Its imports, each with its leaves.
+    pub fn uses(&self) -> impl Iterator<Item = (&Node, &[Leaf])> {
+        self.uses.iter().map(|at| {
+            let node = &self.nodes[*at];
+            (node, node.leaves())
+        })
+    }
+
     /// The names of its types, and those that its imports give to anything.
-    pub fn type_names(&self) -> impl Iterator<Item = &Arc<str>> {
+    pub fn type_names(&self) -> &[Arc<str>] {
+        &self.type_names
+    }
+
+    /// Notes what is asked of all nodes time and again.
+    fn note(&mut self) {
         let is_type = |it: &&Node| matches!(it.kind, "Struct" | "Union" | "Enum" | "Trait" | "TypeAlias");
         let types = self.nodes.iter().filter(is_type).map(|it| &it.name);
-        let leaves = self.nodes.iter().flat_map(|it| match &it.detail {
-            Detail::Use(leaves) => &leaves[..],
-            _ => &[],
-        });
         let is_alias = |leaf: &&Leaf| leaf.binds.as_deref() != leaf.path.rsplit("::").next();
-        types.chain(leaves.filter(is_alias).filter_map(|it| it.binds.as_ref()))
+        let leaves = self.nodes.iter().flat_map(Node::leaves).filter(is_alias);
+        self.type_names = types.chain(leaves.filter_map(|it| it.binds.as_ref())).cloned().collect();
+        self.uses = (0..self.nodes.len()).filter(|it| matches!(self.nodes[*it].detail, Detail::Use(_))).collect();
     }
 }
 
@@ -172,6 +197,7 @@ fn build_at(unit: &Unit, options: &Options, replaced: Replaced, left_out: Derive
     builder.made.json.push_str(",\"nodes\":");
     builder.list(&unit.items);
     builder.made.json.push('}');
+    builder.made.note();
     builder.made
 }
 

@@ -7,6 +7,7 @@ mod files;
 mod hand_in;
 mod left_out;
 mod places;
+mod type_names;
 mod walk;
 
 use std::collections::{BTreeMap, HashMap, HashSet};
@@ -27,6 +28,7 @@ use files::parse;
 pub use files::{key_of, parse_text, path_of_key};
 use hand_in::{built_of, set_block, set_file};
 use left_out::left_out_of;
+use type_names::TypeNames;
 
 /// The text that the program knows a file by: its absolute path without the first `/`.
 pub type Key = Arc<str>;
@@ -42,9 +44,13 @@ pub struct Parsed {
     text: Hash,
     /// What its items have to do with builtin derives.
     given: Given,
+    /// Whether a walk passes its items over.
+    is_plain: bool,
 }
 
 struct Sent {
+    /// The crate by whose options it was built: the first of which it is a file.
+    krate: u32,
     unit: Arc<Unit>,
     /// What stands in place of its calls, in their order.
     replaced: Vec<Arc<Unit>>,
@@ -211,6 +217,8 @@ pub struct Workspace {
     elsewhere: HashMap<(String, &'static str, Hash), Arc<Unit>>,
     /// What these have to do with builtin derives.
     given_elsewhere: Given,
+    /// Of the files and expansions that were handed in.
+    type_names: TypeNames,
     crates_line: String,
     refused: Vec<(Key, String)>,
     /// Whether the program takes the blocks of bodies.
@@ -270,6 +278,7 @@ impl Workspace {
             not_run: HashMap::new(),
             elsewhere: HashMap::new(),
             given_elsewhere: Given::default(),
+            type_names: TypeNames::default(),
             crates_line: String::new(),
             refused: Vec::new(),
             takes_blocks: false,
@@ -313,20 +322,23 @@ impl Workspace {
         let mut asked: HashSet<String> = HashSet::new();
         for round in 1.. {
             let mut lines = Vec::new();
-            let due = std::mem::take(&mut walk);
+            let mut walked = std::mem::take(&mut walk);
+            let mut keys = self.keys_of(&walked);
             let mut pending = Vec::new();
-            on_a_thread(|| due.iter().try_for_each(|it| self.walk(*it, &mut lines, &mut pending)))?;
+            on_a_thread(|| walked.iter().try_for_each(|it| self.walk(*it, &mut lines, &mut pending)))?;
             let changed = self.leave_out(&mut lines);
             if !changed.is_empty() {
                 asked.clear();
-                let mut more = changed.iter().filter(|it| !due.contains(it));
-                on_a_thread(|| more.try_for_each(|it| self.walk(*it, &mut lines, &mut pending)))?;
+                let more: Vec<u32> = changed.into_iter().filter(|it| !walked.contains(it)).collect();
+                on_a_thread(|| more.iter().try_for_each(|it| self.walk(*it, &mut lines, &mut pending)))?;
+                walked.extend(more);
             }
             for (krate, key, expansion) in pending {
                 self.set_expansion(krate, key, &expansion, &mut lines);
             }
-            self.build_files(&mut lines)?;
-            self.set_blocks(&mut lines);
+            keys.extend(self.keys_of(&walked));
+            let built = self.build_files(keys, &mut lines)?;
+            self.set_blocks(&walked, &built, &mut lines);
             self.hand_in(lines)?;
             let reply = self.program.ask("{\"do\":\"refresh\"}".to_owned())?;
             let Some(places) = reply["ok"].as_array() else {
@@ -407,7 +419,9 @@ impl Workspace {
             let including: Vec<u32> = including.map(|it| it as u32).collect();
             if !including.is_empty() {
                 self.cache.retain(|_, it| it.1.file.as_ref() != Some(&key));
-                self.expansions.retain(|it, _| !it.contains("\"text\":\"builtin include\""));
+                let is_include = |it: &&String| it.contains("\"text\":\"builtin include\"");
+                let all: Vec<String> = self.expansions.keys().filter(is_include).cloned().collect();
+                all.iter().for_each(|it| self.remove_expansion(it));
                 crates.extend(including);
             }
             if is_there {
@@ -428,7 +442,9 @@ impl Workspace {
                 }
             }
             if !is_there {
-                self.sent.remove(&key);
+                if let Some(it) = self.sent.remove(&key) {
+                    self.type_names.remove(&it.built);
+                }
                 self.program.ask(format!("{{\"do\":\"remove file\",\"file\":{}}}", quoted(&key)))?;
             }
         }
@@ -458,10 +474,12 @@ impl Workspace {
             return false;
         }
         let (path, unit, text, given) = (parsed.path.clone(), parsed.unit.clone(), parsed.text, parsed.given);
+        let is_plain = parsed.is_plain;
         let (replaced, with_blocks) = (sent.replaced.clone(), sent.with_blocks.clone());
-        let sent = Sent { unit: unit.clone(), replaced, with_blocks, left_out, built: Arc::new(built), blocks };
+        let krate = sent.krate;
+        let sent = Sent { krate, unit: unit.clone(), replaced, with_blocks, left_out, built: Arc::new(built), blocks };
         self.sent.insert(key.clone(), sent);
-        self.parsed.insert(key.clone(), Arc::new(Parsed { path, unit, error: None, text, given }));
+        self.parsed.insert(key.clone(), Arc::new(Parsed { path, unit, error: None, text, given, is_plain }));
         true
     }
 
@@ -501,6 +519,11 @@ impl Workspace {
         lines.extend(self.expansions.values().map(|it| it.line.clone()));
         lines.push("{\"do\":\"refresh\"}".to_owned());
         lines
+    }
+
+    /// The number of the program's process.
+    pub fn program_id(&self) -> u32 {
+        self.program.id()
     }
 
     /// Whether the program runs.
@@ -550,10 +573,9 @@ impl Workspace {
         self.states[krate as usize].open.iter()
     }
 
-    /// The names of types that crates declare, and those that imports give to anything.
-    pub(crate) fn type_names(&self) -> impl Iterator<Item = &Arc<str>> {
-        let files = self.sent.values().map(|it| &it.built);
-        files.chain(self.expansions.values().map(|it| &it.built)).flat_map(|it| it.type_names())
+    /// Whether a crate declares a type of this name, or an import gives the name to something.
+    pub(crate) fn is_type_name(&self, name: &str) -> bool {
+        self.type_names.hold(name)
     }
 
     /// How often the program resolved a crate.

@@ -1,9 +1,9 @@
 //! Each command as one would call it, its output compared to the files in `expected/`. With the variable `UPDATE` set
 //! these files are written anew.
 
-use std::io::{BufRead, BufReader};
+use std::io::{BufRead, BufReader, Lines};
 use std::path::{Path, PathBuf};
-use std::process::{Command, Output, Stdio};
+use std::process::{Child, ChildStdout, Command, Output, Stdio};
 
 use tempfile::TempDir;
 
@@ -161,6 +161,21 @@ fn resolve_tells_what_a_path_names() {
     }
 }
 
+/// What the program answers to the lines of a session, one reply a line.
+fn replies_to(session: &str) -> Vec<serde_json::Value> {
+    let program = cargo_nogsimat::program::find(None).unwrap();
+    let mut child =
+        Command::new(program).stdin(Stdio::piped()).stdout(Stdio::piped()).spawn().expect("the program starts");
+    let mut input = child.stdin.take().unwrap();
+    let lines = session.to_owned();
+    // It answers while it is written to.
+    let writes = std::thread::spawn(move || std::io::Write::write_all(&mut input, lines.as_bytes()).unwrap());
+    let replies = text(&child.wait_with_output().unwrap().stdout);
+    writes.join().unwrap();
+    assert_eq!(replies.lines().count(), session.lines().count());
+    replies.lines().map(|it| serde_json::from_str(it).unwrap()).collect()
+}
+
 #[test]
 fn session_prints_what_the_program_is_given() {
     let folder = market();
@@ -169,33 +184,49 @@ fn session_prints_what_the_program_is_given() {
     let shown = steady(&session, folder.path());
     let files: Vec<&str> = shown.lines().filter(|it| it.starts_with("{\"do\":\"set file\",\"file\":\"DIR/")).collect();
     compare("session", &(files.join("\n") + "\n"));
-    let program = cargo_nogsimat::program::find(None).unwrap();
-    let mut child =
-        Command::new(program).stdin(Stdio::piped()).stdout(Stdio::piped()).spawn().expect("the program starts");
-    std::io::Write::write_all(&mut child.stdin.take().unwrap(), &session.stdout).unwrap();
-    let replies = text(&child.wait_with_output().unwrap().stdout);
-    assert_eq!(replies.lines().count(), text(&session.stdout).lines().count());
-    assert!(replies.lines().all(|it| it.starts_with("{\"ok\":")), "{replies}");
+    let replies = replies_to(&text(&session.stdout));
+    assert!(replies.iter().all(|it| it.get("ok").is_some()), "{replies:?}");
+}
+
+/// A `watch` that has begun. It ends with this.
+struct Watching {
+    child: Child,
+    lines: Lines<BufReader<ChildStdout>>,
+}
+
+impl Watching {
+    fn start(folder: &Path, words: &[&str]) -> Watching {
+        let mut child = command(folder, words).stdout(Stdio::piped()).stderr(Stdio::piped()).spawn().unwrap();
+        let mut told = BufReader::new(child.stderr.take().unwrap()).lines();
+        let lines = BufReader::new(child.stdout.take().unwrap()).lines();
+        assert!(told.next().unwrap().unwrap().starts_with("watching "));
+        Watching { child, lines }
+    }
+
+    /// What is told up to a line that holds a text.
+    fn until(&mut self, end: &str) -> String {
+        let mut all = Vec::new();
+        loop {
+            all.push(self.lines.next().unwrap().unwrap());
+            if all[all.len() - 1].contains(end) {
+                return all.join("\n");
+            }
+        }
+    }
+}
+
+impl Drop for Watching {
+    fn drop(&mut self) {
+        let _ = self.child.kill();
+        let _ = self.child.wait();
+    }
 }
 
 #[test]
 fn watch_tells_what_a_save_changes() {
     let folder = market();
-    let mut child =
-        command(folder.path(), &["watch", "--no-std"]).stdout(Stdio::piped()).stderr(Stdio::piped()).spawn().unwrap();
-    let mut told = BufReader::new(child.stderr.take().unwrap()).lines();
-    assert!(told.next().unwrap().unwrap().starts_with("watching "));
-    let mut lines = BufReader::new(child.stdout.take().unwrap()).lines();
-    let mut until = |end: &str| {
-        let mut all = Vec::new();
-        loop {
-            let line = lines.next().unwrap().unwrap();
-            all.push(line);
-            if all.last().unwrap().contains(end) {
-                return all.join("\n");
-            }
-        }
-    };
+    let mut watching = Watching::start(folder.path(), &["watch", "--no-std"]);
+    let mut until = |end: &str| watching.until(end);
     assert!(until("1 error in").contains("unresolved import `crate::price::Rebate`"));
     let price = folder.path().join("shop/src/price.rs");
     let before = std::fs::read_to_string(&price).unwrap();
@@ -214,8 +245,6 @@ fn watch_tells_what_a_save_changes() {
     // A file with a bracket too many.
     std::fs::write(&price, format!("{before}}}\n")).unwrap();
     assert!(until("resolved again").contains("this isn't Rust's syntax"));
-    child.kill().unwrap();
-    child.wait().unwrap();
 }
 
 #[test]
@@ -414,31 +443,42 @@ fn a_program_that_stops() {
 }
 
 /// Three crates of Debian whose macros define macros in textual scope.
-#[test]
-fn real_crates() {
-    let names = ["libc", "petgraph", "os_str_bytes"];
-    let is_there = |name: &&str| {
-        let found = std::fs::read_dir(REGISTRY).map(|mut all| {
-            all.any(|it| {
-                it.is_ok_and(|it| it.file_name().to_str().is_some_and(|it| it.starts_with(&format!("{name}-"))))
-            })
-        });
-        found.unwrap_or(false)
+const REAL: [&str; 3] = ["libc", "petgraph", "os_str_bytes"];
+
+/// The folder of a crate in Debian's registry.
+fn registered(name: &str) -> Option<PathBuf> {
+    let is_it = |it: &PathBuf| {
+        let folder = it.file_name().and_then(|it| it.to_str()).unwrap_or_default();
+        folder
+            .strip_prefix(name)
+            .is_some_and(|it| it.starts_with('-') && it[1..].starts_with(|it: char| it.is_ascii_digit()))
     };
-    if !names.iter().all(is_there) {
-        eprintln!("the crates libc, petgraph and os_str_bytes aren't in {REGISTRY}: not tried");
-        return;
+    std::fs::read_dir(REGISTRY).ok()?.filter_map(|it| Some(it.ok()?.path())).find(is_it)
+}
+
+/// A package that depends on the real crates. None where one of them isn't there.
+fn package_of_real() -> Option<TempDir> {
+    if !REAL.iter().all(|it| registered(it).is_some()) {
+        eprintln!("the crates {} aren't all in {REGISTRY}: not tried", REAL.join(", "));
+        return None;
     }
     let folder = package(&[("src/lib.rs", "")]);
     let manifest = folder.path().join("Cargo.toml");
-    let dependencies: String = names.iter().map(|it| format!("{it} = \"*\"\n")).collect();
+    let dependencies: String = REAL.iter().map(|it| format!("{it} = \"*\"\n")).collect();
     let before = std::fs::read_to_string(&manifest).unwrap();
     std::fs::write(&manifest, format!("{before}[dependencies]\n{dependencies}")).unwrap();
+    Some(folder)
+}
+
+#[test]
+fn check_and_resolve_in_real_crates() {
+    let Some(folder) = package_of_real() else {
+        return;
+    };
     let config = own("debian.toml");
     let more = ["--config", config.to_str().unwrap(), "--no-std"];
-    for name in names {
-        let made = run(folder.path(), &[&["check", "-p", name][..], &more].concat());
-        compare(&format!("real-{name}"), &steady(&made, folder.path()));
+    for name in REAL {
+        compare_run(&format!("real-{name}"), folder.path(), &[&["check", "-p", name][..], &more].concat());
     }
     for (name, path) in [
         ("libc", "libc::FD_SET"),
@@ -447,7 +487,93 @@ fn real_crates() {
         ("petgraph-trait", "petgraph::visit::IntoNeighbors"),
         ("os_str_bytes", "os_str_bytes::OsStrBytes"),
     ] {
-        let made = run(folder.path(), &[&["resolve", path][..], &more].concat());
-        compare(&format!("real-resolve-{name}"), &steady(&made, folder.path()));
+        compare_run(&format!("real-resolve-{name}"), folder.path(), &[&["resolve", path][..], &more].concat());
+    }
+}
+
+/// In what a macro call is given, in a type, in an import, in a body with items of its own, and in another body.
+#[test]
+fn where_in_real_crates() {
+    let Some(folder) = package_of_real() else {
+        return;
+    };
+    let config = own("debian.toml");
+    for (name, krate, place) in [
+        ("libc-call", "libc", "src/unix/linux_like/mod.rs:1502:42"),
+        ("libc-type", "libc", "src/unix/linux_like/mod.rs:208:24"),
+        ("petgraph-import", "petgraph", "src/algo/mod.rs:24:19"),
+        ("petgraph-block", "petgraph", "src/algo/mod.rs:202:10"),
+        ("os_str_bytes-body", "os_str_bytes", "src/lib.rs:314:14"),
+    ] {
+        let place = format!("{}/{place}", registered(krate).unwrap().display());
+        let words =
+            ["where", &place, "--manifest-path", "Cargo.toml", "--no-std", "--config", config.to_str().unwrap()];
+        compare_run(&format!("real-where-{name}"), folder.path(), &words);
+    }
+}
+
+/// How many commands of each kind the session of a real crate has, and what the program says of its crate at the end.
+#[test]
+fn sessions_of_real_crates() {
+    let Some(folder) = package_of_real() else {
+        return;
+    };
+    let config = own("debian.toml");
+    for name in REAL {
+        let words = ["session", "-p", name, "--no-std", "--config", config.to_str().unwrap()];
+        let made = run(folder.path(), &words);
+        assert!(made.status.success(), "{}", text(&made.stderr));
+        let lines: Vec<serde_json::Value> =
+            text(&made.stdout).lines().map(|it| serde_json::from_str(it).unwrap()).collect();
+        let mut counts = std::collections::BTreeMap::new();
+        for it in &lines {
+            *counts.entry(it["do"].as_str().unwrap()).or_insert(0) += 1;
+        }
+        let krate = lines[0]["crates"].as_array().unwrap().len() - 1;
+        let session = format!("{}{{\"do\":\"diagnostics\",\"crate\":{krate}}}\n", text(&made.stdout));
+        let replies = replies_to(&session);
+        assert!(replies.iter().all(|it| it.get("ok").is_some()), "{name}");
+        let mut told = std::collections::BTreeMap::new();
+        for it in replies.last().unwrap()["ok"].as_array().unwrap() {
+            *told.entry(it["kind"].as_str().unwrap()).or_insert(0) += 1;
+        }
+        let rows = |all: &std::collections::BTreeMap<&str, i32>| -> String {
+            all.iter().map(|(name, count)| format!("{name}: {count}\n")).collect()
+        };
+        compare(&format!("real-session-{name}"), &format!("{}\nthe program tells\n{}", rows(&counts), rows(&told)));
+    }
+}
+
+/// An import that isn't there comes into a copy of each crate, and goes.
+#[test]
+fn watch_in_real_crates() {
+    if !REAL.iter().all(|it| registered(it).is_some()) {
+        eprintln!("the crates {} aren't all in {REGISTRY}: not tried", REAL.join(", "));
+        return;
+    }
+    let config = own("debian.toml");
+    for name in REAL {
+        let folder = TempDir::new().unwrap();
+        copy(&registered(name).unwrap(), &folder.path().join(name));
+        let manifest = format!(
+            "[package]\nname = \"one\"\nversion = \"0.1.0\"\n[workspace]\nexclude = [\"{name}\"]\n[dependencies]\n{name} = {{ path = \"{name}\" }}\n"
+        );
+        std::fs::write(folder.path().join("Cargo.toml"), manifest).unwrap();
+        std::fs::create_dir(folder.path().join("src")).unwrap();
+        std::fs::write(folder.path().join("src/lib.rs"), "").unwrap();
+        let words = ["watch", "-p", name, "--no-std", "--config", config.to_str().unwrap()];
+        let mut watching = Watching::start(folder.path(), &words);
+        watching.until(&format!("all names resolved in {name} ("));
+        let root = folder.path().join(name).join("src/lib.rs");
+        let before = std::fs::read_to_string(&root).unwrap();
+        std::fs::write(&root, format!("{before}\nuse crate::no_such_module::Nothing;\n")).unwrap();
+        let line = before.lines().count() + 2;
+        let made = watching.until("; 1 error");
+        assert!(made.contains("unresolved import `crate::no_such_module::Nothing`"), "{made}");
+        assert!(made.contains(&format!("{name}/src/lib.rs:{line}:5")), "{made}");
+        assert!(made.contains(&format!("resolved again: {name} (")), "{made}");
+        std::fs::write(&root, &before).unwrap();
+        let made = watching.until("; 0 errors");
+        assert!(made.contains(&format!("gone: {name}/src/lib.rs:{line}:5")), "{made}");
     }
 }

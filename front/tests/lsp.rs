@@ -251,6 +251,11 @@ fn cancelled_requests() {
 }
 
 #[test]
+fn messages_out_of_order() {
+    assert_eq!(run("order"), 0);
+}
+
+#[test]
 fn answers_at_places() {
     assert_eq!(run("answers"), 1);
 }

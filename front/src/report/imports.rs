@@ -73,10 +73,7 @@ impl Workspace {
         for krate in due.iter().copied() {
             let is_old = self.crates.all[krate as usize].edition == "2015";
             for (key, module) in self.files(krate) {
-                for node in self.built(key).map_or(&[][..], |it| &it.nodes) {
-                    let Detail::Use(leaves) = &node.detail else {
-                        continue;
-                    };
+                for (node, leaves) in self.built(key).into_iter().flat_map(|it| it.uses()) {
                     for leaf in leaves.iter().filter(|it| it.binds.as_deref() == Some("*")) {
                         let mut at = module.clone();
                         at.extend(node.modules.iter().map(|it| it.to_string()));
@@ -115,10 +112,7 @@ impl Workspace {
             let mut asks = Vec::new();
             let mut leaves_of = Vec::new();
             for (key, module) in self.files(krate) {
-                for node in self.built(key).map_or(&[][..], |it| &it.nodes) {
-                    let Detail::Use(leaves) = &node.detail else {
-                        continue;
-                    };
+                for (node, leaves) in self.built(key).into_iter().flat_map(|it| it.uses()) {
                     for (at, leaf) in leaves.iter().enumerate() {
                         let Some((holder, _)) = leaf.path.rsplit_once("::").filter(|it| it.1 != "*") else {
                             continue;
@@ -165,14 +159,12 @@ impl Workspace {
     /// The names within paths of a crate's imports that a type may have.
     pub(super) fn types_in_imports(&self, krate: u32) -> HashSet<String> {
         let mut within: HashSet<&str> = HashSet::new();
-        for node in self.files(krate).iter().filter_map(|it| self.built(&it.0)).flat_map(|it| &it.nodes) {
-            if let Detail::Use(leaves) = &node.detail {
-                let holders = leaves.iter().filter_map(|it| it.path.rsplit_once("::"));
-                within.extend(holders.flat_map(|it| it.0.split("::")));
-            }
+        for (_, leaves) in self.files(krate).iter().filter_map(|it| self.built(&it.0)).flat_map(|it| it.uses()) {
+            let holders = leaves.iter().filter_map(|it| it.path.rsplit_once("::"));
+            within.extend(holders.flat_map(|it| it.0.split("::")));
         }
         let builtin = BUILTIN_TYPES.iter().copied().filter(|it| within.contains(it));
-        let declared = self.type_names().map(|it| &**it).filter(|it| within.contains(it));
+        let declared = within.iter().copied().filter(|it| self.is_type_name(it));
         builtin.chain(declared).map(str::to_owned).collect()
     }
 

@@ -91,8 +91,18 @@ impl Workspace {
         let error = expansion.error.as_ref().map_or(String::new(), |it| format!(",\"error\":{}", quoted(it)));
         let line = format!("{{\"do\":\"set expansion\",\"key\":{key},\"unit\":{}{error}}}", built.json);
         lines.push(line.clone());
-        self.expansions.insert(key, SentExpansion { built: built.clone(), line, state });
+        self.type_names.add(&built);
+        if let Some(it) = self.expansions.insert(key, SentExpansion { built: built.clone(), line, state }) {
+            self.type_names.remove(&it.built);
+        }
         built
+    }
+
+    /// Gives up what a key expands to.
+    pub(super) fn remove_expansion(&mut self, key: &str) {
+        if let Some(it) = self.expansions.remove(key) {
+            self.type_names.remove(&it.built);
+        }
     }
 
     pub(super) fn expand(

@@ -53,7 +53,7 @@ pub(super) fn parse(path: &Path, key: &Key) -> Result<Parsed> {
 
 pub(super) fn broken(path: &Path, error: SyntaxError, text: Hash) -> Parsed {
     let given = Given::default();
-    Parsed { path: path.to_owned(), unit: Arc::default(), error: Some(error), text, given }
+    Parsed { path: path.to_owned(), unit: Arc::default(), error: Some(error), text, given, is_plain: true }
 }
 
 /// What stands in the text of a file.
@@ -62,11 +62,21 @@ pub fn parse_text(path: &Path, key: &Key, text: &str) -> Parsed {
     let made = on_a_thread(|| tokens_of(text).and_then(|it| unit_of(&it, Hash::default().with(key))));
     match made {
         Ok(unit) => {
-            let given = Given::by(&unit.items);
-            Parsed { path: path.to_owned(), unit: Arc::new(unit), error: None, text: hash, given }
+            let (given, is_plain) = (Given::by(&unit.items), unit.items.iter().all(is_plain));
+            Parsed { path: path.to_owned(), unit: Arc::new(unit), error: None, text: hash, given, is_plain }
         }
         Err(error) => broken(path, error, hash),
     }
+}
+
+/// Whether an item holds no other modules, macros, calls or blocks that a walk goes through.
+fn is_plain(item: &Item) -> bool {
+    let inner = match &item.kind {
+        ItemKind::Macro(_) | ItemKind::Module(_) | ItemKind::Call(_) | ItemKind::ExternBlock(_) => return false,
+        ItemKind::Trait(inner) | ItemKind::Impl { items: inner, .. } => &inner[..],
+        _ => &[],
+    };
+    item.blocks.is_empty() && inner.iter().all(|it| it.blocks.is_empty())
 }
 
 /// Does the work for each on as many threads as there are cores, at most four.

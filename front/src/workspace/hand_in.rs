@@ -9,7 +9,7 @@ use serde_json::{json, Value};
 use super::expanded::Expanded;
 use super::files::{key_of, on_threads};
 use super::left_out::left_out_of;
-use super::{Key, Sent, SentBlock, Workspace};
+use super::{CrateState, Key, Sent, SentBlock, Workspace};
 use crate::cfg::Options;
 use crate::program::MOST_BYTES;
 use crate::syntax::{Block, Call, Item, ItemKind, Unit};
@@ -106,30 +106,42 @@ impl Workspace {
         Ok(())
     }
 
-    /// Adds the commands for the files whose unit is another than the one that was handed in.
-    pub(super) fn build_files(&mut self, lines: &mut Vec<String>) -> Result<()> {
+    /// The files of these crates.
+    pub(super) fn keys_of(&self, crates: &[u32]) -> Vec<Key> {
+        crates.iter().flat_map(|it| &self.states[*it as usize].files).map(|it| it.0.clone()).collect()
+    }
+
+    /// Adds the commands for those of these files whose unit is another than the one that was handed in. Answers the
+    /// files that were built.
+    pub(super) fn build_files(&mut self, keys: Vec<Key>, lines: &mut Vec<String>) -> Result<HashSet<Key>> {
         let mut work: Vec<(Key, u32, Vec<Arc<Unit>>)> = Vec::new();
         let none = Vec::new();
         let mut seen = HashSet::new();
         let same =
             |a: &[Arc<Unit>], b: &[Arc<Unit>]| a.len() == b.len() && a.iter().zip(b).all(|(a, b)| Arc::ptr_eq(a, b));
-        for (number, state) in self.states.iter().enumerate() {
-            for (key, _) in &state.files {
-                if seen.insert(key.clone()) {
-                    let parsed = &self.parsed[key];
-                    let mut replaced = Vec::new();
-                    replaced_in(&parsed.unit.items, &self.replaced, &mut replaced);
-                    let with_blocks = state.expansions_with_blocks.get(key).unwrap_or(&none);
-                    let is_same = self.sent.get(key).is_some_and(|it| {
-                        Arc::ptr_eq(&it.unit, &parsed.unit)
-                            && it.left_out == left_out_of(key, &self.states)
-                            && same(&it.replaced, &replaced)
-                            && same(&it.with_blocks, with_blocks)
-                    });
-                    if !is_same {
-                        work.push((key.clone(), number as u32, replaced));
-                    }
-                }
+        for key in keys {
+            if !seen.insert(key.clone()) {
+                continue;
+            }
+            // One that is a file of none any more stays as it is.
+            let krate = self.states.iter().position(|it| it.places.contains_key(&key));
+            let (Some(krate), Some(parsed)) = (krate, self.parsed.get(&key)) else {
+                continue;
+            };
+            let mut replaced = Vec::new();
+            if !parsed.is_plain {
+                replaced_in(&parsed.unit.items, &self.replaced, &mut replaced);
+            }
+            let with_blocks = self.states[krate].expansions_with_blocks.get(&key).unwrap_or(&none);
+            let is_same = self.sent.get(&key).is_some_and(|it| {
+                Arc::ptr_eq(&it.unit, &parsed.unit)
+                    && it.krate as usize == krate
+                    && it.left_out == left_out_of(&key, &self.states)
+                    && same(&it.replaced, &replaced)
+                    && same(&it.with_blocks, with_blocks)
+            });
+            if !is_same {
+                work.push((key, krate as u32, replaced));
             }
         }
         let (all, parsed, replaced, takes_blocks) = (&self.crates.all, &self.parsed, &self.replaced, self.takes_blocks);
@@ -144,44 +156,65 @@ impl Workspace {
             }
             (Arc::new(built), blocks)
         });
+        let mut changed = HashSet::new();
         for ((key, krate, replaced), (built, blocks)) in work.into_iter().zip(made) {
             let unit = self.parsed[&key].unit.clone();
             let with_blocks = self.states[krate as usize].expansions_with_blocks.get(&key).cloned().unwrap_or_default();
             let left_out = left_out_of(&key, &self.states);
-            let sent = Sent { unit, replaced, with_blocks, left_out, built: built.clone(), blocks };
+            let sent = Sent { krate, unit, replaced, with_blocks, left_out, built: built.clone(), blocks };
             let before = self.sent.insert(key.clone(), sent);
-            if before.is_some_and(|it| it.built.json == built.json) {
-                continue;
+            self.type_names.add(&built);
+            if let Some(it) = &before {
+                self.type_names.remove(&it.built);
             }
-            lines.push(set_file(&key, &built.json));
+            if !before.is_some_and(|it| it.built.json == built.json) {
+                lines.push(set_file(&key, &built.json));
+            }
+            changed.insert(key);
         }
-        Ok(())
+        Ok(changed)
     }
 
-    /// Adds the commands for the blocks that are others than those that were handed in.
-    pub(super) fn set_blocks(&mut self, lines: &mut Vec<String>) {
+    /// Adds the commands for the blocks that are others than those that were handed in, of the crates that were walked, and
+    /// of those with a file that was built.
+    pub(super) fn set_blocks(&mut self, walked: &[u32], built: &HashSet<Key>, lines: &mut Vec<String>) {
         if !self.takes_blocks {
             return;
         }
-        let mut now: BTreeMap<String, SentBlock> = BTreeMap::new();
-        for (krate, state) in self.states.iter().enumerate() {
+        let has_built = |it: &CrateState| built.iter().any(|key| it.places.contains_key(key));
+        let due: Vec<bool> =
+            self.states.iter().zip(0..).map(|(it, krate)| walked.contains(&krate) || has_built(it)).collect();
+        let (before, mut now): (BTreeMap<_, _>, BTreeMap<_, _>) =
+            std::mem::take(&mut self.blocks).into_iter().partition(|it| due[it.1.krate as usize]);
+        let mut places = Vec::new();
+        for (krate, state) in self.states.iter().enumerate().filter(|it| due[it.0]) {
             let krate = krate as u32;
             for (file, module) in &state.files {
+                let blocks = self.sent.get(file).map_or(&[][..], |it| &it.blocks);
+                if blocks.is_empty() {
+                    continue;
+                }
                 let module = steps_of(module);
-                for (number, block) in self.sent.get(file).map_or(&[][..], |it| &it.blocks).iter().enumerate() {
+                for (number, block) in blocks.iter().enumerate() {
                     let place = place_json(krate, &[&module[..], &block.steps].concat());
                     let (file, built) = (file.clone(), block.built.clone());
-                    now.entry(place).or_insert(SentBlock { krate, file, number, built, is_refused: false });
+                    now.entry(place.clone()).or_insert(SentBlock { krate, file, number, built, is_refused: false });
+                    places.push(place);
                 }
             }
         }
-        for place in self.blocks.keys().filter(|it| !now.contains_key(*it)) {
+        for place in before.keys().filter(|it| !now.contains_key(*it)) {
             lines.push(format!("{{\"do\":\"remove block\",\"at\":{place}}}"));
         }
-        for (place, block) in &mut now {
-            match self.blocks.get(place).filter(|it| it.built.json == block.built.json) {
+        places.sort_unstable();
+        places.dedup();
+        for place in places {
+            let Some(block) = now.get_mut(&place) else {
+                continue;
+            };
+            match before.get(&place).filter(|it| it.built.json == block.built.json) {
                 Some(before) => block.is_refused = before.is_refused,
-                None => lines.push(set_block(place, &block.built.json)),
+                None => lines.push(set_block(&place, &block.built.json)),
             }
         }
         self.blocks = now;

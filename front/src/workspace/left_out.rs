@@ -93,7 +93,7 @@ impl Workspace {
             let left: Vec<String> = self.expansions.keys().filter(is_left).cloned().collect();
             for key in left {
                 lines.push(format!("{{\"do\":\"remove expansion\",\"key\":{key}}}"));
-                self.expansions.remove(&key);
+                self.remove_expansion(&key);
             }
         }
         changed

@@ -86,7 +86,7 @@ impl Walk<'_> {
             return;
         };
         self.files.push((key.clone(), place.to_vec()));
-        if is_enabled(&parsed.unit.attributes, self.options()) {
+        if !parsed.is_plain && is_enabled(&parsed.unit.attributes, self.options()) {
             let chain = std::mem::take(&mut self.chain);
             let (depth, is_elsewhere) = (self.depth, self.is_elsewhere);
             (self.depth, self.is_elsewhere) = (0, false);
@@ -415,7 +415,7 @@ impl Workspace {
         let left: Vec<String> = self.expansions.keys().filter(is_left).cloned().collect();
         for key in left {
             lines.push(format!("{{\"do\":\"remove expansion\",\"key\":{key}}}"));
-            self.expansions.remove(&key);
+            self.remove_expansion(&key);
         }
         for it in files.iter().filter_map(|it| self.parsed.get(&it.0)) {
             given = given.and(it.given);
