@@ -1,5 +1,5 @@
 -- The call of a `derive` gets a number, its paths wait, and it is noted.
-use Rattle.std.proofs.Common.{◌∙◌, ◌<◌, ap, length, subst, sym}
+use Rattle.std.proofs.Common.{rules, ◌∙◌, ◌<◌, ap, length, subst, sym}
 use Rattle.hir_collector_rules.specs.Invocations.{derive_met, with_noted}
 use Rattle.hir_collector_rules.specs.State.{Core, with_map}
 use Rattle.hir_collector_state.proofs.Noted.{noted_follow}
@@ -21,3 +21,7 @@ returns-clause-ok c = record {
 
 pub returns-clause-noted : goal.returns-clause-noted
 returns-clause-noted c = noted_follow c.in_ok-await_derives.ensures.noted c.in_ok-note_derive.ensures.noted
+
+-- no number is left
+pub returns-in_err-call-clause-many : goal.returns-in_err-call-clause-many
+returns-in_err-call-clause-many c = λ h. c.in_err-call.ensures.many (search rules)
