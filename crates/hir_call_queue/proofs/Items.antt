@@ -8,13 +8,13 @@ use Rattle.std.specs.BTreeMap.{is_at}
 use Rattle.std.specs.Ordering.{is_eq}
 use Rattle.std.specs.Prelude.{not}
 use Rattle.hir_base.specs.contracts.ast_id.AstIdOrd.TheImpl.Laws.{total-law as item_total}
-use Rattle.hir_base.specs.Types.{AstId}
+use Rattle.hir_base.specs.declared.ast_id.AstId.{AstId}
 use Rattle.hir_worklist.proofs.Idle.{idle-woken}
 use Rattle.hir_worklist.proofs.Settled.{is_watching-equal}
 use Rattle.hir_worklist.specs.Moves.{Wakes}
 use Rattle.hir_worklist.specs.Queue.{IsIdle, Queue}
 use Rattle.hir_worklist.specs.Watching.{Forgets, Watches}
-use Rattle.hir_worklist.specs.Types.{Watchers}
+use Rattle.hir_worklist.specs.declared.watchers.Watchers.{Watchers}
 use Rattle.hir_call_queue.specs.Changes.{is_one_of, item_cmp}
 use Rattle.hir_call_queue.specs.Waking.{KeepsItems, WakesItems, more, none, watches_item}
 

@@ -2,7 +2,7 @@
 use Rattle.std.proofs.Common.{◌≡◌, ◌∙◌, ap, sym, subst, ℕ, ◌==◌, Bool, true, false, ◌||◌, List, Option, None, Some, refl, arith}
 use Rattle.std.proofs.lemmas.Bool.Decides.{nat_tests}
 use Rattle.std.specs.List.{All}
-use Rattle.hir_base.specs.Types.{AstId}
+use Rattle.hir_base.specs.declared.ast_id.AstId.{AstId}
 use Rattle.hir_def_map.specs.contracts.nameres.path_resolution.slots.SlotOrd.TheImpl.Laws.{total-law as slot_total}
 use Rattle.hir_def_map.specs.declared.nameres.path_resolution.slots.Slot.{Slot as PathSlot}
 use Rattle.hir_worklist.proofs.Idle.{idle-woken}
@@ -10,7 +10,7 @@ use Rattle.hir_worklist.proofs.Settled.{IsUnread}
 use Rattle.hir_worklist.specs.Moves.{Wakes}
 use Rattle.hir_worklist.specs.Queue.{IsIdle, Queue, is_among}
 use Rattle.hir_worklist.specs.Settling.{AreSettled, WatchesEach}
-use Rattle.hir_worklist.specs.Types.{Watchers}
+use Rattle.hir_worklist.specs.declared.watchers.Watchers.{Watchers}
 use Rattle.hir_import_resolution.specs.Inner.Queue.{IsSamePass, KeepsWatched, WakesEach, more, none, slot_cmp}
 use Rattle.hir_import_resolution.proofs.Waking.{pass_woken, same_pass, woken_settled}
 use Rattle.hir_call_queue.specs.Changes.{ChangedValue, IsThere}

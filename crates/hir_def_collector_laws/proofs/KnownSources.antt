@@ -2,10 +2,12 @@
 use Rattle.std.specs.Prelude.{◌≡◌, List, Bool, true, false, is_some, not, Option, Some, None, cond, option_map}
 use Rattle.std.proofs.Common.{ap, refl, subst, arith}
 use mathlib.Core.Bool.{true≢false}
-use Rattle.hir_base.specs.Types.{MacroId, ModuleId}
+use Rattle.hir_base.specs.declared.macro_kind.MacroId.{MacroId}
+use Rattle.hir_base.specs.declared.ids.ModuleId.{ModuleId}
 use Rattle.hir_base.specs.declared.macro_kind.MacroId.TheVariants as macros
 use Rattle.hir_scope.specs.PerNs.{Item}
-use Rattle.hir_scope.specs.Types.{ImportOrExternCrate, PerNs}
+use Rattle.hir_scope.specs.declared.imports.ImportOrExternCrate.{ImportOrExternCrate}
+use Rattle.hir_scope.specs.declared.per_ns.PerNs.{PerNs}
 use Rattle.hir_tables.specs.Tables.{TablesValue, source_under}
 use Rattle.hir_def_map_rules.specs.Closed.{PathsLeadToWhatIsThere}
 use Rattle.hir_def_map_rules.specs.Overlay.{Maps, overlay}
@@ -15,7 +17,8 @@ use Rattle.hir_def_map_rules.specs.State.{numbered}
 use Rattle.hir_def_map_rules.specs.WellFormed.{AreWellFormed}
 use Rattle.hir_def_map_rules.proofs.NoneOf.{not_first}
 use Rattle.hir_def_map_rules.proofs.StaysSourced.{HoldsNowhere-overlay}
-use Rattle.hir_collector_rules.specs.Types.{MacroDirective, MacroDirectiveKind}
+use Rattle.hir_collector_rules.specs.declared.macro_directive.MacroDirective.{MacroDirective}
+use Rattle.hir_collector_rules.specs.declared.macro_directive.MacroDirectiveKind.{MacroDirectiveKind}
 use Rattle.hir_collector_rules.specs.declared.source_database.Key.TheVariants as keys
 use Rattle.hir_collector_rules.specs.Calls.{by_style, called_macro, macro_among, path_of_call, style_of, suited, suits}
 use Rattle.hir_collector_rules.specs.Keys.{IsMeant, environment}

@@ -3,12 +3,18 @@ use Rattle.std.specs.Prelude.{is_none, if◌then◌else◌}
 use Rattle.std.proofs.Common.{◌≡◌, ◌∙◌, ap, sym, subst, refl, ℕ, Bool, true, false, nat_lt, List, length, Option, Some, None, Result, Ok, Err}
 use Rattle.hir_base.specs.ModPath.{Path}
 use Rattle.hir_base.specs.Place.{PlaceValue}
-use Rattle.hir_base.specs.Types.{Crate, MapId, ModuleId}
+use Rattle.hir_base.specs.declared.ids.Crate.{Crate}
+use Rattle.hir_base.specs.declared.ids.MapId.{MapId}
+use Rattle.hir_base.specs.declared.ids.ModuleId.{ModuleId}
 use Rattle.hir_def_collector_laws.specs.Sources.{RunsBindFromSources}
 use Rattle.hir_def_map_rules.specs.Closed.{PathsLeadToWhatIsThere}
 use Rattle.hir_def_map_rules.specs.Overlay.{overlay}
 use Rattle.hir_def_map_rules.specs.Sources.{PathsAnswerFromSources}
-use Rattle.hir_wire.specs.Types.{Answer, Diagnostic, MacroStyle, Shadow, Status}
+use Rattle.hir_wire.specs.declared.answer.Answer.{Answer}
+use Rattle.hir_wire.specs.declared.diagnostic.Diagnostic.{Diagnostic}
+use Rattle.hir_wire.specs.declared.command.MacroStyle.{MacroStyle}
+use Rattle.hir_wire.specs.declared.command.Shadow.{Shadow}
+use Rattle.hir_wire.specs.declared.reply.Status.{Status}
 use Rattle.hir_wire.specs.declared.reply.Status.TheVariants as status
 use Rattle.hir_session_state.specs.Crates.{id_of}
 use Rattle.hir_session_state.specs.Due.{Grows}
@@ -16,7 +22,8 @@ use Rattle.hir_session_state.specs.Kept.{finished_by, kept_in}
 use Rattle.hir_session_state.specs.SessionState.{SessionState, Resolution, is_marked, kept_of, module_of, read_of, standing_of, IsSound}
 use Rattle.hir_session_state.specs.Standing.{Standing, map_by, module_by}
 use Rattle.hir_session_state.specs.Standing.Standing.{at, lacks, stale, unset}
-use Rattle.hir_session_state.specs.Types.{DiagnosticsError, QueryError}
+use Rattle.hir_session_state.specs.declared.error.DiagnosticsError.{DiagnosticsError}
+use Rattle.hir_session_state.specs.declared.error.QueryError.{QueryError}
 use Rattle.hir_session_state.specs.declared.error.DiagnosticsError.TheVariants as diagnostics_error
 use Rattle.hir_session_state.proofs.Truth.{one_value}
 use Rattle.hir_session_answers.specs.Answers.{answer_by, answer_kept, answer_of}

@@ -2,13 +2,19 @@
 use Rattle.std.specs.Prelude.{is_some, not}
 use Rattle.std.proofs.Common.{◌≡◌, ◌<◌, ℕ, suc, true, false, List, [], length, Option, Some, None, option_map, ap, refl, subst, arith, Contains}
 use Rattle.hir_base.specs.Ids.{container_module}
-use Rattle.hir_base.specs.Types.{BlockId, Crate, ItemContainerId, MacroId, MapId, ModuleId}
+use Rattle.hir_base.specs.declared.ast_id.BlockId.{BlockId}
+use Rattle.hir_base.specs.declared.ids.Crate.{Crate}
+use Rattle.hir_base.specs.declared.ids.ItemContainerId.{ItemContainerId}
+use Rattle.hir_base.specs.declared.macro_kind.MacroId.{MacroId}
+use Rattle.hir_base.specs.declared.ids.MapId.{MapId}
+use Rattle.hir_base.specs.declared.ids.ModuleId.{ModuleId}
 use Rattle.hir_base.specs.declared.macro_kind.MacroId.TheVariants as macros
 use Rattle.hir_base.specs.declared.resolve_mode.MacroSubNs.TheVariants as sub_namespaces
 use Rattle.hir_crate_graph.specs.CrateSet.{has_crate}
-use Rattle.hir_item_tree.specs.Types.{TreeKey}
+use Rattle.hir_item_tree.specs.declared.tree_id.TreeKey.{TreeKey}
 use Rattle.hir_scope.specs.PerNs.{Item}
-use Rattle.hir_scope.specs.Types.{ImportOrExternCrate, PerNs}
+use Rattle.hir_scope.specs.declared.imports.ImportOrExternCrate.{ImportOrExternCrate}
+use Rattle.hir_scope.specs.declared.per_ns.PerNs.{PerNs}
 use Rattle.hir_tables.specs.Tables.{KeepsTables, TablesValue, source_under}
 use Rattle.hir_def_map.specs.Inner.PartLaws.{among-only}
 use Rattle.hir_def_map.specs.WorldParts.{among}

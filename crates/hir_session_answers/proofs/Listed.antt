@@ -3,15 +3,19 @@ use Rattle.std.specs.Prelude.{cond, is_none, slice_get}
 use Rattle.std.proofs.Common.{◌≡◌, ◌∙◌, ap, sym, refl, ℕ, Bool, true, false, Option, Some, None, Result, Ok, Err}
 use Rattle.hir_base.specs.ModPath.{Path}
 use Rattle.hir_base.specs.Place.{PlaceValue}
-use Rattle.hir_base.specs.Types.{ImplId, ModuleId, TraitId}
+use Rattle.hir_base.specs.declared.ids.ImplId.{ImplId}
+use Rattle.hir_base.specs.declared.ids.ModuleId.{ModuleId}
+use Rattle.hir_base.specs.declared.ids.TraitId.{TraitId}
 use Rattle.hir_def_map_rules.specs.Overlay.{overlay}
 use Rattle.hir_def_map_rules.specs.Scoping.{resolution_of}
 use Rattle.hir_wire.specs.declared.command.Shadow.TheVariants as shadow
-use Rattle.hir_wire.specs.Types.{Items, Status}
+use Rattle.hir_wire.specs.declared.items.Items.{Items}
+use Rattle.hir_wire.specs.declared.reply.Status.{Status}
 use Rattle.hir_wire.specs.declared.reply.Status.TheVariants as status
 use Rattle.hir_session_state.specs.Kept.{Resolutions, kept_in}
 use Rattle.hir_session_state.specs.SessionState.{SessionState, Resolution, kept_of, module_of, read_of, IsSound}
-use Rattle.hir_session_state.specs.Types.{ImplItemsError, TraitItemsError}
+use Rattle.hir_session_state.specs.declared.error.ImplItemsError.{ImplItemsError}
+use Rattle.hir_session_state.specs.declared.error.TraitItemsError.{TraitItemsError}
 use Rattle.hir_session_answers.specs.Answers.{asking_of}
 use Rattle.hir_session_answers.specs.AssocItems.{ListsImpl, ListsTrait, impl_asked, impl_at, impl_by, impl_from, impl_kept, impls_of, trait_asked, trait_at}
 use Rattle.hir_session_answers.specs.AssocItems.{trait_by, trait_from, trait_kept, trait_named}

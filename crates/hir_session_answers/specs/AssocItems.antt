@@ -4,8 +4,19 @@ use Rattle.std.specs.List.{filter_map}
 use Rattle.std.specs.Option.{option_and_then}
 use Rattle.hir_base.specs.ModPath.{Path}
 use Rattle.hir_base.specs.Place.{PlaceValue}
-use Rattle.hir_base.specs.Types.{AssocItemId, AstId, AstKind, BlockId, HirFileId, ImplId, ItemContainerId, MacroCallId, MapId, ModuleDefId, ModuleId, SyntaxId}
-use Rattle.hir_base.specs.Types.{TraitId}
+use Rattle.hir_base.specs.declared.ids.AssocItemId.{AssocItemId}
+use Rattle.hir_base.specs.declared.ast_id.AstId.{AstId}
+use Rattle.hir_base.specs.declared.ast_id.AstKind.{AstKind}
+use Rattle.hir_base.specs.declared.ast_id.BlockId.{BlockId}
+use Rattle.hir_base.specs.declared.ast_id.HirFileId.{HirFileId}
+use Rattle.hir_base.specs.declared.ids.ImplId.{ImplId}
+use Rattle.hir_base.specs.declared.ids.ItemContainerId.{ItemContainerId}
+use Rattle.hir_base.specs.declared.ast_id.MacroCallId.{MacroCallId}
+use Rattle.hir_base.specs.declared.ids.MapId.{MapId}
+use Rattle.hir_base.specs.declared.ids.ModuleDefId.{ModuleDefId}
+use Rattle.hir_base.specs.declared.ids.ModuleId.{ModuleId}
+use Rattle.hir_base.specs.declared.ast_id.SyntaxId.{SyntaxId}
+use Rattle.hir_base.specs.declared.ids.TraitId.{TraitId}
 use Rattle.hir_base.specs.declared.ast_id.AstKind.TheVariants as kind
 use Rattle.hir_base.specs.declared.ids.AssocItemId.TheVariants as assoc
 use Rattle.hir_base.specs.declared.ids.ItemContainerId.TheVariants as container
@@ -17,16 +28,22 @@ use Rattle.hir_tables.specs.Tables.{TablesValue}
 use Rattle.hir_def_map_rules.specs.Overlay.{Maps, overlay}
 use Rattle.hir_def_map_rules.specs.Scoping.{resolution_of}
 use Rattle.hir_def_map_rules.specs.State.{Map, scope_at}
-use Rattle.hir_def_map_rules.specs.Types.{ResolvePathResult}
+use Rattle.hir_def_map_rules.specs.declared.path_result.ResolvePathResult.{ResolvePathResult}
 use Rattle.hir_collector_rules.specs.Keys.{environment}
 use Rattle.hir_assoc_items.specs.AssocItems.{FlattensTo, IsTooMany, ListingValue, container_of, items_written}
 use Rattle.hir_assoc_items.specs.Written.{WrittenValue}
 use Rattle.hir_wire.specs.declared.answer.SourceCallKind.TheVariants as call
-use Rattle.hir_wire.specs.Types.{AssocItem, CalledItem, ItemSource, Items, SourceItem, Status}
+use Rattle.hir_wire.specs.declared.items.AssocItem.{AssocItem}
+use Rattle.hir_wire.specs.declared.diagnostic.CalledItem.{CalledItem}
+use Rattle.hir_wire.specs.declared.answer.ItemSource.{ItemSource}
+use Rattle.hir_wire.specs.declared.items.Items.{Items}
+use Rattle.hir_wire.specs.declared.answer.SourceItem.{SourceItem}
+use Rattle.hir_wire.specs.declared.reply.Status.{Status}
 use Rattle.hir_wire.specs.declared.answer.SourceKind.TheVariants as source
 use Rattle.hir_wire.specs.declared.command.Shadow.TheVariants as shadow
 use Rattle.hir_wire.specs.declared.reply.Status.TheVariants as status
-use Rattle.hir_session_state.specs.Types.{ImplItemsError, TraitItemsError}
+use Rattle.hir_session_state.specs.declared.error.ImplItemsError.{ImplItemsError}
+use Rattle.hir_session_state.specs.declared.error.TraitItemsError.{TraitItemsError}
 use Rattle.hir_session_state.specs.declared.error.ImplItemsError.TheVariants as impl_error
 use Rattle.hir_session_state.specs.declared.error.TraitItemsError.TheVariants as trait_error
 use Rattle.hir_session_state.specs.Kept.{Resolutions, kept_in}

@@ -2,14 +2,16 @@
 use Rattle.std.proofs.Common.{◌≡◌, inl, inr, subst, ℕ, Bool, true, false, List, Some, Ok}
 use Rattle.hir_base.specs.ModPath.{Path}
 use Rattle.hir_base.specs.Place.{PlaceValue}
-use Rattle.hir_base.specs.Types.{ImplId, TraitId}
+use Rattle.hir_base.specs.declared.ids.ImplId.{ImplId}
+use Rattle.hir_base.specs.declared.ids.TraitId.{TraitId}
 use Rattle.hir_wire.specs.CommandValue.{CommandValue, impl_items, trait_items}
 use Rattle.hir_wire.specs.Commands.{reading_of}
-use Rattle.hir_wire.specs.Types.{Items}
+use Rattle.hir_wire.specs.declared.items.Items.{Items}
 use Rattle.hir_wire.specs.declared.reply.Reply.TheVariants as reply
 use Rattle.hir_session_state.specs.Due.{Grows}
 use Rattle.hir_session_state.specs.SessionState.{SessionState}
-use Rattle.hir_session_state.specs.Types.{ImplItemsError, TraitItemsError}
+use Rattle.hir_session_state.specs.declared.error.ImplItemsError.{ImplItemsError}
+use Rattle.hir_session_state.specs.declared.error.TraitItemsError.{TraitItemsError}
 use Rattle.hir_session_state.specs.declared.error.ImplItemsError.TheVariants as impl_error
 use Rattle.hir_session_state.specs.declared.error.TraitItemsError.TheVariants as trait_error
 use Rattle.hir_session_answers.specs.AssocItems.{ListsImpl, ListsTrait, impl_at, trait_at}

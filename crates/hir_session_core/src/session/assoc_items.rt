@@ -4,7 +4,8 @@
 //! such a query changes.
 ghost use Rattle.std.specs.Prelude.{◌≡◌, ◌≢◌, ◌<◌, ◌⊎◌, false, is_none, length, Some, IfOk, IfErr, Ok, Err};
 ghost use Rattle.hir_base.specs.declared.ast_id.AstKind.TheVariants as kind;
-ghost use Rattle.hir_base.specs.Types.{ImplId, TraitId};
+ghost use Rattle.hir_base.specs.declared.ids.ImplId.{ImplId};
+ghost use Rattle.hir_base.specs.declared.ids.TraitId.{TraitId};
 ghost use Rattle.hir_base.specs.declared.ids.ItemContainerId.TheVariants as container;
 ghost use Rattle.hir_assoc_items.specs.AssocItems.{items_written, listing_of};
 ghost use Rattle.hir_def_map.specs.DefMaps.{maps_of};

@@ -1,7 +1,7 @@
 use Rattle.std.proofs.Common.{drop}
-use Rattle.hir_base.specs.Types.{AstId}
+use Rattle.hir_base.specs.declared.ast_id.AstId.{AstId}
 use Rattle.hir_worklist.specs.Queue.{Queue}
-use Rattle.hir_worklist.specs.Types.{Watchers}
+use Rattle.hir_worklist.specs.declared.watchers.Watchers.{Watchers}
 use Rattle.hir_import_resolution.specs.Inner.Queue.{IsSamePass}
 use Rattle.hir_call_queue.specs.Waking.{KeepsQueued, WakesItems}
 use Rattle.hir_call_queue.proofs.queue.wake_items.Given as goal

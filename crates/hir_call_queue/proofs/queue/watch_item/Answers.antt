@@ -1,6 +1,6 @@
 -- The item is watched besides, if there is one.
 use Rattle.std.proofs.Common.{◌≡◌, true, subst}
-use Rattle.hir_base.specs.Types.{AstId}
+use Rattle.hir_base.specs.declared.ast_id.AstId.{AstId}
 use Rattle.hir_call_queue.proofs.Items.{items_besides, watches_its_item}
 use Rattle.hir_call_queue.specs.Waking.{watches_item}
 use Rattle.hir_call_queue.proofs.queue.watch_item.Goals as goal

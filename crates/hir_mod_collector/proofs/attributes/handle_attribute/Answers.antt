@@ -3,9 +3,9 @@ use Rattle.std.proofs.Common.{rules, ◌≡◌, ◌∙◌, ◌+◌, ◌≤◌, �
 use Rattle.hir_item_tree.specs.Collected.{numbered}
 use Rattle.hir_item_tree.specs.KeptForest.{all_items}
 use Rattle.hir_item_tree.specs.SourceTree.{SourceTreeValue}
-use Rattle.hir_item_tree.specs.Types.{Attr}
+use Rattle.hir_item_tree.specs.declared.attrs.Attr.{Attr}
 use Rattle.hir_tables.specs.Tables.{KeepsTables, TablesValue}
-use Rattle.hir_collector_rules.specs.Types.{WaitingItem}
+use Rattle.hir_collector_rules.specs.declared.macro_directive.WaitingItem.{WaitingItem}
 use Rattle.hir_collector_rules.specs.declared.start.TheConstants.{STEP_LIMIT}
 use Rattle.hir_collector_rules.specs.Calls.{AreCallsPlaced, item_kept}
 use Rattle.hir_collector_rules.specs.Attributes.{attr_id, is_derive}

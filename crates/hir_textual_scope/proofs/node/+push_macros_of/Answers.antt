@@ -1,5 +1,5 @@
 use Rattle.std.proofs.Common.{◌≡◌, List, ◌∷◌, ◌++◌, length-append, arith, ap, sym, ◌∙◌, subst, length, OnOk}
-use Rattle.hir_base.specs.Types.{MacroId}
+use Rattle.hir_base.specs.declared.macro_kind.MacroId.{MacroId}
 use Rattle.hir_textual_scope.specs.Node.{macros_under}
 use Rattle.hir_textual_scope.specs.Macros.{IsInOrder}
 use Rattle.hir_textual_scope.proofs.NameOrder.{IsInOrder-left, IsInOrder-right}

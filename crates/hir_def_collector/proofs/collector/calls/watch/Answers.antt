@@ -1,9 +1,9 @@
 -- A call that reaches no macro watches what it has read.
 use Rattle.std.proofs.Common.{◌∙◌, ◌≡◌, ℕ, ap, subst, List, Option, length}
-use Rattle.hir_base.specs.Types.{AstId}
+use Rattle.hir_base.specs.declared.ast_id.AstId.{AstId}
 use Rattle.hir_def_map_rules.specs.State.{Map}
 use Rattle.hir_def_map.specs.WorldParts.{part_of}
-use Rattle.hir_def_map.specs.Types.{Slot}
+use Rattle.hir_def_map.specs.declared.nameres.path_resolution.slots.Slot.{Slot}
 use Rattle.hir_call_queue.proofs.Woken.{goes_on_itself}
 use Rattle.hir_call_queue.specs.Waking.{IsWatching}
 use Rattle.hir_collector_rules.specs.Calls.{IsWaiting}

@@ -3,7 +3,7 @@ use Rattle.std.proofs.Common.{◌≡◌, ◌<◌, ℕ, false, ap, length, refl, 
 use Rattle.hir_def_map_rules.specs.Overlay.{Maps}
 use Rattle.hir_collector_rules.specs.Derivation.{IsOverlong}
 use Rattle.hir_collector_rules.specs.UnknownSources.{MeetsUnknownSource}
-use Rattle.hir_collector_rules.specs.Types.{CollectError}
+use Rattle.hir_collector_rules.specs.declared.start.CollectError.{CollectError}
 use Rattle.hir_session_state.specs.Crates.{beginning_in, id_of}
 use Rattle.hir_session_state.specs.Due.IsStuckAt.{overlong}
 use Rattle.hir_session_state.specs.Inputs.{InputsValue, workspace_by}
