@@ -30,7 +30,7 @@ use Rattle.hir_import_resolution.specs.declared.directive.ImportSource.{ImportSo
 use Rattle.hir_import_resolution.specs.declared.directive.ImportSource.TheVariants as sources
 use Rattle.hir_import_resolution.specs.Directives.{glob_of, way_of}
 use Rattle.hir_tables.specs.Tables.{TablesValue}
-use Rattle.hir_collector_rules.specs.Derivation.{CollectedValue, Ends}
+use Rattle.hir_collector_rules.specs.Derivation.{CollectedValue, Ends, told_of}
 use Rattle.hir_collector_rules.specs.Imports.{crate_named, path_of_crate}
 use Rattle.hir_collector_rules.specs.Start.{Beginning, krate_of}
 use Rattle.hir_collector_rules.specs.Workspace.{Workspace, dependencies_in}
@@ -99,7 +99,7 @@ pub record HasImport (tables : TablesValue) (w : Workspace) (from : Beginning) (
 -- so is each that is left over
 abbrev pub LeftoversAreWritten : Type 0
 LeftoversAreWritten = (tables : TablesValue) (w : Workspace) (finished : Maps) (from : Beginning) (answer : CollectedValue) → Ends tables w finished from answer
-    → (way : ImportOrExternCrate) → Contains answer.leftover way → HasImport tables w from answer (λ r. way_of r.source ≡ way)
+    → (way : ImportOrExternCrate) → Contains answer.leftover way → HasImport tables w from answer (λ r. told_of r.source ≡ way)
 
 -- and each glob that was recorded
 abbrev pub GlobsAreWritten : Type 0

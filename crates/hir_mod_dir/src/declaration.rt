@@ -1,11 +1,13 @@
 //! The file of an outline module.
-ghost use Rattle.std.specs.Prelude.{◌≡◌, ◌++◌, IfOk, OnOk};
+ghost use Rattle.std.specs.Prelude.{◌≡◌, ◌++◌, IfOk, OnOk, option_copied};
 ghost use Rattle.std.specs.Option.{option_to_list};
 ghost use Rattle.hir_mod_dir.specs.Declaration.{asked_files, found_place, is_there};
-ghost use Rattle.hir_mod_dir.specs.ModuleFiles.{file_beside};
+ghost use Rattle.hir_mod_dir.specs.ModuleFiles.{candidates_of, file_beside};
 
 use crate::candidate::{Candidate, resolve_candidate};
+use crate::mod_dir::ModDir;
 use hir_base::file_path::FilePath;
+use hir_base::name::Name;
 use std::alloc::{AllocError, Global};
 
 /// The files that are there.
@@ -27,6 +29,27 @@ pub struct Declaration {
     pub asked: Vec<FilePath>,
     /// The place of the first candidate whose file is there.
     pub found: Option<usize>,
+}
+
+impl ModDir {
+    /// The candidates for `mod name;` with this `path` attribute, and which files were asked for, up to the first that is
+    /// there. They are seen from the file that declares the module.
+    pub fn resolve_declaration<F: PresentFiles>(
+        &self,
+        alloc: Global,
+        files: &F,
+        file: &FilePath,
+        name: &Name,
+        path_attr: Option<&str>,
+    ) -> Result<(Vec<Candidate>, Declaration), AllocError>
+        ensures candidates { IfOk result (λ found. found.0.items ≡ candidates_of self.now name.now (option_copied path_attr.entry)) }
+        ensures asked { IfOk result (λ found. found.1.asked.items ≡ asked_files (F.present files.now) file.now found.0.items) }
+        ensures found { IfOk result (λ found. found.1.found ≡ found_place (F.present files.now) file.now found.0.items) }
+    {
+        let candidates = self.candidates(alloc, name, path_attr)?;
+        let declaration = resolve_declaration(alloc, files, file, candidates.as_slice())?;
+        Ok((candidates, declaration))
+    }
 }
 
 /// Asks for the files of candidates, in order, up to the first that is there. They are seen from the file that declares
