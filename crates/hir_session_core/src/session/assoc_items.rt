@@ -54,7 +54,7 @@ fn behind(crates: &Crates, krate: Crate) -> Result<Rc<CrateSet>, AllocError>
 
 /// What is kept of a map, beside the finished maps that it reads.
 fn maps_beside<'a>(kept: &'a Kept, crates: &'a CrateSet, found: KeptResolution<'a>) -> DefMaps<'a>
-    ensures value { maps_of result ≡ overlay (among crates.now found.holders.now (finished_by kept.now)) found.map.now }
+    ensures value { maps_of result ≡ overlay (among crates.now found.entry.holders.now (finished_by kept.now)) found.entry.map.now }
 {
     DefMaps::new(
         WorldPart::among(kept.world(), crates, found.holders),
@@ -260,6 +260,7 @@ impl Session {
         ensures refused { IfErr result (λ why. (trait_at self.old place.now path.now ≡ Err why) × (self.new ≡ self.old)
             ⊎ ((id : TraitId) × (trait_at self.old place.now path.now ≡ Ok id) × RefusesTrait self.old id why self.new)) }
     {
+        let _ = &self.kept;
         let id = self.trait_named(place, path)?;
         self.tell_trait(alloc, id)
     }
@@ -276,6 +277,7 @@ impl Session {
         ensures refused { IfErr result (λ why. (impl_at self.old place.now number ≡ Err why) × (self.new ≡ self.old)
             ⊎ ((id : ImplId) × (impl_at self.old place.now number ≡ Ok id) × RefusesImpl self.old id why self.new)) }
     {
+        let _ = &self.kept;
         let id = self.impl_numbered(place, number)?;
         self.tell_impl(alloc, id)
     }

@@ -58,14 +58,14 @@ fn list_of_trait(
         (container_of (maps_of maps.entry) local.now (container.TraitId id))
         (items_written tables.old (workspace_in sources.old.crates.now sources.old.table.now) id.loc kind.Trait) }
 {
-    let (held, diagnostics) = TraitItems::query_with_diagnostics(
-        alloc, sources, maps, local, tables, id,
-    )?;
-    Ok(AssocList {
-        items: held.items,
-        calls: held.macro_calls,
-        diagnostics,
-    })
+    match TraitItems::query_with_diagnostics(alloc, sources, maps, local, tables, id) {
+        Ok((held, diagnostics)) => Ok(AssocList {
+            items: held.items,
+            calls: held.macro_calls,
+            diagnostics,
+        }),
+        Err(error) => Err(error),
+    }
 }
 
 /// What an impl holds.
@@ -93,12 +93,14 @@ fn list_of_impl(
         (container_of (maps_of maps.entry) local.now (container.ImplId id))
         (items_written tables.old (workspace_in sources.old.crates.now sources.old.table.now) id.loc kind.Impl) }
 {
-    let (held, diagnostics) = ImplItems::of(alloc, sources, maps, local, tables, id)?;
-    Ok(AssocList {
-        items: held.items,
-        calls: held.macro_calls,
-        diagnostics,
-    })
+    match ImplItems::of(alloc, sources, maps, local, tables, id) {
+        Ok((held, diagnostics)) => Ok(AssocList {
+            items: held.items,
+            calls: held.macro_calls,
+            diagnostics,
+        }),
+        Err(error) => Err(error),
+    }
 }
 
 impl Inputs {

@@ -8,8 +8,8 @@ use Rattle.hir_session_core.proofs.session.Session.tell_impl.Goals as goal
 pub tell-requires : goal.tell-requires
 tell-requires c = record { kept = grown_mark _ _ c.list_impl.ensures.grown c.args.id.loc.container.map ∙ c.requires.kept }
 
-pub returns-in-Ok-clause-listed : goal.returns-in-Ok-clause-listed
-returns-in-Ok-clause-listed c = record { listing = _; flattened = c.in-Ok.ensures.flattened; tells = c.in_ok-tell.ensures.told }
+pub returns-in_ok-tell-in-Ok-clause-listed : goal.returns-in_ok-tell-in-Ok-clause-listed
+returns-in_ok-tell-in-Ok-clause-listed c = record { listing = _; flattened = c.in-Ok.ensures.flattened; tells = c.in_ok-tell-in-Ok.ensures.told }
 
 pub impl_items_error-requires : goal.impl_items_error-requires
 impl_items_error-requires c = record { known = λ unknown. c.in-Err.ensures.known (ap (λ (e : AssocItemsError). Err e) unknown) }
