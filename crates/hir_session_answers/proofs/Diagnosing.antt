@@ -20,15 +20,23 @@ module _ {X Y : Type 0} (f : X → Option Y) where
   one_more xs k x lt = ap (λ (zs : List X). filter_map f zs) (take_more xs k x lt) ∙ filter_map-append f (take k xs) (get_or xs k x ∷ [])
 
   -- the next gives something
+  pub some_next : (xs : List X) (k : ℕ) (x : X) (y : Y) → k < length xs → f (get_or xs k x) ≡ Some y → (ys : List Y) → ys ≡ filter_map f (take k xs)
+      → ys ++ y ∷ [] ≡ filter_map f (take (k + 1) xs)
+  some_next xs k x y lt is ys so_far =
+      ap (λ (zs : List Y). zs ++ y ∷ []) so_far
+      ∙ ap (λ (zs : List Y). filter_map f (take k xs) ++ zs) (sym (single (get_or xs k x) y is)) ∙ sym (one_more xs k x lt)
+
   pub some_more : (xs : List X) (k : ℕ) (x : X) (y : Y) → k < length xs → x ≡ get_or xs k x → f x ≡ Some y → (ys : List Y) → ys ≡ filter_map f (take k xs)
       → ys ++ y ∷ [] ≡ filter_map f (take (k + 1) xs)
-  some_more xs k x y lt e is ys so_far =
-      ap (λ (zs : List Y). zs ++ y ∷ []) so_far
-      ∙ ap (λ (zs : List Y). filter_map f (take k xs) ++ zs) (sym (single (get_or xs k x) y (ap f (sym e) ∙ is))) ∙ sym (one_more xs k x lt)
+  some_more xs k x y lt e is ys so_far = some_next xs k x y lt (ap f (sym e) ∙ is) ys so_far
 
   -- or nothing
+  pub none_next : (xs : List X) (k : ℕ) (x : X) → k < length xs → f (get_or xs k x) ≡ None → (ys : List Y) → ys ≡ filter_map f (take k xs)
+      → ys ≡ filter_map f (take (k + 1) xs)
+  none_next xs k x lt is ys so_far =
+      so_far ∙ sym (append-nil (filter_map f (take k xs)))
+      ∙ ap (λ (zs : List Y). filter_map f (take k xs) ++ zs) (sym (nothing (get_or xs k x) is)) ∙ sym (one_more xs k x lt)
+
   pub none_more : (xs : List X) (k : ℕ) (x : X) → k < length xs → x ≡ get_or xs k x → f x ≡ None → (ys : List Y) → ys ≡ filter_map f (take k xs)
       → ys ≡ filter_map f (take (k + 1) xs)
-  none_more xs k x lt e is ys so_far =
-      so_far ∙ sym (append-nil (filter_map f (take k xs)))
-      ∙ ap (λ (zs : List Y). filter_map f (take k xs) ++ zs) (sym (nothing (get_or xs k x) (ap f (sym e) ∙ is))) ∙ sym (one_more xs k x lt)
+  none_more xs k x lt e is ys so_far = none_next xs k x lt (ap f (sym e) ∙ is) ys so_far

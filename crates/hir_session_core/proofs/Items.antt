@@ -1,5 +1,5 @@
 -- What the items of a trait or an impl are listed and told over.
-use Rattle.std.proofs.Common.{◌≡◌, ◌∙◌, ◌<◌, ap, sym, subst, refl, false, length, Option, Some, None}
+use Rattle.std.proofs.Common.{◌≡◌, ◌∙◌, ◌<◌, ap, sym, subst, refl, false, List, length, Option, Some, None}
 use Rattle.hir_base.specs.ModPath.{Path}
 use Rattle.hir_base.specs.declared.ast_id.AstKind.{AstKind}
 use Rattle.hir_base.specs.declared.ids.ItemContainerId.{ItemContainerId}
@@ -7,10 +7,11 @@ use Rattle.hir_base.specs.declared.ids.ItemLoc.{ItemLoc}
 use Rattle.hir_base.specs.declared.ids.MapId.{MapId}
 use Rattle.hir_base.specs.declared.ids.ModuleId.{ModuleId}
 use Rattle.hir_base.specs.declared.ids.TraitId.{TraitId}
-use Rattle.hir_tables.specs.Tables.{TablesValue}
+use Rattle.hir_tables.specs.Tables.{KeepsTables, TablesValue}
 use Rattle.hir_def_map_rules.specs.Overlay.{Maps, overlay}
 use Rattle.hir_def_map_rules.specs.Scoping.{resolution_of}
-use Rattle.hir_assoc_items.specs.AssocItems.{FlattensTo, IsTooMany, ListingValue, container_of, items_written}
+use Rattle.hir_assoc_items.specs.AssocItems.{FlattensTo, IsTooMany, ListingValue, ReachesUnknown, container_of, items_written}
+use Rattle.hir_assoc_items.specs.Written.{WrittenValue}
 use Rattle.hir_collector_rules.specs.Keys.{environment}
 use Rattle.hir_wire.specs.declared.command.Shadow.TheVariants as shadow
 use Rattle.hir_wire.specs.declared.items.Items.{Items}
@@ -18,6 +19,7 @@ use Rattle.hir_session_state.specs.SessionState.{SessionState, Resolution, is_ma
 use Rattle.hir_session_state.specs.SessionState.IsPlace.{of_block, of_crate}
 use Rattle.hir_session_answers.specs.Answers.{asking_of}
 use Rattle.hir_session_answers.specs.AssocItems.{Flattens, IsTooManyIn, Tells, items_told, trait_asked, trait_from, trait_kept, trait_named}
+use Rattle.hir_session_answers.proofs.KnownSources.{calls_known}
 use Rattle.hir_session_answers.proofs.LeftOut.{read_kept}
 
 -- the crate of a place is there
@@ -58,6 +60,12 @@ module _ (s view : SessionState) (seen : s ≡ view) (id : MapId) (r : Resolutio
             subst (λ (ms : Maps). IsTooMany (environment T (workspace_of s)) (container_of ms r.local holder)
             (items_written s.tables (workspace_of s) loc node)) over_read h;
       })
+
+  pub never_unknown : IsSound s → (T : TablesValue) → KeepsTables s.tables T → (holder : ItemContainerId) (items : List WrittenValue)
+      → ¬ ReachesUnknown (environment T (workspace_of s)) (container_of maps r.local holder) items
+  never_unknown sound T keeps holder items unknown =
+      calls_known s sound T keeps id r is holder items
+      (subst (λ (ms : Maps). ReachesUnknown (environment T (workspace_of s)) (container_of ms r.local holder) items) are unknown)
 
   pub tells : (listing : ListingValue) (told : Items) → told ≡ items_told s.tables maps listing → Tells view id listing told
   tells listing told e = subst (λ (v : SessionState). Tells v id listing told) seen (record {

@@ -83,10 +83,14 @@ answered_by_call asks (lists krate is_list same told) = absurd (let wrong : ⊥ 
 
 answered_by_command : {old new : MachineState} {c : CommandValue} {a : Answer} {place : PlaceValue} {path : Path} {shadow : Shadow} {style : Option MacroStyle}
     → c ≡ resolve place path shadow style → AnswersCommand old c (reply.Answer a) new → IsAnswered old place path shadow style a new
+answered_by_command asks (finds_no_memory answer same) = absurd (let wrong : ⊥ = cc in wrong)
+answered_by_command asks (begins inputs s is_crates before accepted made answer same) = absurd (let wrong : ⊥ = cc in wrong)
+answered_by_command asks (refuses_session inputs why is_crates before refused answer same) = absurd (let wrong : ⊥ = cc in wrong)
+answered_by_command asks (comes_too_soon other before answer same) = absurd (let wrong : ⊥ = cc in wrong)
+answered_by_command asks (comes_too_late s makes before answer same) = absurd (let wrong : ⊥ = cc in wrong)
 answered_by_command asks (calls s t before moves same) =
     let call = answered_by_call asks moves in
     record { at = s; before = before; after = let there : (Some t) ≡ (Some s) = cc call.0 in same ∙ there; is = call.1 }
-answered_by_command asks other = absurd (let wrong : ⊥ = cc in wrong)
 
 -- a line that asks a query, and that is answered by an answer
 answered_by_line : {old new : MachineState} {line : List ℕ} {a : Answer} {place : PlaceValue} {path : Path} {shadow : Shadow} {style : Option MacroStyle}

@@ -82,10 +82,14 @@ trait_call asks (lists krate is_list still same) = absurd (let wrong : ⊥ = cc 
 
 trait_command : {old new : MachineState} {c : CommandValue} {place : PlaceValue} {path : Path} {told : Items} → c ≡ trait_items place path
     → AnswersCommand old c (reply.Items told) new → IsTraitListed old place path told new
+trait_command asks (finds_no_memory answer same) = absurd (let wrong : ⊥ = cc in wrong)
+trait_command asks (begins inputs s is_crates before accepted made answer same) = absurd (let wrong : ⊥ = cc in wrong)
+trait_command asks (refuses_session inputs why is_crates before refused answer same) = absurd (let wrong : ⊥ = cc in wrong)
+trait_command asks (comes_too_soon other before answer same) = absurd (let wrong : ⊥ = cc in wrong)
+trait_command asks (comes_too_late s makes before answer same) = absurd (let wrong : ⊥ = cc in wrong)
 trait_command asks (calls s t before moves now) =
     let call = trait_call asks moves in
     record { at = s; before = before; grown = t; after = now; id = call.id; found = call.found; is = call.is; grows = call.grows }
-trait_command asks other = absurd (let wrong : ⊥ = cc in wrong)
 
 trait_line : {old new : MachineState} {line : List ℕ} {place : PlaceValue} {path : Path} {told : Items} → reading_of line ≡ Ok (trait_items place path)
     → AnswersLine old line (reply.Items told) new → IsTraitListed old place path told new
@@ -157,10 +161,14 @@ impl_call asks (lists krate is_list still same) = absurd (let wrong : ⊥ = cc i
 
 impl_command : {old new : MachineState} {c : CommandValue} {place : PlaceValue} {number : ℕ} {told : Items} → c ≡ impl_items place number
     → AnswersCommand old c (reply.Items told) new → IsImplListed old place number told new
+impl_command asks (finds_no_memory answer same) = absurd (let wrong : ⊥ = cc in wrong)
+impl_command asks (begins inputs s is_crates before accepted made answer same) = absurd (let wrong : ⊥ = cc in wrong)
+impl_command asks (refuses_session inputs why is_crates before refused answer same) = absurd (let wrong : ⊥ = cc in wrong)
+impl_command asks (comes_too_soon other before answer same) = absurd (let wrong : ⊥ = cc in wrong)
+impl_command asks (comes_too_late s makes before answer same) = absurd (let wrong : ⊥ = cc in wrong)
 impl_command asks (calls s t before moves now) =
     let call = impl_call asks moves in
     record { at = s; before = before; grown = t; after = now; id = call.id; found = call.found; is = call.is; grows = call.grows }
-impl_command asks other = absurd (let wrong : ⊥ = cc in wrong)
 
 impl_line : {old new : MachineState} {line : List ℕ} {place : PlaceValue} {number : ℕ} {told : Items} → reading_of line ≡ Ok (impl_items place number)
     → AnswersLine old line (reply.Items told) new → IsImplListed old place number told new

@@ -49,8 +49,12 @@ told_by_call {s} {krate = krate} {list = list} asks (lists other is_list same to
 told_by_command : {old new : MachineState} {c : CommandValue} {krate : Crate} {list : List Diagnostic} → c ≡ diagnostics krate
     → AnswersCommand old c (reply.Diagnostics list) new
     → IsTold old krate list
+told_by_command asks (finds_no_memory answer same) = absurd (let wrong : ⊥ = cc in wrong)
+told_by_command asks (begins inputs s is_crates before accepted made answer same) = absurd (let wrong : ⊥ = cc in wrong)
+told_by_command asks (refuses_session inputs why is_crates before refused answer same) = absurd (let wrong : ⊥ = cc in wrong)
+told_by_command asks (comes_too_soon other before answer same) = absurd (let wrong : ⊥ = cc in wrong)
+told_by_command asks (comes_too_late s makes before answer same) = absurd (let wrong : ⊥ = cc in wrong)
 told_by_command asks (calls s t before moves same) = record { at = s; before = before; is = told_by_call asks moves }
-told_by_command asks other = absurd (let wrong : ⊥ = cc in wrong)
 
 -- a line that asks for diagnostics, and that is answered by some
 told_by_line : {old new : MachineState} {line : List ℕ} {krate : Crate} {list : List Diagnostic} → reading_of line ≡ Ok (diagnostics krate)

@@ -17,8 +17,6 @@ use Rattle.hir_item_tree.specs.Check.{verdict_of_check}
 use Rattle.hir_item_tree.specs.Limits.{are_deep, have_long_attribute}
 use Rattle.hir_item_tree.specs.declared.check.CheckError.{CheckError}
 use Rattle.hir_item_tree.specs.declared.check.CheckError.TheVariants as check_error
-use Rattle.hir_assoc_items.specs.declared.error.AssocItemsError.{AssocItemsError}
-use Rattle.hir_assoc_items.specs.declared.error.AssocItemsError.TheVariants as assoc_error
 use Rattle.hir_wire.specs.CommandValue.{CrateInputValue}
 use Rattle.hir_wire.specs.declared.command.Dependency.{Dependency}
 use Rattle.hir_wire.specs.Edits.{EditValue, set_file, remove_file, set_block, remove_block, set_expansion, remove_expansion}
@@ -30,10 +28,6 @@ use Rattle.hir_session_state.specs.declared.error.RefreshError.{RefreshError}
 use Rattle.hir_session_state.specs.declared.error.RefreshError.TheVariants as refresh_error
 use Rattle.hir_session_state.specs.declared.error.QueryError.{QueryError}
 use Rattle.hir_session_state.specs.declared.error.QueryError.TheVariants as query_error
-use Rattle.hir_session_state.specs.declared.error.TraitItemsError.{TraitItemsError}
-use Rattle.hir_session_state.specs.declared.error.TraitItemsError.TheVariants as trait_error
-use Rattle.hir_session_state.specs.declared.error.ImplItemsError.{ImplItemsError}
-use Rattle.hir_session_state.specs.declared.error.ImplItemsError.TheVariants as impl_error
 use Rattle.hir_session_state.specs.declared.error.TreeTextError.{TreeTextError}
 use Rattle.hir_session_state.specs.declared.error.TreeTextError.TheVariants as tree_text_error
 use Rattle.hir_session_state.specs.declared.error.DiagnosticsError.{DiagnosticsError}
@@ -61,18 +55,6 @@ IsTreeTextMemory e = e ≡ tree_text_error.Memory
 -- memory ran out for diagnostics
 abbrev pub IsDiagnosticsMemory : DiagnosticsError → Type 0
 IsDiagnosticsMemory e = e ≡ diagnostics_error.Memory
-
--- why the items of a trait aren't listed where a list was given up
-abbrev pub trait_items_error_of : AssocItemsError → TraitItemsError
-trait_items_error_of assoc_error.TooMany = trait_error.TooMany
-trait_items_error_of assoc_error.UnknownSource = trait_error.Memory
-trait_items_error_of assoc_error.Memory = trait_error.Memory
-
--- and those of an impl
-abbrev pub impl_items_error_of : AssocItemsError → ImplItemsError
-impl_items_error_of assoc_error.TooMany = impl_error.TooMany
-impl_items_error_of assoc_error.UnknownSource = impl_error.Memory
-impl_items_error_of assoc_error.Memory = impl_error.Memory
 
 -- why a refresh ends early where a block gets no number
 abbrev pub refresh_error_of_number : LocationsError → RefreshError

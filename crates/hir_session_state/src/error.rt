@@ -1,6 +1,5 @@
 //! What the calls of a session are refused for, each in the order in which it is looked for.
 
-use hir_assoc_items::error::AssocItemsError;
 use hir_base::ast_id::{AstKind, SyntaxId};
 use hir_base::ids::Crate;
 use hir_base::limit::Limit;
@@ -228,21 +227,6 @@ impl From<AllocError> for TraitItemsError {
     }
 }
 
-impl From<AssocItemsError> for TraitItemsError {
-    ghost use Rattle.std.specs.Prelude.{◌≡◌};
-    ghost use Rattle.hir_session_state.specs.Refusals.{trait_items_error_of};
-
-    ghost from_gives = { λ error e. e ≡ trait_items_error_of error };
-
-    fn from(error: AssocItemsError) -> TraitItemsError {
-        match error {
-            AssocItemsError::TooMany => TraitItemsError::TooMany,
-            // The maps of a session were made over its own tables, so that no source is unknown.
-            AssocItemsError::UnknownSource | AssocItemsError::Memory => TraitItemsError::Memory,
-        }
-    }
-}
-
 impl From<AllocError> for ImplItemsError {
     ghost use Rattle.std.specs.Prelude.{◌≡◌};
     ghost use Rattle.hir_session_state.specs.declared.error.ImplItemsError.TheVariants.{Memory};
@@ -251,21 +235,6 @@ impl From<AllocError> for ImplItemsError {
 
     fn from(_: AllocError) -> ImplItemsError {
         ImplItemsError::Memory
-    }
-}
-
-impl From<AssocItemsError> for ImplItemsError {
-    ghost use Rattle.std.specs.Prelude.{◌≡◌};
-    ghost use Rattle.hir_session_state.specs.Refusals.{impl_items_error_of};
-
-    ghost from_gives = { λ error e. e ≡ impl_items_error_of error };
-
-    fn from(error: AssocItemsError) -> ImplItemsError {
-        match error {
-            AssocItemsError::TooMany => ImplItemsError::TooMany,
-            // The maps of a session were made over its own tables, so that no source is unknown.
-            AssocItemsError::UnknownSource | AssocItemsError::Memory => ImplItemsError::Memory,
-        }
     }
 }
 

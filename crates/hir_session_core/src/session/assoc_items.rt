@@ -2,7 +2,7 @@
 //!
 //! They are read from the present sources, so nothing of them is kept. The macro calls in them get numbers, and that is all that
 //! such a query changes.
-ghost use Rattle.std.specs.Prelude.{◌≡◌, ◌<◌, ◌⊎◌, false, is_none, length, Some, IfOk, IfErr, Ok, Err};
+ghost use Rattle.std.specs.Prelude.{◌≡◌, ◌≢◌, ◌<◌, ◌⊎◌, false, is_none, length, Some, IfOk, IfErr, Ok, Err};
 ghost use Rattle.hir_base.specs.declared.ast_id.AstKind.TheVariants as kind;
 ghost use Rattle.hir_base.specs.declared.ids.ImplId.{ImplId};
 ghost use Rattle.hir_base.specs.declared.ids.TraitId.{TraitId};
@@ -54,12 +54,39 @@ fn behind(crates: &Crates, krate: Crate) -> Result<Rc<CrateSet>, AllocError>
 
 /// What is kept of a map, beside the finished maps that it reads.
 fn maps_beside<'a>(kept: &'a Kept, crates: &'a CrateSet, found: KeptResolution<'a>) -> DefMaps<'a>
-    ensures value { maps_of result ≡ overlay (among crates.now found.holders.now (finished_by kept.now)) found.map.now }
+    ensures value { maps_of result ≡ overlay (among crates.now found.entry.holders.now (finished_by kept.now)) found.entry.map.now }
 {
     DefMaps::new(
         WorldPart::among(kept.world(), crates, found.holders),
         found.map,
     )
+}
+
+/// Why the items of a trait aren't listed where a list was given up. No macro is of an unknown source: the maps were made over the
+/// session's own tables.
+fn trait_items_error(error: AssocItemsError) -> TraitItemsError
+    requires known { error ≢ AssocItemsError.UnknownSource }
+    ensures value { (error ≡ AssocItemsError.TooMany) × (result ≡ TraitItemsError.TooMany)
+        ⊎ ((error ≡ AssocItemsError.Memory) × (result ≡ TraitItemsError.Memory)) }
+{
+    match error {
+        AssocItemsError::TooMany => TraitItemsError::TooMany,
+        AssocItemsError::Memory => TraitItemsError::Memory,
+        AssocItemsError::UnknownSource => unreachable!(),
+    }
+}
+
+/// Why those of an impl aren't.
+fn impl_items_error(error: AssocItemsError) -> ImplItemsError
+    requires known { error ≢ AssocItemsError.UnknownSource }
+    ensures value { (error ≡ AssocItemsError.TooMany) × (result ≡ ImplItemsError.TooMany)
+        ⊎ ((error ≡ AssocItemsError.Memory) × (result ≡ ImplItemsError.Memory)) }
+{
+    match error {
+        AssocItemsError::TooMany => ImplItemsError::TooMany,
+        AssocItemsError::Memory => ImplItemsError::Memory,
+        AssocItemsError::UnknownSource => unreachable!(),
+    }
 }
 
 impl Session {
@@ -146,6 +173,7 @@ impl Session {
             (listing_of list.items.items list.calls.items list.diagnostics)) }
         ensures many { result ≡ Err AssocItemsError.TooMany → IsTooManyIn self.old self.new id.loc.container.map (container.TraitId id)
             (items_written self.old.tables (workspace_of self.old) id.loc kind.Trait) }
+        ensures known { result ≢ Err AssocItemsError.UnknownSource }
     {
         let map = id.loc.container.map;
         let found = found_of(&self.kept, map);
@@ -164,6 +192,7 @@ impl Session {
             (listing_of list.items.items list.calls.items list.diagnostics)) }
         ensures many { result ≡ Err AssocItemsError.TooMany → IsTooManyIn self.old self.new id.loc.container.map (container.ImplId id)
             (items_written self.old.tables (workspace_of self.old) id.loc kind.Impl) }
+        ensures known { result ≢ Err AssocItemsError.UnknownSource }
     {
         let map = id.loc.container.map;
         let found = found_of(&self.kept, map);
@@ -199,9 +228,10 @@ impl Session {
         ensures listed { IfOk result (λ told. ListsTrait self.old id told self.new) }
         ensures refused { IfErr result (λ why. RefusesTrait self.old id why self.new) }
     {
-        let list = self.list_trait(alloc, id)?;
-        let told = self.tell(alloc, id.loc.container.map, &list)?;
-        Ok(told)
+        match self.list_trait(alloc, id) {
+            Ok(list) => Ok(self.tell(alloc, id.loc.container.map, &list)?),
+            Err(error) => Err(trait_items_error(error)),
+        }
     }
 
     /// What an impl in a map that is kept holds, in source items.
@@ -211,9 +241,10 @@ impl Session {
         ensures listed { IfOk result (λ told. ListsImpl self.old id told self.new) }
         ensures refused { IfErr result (λ why. RefusesImpl self.old id why self.new) }
     {
-        let list = self.list_impl(alloc, id)?;
-        let told = self.tell(alloc, id.loc.container.map, &list)?;
-        Ok(told)
+        match self.list_impl(alloc, id) {
+            Ok(list) => Ok(self.tell(alloc, id.loc.container.map, &list)?),
+            Err(error) => Err(impl_items_error(error)),
+        }
     }
 
     /// What a trait holds, which a path names from the module that a place names. Calls whose paths reach macros are replaced by
@@ -229,6 +260,7 @@ impl Session {
         ensures refused { IfErr result (λ why. (trait_at self.old place.now path.now ≡ Err why) × (self.new ≡ self.old)
             ⊎ ((id : TraitId) × (trait_at self.old place.now path.now ≡ Ok id) × RefusesTrait self.old id why self.new)) }
     {
+        let _ = &self.kept;
         let id = self.trait_named(place, path)?;
         self.tell_trait(alloc, id)
     }
@@ -245,6 +277,7 @@ impl Session {
         ensures refused { IfErr result (λ why. (impl_at self.old place.now number ≡ Err why) × (self.new ≡ self.old)
             ⊎ ((id : ImplId) × (impl_at self.old place.now number ≡ Ok id) × RefusesImpl self.old id why self.new)) }
     {
+        let _ = &self.kept;
         let id = self.impl_numbered(place, number)?;
         self.tell_impl(alloc, id)
     }

@@ -6,7 +6,7 @@ ghost use Rattle.hir_tables.specs.Tables.{KeepsTables};
 ghost use Rattle.hir_def_map.specs.DefMaps.{maps_of};
 ghost use Rattle.hir_collector_rules.specs.Calls.{AreCallsPlaced};
 ghost use Rattle.hir_collector_rules.specs.Keys.{environment};
-ghost use Rattle.hir_assoc_items.specs.AssocItems.{FlattensTo, IsTooMany, container_of, items_written, listing_of};
+ghost use Rattle.hir_assoc_items.specs.AssocItems.{FlattensTo, IsTooMany, ReachesUnknown, container_of, items_written, listing_of};
 ghost use Rattle.hir_session_state.specs.Inputs.{workspace_by};
 ghost use Rattle.hir_session_state.specs.SourceTable.{workspace_in};
 
@@ -53,15 +53,19 @@ fn list_of_trait(
         → IsTooMany (environment tables.new (workspace_in sources.old.crates.now sources.old.table.now))
         (container_of (maps_of maps.entry) local.now (container.TraitId id))
         (items_written tables.old (workspace_in sources.old.crates.now sources.old.table.now) id.loc kind.Trait) }
+    ensures unknown { result ≡ Err AssocItemsError.UnknownSource
+        → ReachesUnknown (environment tables.new (workspace_in sources.old.crates.now sources.old.table.now))
+        (container_of (maps_of maps.entry) local.now (container.TraitId id))
+        (items_written tables.old (workspace_in sources.old.crates.now sources.old.table.now) id.loc kind.Trait) }
 {
-    let (held, diagnostics) = TraitItems::query_with_diagnostics(
-        alloc, sources, maps, local, tables, id,
-    )?;
-    Ok(AssocList {
-        items: held.items,
-        calls: held.macro_calls,
-        diagnostics,
-    })
+    match TraitItems::query_with_diagnostics(alloc, sources, maps, local, tables, id) {
+        Ok((held, diagnostics)) => Ok(AssocList {
+            items: held.items,
+            calls: held.macro_calls,
+            diagnostics,
+        }),
+        Err(error) => Err(error),
+    }
 }
 
 /// What an impl holds.
@@ -84,13 +88,19 @@ fn list_of_impl(
         → IsTooMany (environment tables.new (workspace_in sources.old.crates.now sources.old.table.now))
         (container_of (maps_of maps.entry) local.now (container.ImplId id))
         (items_written tables.old (workspace_in sources.old.crates.now sources.old.table.now) id.loc kind.Impl) }
+    ensures unknown { result ≡ Err AssocItemsError.UnknownSource
+        → ReachesUnknown (environment tables.new (workspace_in sources.old.crates.now sources.old.table.now))
+        (container_of (maps_of maps.entry) local.now (container.ImplId id))
+        (items_written tables.old (workspace_in sources.old.crates.now sources.old.table.now) id.loc kind.Impl) }
 {
-    let (held, diagnostics) = ImplItems::of(alloc, sources, maps, local, tables, id)?;
-    Ok(AssocList {
-        items: held.items,
-        calls: held.macro_calls,
-        diagnostics,
-    })
+    match ImplItems::of(alloc, sources, maps, local, tables, id) {
+        Ok((held, diagnostics)) => Ok(AssocList {
+            items: held.items,
+            calls: held.macro_calls,
+            diagnostics,
+        }),
+        Err(error) => Err(error),
+    }
 }
 
 impl Inputs {
@@ -111,6 +121,9 @@ impl Inputs {
             (items_written tables.old (workspace_by self.old) id.loc kind.Trait)
             (listing_of list.items.items list.calls.items list.diagnostics)) }
         ensures many { result ≡ Err AssocItemsError.TooMany → IsTooMany (environment tables.new (workspace_by self.old))
+            (container_of (maps_of maps.entry) local.now (container.TraitId id))
+            (items_written tables.old (workspace_by self.old) id.loc kind.Trait) }
+        ensures unknown { result ≡ Err AssocItemsError.UnknownSource → ReachesUnknown (environment tables.new (workspace_by self.old))
             (container_of (maps_of maps.entry) local.now (container.TraitId id))
             (items_written tables.old (workspace_by self.old) id.loc kind.Trait) }
     {
@@ -142,6 +155,9 @@ impl Inputs {
             (items_written tables.old (workspace_by self.old) id.loc kind.Impl)
             (listing_of list.items.items list.calls.items list.diagnostics)) }
         ensures many { result ≡ Err AssocItemsError.TooMany → IsTooMany (environment tables.new (workspace_by self.old))
+            (container_of (maps_of maps.entry) local.now (container.ImplId id))
+            (items_written tables.old (workspace_by self.old) id.loc kind.Impl) }
+        ensures unknown { result ≡ Err AssocItemsError.UnknownSource → ReachesUnknown (environment tables.new (workspace_by self.old))
             (container_of (maps_of maps.entry) local.now (container.ImplId id))
             (items_written tables.old (workspace_by self.old) id.loc kind.Impl) }
     {

@@ -1,7 +1,7 @@
 -- The next call is told where it has a source.
 use Rattle.std.proofs.Common.{◌<◌, ◌∙◌, sym, length, arith}
 use Rattle.hir_session_answers.specs.AssocItems.{called_source}
-use Rattle.hir_session_answers.proofs.Diagnosing.{none_more, some_more}
+use Rattle.hir_session_answers.proofs.Diagnosing.{none_next, some_next}
 use Rattle.hir_session_answers.proofs.assoc_items.all_called.Goals as goal
 use Rattle.hir_session_answers.proofs.assoc_items.all_called.Goals.{in-Some+in_ok-push, in_default}
 
@@ -11,10 +11,10 @@ loop-call-preserved c =
     elim c.match-branch-2.branch [
       | in-Some+in_ok-push w ↦
           rw (w.told-is, w.in_ok-push.ensures.items)
-          (some_more (called_source c.args.tables.now) c.args.calls.now c.loop-call.call-index
-          c.call-item.result w.in-Some.next within c.call-item.is (sym c.in_ok-next.ensures.value ∙ w.in-Some.is) _ c.loop-call.invariant)
+          (some_next (called_source c.args.tables.now) c.args.calls.now c.loop-call.call-index _ w.in-Some.next within
+          (sym c.in_ok-next.ensures.value ∙ w.in-Some.is) _ c.loop-call.invariant)
       | in_default w ↦
           rw w.told-is
-          (none_more (called_source c.args.tables.now) c.args.calls.now c.loop-call.call-index
-          c.call-item.result within c.call-item.is (sym c.in_ok-next.ensures.value ∙ w.in_default.is) _ c.loop-call.invariant)
+          (none_next (called_source c.args.tables.now) c.args.calls.now c.loop-call.call-index _ within
+          (sym c.in_ok-next.ensures.value ∙ w.in_default.is) _ c.loop-call.invariant)
     ]

@@ -12,9 +12,9 @@ pub returns-in-Ok : goal.returns-in-Ok
 returns-in-Ok c =
     let listed = c.in-Ok.ensures.listed in
     record {
-      step = calls _ _ refl (asks_for_impl _ _ refl c.impl_items.ensures.grown (lists listed.0 _ listed.1.0 listed.1.1 refl)) refl;
+      step = calls _ _ refl (asks_for_impl _ _ refl c.impl_items.ensures.grown (lists listed.0 _ listed.1 listed.2 refl)) refl;
       or_memory =
-          λ _. calls _ _ refl (asks_for_impl _ _ refl c.impl_items.ensures.grown (gives_up listed.0 impl_error.Memory listed.1.0 (for_memory refl) refl)) refl;
+          λ _. calls _ _ refl (asks_for_impl _ _ refl c.impl_items.ensures.grown (gives_up listed.0 impl_error.Memory listed.1 (for_memory refl) refl)) refl;
     }
 
 pub returns-in-Err : goal.returns-in-Err
@@ -25,9 +25,9 @@ returns-in-Err c = elim c.in-Err.ensures.refused [
   }
   | inr given_up ↦ record {
     step =
-        calls _ _ refl (asks_for_impl _ _ refl c.impl_items.ensures.grown (gives_up given_up.0 _ given_up.1.0 given_up.1.1 c.reply_to_impl.ensures.value)) refl;
+        calls _ _ refl (asks_for_impl _ _ refl c.impl_items.ensures.grown (gives_up given_up.0 _ given_up.1 given_up.2 c.reply_to_impl.ensures.value)) refl;
     or_memory =
-        λ _. calls _ _ refl (asks_for_impl _ _ refl c.impl_items.ensures.grown (gives_up given_up.0 impl_error.Memory given_up.1.0 (for_memory refl) refl))
+        λ _. calls _ _ refl (asks_for_impl _ _ refl c.impl_items.ensures.grown (gives_up given_up.0 impl_error.Memory given_up.1 (for_memory refl) refl))
         refl;
   }
 ]

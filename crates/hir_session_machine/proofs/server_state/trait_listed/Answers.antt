@@ -12,9 +12,9 @@ pub returns-in-Ok : goal.returns-in-Ok
 returns-in-Ok c =
     let listed = c.in-Ok.ensures.listed in
     record {
-      step = calls _ _ refl (asks_for_trait _ _ refl c.trait_items.ensures.grown (lists listed.0 _ listed.1.0 listed.1.1 refl)) refl;
+      step = calls _ _ refl (asks_for_trait _ _ refl c.trait_items.ensures.grown (lists listed.0 _ listed.1 listed.2 refl)) refl;
       or_memory =
-          λ _. calls _ _ refl (asks_for_trait _ _ refl c.trait_items.ensures.grown (gives_up listed.0 trait_error.Memory listed.1.0 (for_memory refl) refl))
+          λ _. calls _ _ refl (asks_for_trait _ _ refl c.trait_items.ensures.grown (gives_up listed.0 trait_error.Memory listed.1 (for_memory refl) refl))
           refl;
     }
 
@@ -26,10 +26,10 @@ returns-in-Err c = elim c.in-Err.ensures.refused [
   }
   | inr given_up ↦ record {
     step =
-        calls _ _ refl (asks_for_trait _ _ refl c.trait_items.ensures.grown (gives_up given_up.0 _ given_up.1.0 given_up.1.1 c.reply_to_trait.ensures.value))
+        calls _ _ refl (asks_for_trait _ _ refl c.trait_items.ensures.grown (gives_up given_up.0 _ given_up.1 given_up.2 c.reply_to_trait.ensures.value))
         refl;
     or_memory =
-        λ _. calls _ _ refl (asks_for_trait _ _ refl c.trait_items.ensures.grown (gives_up given_up.0 trait_error.Memory given_up.1.0 (for_memory refl) refl))
+        λ _. calls _ _ refl (asks_for_trait _ _ refl c.trait_items.ensures.grown (gives_up given_up.0 trait_error.Memory given_up.1 (for_memory refl) refl))
         refl;
   }
 ]
