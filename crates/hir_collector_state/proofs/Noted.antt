@@ -354,14 +354,13 @@ module _ (a b : Run) (one : PathSlot) (changed : b.changed ≡ with_one one a.ch
 
 -- ---- helpers
 
--- keys that aren't equal to one keep their values where that gets another
-module _ {K V : Type 0} (cmp : K → K → Ordering) (total : IsTotalOrder cmp) (k q : K) (apart : is_at (cmp q) k ≡ false) where
-  equal : (o : Ordering) → is_eq o ≡ true → o ≡ Equal
-  equal Less e = absurd cc
-  equal Equal e = refl
-  equal Greater e = absurd cc
+equal : (o : Ordering) → is_eq o ≡ true → o ≡ Equal
+equal Less e = absurd cc
+equal Equal e = refl
+equal Greater e = absurd cc
 
-  -- nor are they equal to what is equal to it
+-- a key that isn't equal to one isn't equal to what is equal to that
+module _ {K : Type 0} (cmp : K → K → Ordering) (total : IsTotalOrder cmp) (k q : K) (apart : is_at (cmp q) k ≡ false) where
   apart_from : (other : K) → cmp k other ≡ Equal → is_at (cmp q) other ≡ false
   apart_from other tied = go (is_at (cmp q) other) refl
     where
@@ -373,6 +372,8 @@ module _ {K V : Type 0} (cmp : K → K → Ordering) (total : IsTotalOrder cmp) 
           let here : is_at (cmp q) k ≡ true = ap is_eq (same ∙ back) in
           absurd (let no : ⊥ = cc in no)
 
+-- and keeps its value where that gets another
+module _ {K V : Type 0} (cmp : K → K → Ordering) (total : IsTotalOrder cmp) (k q : K) (apart : is_at (cmp q) k ≡ false) where
   other_inserted : (v : V) (es : List (K × V)) → lookup (is_at (cmp q)) (insert_entry cmp es k v) ≡ lookup (is_at (cmp q)) es
   other_inserted v [] = ap (λ (b : Bool). cond b (Some v) None) apart
   other_inserted v (e ∷ es) = go (cmp k e.0) refl (other_inserted v es)
@@ -381,8 +382,8 @@ module _ {K V : Type 0} (cmp : K → K → Ordering) (total : IsTotalOrder cmp) 
           → lookup (is_at (cmp q)) (match_ordering o ((k, v) ∷ e ∷ es) ((e.0, v) ∷ es) (e ∷ insert_entry cmp es k v)) ≡ lookup (is_at (cmp q)) (e ∷ es)
       go Less s later = ap (λ (b : Bool). cond b (Some v) (lookup (is_at (cmp q)) (e ∷ es))) apart
       go Equal s later =
-          ap (λ (b : Bool). cond b (Some v) (lookup (is_at (cmp q)) es)) (apart_from e.0 s)
-          ∙ sym (ap (λ (b : Bool). cond b (Some e.1) (lookup (is_at (cmp q)) es)) (apart_from e.0 s))
+          ap (λ (b : Bool). cond b (Some v) (lookup (is_at (cmp q)) es)) (apart_from cmp total k q apart e.0 s)
+          ∙ sym (ap (λ (b : Bool). cond b (Some e.1) (lookup (is_at (cmp q)) es)) (apart_from cmp total k q apart e.0 s))
       go Greater s later = ap (λ (o : Option V). cond (is_at (cmp q) e.0) (Some e.1) o) later
 
   other_set : (w : V) (es : List (K × V)) → lookup (is_at (cmp q)) (set_value (is_at (cmp k)) es w) ≡ lookup (is_at (cmp q)) es
@@ -392,8 +393,8 @@ module _ {K V : Type 0} (cmp : K → K → Ordering) (total : IsTotalOrder cmp) 
       go : (b : Bool) → is_at (cmp k) e.0 ≡ b → lookup (is_at (cmp q)) (set_value (is_at (cmp k)) es w) ≡ lookup (is_at (cmp q)) es
           → lookup (is_at (cmp q)) (cond b ((e.0, w) ∷ es) (e ∷ set_value (is_at (cmp k)) es w)) ≡ lookup (is_at (cmp q)) (e ∷ es)
       go true s later =
-          ap (λ (b : Bool). cond b (Some w) (lookup (is_at (cmp q)) es)) (apart_from e.0 (equal (cmp k e.0) s))
-          ∙ sym (ap (λ (b : Bool). cond b (Some e.1) (lookup (is_at (cmp q)) es)) (apart_from e.0 (equal (cmp k e.0) s)))
+          ap (λ (b : Bool). cond b (Some w) (lookup (is_at (cmp q)) es)) (apart_from cmp total k q apart e.0 (equal (cmp k e.0) s))
+          ∙ sym (ap (λ (b : Bool). cond b (Some e.1) (lookup (is_at (cmp q)) es)) (apart_from cmp total k q apart e.0 (equal (cmp k e.0) s)))
       go false s later = ap (λ (o : Option V). cond (is_at (cmp q) e.0) (Some e.1) o) later
 
 -- where one more helper comes into scope on an item, other items have those that they had

@@ -8,7 +8,7 @@ use Rattle.hir_collector_rules.specs.declared.macro_directive.Fate.{Fate}
 use Rattle.hir_collector_rules.specs.declared.macro_directive.MacroDirective.{MacroDirective}
 use Rattle.hir_collector_rules.specs.declared.macro_directive.Fate.TheVariants.{Waits}
 use Rattle.hir_collector_rules.specs.Changes.{Change, lists, makes, gives_variants, begins_paths, reaches, awaits, ends, settles, changes_imports, adds_textual}
-use Rattle.hir_collector_rules.specs.Changes.{takes_textual, defines, describes, helps, lists_derive, exports, uses_macros, tells, goes_on, act, perform}
+use Rattle.hir_collector_rules.specs.Changes.{takes_textual, defines, describes, helps, lists_derive, notes, exports, uses_macros, tells, goes_on, act, perform}
 use Rattle.hir_collector_rules.specs.ItemIds.{module_id}
 use Rattle.hir_collector_rules.specs.State.{State, all_wait}
 use Rattle.hir_collector_rules.proofs.Changes.{AllFine, perform_keeps}
@@ -83,6 +83,7 @@ module _ (Became : Fate → ℕ → Type 0) (Made : ℕ → Type 0) (old : State
   kept-act s (adds_textual home name makro) p fine = record { fates = p.fates; modules = unmade s (adds_textual home name makro) refl p }
   kept-act s (takes_textual home from_) p fine = record { fates = p.fates; modules = unmade s (takes_textual home from_) refl p }
   kept-act s (lists_derive home imp) p fine = record { fates = p.fates; modules = unmade s (lists_derive home imp) refl p }
+  kept-act s (notes home invocation) p fine = record { fates = p.fates; modules = unmade s (notes home invocation) refl p }
   kept-act s other p fine = record { fates = p.fates; modules = p.modules }
 
   pub kept-perform : (cs : List Change) (s : State) → AllFine IsWell s cs → AreKept s → AreKept (perform s cs)

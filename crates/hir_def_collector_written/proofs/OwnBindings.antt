@@ -33,8 +33,9 @@ use Rattle.hir_import_resolution.specs.Inner.ScopeLaws.{vacant_of}
 use Rattle.hir_import_resolution.specs.Names.{bound_by, bound_of, entries_of, items_by, scope_table, trait_vis, view_of, with_trait}
 use Rattle.hir_import_resolution.specs.State.{ImportState, glob_state, scopes_of}
 use Rattle.hir_collector_rules.specs.Changes.{Change, lists, makes, gives_variants, begins_paths, reaches, awaits, ends, settles, changes_imports, adds_textual}
-use Rattle.hir_collector_rules.specs.Changes.{takes_textual, defines, describes, helps, lists_derive, exports, uses_macros, tells, goes_on, act}
+use Rattle.hir_collector_rules.specs.Changes.{takes_textual, defines, describes, helps, lists_derive, notes, exports, uses_macros, tells, goes_on, act}
 use Rattle.hir_collector_rules.specs.Changes.{with_builtin_derive}
+use Rattle.hir_collector_rules.specs.Invocations.{with_invocation}
 use Rattle.hir_collector_rules.specs.ItemIds.{module_id}
 use Rattle.hir_collector_rules.specs.State.{State, import_state}
 use Rattle.hir_collector_rules.proofs.Changes.{AllFine}
@@ -344,6 +345,7 @@ module _ (OwnType : ℕ → List ℕ → Item ModuleDefId ImportOrExternCrate �
   own-act s (adds_textual home name makro) f fine = record { modules = own_scopes s home _ (λ x. refl) (λ x. refl) (λ x. refl) f }
   own-act s (takes_textual home from_) f fine = record { modules = own_scopes s home _ (λ x. refl) (λ x. refl) (λ x. refl) f }
   own-act s (lists_derive home imp) f fine = record { modules = own_scopes s home (with_builtin_derive imp) (λ x. refl) (λ x. refl) (λ x. refl) f }
+  own-act s (notes home invocation) f fine = record { modules = own_scopes s home (with_invocation invocation) (λ x. refl) (λ x. refl) (λ x. refl) f }
   own-act s other f fine = record { modules = f.modules }
 
   -- ---- along globs

@@ -388,7 +388,7 @@ module _ (tables : TablesValue) (w : Workspace) (finished : Maps) (from : Beginn
         )
     own_rule (closes_module parent child rest) may later = (tt, (tt, tt))
     own_rule (awaits_attribute v a k rest) may later = (tt, (tt, tt))
-    own_rule (lists_derives v at a adt paths rest) may later = (tt, (tt, tt))
+    own_rule (lists_derives v at a adt paths call rest) may later = (tt, (tt, (tt, tt)))
     own_rule (faults_derive v at report rest) may later = (tt, (tt, tt))
     own_rule (exports_macro site head name d e rest) may later =
         let r : Rule = exports_macro site head name d e rest in
@@ -404,10 +404,10 @@ module _ (tables : TablesValue) (w : Workspace) (finished : Maps) (from : Beginn
         (tt, (tt, (tt, (tt, (bound, (tt, (exported, tt)))))))
     own_rule (reaches_call site head path rest) may later = (tt, (tt, tt))
     own_rule rests may later = (tt, tt)
-    own_rule (expands_call i d makro x) may later = (tt, (tt, fine_expanding Fine _ (λ t helper. tt) _ _ d (error_of x.there) (λ t text. tt) _))
+    own_rule (expands_call i d makro x) may later = (tt, (tt, (tt, fine_expanding Fine _ (λ t helper. tt) _ _ d (error_of x.there) (λ t text. tt) _)))
     own_rule (drops_call i d) may later = (tt, tt)
     own_rule (drops_reached i d makro) may later = (tt, fine_bringing Fine _ (λ t helper. tt) _ _)
-    own_rule (derives_builtin i d makro imp) may later = (tt, (tt, fine_bringing Fine _ (λ t helper. tt) _ _))
+    own_rule (derives_builtin i d makro imp) may later = (tt, (tt, (tt, fine_bringing Fine _ (λ t helper. tt) _ _)))
     own_rule (skips_attribute i d k waited) may later = (tt, (tt, tt))
     own_rule (falls_back i d k waited) may later = (tt, (tt, (tt, tt)))
     own_rule (resolves_imports (takes_import i r t)) may later = (λ n e. import_fine s r n, (tt, (tt, tt)))

@@ -24,7 +24,7 @@ use Rattle.hir_collector_rules.specs.declared.macro_directive.Fate.TheVariants.{
 use Rattle.hir_collector_rules.specs.declared.source_database.Key.TheVariants as keys
 use Rattle.hir_collector_rules.specs.declared.start.Start.TheVariants as starts
 use Rattle.hir_collector_rules.specs.Changes.{Change, lists, makes, gives_variants, begins_paths, reaches, awaits, ends, settles, changes_imports, adds_textual}
-use Rattle.hir_collector_rules.specs.Changes.{takes_textual, defines, describes, helps, lists_derive, exports, uses_macros, tells, goes_on, act, perform}
+use Rattle.hir_collector_rules.specs.Changes.{takes_textual, defines, describes, helps, lists_derive, notes, exports, uses_macros, tells, goes_on, act, perform}
 use Rattle.hir_collector_rules.specs.Derivation.{CollectedValue, leftover_reports}
 use Rattle.hir_collector_rules.specs.Ended.{ended}
 use Rattle.hir_collector_rules.specs.Keys.{environment}

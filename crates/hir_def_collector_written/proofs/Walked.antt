@@ -42,8 +42,9 @@ use Rattle.hir_collector_rules.specs.declared.macro_directive.Fate.TheVariants.{
 use Rattle.hir_collector_rules.specs.declared.source_database.Key.TheVariants as keys
 use Rattle.hir_collector_rules.specs.Attributes.{attr_id, item_node}
 use Rattle.hir_collector_rules.specs.Calls.{Expanding, IsNumberedCall, call_key, call_site, error_of, expansion_readings, helpers_brought, text_readings}
-use Rattle.hir_collector_rules.specs.Changes.{Change, act, adds_textual, changes_imports, defines, describes, ends, goes_on, makes, perform, takes_textual}
-use Rattle.hir_collector_rules.specs.Changes.{tells}
+use Rattle.hir_collector_rules.specs.Changes.{Change, act, adds_textual, changes_imports, defines, describes, ends, goes_on, makes, notes, perform}
+use Rattle.hir_collector_rules.specs.Changes.{takes_textual, tells}
+use Rattle.hir_collector_rules.specs.Invocations.{invocation_of}
 use Rattle.hir_collector_rules.specs.Derivation.{CollectedValue}
 use Rattle.hir_collector_rules.specs.Imports.{crate_import, imports_by, reached_import}
 use Rattle.hir_collector_rules.specs.ItemIds.{macro_def_id, macro_rules_id, module_id, node_of, use_id}
@@ -291,7 +292,7 @@ module _ (tables : TablesValue) (w : Workspace) (answer : CollectedValue) (last 
           }),
           f,
         )
-    walks_rule (lists_derives v at a adt paths rest) may found kept stays f =
+    walks_rule (lists_derives v at a adt paths call rest) may found kept stays f =
         at_next may.has.on.next (earlier_walks answer last v.site v.item v.done (suc at) (derive_low v rest at a may.has) f.0, f.1)
     walks_rule (faults_derive v at report rest) may found kept stays f =
         at_next may.has.on.next (earlier_walks answer last v.site v.item v.done (suc at) (derive_low v rest at may.attribute may.has) f.0, f.1)
@@ -388,23 +389,24 @@ module _ (tables : TablesValue) (w : Workspace) (answer : CollectedValue) (last 
           (tt, (tt, (tt, (tt, fine_macro Well _ _ expander (λ t. tt) head name _ (λ t. tt) _))))
       well_rule (defines_macro site head name expander helpers rest) may sees numbers read stays f =
           (tt, (tt, (tt, (tt, (tt, fine_reporting Well _ _ expander (λ t. tt) _)))))
+      well_rule (lists_derives v at a adt paths call rest) may sees numbers read stays f = (tt, (tt, (tt, tt)))
       well_rule (exports_macro site head name d e rest) may sees numbers read stays f = (tt, (tt, (tt, (tt, (tt, (tt, (tt, tt)))))))
       well_rule rests may sees numbers read stays f = (tt, tt)
       well_rule (expands_call i d makro x) may sees numbers read stays f =
           let next : List Task = visits_over (call_site d x.id) x.tree.tree.items in
           let helpers : List DeriveHelper = helpers_brought finished m d makro (Some (either.Left x.id)) in
-          let begun : State = perform (asking s (expands_call i d makro x)) (ends i Handled ∷ goes_on next ∷ []) in
+          let begun : State = perform (asking s (expands_call i d makro x)) (ends i Handled ∷ goes_on next ∷ notes d.site.home (invocation_of d x.id) ∷ []) in
           let now : Walk next = subst Walk (expanding_agenda begun d.ast_id helpers (module_id m d.site.home) d (error_of x.there)) f in
           let walks : Walks answer last x.tree.tree.items (call_site d x.id) = all_walk answer last (call_site d x.id) x.tree.tree.items now in (
             expanded_here i d makro x may.called.due.waiting.call sees numbers read walks,
-            (tt, fine_expanding Well _ (λ t helper. tt) _ _ d (error_of x.there) (λ t text. tt) _),
+            (tt, (tt, fine_expanding Well _ (λ t helper. tt) _ _ d (error_of x.there) (λ t text. tt) _)),
           )
       well_rule (drops_call i d) may sees numbers read stays f = (deep_here i d may.due.waiting.call may.deep, tt)
       well_rule (drops_reached i d makro) may sees numbers read stays f =
           (deep_here i d may.called.due.waiting.call may.deep, fine_bringing Well _ (λ t helper. tt) _ _)
       well_rule (derives_builtin i d makro imp) may sees numbers read stays f = (
         λ call is. call_here (WentOn tables w answer last) i d call may.due.waiting.call is (builtin makro imp may.builtin may.is),
-        (tt, fine_bringing Well _ (λ t helper. tt) _ _),
+        (tt, (tt, fine_bringing Well _ (λ t helper. tt) _ _)),
       )
       well_rule (skips_attribute i d k item) may sees numbers read stays f =
           (λ call is. resumed (resumed_here i d k item may.due.waiting.call may.of f.0 call is), (tt, tt))
