@@ -33,8 +33,8 @@ returns-in_ok-tell-in-None-clause-ok c =
     (c.malformed_derive.ensures.value ∙ ap (λ (at : ModuleId). malformed_derive at c.args.node (attr_id (numbered c.args.attr.now)))
     c.module_id-at.ensures.value))
 
-pub returns-in_ok-tell-clause-ok : goal.returns-in_ok-tell-clause-ok
-returns-in_ok-tell-clause-ok c =
+pub returns-in_default-clause-ok : goal.returns-in_default-clause-ok
+returns-in_default-clause-ok c =
     let old : Core = core_in c.args.run.now in
     no_target c.in_default.is
     (c.in_ok-tell.ensures.ok ∙ ap (λ (d : DefDiagnostic). with_map old (with_diagnostic old.map d))
