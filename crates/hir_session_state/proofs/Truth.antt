@@ -64,3 +64,6 @@ one_error e = cc
 
 pub no_value : {A B : Type 0} {x : A} → None ≡ Some x → B
 no_value e = absurd (let wrong : ⊥ = cc in wrong)
+
+pub no_error : {A T E : Type 0} {x : T} {y : E} → ◌≡◌ {A = Result T E} (Ok x) (Err y) → A
+no_error e = absurd (let wrong : ⊥ = cc in wrong)

@@ -21,15 +21,17 @@ behind-requires c = record {
       rw c.crates.ensures.value (kept_within inside c.self.invariant.0 c.args.map off);
 }
 
-pub returns-clause-told : goal.returns-clause-told
-returns-clause-told c =
+pub returns : goal.returns
+returns c =
     let inside = state_of c.self.inside.inputs c.self.inside.tables c.self.inside.kept in
     let found = resolution_of c.found_of-found.result in
     let list = c.args.list.now in
     let transitive = c.deref.ensures ∙ c.in_ok-crates.ensures.value
     ∙ ap (λ (cs : List CrateValue). transitive_in cs c.args.map.krate.0) c.crates.ensures.value in
     let maps = c.maps_beside-maps.ensures.value ∙ ap (λ (ms : Maps). overlay ms found.map) (same_read transitive refl refl) in
-    on_ok c.items_at.result
-    (λ told are. tells inside c.args.self.now c.self.view_is c.args.map found c.found_of-found.ensures.value _ maps
-    (listing_of list.items.items list.calls.items list.diagnostics) told are)
-    c.items_at.ensures.value
+    record {
+      told = on_ok c.items_at.result
+          (λ told are. tells inside c.args.self.now c.self.view_is c.args.map found c.found_of-found.ensures.value _ maps
+          (listing_of list.items.items list.calls.items list.diagnostics) told are)
+          c.items_at.ensures.value;
+    }
