@@ -12,6 +12,6 @@ use Rattle.hir_session_invalidation.proofs.inputs.Inputs.list_trait.Goals as goa
 pub returns-clause-many : goal.returns-clause-many
 returns-clause-many c = subst (λ (i : InputsValue). c.list_of_trait-list.result ≡ Err assoc_error.TooMany
     → IsTooMany (environment c.list_of_trait-list.new.tables (workspace_by i))
-        (container_of (maps_of c.args.maps) c.args.local.now (container.TraitId c.args.id))
+    (container_of (maps_of c.args.maps) c.args.local.now (container.TraitId c.args.id))
     (items_written c.args.tables.now (workspace_by i) c.args.id.loc kind.Trait))
     c.self.view_is c.list_of_trait-list.ensures.many
