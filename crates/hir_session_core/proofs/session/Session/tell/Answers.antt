@@ -1,11 +1,13 @@
 -- The maps are those that are read in the map.
 use Rattle.std.proofs.Common.{◌≡◌, ◌∙◌, ap, sym, subst, refl, false, List}
+use Rattle.hir_def_map.specs.DefMaps.{maps_of}
 use Rattle.hir_def_map_rules.specs.Overlay.{Maps, overlay}
 use Rattle.hir_assoc_items.specs.AssocItems.{listing_of}
 use Rattle.hir_session_state.specs.Crates.{CrateValue, transitive_in}
 use Rattle.hir_session_state.specs.Kept.{resolution_of}
 use Rattle.hir_session_state.specs.SessionState.{SessionState, is_marked, state_of}
 use Rattle.hir_session_state.proofs.Truth.{on_ok}
+use Rattle.hir_session_answers.specs.AssocItems.{items_told}
 use Rattle.hir_session_answers.proofs.Stand.{same_read}
 use Rattle.hir_session_core.proofs.Items.{kept_within, tells}
 use Rattle.hir_session_core.proofs.session.Session.tell.Goals as goal
@@ -32,6 +34,8 @@ returns c =
     record {
       told = on_ok c.items_at.result
           (λ told are. tells inside c.args.self.now c.self.view_is c.args.map found c.found_of-found.ensures.value _ maps
-          (listing_of list.items.items list.calls.items list.diagnostics) told are)
+          (listing_of list.items.items list.calls.items list.diagnostics) told
+          (are ∙ (λ i. items_told c.self.inside.tables (maps_of c.maps_beside-maps.result)
+          (listing_of (c.as_slice.ensures.value i) (c.as_slice-2.ensures.value i) list.diagnostics))))
           c.items_at.ensures.value;
     }
