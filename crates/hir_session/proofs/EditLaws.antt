@@ -296,7 +296,11 @@ remove_absent_expansion_leaves_answers old new key sound absent is =
 -- whether what is seen is there
 is_there : Look → Bool
 is_there (of_tree t) = t.present
-is_there other = false
+is_there (of_variants vs) = false
+is_there (of_text text) = false
+is_there (of_input text) = false
+is_there (of_entry e) = false
+is_there (of_map m) = false
 
 -- what is there is not absent
 there_is_none : (crates : List CrateValue) (key : TreeKey) (place : SourcePlaceValue) (x : SourceValue) (o : Option SourceValue) → o ≡ None
@@ -390,7 +394,10 @@ blocks_stay : (t : SourceTable) (edit : EditValue) → edits_block edit ≡ fals
     ≡ is_block_set t.blocks b
 blocks_stay t (set_block place source) e b = clash refl e
 blocks_stay t (remove_block place) e b = clash refl e
-blocks_stay t other e b = refl
+blocks_stay t (set_file path source) e b = refl
+blocks_stay t (remove_file path) e b = refl
+blocks_stay t (set_expansion key entry) e b = refl
+blocks_stay t (remove_expansion key) e b = refl
 
 pub unasked_sources_leave_answers : UnaskedSourcesLeaveAnswers
 unasked_sources_leave_answers old new edit sound none other is =

@@ -124,4 +124,7 @@ module _ (law : CratesAskForNoBlock) (s : SessionState) (sound : IsSound s) wher
 pub block_edits_spare_the_crate : CratesAskForNoBlock → BlockEditsSpareTheCrate
 block_edits_spare_the_crate law old new (set_block place source) k sound of_a_block is = spared_by law old sound place (Some source) new is k
 block_edits_spare_the_crate law old new (remove_block place) k sound of_a_block is = spared_by law old sound place None new is k
-block_edits_spare_the_crate law old new other k sound of_a_block is = clash of_a_block refl
+block_edits_spare_the_crate law old new (set_file path source) k sound of_a_block is = clash of_a_block refl
+block_edits_spare_the_crate law old new (remove_file path) k sound of_a_block is = clash of_a_block refl
+block_edits_spare_the_crate law old new (set_expansion key entry) k sound of_a_block is = clash of_a_block refl
+block_edits_spare_the_crate law old new (remove_expansion key) k sound of_a_block is = clash of_a_block refl

@@ -179,7 +179,11 @@ root_asked s sound id r is =
 -- whether what is seen is there
 abbrev is_there : Look → Bool
 is_there (of_tree t) = t.present
-is_there other = false
+is_there (of_variants vs) = false
+is_there (of_text text) = false
+is_there (of_input text) = false
+is_there (of_entry e) = false
+is_there (of_map m) = false
 
 -- the tree of a block is there where the block is set
 root_seen : (crates : List CrateValue) (tables : TablesValue) (t : SourceTable) (b : BlockId) (place : BlockPlace) (holder : ModuleId) (file : EditionedFileId)

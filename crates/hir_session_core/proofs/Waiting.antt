@@ -502,7 +502,9 @@ module _ (s : SessionState) (current : AreCratesCurrent s) (none : (b : BlockPla
 
   not_stale_by : (st : Standing) → st ≢ stale → status_by st ≢ status.Stale
   not_stale_by stale fresh e = fresh refl
-  not_stale_by other fresh e = absurd (let no : ⊥ = cc in no)
+  not_stale_by (at m) fresh e = absurd (let no : ⊥ = cc in no)
+  not_stale_by (lacks id) fresh e = absurd (let no : ⊥ = cc in no)
+  not_stale_by unset fresh e = absurd (let no : ⊥ = cc in no)
 
   pub nowhere_stale : (place : PlaceValue) → status_of s place ≢ status.Stale
   nowhere_stale place = on_bool (nat_lt place.krate.0 (length s.crates))
