@@ -4,7 +4,6 @@ ghost use Rattle.hir_item_tree.specs.Source.{source_view};
 ghost use Rattle.hir_tables.specs.SourcePlaces.{source_value};
 ghost use Rattle.hir_def_collector_tests.specs.Crates.{AreTheirs, source_in};
 
-mod invocations;
 mod macros;
 
 use hir_base::ast_id::{BlockId, EditionedFileId, FileId, HirFileId, InFile, SyntaxId};
