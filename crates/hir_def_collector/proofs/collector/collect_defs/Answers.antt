@@ -41,7 +41,8 @@ returns-in_err-run-clause-many g c = λ h.
     c.among-part.ensures.value ∙ ap (λ (crates : List Crate). among crates holders all) c.deref.ensures in
     let held : holders ≡ holders_by all c.args.start = c.as_slice-holders.ensures.value ∙ c.in_ok-held_by.ensures.value in
     begun tables w all from (part_of c.among-part.result) c.in_ok-transitive.transitive.value holders reads depends held
-    (λ maps s. IsSpent (environment tables w) maps s) (c.in_err-run.ensures.many (refused_step _ _ _ c.in_err-run.was c.from_residual-in_err-run.ensures.1 h))
+    (λ maps s. IsSpent (environment tables w) maps s)
+    (c.in_err-run.ensures.many (sym c.in_err-run.was ∙ refused_step _ _ _ c.in_err-run.was c.from_residual-in_err-run.ensures.1 h))
 
 -- the walk meets no unknown source
 pub returns-in_err-run-clause-unknown : goal.returns-in_err-run-clause-unknown

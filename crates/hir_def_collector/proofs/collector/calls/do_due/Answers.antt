@@ -38,7 +38,8 @@ returns-in_err-drop_call-in-TooDeep-clause-many g c = λ h grown k.
     c.requires.due in
     let deep : IsDeep (at_rest (core_in c.args.run.now)) c.args.i c.args.call.now = record { due = c.requires.waits; is_call = due.0; deep = due.1 } in
     past_rule (environment grown (g.D.SourceDatabase.workspace c.args.db.now)) part (core_in c.args.run.now) (drops_call c.args.i c.args.call.now) deep tt tt
-    (c.in_err-drop_call-in-TooDeep.ensures.many (refused_step _ _ _ c.in_err-drop_call-in-TooDeep.was c.from_residual.ensures.1 h))
+    (c.in_err-drop_call-in-TooDeep.ensures.many (sym c.in_err-drop_call-in-TooDeep.was ∙ refused_step _ _ _ c.in_err-drop_call-in-TooDeep.was
+    c.from_residual.ensures.1 h))
 
 pub returns-in_ok-drop_call-in-TooDeep-clause-ok : goal.returns-in_ok-drop_call-in-TooDeep-clause-ok
 returns-in_ok-drop_call-in-TooDeep-clause-ok g c = λ grown k.
@@ -115,7 +116,8 @@ derive_builtin-requires-clause-builtin g c =
 pub returns-in_err-derive_builtin-in-Derives-clause-many : goal.returns-in_err-derive_builtin-in-Derives-clause-many
 returns-in_err-derive_builtin-in-Derives-clause-many g c = λ h grown k.
     c.in_err-derive_builtin-in-Derives.ensures.many
-    (refused_step _ _ _ c.in_err-derive_builtin-in-Derives.was c.from_residual-in_err-derive_builtin-in-Derives.ensures.1 h)
+    (sym c.in_err-derive_builtin-in-Derives.was ∙ refused_step _ _ _ c.in_err-derive_builtin-in-Derives.was
+    c.from_residual-in_err-derive_builtin-in-Derives.ensures.1 h)
     (environment grown (g.D.SourceDatabase.workspace c.args.db.now))
 
 pub returns-in_ok-derive_builtin-in-Derives-clause-ok : goal.returns-in_ok-derive_builtin-in-Derives-clause-ok
@@ -141,7 +143,8 @@ drop_reached-requires g c =
 
 pub returns-in_err-drop_reached-in-Drops-clause-many : goal.returns-in_err-drop_reached-in-Drops-clause-many
 returns-in_err-drop_reached-in-Drops-clause-many g c = λ h grown k.
-    c.in_err-drop_reached-in-Drops.ensures.many (refused_step _ _ _ c.in_err-drop_reached-in-Drops.was c.from_residual-in_err-drop_reached-in-Drops.ensures.1 h)
+    c.in_err-drop_reached-in-Drops.ensures.many (sym c.in_err-drop_reached-in-Drops.was ∙ refused_step _ _ _ c.in_err-drop_reached-in-Drops.was
+    c.from_residual-in_err-drop_reached-in-Drops.ensures.1 h)
     (environment grown (g.D.SourceDatabase.workspace c.args.db.now))
 
 pub returns-in_ok-drop_reached-in-Drops-clause-ok : goal.returns-in_ok-drop_reached-in-Drops-clause-ok
@@ -189,7 +192,8 @@ returns-in_err-drop_call-in-TooDeep-clause-unknown g c = λ h. absurd (known_ste
 
 pub returns-in_err-skip-in-Skips-clause-many : goal.returns-in_err-skip-in-Skips-clause-many
 returns-in_err-skip-in-Skips-clause-many g c =
-    λ h. c.in_err-skip-in-Skips.ensures.many (refused_step _ _ _ c.in_err-skip-in-Skips.was c.from_residual-in_err-skip-in-Skips.ensures.1 h)
+    λ h. c.in_err-skip-in-Skips.ensures.many (sym c.in_err-skip-in-Skips.was ∙ refused_step _ _ _ c.in_err-skip-in-Skips.was
+    c.from_residual-in_err-skip-in-Skips.ensures.1 h)
 
 pub returns-in_err-skip-in-Skips-clause-unknown : goal.returns-in_err-skip-in-Skips-clause-unknown
 returns-in_err-skip-in-Skips-clause-unknown g c = λ h. absurd (known_step _ _ c.from_residual-in_err-skip-in-Skips.ensures.1 h)

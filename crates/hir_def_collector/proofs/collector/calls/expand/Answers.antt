@@ -1,4 +1,5 @@
 -- What waits is expanded, unless the source that writes the macro has no number.
+use Rattle.std.proofs.Common.{◌∙◌, sym}
 use Rattle.hir_collector_rules.proofs.Numbers.{known_step, refused_step, tables_stay}
 use Rattle.hir_def_collector.proofs.collector.calls.expand.Goals as goal
 
@@ -21,7 +22,8 @@ pub expand_known-requires-clause-known : goal.expand_known-requires-clause-known
 expand_known-requires-clause-known g c = c.is_meant.ensures.meant c.if-not-is_meant.false
 
 pub returns-in_err-expand_known-clause-many : goal.returns-in_err-expand_known-clause-many
-returns-in_err-expand_known-clause-many g c = λ h. c.in_err-expand_known.ensures.many (refused_step _ _ _ c.in_err-expand_known.was c.from_residual.ensures.1 h)
+returns-in_err-expand_known-clause-many g c =
+    λ h. c.in_err-expand_known.ensures.many (sym c.in_err-expand_known.was ∙ refused_step _ _ _ c.in_err-expand_known.was c.from_residual.ensures.1 h)
 
 pub returns-in_err-expand_known-clause-unknown : goal.returns-in_err-expand_known-clause-unknown
 returns-in_err-expand_known-clause-unknown g c = λ h. absurd (known_step _ _ c.from_residual.ensures.1 h)

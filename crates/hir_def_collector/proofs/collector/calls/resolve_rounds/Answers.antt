@@ -193,7 +193,7 @@ pub returns-in_err-run-clause-many : goal.returns-in_err-run-clause-many
 returns-in_err-run-clause-many g c = λ h grown k.
     spent_after (has_rounds_steps (environment grown (g.D.SourceDatabase.workspace c.args.db.now)) (part_of c.args.world) (core_in c.args.run)
     (at_rest (core_in c.rounds.run)) c.rounds.rounds (c.rounds.invariant.rounds grown k))
-    (c.in_err-run.ensures.many (refused_step _ _ _ c.in_err-run.was c.from_residual-in_err-run.ensures.1 h)
+    (c.in_err-run.ensures.many (sym c.in_err-run.was ∙ refused_step _ _ _ c.in_err-run.was c.from_residual-in_err-run.ensures.1 h)
     (environment grown (g.D.SourceDatabase.workspace c.args.db.now)))
 
 pub returns-in_err-run-clause-unknown : goal.returns-in_err-run-clause-unknown

@@ -95,7 +95,7 @@ returns-in_err-try_calls-clause-unknown g c = λ h.
 -- imports are resolved by steps, which meet no unknown source
 pub returns-in_err-run-clause-many : goal.returns-in_err-run-clause-many
 returns-in_err-run-clause-many g c = λ h grown k.
-    c.in_err-run.ensures.many (refused_step _ _ _ c.in_err-run.was c.from_residual-in_err-run.ensures.1 h)
+    c.in_err-run.ensures.many (sym c.in_err-run.was ∙ refused_step _ _ _ c.in_err-run.was c.from_residual-in_err-run.ensures.1 h)
     (environment grown (g.D.SourceDatabase.workspace c.args.db.now))
 
 pub returns-in_err-run-clause-unknown : goal.returns-in_err-run-clause-unknown
@@ -207,7 +207,7 @@ returns-in_err-given-clause-many g c = λ h grown k.
     let later = c.give_up.new.locations in
     let far : OnceGrown later w (λ env. IsSpent env part (at_rest (core_in c.try_calls.new.run))) =
     subst (λ (v : Workspace). OnceGrown later v (λ env. IsSpent env part (at_rest (core_in c.try_calls.new.run)))) c.in_ok-try_calls.ensures.same
-    (c.in_err-given.ensures.many (refused_step _ _ _ c.in_err-given.was c.from_residual-in_err-given.ensures.1 h)) in
+    (c.in_err-given.ensures.many (sym c.in_err-given.was ∙ refused_step _ _ _ c.in_err-given.was c.from_residual-in_err-given.ensures.1 h)) in
     spent_after (Steps-append (settles_requeued env (part_of c.args.world) (core_in c.args.run) (core_in c.in_ok-run.run') (core_in c.requeue.new.run)
     c.requeue.ensures.same (c.in_ok-run.ensures.ok env))
     (c.in_ok-try_calls.ensures.ok grown (KeepsTables-trans c.try_calls.new.locations later grown c.in_err-given.ensures.kept k))) (far grown k)
