@@ -7,3 +7,4 @@ pub mod ImportChainLemmas
 pub mod AscendingLemmas
 pub mod WalkLemmas
 pub mod AskLemmas
+pub mod EntryNames

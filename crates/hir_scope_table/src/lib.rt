@@ -6,9 +6,13 @@
 //! reserves what it needs, which alone can fail and is rolled back where it does, and then writes.
 #![tactic(auto)]
 
+pub mod entry;
+pub mod entry_list;
 pub mod globs;
 pub mod item;
 pub mod laws;
 pub mod merge_sorted;
+pub mod probe;
+pub mod records;
 mod reserved;
-pub mod table;
+pub mod slot_walk;
