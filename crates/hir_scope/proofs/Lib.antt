@@ -8,3 +8,5 @@ pub mod AscendingLemmas
 pub mod WalkLemmas
 pub mod AskLemmas
 pub mod EntryNames
+pub mod Updates
+pub mod Walked

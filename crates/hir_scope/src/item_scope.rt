@@ -118,6 +118,7 @@ impl ItemScope {
         ensures position { result.0 ≡ position_of (slice_cmp nat_cmp) (scope_names self.now) name.now }
         ensures count { result.1 ≤ binary_digits (length (scope_names self.now)) }
     {
+        self.names.is_kept();
         self.names.find(name)
     }
 

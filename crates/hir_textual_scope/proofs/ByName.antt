@@ -1,9 +1,10 @@
 -- Macros by name have of each name what the list of definitions has.
-use Rattle.std.proofs.Common.{◌≡◌, ◌≢◌, ℕ, suc, ◌+◌, ◌≤◌, Bool, true, false, cond, List, [], ◌∷◌, ◌++◌, fold, length, drop, refl, sym, ap, subst, None, ◌∙◌}
-use Rattle.std.proofs.Common.{append_assoc, append-nil, arith, length-append}
+use Rattle.std.proofs.Common.{◌≡◌, ◌≢◌, ℕ, zero, suc, ◌+◌, ◌≤◌, Bool, true, false, cond, List, [], ◌∷◌, ◌++◌, fold, length, drop, refl, sym, ap, subst, None}
+use Rattle.std.proofs.Common.{Some, ◌∙◌}
+use Rattle.std.proofs.Common.{append_assoc, append-nil, arith, drop_of_length-le, length-append}
 use mathlib.Core.Bool.{true≢false}
 use Rattle.std.specs.Prelude.{nat_eq}
-use Rattle.std.specs.List.{All, filter, last_or}
+use Rattle.std.specs.List.{All, filter, last_or, slice_get}
 use Rattle.std.specs.Cmp.Lexicographic.{pointwise, bytes_decides, slice_cmp}
 use Rattle.std.specs.Ordering.{nat_cmp, is_lt, ordering_reverse}
 use Rattle.std.specs.declared.cmp.Ordering.{Ordering}
@@ -18,9 +19,6 @@ use Rattle.hir_textual_scope.proofs.MoreMacros.{IsInOrder-with_named}
 use Rattle.hir_textual_scope.proofs.NameOrder.{not_before_trans, same_name, left_of_middle, right_of_middle}
 use Rattle.hir_textual_scope.proofs.NamedMacros.{macros_of-append}
 use Rattle.hir_textual_scope.proofs.NewMacro.{front, named_comes_last, none_behind, other_names_keep_named, same_itself}
-
-put : List TextualMacro → TextualMacro → List TextualMacro
-put sorted m = with_named sorted m.name m.makro
 
 -- ---- one definition more
 
@@ -113,6 +111,26 @@ leads : (m : TextualMacro) (ms : List TextualMacro) (name : List ℕ) (b : Bool)
     ≡ cond b (m.makro ∷ leading name ms) []
 leads m ms name true e = rw e refl
 leads m ms name false e = rw e refl
+
+-- a walk over the macros of a name ends behind the last of all
+pub none_left : (name : List ℕ) (ms : List TextualMacro) (n : ℕ) → length ms ≤ n → leading name (drop n ms) ≡ []
+none_left name ms n h = ap (leading name) (drop_of_length-le ms {i = n} h)
+
+leads_at : (name : List ℕ) (ms : List TextualMacro) (n : ℕ) (m : TextualMacro) → Some m ≡ slice_get ms n
+    → leading name (drop n ms) ≡ leading name (m ∷ drop (suc n) ms)
+leads_at name [] n m e = cc
+leads_at name (x ∷ xs) zero m e = let same : x ≡ m = cc in ap (λ y. leading name (y ∷ xs)) same
+leads_at name (x ∷ xs) (suc n) m e = leads_at name xs n m e
+
+-- it gives the macro at its place, if that has the name
+pub gives_next : (name : List ℕ) (ms : List TextualMacro) (n : ℕ) (m : TextualMacro) → Some m ≡ slice_get ms n → has_name name m ≡ true
+    → leading name (drop n ms) ≡ m.makro ∷ leading name (drop (suc n) ms)
+gives_next name ms n m e h = leads_at name ms n m e ∙ leads m (drop (suc n) ms) name true h
+
+-- and ends there, if it hasn't
+pub ends_there : (name : List ℕ) (ms : List TextualMacro) (n : ℕ) (m : TextualMacro) → Some m ≡ slice_get ms n → has_name name m ≡ false
+    → leading name (drop n ms) ≡ []
+ends_there name ms n m e h = leads_at name ms n m e ∙ leads m (drop (suc n) ms) name false h
 
 pub leading_from : (ms : List TextualMacro) (name : List ℕ) → IsInOrder ms → leading name (drop (count_before ms name) ms) ≡ macros_of ms name
 leading_from [] name s = refl

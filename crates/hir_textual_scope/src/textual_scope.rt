@@ -243,8 +243,12 @@ impl<'a> Iterator for MacrosOf<'a> {
     ghost remaining = { item_count (λ (left : List MacroId). left) };
 
     fn next(&mut self) -> Option<MacroId> {
+        let len = node::len(self.root);
+        if self.next >= len {
+            return None;
+        }
         let entry = node::get(self.root, self.next)?;
-        if entry.name == *self.name {
+        if *self.name == entry.name {
             self.next += 1;
             Some(entry.makro)
         } else {

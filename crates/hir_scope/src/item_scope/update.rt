@@ -140,6 +140,7 @@ impl ItemScope {
         ensures removed { item_at self.new.values name.now ≡ cond (is_definition (⟦<ModuleDefId as PartialEq>⟧.eq) def (item_at self.old.values name.now)) None (item_at self.old.values name.now) }
         ensures others { (other : List ℕ) → other ≢ name.now → item_at self.new.values other ≡ item_at self.old.values other }
     {
+        self.bindings_ascend();
         if let Some(item) = self.value_item(name) {
             if item.def == def {
                 self.names.remove_value(name);

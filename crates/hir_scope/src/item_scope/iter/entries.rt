@@ -53,6 +53,7 @@ impl ItemScope {
     pub fn entries(&self) -> Entries<'_>
         ensures value { result ≡ entries_of self.now }
     {
+        self.names.is_kept();
         Entries {
             left: self.names.as_slice(),
         }
