@@ -6,11 +6,12 @@ use Rattle.std.proofs.lemmas.Option.{slice_get_cases}
 use Rattle.std.specs.Prelude.{IfSome}
 use Rattle.hir_item_tree.specs.Collected.{Collected}
 use Rattle.hir_base.specs.Cfg.{Cfg}
-use Rattle.hir_base.specs.Types.{SyntaxId}
+use Rattle.hir_base.specs.declared.ast_id.SyntaxId.{SyntaxId}
 use Rattle.hir_item_tree.specs.KeptForest.{KeptItem}
 use Rattle.hir_item_tree.specs.Kinds.{item_head}
 use Rattle.hir_item_tree.specs.Rows.{Content, alone, with_items, item_of, items_at, numbers_of}
-use Rattle.hir_item_tree.specs.Types.{ModItemId, TreeId}
+use Rattle.hir_item_tree.specs.declared.rows.ModItemId.{ModItemId}
+use Rattle.hir_item_tree.specs.declared.tree_id.TreeId.{TreeId}
 use Rattle.hir_assoc_items.specs.Written.{WrittenValue, top_items, written, written_content, written_found, written_item}
 
 -- an item that is put together of its head and what it is

@@ -9,7 +9,7 @@ use Rattle.hir_worklist.proofs.Settled.{IsUnread}
 use Rattle.hir_worklist.specs.Moves.{Wakes}
 use Rattle.hir_worklist.specs.Queue.{IsIdle, Queue, is_among}
 use Rattle.hir_worklist.specs.Settling.{AreSettled, WatchesEach}
-use Rattle.hir_worklist.specs.Types.{Watchers}
+use Rattle.hir_worklist.specs.declared.watchers.Watchers.{Watchers}
 use Rattle.hir_import_resolution.specs.Inner.Queue.{IsSamePass, KeepsWatched, WakesEach, more, none, slot_cmp}
 use Rattle.hir_import_resolution.proofs.Waking.{pass_woken, same_pass, woken_settled}
 use Rattle.hir_call_queue.specs.Changes.{ChangedValue, IsThere}

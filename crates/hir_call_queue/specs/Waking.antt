@@ -4,7 +4,7 @@ use Rattle.std.specs.List.{All}
 use Rattle.hir_def_map.specs.declared.nameres.path_resolution.slots.Slot.{Slot as PathSlot}
 use Rattle.hir_worklist.specs.Queue.{IsIdle, Queue, is_among}
 use Rattle.hir_worklist.specs.Settling.{AreWatched, WatchesEach}
-use Rattle.hir_worklist.specs.Types.{Watchers}
+use Rattle.hir_worklist.specs.declared.watchers.Watchers.{Watchers}
 use Rattle.hir_import_resolution.specs.Inner.Queue.{IsSamePass, KeepsWatched, slot_cmp}
 use Rattle.hir_call_queue.specs.declared.queue.CallQueue.{CallQueue}
 use Rattle.hir_call_queue.specs.Changes.{ChangedValue, IsThere, IsUntouched}

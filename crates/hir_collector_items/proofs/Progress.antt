@@ -3,14 +3,15 @@
 use Rattle.std.proofs.Common.{◌≡◌, ℕ, Bool, true, false, List, ◌∷◌, Option, None, Some, refl}
 use Rattle.hir_item_tree.specs.Collected.{is_enabled}
 use Rattle.hir_base.specs.Cfg.{Cfg}
-use Rattle.hir_def_map_rules.specs.Types.{DefDiagnostic}
+use Rattle.hir_def_map_rules.specs.declared.diagnostics.DefDiagnostic.{DefDiagnostic}
 use Rattle.hir_item_tree.specs.Kinds.{item_head, item_kind}
 use mathlib.Core.Bool.{true≢false}
 use Rattle.hir_item_tree.specs.KeptForest.{Head, Leaf, KeptItem, extern_block, inline_module, leaf, holder, import, extern_crate, function, structure}
 use Rattle.hir_item_tree.specs.KeptForest.{union_structure, enumeration, constant, static_item, trait_item, implementation, type_alias, outline_module}
 use Rattle.hir_item_tree.specs.KeptForest.{macro_call, macro_rules, macro_def}
 use Rattle.hir_def_map_rules.specs.Overlay.{Maps}
-use Rattle.hir_collector_rules.specs.Types.{Export, Site}
+use Rattle.hir_collector_rules.specs.declared.exported.Export.{Export}
+use Rattle.hir_collector_rules.specs.declared.site.Site.{Site}
 use Rattle.hir_collector_rules.specs.Attributes.{export_at, next_attribute}
 use Rattle.hir_collector_rules.specs.Keys.{Environment, variants_at}
 use Rattle.hir_collector_rules.specs.State.{State, Task, visits, closes}

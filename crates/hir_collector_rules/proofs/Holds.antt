@@ -2,18 +2,21 @@
 use Rattle.std.proofs.Common.{◌≡◌, ◌∙◌, ℕ, ◌<◌, Bool, true, false, List, [], ◌∷◌, length, map as list_map, slice_get, slice_set, Option, None, Some, inl, inr}
 use Rattle.std.proofs.Common.{refl, sym, ap, subst, arith}
 use Rattle.std.proofs.lemmas.Bool.{cases_lt}
-use Rattle.hir_base.specs.Types.{Crate, ModuleId}
+use Rattle.hir_base.specs.declared.ids.Crate.{Crate}
+use Rattle.hir_base.specs.declared.ids.ModuleId.{ModuleId}
 use Rattle.hir_item_tree.specs.ItemTree.{Tree}
 use Rattle.hir_item_tree.specs.KeptForest.{KeptForest, no_items, item}
-use Rattle.hir_item_tree.specs.Types.{TreeId}
+use Rattle.hir_item_tree.specs.declared.tree_id.TreeId.{TreeId}
 use Rattle.hir_def_map_rules.proofs.NoneOf.{not_first, not_second}
 use Rattle.hir_def_map_rules.specs.State.{Map, entry_at, place_at}
 use Rattle.hir_def_map_rules.specs.Overlay.{Maps}
-use Rattle.hir_scope.specs.Types.{PerNs}
+use Rattle.hir_scope.specs.declared.per_ns.PerNs.{PerNs}
 use Rattle.hir_glob_imports.specs.Rules.{Act}
-use Rattle.hir_glob_imports.specs.Types.{Target}
+use Rattle.hir_glob_imports.specs.declared.edge.Target.{Target}
 use Rattle.hir_def_map_rules.specs.Scoping.{Resolution}
-use Rattle.hir_import_resolution.specs.Types.{ImportDirective, ImportSource, Namespaces}
+use Rattle.hir_import_resolution.specs.declared.directive.ImportDirective.{ImportDirective}
+use Rattle.hir_import_resolution.specs.declared.directive.ImportSource.{ImportSource}
+use Rattle.hir_import_resolution.specs.declared.namespaces.Namespaces.{Namespaces}
 use Rattle.hir_import_resolution.specs.Directives.{AreAmong, TakenValue, answer_to, kept_by, kept_trait, kind_of, leaf_of, name_of, namespaces_of}
 use Rattle.hir_import_resolution.specs.Directives.{no_namespaces, not_taken, nothing_taken, offered_by, taken_after, taken_for, visibility_of}
 use Rattle.hir_import_resolution.specs.Changes.{Change as ImportChange, act as act_on_imports, along, keeps_trait, pushes, pushing, records, takes}

@@ -1,15 +1,23 @@
 -- What changes of imports leave: of the map, one scope is another, and what else they leave alone.
 use Rattle.std.proofs.Common.{◌≡◌, ℕ, List, Option, None, Some, refl}
-use Rattle.hir_base.specs.Types.{ModuleId, TraitId}
+use Rattle.hir_base.specs.declared.ids.ModuleId.{ModuleId}
+use Rattle.hir_base.specs.declared.ids.TraitId.{TraitId}
 use Rattle.hir_scope.specs.Globs.{GlobNames}
 use Rattle.hir_scope.specs.Scope.{ScopeValue}
 use Rattle.hir_scope.specs.Scope.Push.{pushed_scope}
-use Rattle.hir_scope.specs.Types.{GlobId, ImportId, ImportOrExternCrate, ItemInNs, PerNs, Visibility}
+use Rattle.hir_scope.specs.declared.imports.GlobId.{GlobId}
+use Rattle.hir_scope.specs.declared.imports.ImportId.{ImportId}
+use Rattle.hir_scope.specs.declared.imports.ImportOrExternCrate.{ImportOrExternCrate}
+use Rattle.hir_scope.specs.declared.item_in_ns.ItemInNs.{ItemInNs}
+use Rattle.hir_scope.specs.declared.per_ns.PerNs.{PerNs}
+use Rattle.hir_scope.specs.declared.visibility.Visibility.{Visibility}
 use Rattle.hir_scope.specs.declared.imports.ImportOrExternCrate.TheVariants as ways
 use Rattle.hir_def_map_rules.specs.State.{Map, module_at, numbered, with_scope}
 use Rattle.hir_def_map_rules.specs.Overlay.{Maps}
 use Rattle.hir_glob_imports.specs.Rules.{Act, copies, brings, follows, raises}
-use Rattle.hir_glob_imports.specs.Types.{Bound, Key, Slot}
+use Rattle.hir_glob_imports.specs.declared.edge.Bound.{Bound}
+use Rattle.hir_glob_imports.specs.declared.edge.Key.{Key}
+use Rattle.hir_glob_imports.specs.declared.edge.Slot.{Slot}
 use Rattle.hir_glob_imports.specs.declared.edge.Key.TheVariants.{Types, Values, Macros, Unnamed}
 use Rattle.hir_import_resolution.specs.Changes.{Change as ImportChange, act as act_on_imports, along, kept_vis, keeps_trait, pushes, pushing, records, takes}
 use Rattle.hir_import_resolution.specs.Names.{bound_of, copied_where, followed_where, items_by, redefined, revised, trait_vis, with_trait}

@@ -5,7 +5,17 @@ use Rattle.std.specs.Option.{option_and_then}
 use Rattle.std.specs.Prelude.{IsSome, option_map}
 use Rattle.std.proofs.lemmas.List.Elements.{Contains-append_cases}
 use Rattle.hir_base.specs.ModPath.{Path}
-use Rattle.hir_base.specs.Types.{AdtId, AstId, AttrId, BlockId, Crate, EntryId, FileId, HirFileId, MacroCallLoc, MacroId, ModuleId}
+use Rattle.hir_base.specs.declared.ids.AdtId.{AdtId}
+use Rattle.hir_base.specs.declared.ast_id.AstId.{AstId}
+use Rattle.hir_base.specs.declared.ast_id.AttrId.{AttrId}
+use Rattle.hir_base.specs.declared.ast_id.BlockId.{BlockId}
+use Rattle.hir_base.specs.declared.ids.Crate.{Crate}
+use Rattle.hir_base.specs.declared.ast_id.EntryId.{EntryId}
+use Rattle.hir_base.specs.declared.ast_id.FileId.{FileId}
+use Rattle.hir_base.specs.declared.ast_id.HirFileId.{HirFileId}
+use Rattle.hir_base.specs.declared.macro_kind.MacroCallLoc.{MacroCallLoc}
+use Rattle.hir_base.specs.declared.macro_kind.MacroId.{MacroId}
+use Rattle.hir_base.specs.declared.ids.ModuleId.{ModuleId}
 use Rattle.hir_base.specs.declared.ast_id.AstKind.TheVariants.{MacroDef, MacroRules}
 use Rattle.hir_base.specs.declared.ast_id.HirFileId.TheVariants.{File, Macro}
 use Rattle.hir_base.specs.declared.macro_kind.MacroId.TheVariants as macros
@@ -15,7 +25,7 @@ use Rattle.hir_item_tree.specs.SourceTree.{variants_of}
 use Rattle.hir_item_tree.specs.SyntaxIds.{node_id}
 use Rattle.hir_mod_dir.specs.Directory.{Directory}
 use Rattle.hir_mod_dir.specs.ModuleFiles.{inline_directory}
-use Rattle.hir_item_tree.specs.Types.{TreeId}
+use Rattle.hir_item_tree.specs.declared.tree_id.TreeId.{TreeId}
 use Rattle.hir_tables.specs.SourcePlaces.{ExpansionValue, SourcePlaceValue, expansion as of_expansion, file as of_file}
 use Rattle.hir_tables.specs.Tables.{TablesValue, KeepsTables, entry_at, file_at, source_of, source_under as place_under}
 use Rattle.hir_tables.proofs.Growth.{source_of-kept}

@@ -1,7 +1,7 @@
 -- What numbers mean stays as tables grow.
 use Rattle.std.proofs.Common.{◌≡◌, ◌∙◌, ◌<◌, ℕ, List, Some, Result, Ok, Err, IsErrAnd, ap, arith}
 use Rattle.hir_base.specs.Locations.{KeepsNumbers}
-use Rattle.hir_base.specs.Types.{LocationsError}
+use Rattle.hir_base.specs.declared.locations.LocationsError.{LocationsError}
 use Rattle.hir_base.specs.declared.locations.LocationsError.TheVariants as numbers
 use Rattle.hir_tables.specs.Interning.{IsFull}
 use Rattle.hir_tables.specs.Tables.{TablesValue, KeepsTables}

@@ -2,7 +2,7 @@
 use Rattle.std.specs.Prelude.{ℕ, Bool, false, ◌||◌, nat_eq, List, [], ◌∷◌, codes}
 use Rattle.std.specs.List.{starts_with}
 use Rattle.hir_base.specs.Display.{is_one_of}
-use Rattle.hir_base.specs.Types.{PathKind}
+use Rattle.hir_base.specs.declared.mod_path.PathKind.{PathKind}
 use Rattle.hir_base.specs.declared.mod_path.PathKind.TheVariants as roots
 
 -- attributes of tests, and of macros

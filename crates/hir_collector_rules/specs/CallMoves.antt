@@ -1,12 +1,12 @@
 -- What a part of a run does with macro calls.
 use Rattle.std.specs.Prelude.{◌≡◌, ◌<◌, ◌≤◌, ℕ, Bool, true, false, ◌++◌, length, Option, None, Some, slice_get}
-use Rattle.hir_base.specs.Types.{MacroId}
+use Rattle.hir_base.specs.declared.macro_kind.MacroId.{MacroId}
 use Rattle.hir_item_tree.specs.SourceTree.{SourceTreeValue}
 use Rattle.hir_tables.specs.Tables.{TablesValue}
 use Rattle.hir_def_map_rules.specs.Overlay.{Maps}
 use Rattle.hir_def_map_rules.specs.State.{IsInOrder}
 use Rattle.hir_import_resolution.specs.Rest.{BroughtStands, IsAtRest, IsClosed, IsSound}
-use Rattle.hir_import_resolution.specs.Types.{ImportDirective}
+use Rattle.hir_import_resolution.specs.declared.directive.ImportDirective.{ImportDirective}
 use Rattle.hir_collector_rules.specs.declared.macro_directive.Fate.TheVariants.{Handled}
 use Rattle.hir_collector_rules.specs.declared.macro_directive.MacroDirective.{MacroDirective}
 use Rattle.hir_collector_rules.specs.declared.macro_directive.WaitingItem.{WaitingItem}

@@ -6,8 +6,17 @@ use Rattle.either.specs.declared.Either.{Either}
 use Rattle.hir_base.specs.Ids.{macro_module}
 use Rattle.hir_base.specs.MacroKind.{contains_styles, derive_alone, styles_of}
 use Rattle.hir_base.specs.ModPath.{Path}
-use Rattle.hir_base.specs.Types.{AstId, BuiltinDeriveImplId, CallStyle, Crate, EntryId, MacroCallId, MacroCallKind, MacroCallLoc, MacroExpander, MacroId}
-use Rattle.hir_base.specs.Types.{MacroSubNs}
+use Rattle.hir_base.specs.declared.ast_id.AstId.{AstId}
+use Rattle.hir_base.specs.declared.macro_kind.BuiltinDeriveImplId.{BuiltinDeriveImplId}
+use Rattle.hir_base.specs.declared.macro_kind.CallStyle.{CallStyle}
+use Rattle.hir_base.specs.declared.ids.Crate.{Crate}
+use Rattle.hir_base.specs.declared.ast_id.EntryId.{EntryId}
+use Rattle.hir_base.specs.declared.ast_id.MacroCallId.{MacroCallId}
+use Rattle.hir_base.specs.declared.macro_kind.MacroCallKind.{MacroCallKind}
+use Rattle.hir_base.specs.declared.macro_kind.MacroCallLoc.{MacroCallLoc}
+use Rattle.hir_base.specs.declared.macro_kind.MacroExpander.{MacroExpander}
+use Rattle.hir_base.specs.declared.macro_kind.MacroId.{MacroId}
+use Rattle.hir_base.specs.declared.resolve_mode.MacroSubNs.{MacroSubNs}
 use Rattle.hir_base.specs.declared.ast_id.HirFileId.TheVariants.{Macro}
 use Rattle.hir_base.specs.declared.macro_kind.CallStyle.TheVariants as styles
 use Rattle.hir_base.specs.declared.macro_kind.MacroExpander.TheVariants as expanders
@@ -16,9 +25,11 @@ use Rattle.hir_base.specs.declared.macro_kind.MacroId.TheVariants.{Macro2Id, Mac
 use Rattle.hir_base.specs.declared.resolve_mode.BuiltinShadowMode.TheVariants as shadow_modes
 use Rattle.hir_base.specs.declared.resolve_mode.MacroSubNs.TheVariants as sub_namespaces
 use Rattle.hir_def_map_rules.specs.declared.path_result.ResolveMode.TheVariants as modes
-use Rattle.hir_item_tree.specs.Types.{TreeId, TreeKey}
+use Rattle.hir_item_tree.specs.declared.tree_id.TreeId.{TreeId}
+use Rattle.hir_item_tree.specs.declared.tree_id.TreeKey.{TreeKey}
 use Rattle.hir_scope.specs.PerNs.{Item}
-use Rattle.hir_scope.specs.Types.{ImportOrExternCrate, PerNs}
+use Rattle.hir_scope.specs.declared.imports.ImportOrExternCrate.{ImportOrExternCrate}
+use Rattle.hir_scope.specs.declared.per_ns.PerNs.{PerNs}
 use Rattle.hir_tables.specs.SourcePlaces.{ExpansionValue}
 use Rattle.hir_tables.specs.Tables.{TablesValue, call_at, entry_at, source_of}
 use Rattle.hir_def_map_rules.specs.Diagnostics.{call_node}
@@ -27,7 +38,7 @@ use Rattle.hir_def_map_rules.specs.Overlay.{Maps, map_in, overlay}
 use Rattle.hir_def_map_rules.specs.Scoping.{resolution_of}
 use Rattle.hir_def_map_rules.specs.Scoping.Asking.{Asking}
 use Rattle.hir_def_map_rules.specs.State.{Local, MacroDataValue, Map, numbered}
-use Rattle.hir_def_map_rules.specs.Types.{DeriveHelper}
+use Rattle.hir_def_map_rules.specs.declared.derive_helpers.DeriveHelper.{DeriveHelper}
 use Rattle.hir_item_tree.specs.KeptForest.{KeptItem, all_items}
 use Rattle.hir_collector_rules.specs.declared.macro_directive.Fate.TheVariants as fates
 use Rattle.hir_collector_rules.specs.declared.macro_directive.MacroDirective.{MacroDirective}

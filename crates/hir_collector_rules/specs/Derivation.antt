@@ -1,13 +1,14 @@
 -- What a run comes to: the end of a derivation by the import rules.
 use Rattle.std.specs.Prelude.{◌≡◌, ◌≤◌, ◌⊎◌, ℕ, Bool, false, true, List, [], ◌∷◌, ◌++◌, length, Option, None, Some, slice_get, Contains, cond}
-use Rattle.hir_scope.specs.Types.{GlobId, ImportOrExternCrate}
+use Rattle.hir_scope.specs.declared.imports.GlobId.{GlobId}
+use Rattle.hir_scope.specs.declared.imports.ImportOrExternCrate.{ImportOrExternCrate}
 use Rattle.hir_def_map_rules.specs.State.{Local, Map, entry_at}
 use Rattle.hir_def_map_rules.specs.Overlay.{Maps}
-use Rattle.hir_def_map_rules.specs.Types.{DefDiagnostic}
-use Rattle.hir_base.specs.Types.{Crate}
+use Rattle.hir_def_map_rules.specs.declared.diagnostics.DefDiagnostic.{DefDiagnostic}
+use Rattle.hir_base.specs.declared.ids.Crate.{Crate}
 use Rattle.hir_tables.specs.Tables.{TablesValue}
-use Rattle.hir_glob_imports.specs.Types.{Target}
-use Rattle.hir_import_resolution.specs.Types.{ImportDirective}
+use Rattle.hir_glob_imports.specs.declared.edge.Target.{Target}
+use Rattle.hir_import_resolution.specs.declared.directive.ImportDirective.{ImportDirective}
 use Rattle.hir_import_resolution.specs.Directives.{AreAmong, TakenValue, glob_of, is_untaken, kept_by_kind, kind_of, name_of, namespaces_of, reached_by}
 use Rattle.hir_import_resolution.specs.Directives.{target_of, way_of}
 use Rattle.hir_import_resolution.specs.Rest.{BroughtStands, IsClosed, IsSettled, IsSource}

@@ -6,22 +6,28 @@ use Rattle.hir_base.specs.declared.ast_id.AstKind.TheVariants as nodes
 use Rattle.hir_item_tree.specs.Collected.{Numbered as Attribute, is_enabled, numbered}
 use Rattle.hir_item_tree.specs.KeptForest.{Head}
 use Rattle.hir_base.specs.ModPath.{Path}
-use Rattle.hir_base.specs.Types.{AdtId, AstId, Crate, LocationsError}
-use Rattle.hir_item_tree.specs.Types.{ModItemKind, TreeId}
+use Rattle.hir_base.specs.declared.ids.AdtId.{AdtId}
+use Rattle.hir_base.specs.declared.ast_id.AstId.{AstId}
+use Rattle.hir_base.specs.declared.ids.Crate.{Crate}
+use Rattle.hir_base.specs.declared.locations.LocationsError.{LocationsError}
+use Rattle.hir_item_tree.specs.declared.kinds.ModItemKind.{ModItemKind}
+use Rattle.hir_item_tree.specs.declared.tree_id.TreeId.{TreeId}
 use Rattle.hir_item_tree.specs.declared.kinds.ModItemKind.TheVariants as kinds
-use Rattle.hir_mod_dir.specs.Types.{Candidate}
+use Rattle.hir_mod_dir.specs.declared.candidate.Candidate.{Candidate}
 use Rattle.hir_def_map_rules.specs.Macros.{with_diagnostic, with_exported, with_macro_data}
-use Rattle.hir_def_map_rules.specs.Types.{AddModuleError, DefDiagnostic, ModuleOrigin}
+use Rattle.hir_def_map_rules.specs.declared.add_module_error.AddModuleError.{AddModuleError}
+use Rattle.hir_def_map_rules.specs.declared.diagnostics.DefDiagnostic.{DefDiagnostic}
+use Rattle.hir_def_map_rules.specs.declared.origin.ModuleOrigin.{ModuleOrigin}
 use Rattle.hir_base.specs.declared.macro_kind.MacroId.TheVariants.{ProcMacroId}
 use Rattle.hir_collector_rules.specs.declared.declaration.Declaration.{Declaration}
 use Rattle.hir_collector_rules.specs.declared.exported.Export.{Export}
-use Rattle.hir_scope.specs.Types.{Visibility}
+use Rattle.hir_scope.specs.declared.visibility.Visibility.{Visibility}
 use Rattle.hir_scope.specs.declared.visibility.Visibility.TheVariants.{Public}
 use Rattle.hir_def_map_rules.specs.Overlay.{Maps}
 use Rattle.hir_def_map_rules.specs.State.{Map, ModuleValue, new_module, with_module}
 use Rattle.hir_collector_rules.specs.declared.site.Site.{Site}
 use Rattle.hir_def_map_rules.specs.declared.add_module_error.AddModuleError.TheVariants as refusals
-use Rattle.hir_import_resolution.specs.Types.{ImportError}
+use Rattle.hir_import_resolution.specs.declared.resolve.ImportError.{ImportError}
 use Rattle.hir_import_resolution.specs.declared.resolve.ImportError.TheVariants as imports
 use Rattle.hir_collector_rules.specs.declared.start.CollectError.{CollectError}
 use Rattle.hir_collector_rules.specs.declared.start.CollectError.TheVariants.{TooMany, Memory}

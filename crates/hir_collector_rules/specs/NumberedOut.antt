@@ -1,7 +1,8 @@
 -- Of what does the next step of a run speak that has no number, where none is left?
 use Rattle.std.specs.Prelude.{◌≡◌, ◌<◌, ℕ, List, Option, Some, slice_get}
 use Rattle.hir_base.specs.Locations.{max_locations}
-use Rattle.hir_base.specs.Types.{EntryId, MacroId}
+use Rattle.hir_base.specs.declared.ast_id.EntryId.{EntryId}
+use Rattle.hir_base.specs.declared.macro_kind.MacroId.{MacroId}
 use Rattle.hir_item_tree.specs.KeptForest.{Head, leaf, outline_module}
 use Rattle.hir_mod_dir.specs.ModuleFiles.{candidates_of}
 use Rattle.hir_tables.specs.SourcePlaces.{ExpansionValue}

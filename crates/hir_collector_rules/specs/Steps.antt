@@ -3,7 +3,15 @@ use Rattle.std.specs.Prelude.{◌≡◌, ◌<◌, ◌≤◌, ℕ, suc, ◌+◌, 
 use Rattle.either.specs.declared.Either.TheVariants as either
 use Rattle.hir_base.specs.Cfg.{Cfg}
 use Rattle.hir_base.specs.ModPath.{Path}
-use Rattle.hir_base.specs.Types.{AdtId, AstId, AttrId, BuiltinDeriveImplId, EnumId, ExternCrateId, MacroExpander, MacroId, ModuleId}
+use Rattle.hir_base.specs.declared.ids.AdtId.{AdtId}
+use Rattle.hir_base.specs.declared.ast_id.AstId.{AstId}
+use Rattle.hir_base.specs.declared.ast_id.AttrId.{AttrId}
+use Rattle.hir_base.specs.declared.macro_kind.BuiltinDeriveImplId.{BuiltinDeriveImplId}
+use Rattle.hir_base.specs.declared.ids.EnumId.{EnumId}
+use Rattle.hir_base.specs.declared.ids.ExternCrateId.{ExternCrateId}
+use Rattle.hir_base.specs.declared.macro_kind.MacroExpander.{MacroExpander}
+use Rattle.hir_base.specs.declared.macro_kind.MacroId.{MacroId}
+use Rattle.hir_base.specs.declared.ids.ModuleId.{ModuleId}
 use Rattle.hir_base.specs.declared.ast_id.AstKind.TheVariants as nodes
 use Rattle.hir_base.specs.declared.ids.AdtId.TheVariants as adts
 use Rattle.hir_base.specs.declared.ids.ModuleDefId.TheVariants as definitions
@@ -13,22 +21,25 @@ use Rattle.hir_item_tree.specs.Kinds.{item_head, item_kind}
 use Rattle.hir_item_tree.specs.KeptForest.{Head, KeptItem, KeptForest, leaf, function, import, extern_crate, enumeration, constant, implementation}
 use Rattle.hir_item_tree.specs.KeptForest.{outline_module, macro_call, macro_rules, macro_def, holder, extern_block, inline_module}
 use Rattle.hir_item_tree.specs.UseTree.{UseTree}
-use Rattle.hir_item_tree.specs.Types.{ExternCrateName, VariantItem}
+use Rattle.hir_item_tree.specs.declared.shape.ExternCrateName.{ExternCrateName}
+use Rattle.hir_item_tree.specs.declared.side_lists.VariantItem.{VariantItem}
 use Rattle.hir_use_tree.specs.UseTree.{count_of}
-use Rattle.hir_use_tree.specs.Types.{ImportAlias}
+use Rattle.hir_use_tree.specs.declared.imports.ImportAlias.{ImportAlias}
 use Rattle.hir_def_map_rules.specs.State.{MacroDataValue, Map, new_id, with_declared}
 use Rattle.hir_def_map_rules.specs.Overlay.{Maps}
 use Rattle.hir_def_map_rules.specs.declared.declaration.Declaration.TheVariants as listings
-use Rattle.hir_def_map_rules.specs.Types.{DefDiagnostic, DeriveHelper, ModuleOrigin}
+use Rattle.hir_def_map_rules.specs.declared.diagnostics.DefDiagnostic.{DefDiagnostic}
+use Rattle.hir_def_map_rules.specs.declared.derive_helpers.DeriveHelper.{DeriveHelper}
+use Rattle.hir_def_map_rules.specs.declared.origin.ModuleOrigin.{ModuleOrigin}
 use Rattle.hir_mod_dir.specs.Directory.{Directory}
 use Rattle.hir_mod_dir.specs.ModuleFiles.{candidates_of, inline_directory}
-use Rattle.hir_mod_dir.specs.Types.{Candidate}
+use Rattle.hir_mod_dir.specs.declared.candidate.Candidate.{Candidate}
 use Rattle.hir_scope.specs.PerNs.{macros_only}
-use Rattle.hir_scope.specs.Types.{Visibility}
+use Rattle.hir_scope.specs.declared.visibility.Visibility.{Visibility}
 use Rattle.hir_scope.specs.declared.visibility.Visibility.TheVariants as visibilities
 use Rattle.hir_tables.specs.Tables.{TablesValue}
 use Rattle.hir_collector_rules.specs.declared.declaration.Declaration.{Declaration}
-use Rattle.hir_import_resolution.specs.Types.{ImportDirective}
+use Rattle.hir_import_resolution.specs.declared.directive.ImportDirective.{ImportDirective}
 use Rattle.hir_import_resolution.specs.Changes.{pushes}
 use Rattle.hir_import_resolution.specs.Rest.{IsClosed, IsSettled}
 use Rattle.hir_import_resolution.specs.Rules.{Rule as ImportRule, May as MayImport, acts as import_acts}

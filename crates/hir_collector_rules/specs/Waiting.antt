@@ -1,7 +1,8 @@
 -- Which calls and imports wait, and when is it in vain to try them?
 use Rattle.std.specs.Prelude.{◌≡◌, ◌≢◌, ℕ, ◌<◌, ◌≤◌, Bool, true, false, [], ◌∷◌, List, Option, None, Some, length, option_map, slice_get, unwrap_or}
 use Rattle.std.specs.List.{All}
-use Rattle.hir_base.specs.Types.{AstId, EnumId}
+use Rattle.hir_base.specs.declared.ast_id.AstId.{AstId}
+use Rattle.hir_base.specs.declared.ids.EnumId.{EnumId}
 use Rattle.hir_def_map_rules.specs.Macros.{helpers_at}
 use Rattle.hir_def_map_rules.specs.Overlay.{Maps}
 use Rattle.hir_def_map.specs.Scoping.Slots.{reads}
@@ -17,7 +18,7 @@ use Rattle.hir_import_resolution.specs.Inner.Queue.{slot_cmp}
 use Rattle.hir_import_resolution.specs.Inner.State.{IsApart}
 use Rattle.hir_import_resolution.specs.Rounds.{GlobsLast, Grew, IsUpToDate as AreUpToDate, is_lasting}
 use Rattle.hir_import_resolution.specs.State.{ImportState}
-use Rattle.hir_import_resolution.specs.Types.{ImportQueue}
+use Rattle.hir_import_resolution.specs.declared.import_queue.ImportQueue.{ImportQueue}
 use Rattle.hir_call_queue.specs.Changes.{ChangedValue, IsThere, IsUntouched, everything, joined, with_slot}
 use Rattle.hir_call_queue.specs.Waking.{is_apart, watchers_of, worklist_of}
 use Rattle.hir_call_queue.specs.declared.queue.CallQueue.{CallQueue}

@@ -1,7 +1,9 @@
 -- What is handed in: the crates, and what each of their sources has.
 use Rattle.std.specs.Prelude.{ℕ, Bool, List, [], Option, None, Some, map, option_map, slice_get}
 use Rattle.hir_base.specs.ModPath.{Path}
-use Rattle.hir_base.specs.Types.{CfgAtom, Crate, Edition}
+use Rattle.hir_base.specs.declared.cfg.CfgAtom.{CfgAtom}
+use Rattle.hir_base.specs.declared.ids.Crate.{Crate}
+use Rattle.hir_base.specs.declared.edition.Edition.{Edition}
 use Rattle.hir_item_tree.specs.Attributes.{Attributes, attributes_view}
 use Rattle.hir_item_tree.specs.ItemTree.{Tree}
 use Rattle.hir_item_tree.specs.SourceTree.{SourceTreeValue}

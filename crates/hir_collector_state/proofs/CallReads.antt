@@ -6,10 +6,14 @@ use Rattle.std.specs.List.{All}
 use Rattle.std.specs.Option.{option_map}
 use Rattle.hir_base.specs.ModPath.{Path}
 use Rattle.hir_base.specs.contracts.ids.MapIdPartialEq.TheImpl as map_id
-use Rattle.hir_base.specs.Types.{AstId, MacroId, MapId, ModuleId, PathKind}
+use Rattle.hir_base.specs.declared.ast_id.AstId.{AstId}
+use Rattle.hir_base.specs.declared.macro_kind.MacroId.{MacroId}
+use Rattle.hir_base.specs.declared.ids.MapId.{MapId}
+use Rattle.hir_base.specs.declared.ids.ModuleId.{ModuleId}
+use Rattle.hir_base.specs.declared.mod_path.PathKind.{PathKind}
 use Rattle.hir_base.specs.declared.mod_path.PathKind.TheVariants as roots
 use Rattle.hir_scope.specs.PerNs.{Item}
-use Rattle.hir_scope.specs.Types.{ImportOrExternCrate}
+use Rattle.hir_scope.specs.declared.imports.ImportOrExternCrate.{ImportOrExternCrate}
 use Rattle.hir_def_map_rules.proofs.Fails.{Fails-nowhere}
 use Rattle.hir_def_map_rules.specs.Macros.{helpers_at}
 use Rattle.hir_def_map_rules.specs.Overlay.{Maps, map_in, overlay}
@@ -20,13 +24,14 @@ use Rattle.hir_def_map_rules.specs.Scoping.Start.{is_import, is_in_edition_2015}
 use Rattle.hir_def_map_rules.specs.State.{IsBefore, IsInOrder, Local, Map, crate_root, entry_at, numbered, parent_at, parent_of}
 use Rattle.hir_def_map.specs.declared.nameres.path_resolution.slots.Slot.{Slot as PathSlot}
 use Rattle.hir_def_map.specs.declared.nameres.path_resolution.slots.Slot.TheVariants.{Module as of_module, Preludes as of_preludes}
-use Rattle.hir_def_map_rules.specs.Types.{Reference}
+use Rattle.hir_def_map_rules.specs.declared.reference.Reference.{Reference}
 use Rattle.hir_def_map_rules.specs.declared.reference.Reference.TheVariants as named
 use Rattle.hir_def_map_laws.proofs.Changed.{Change, has_others}
 use Rattle.hir_def_map_laws.proofs.ReadLaw.{reads_alike}
 use Rattle.hir_def_map_laws.proofs.SameAbove.{before_at, same_numbers_above, same_parent_at}
 use Rattle.hir_def_map_laws.specs.ReadLaw.{AgreeAt, BeginsOutside, Grows, IsReadAlike, KeepApart}
-use Rattle.hir_collector_rules.specs.Types.{MacroDirective, MacroDirectiveKind}
+use Rattle.hir_collector_rules.specs.declared.macro_directive.MacroDirective.{MacroDirective}
+use Rattle.hir_collector_rules.specs.declared.macro_directive.MacroDirectiveKind.{MacroDirectiveKind}
 use Rattle.hir_collector_rules.specs.declared.macro_directive.MacroDirectiveKind.TheVariants.{Attr, Derive, FnLike}
 use Rattle.hir_collector_rules.specs.Attributes.{is_helper_among}
 use Rattle.hir_collector_rules.specs.Calls.{by_style, called_macro, is_inert_by, path_by, path_of_call, style_of, suited}

@@ -1,7 +1,10 @@
 -- A path reaches the same macro whatever variants the enums of a map have: none lies behind an enum.
 use Rattle.std.proofs.Common.{◌≡◌, ◌∙◌, ap, sym, refl, ℕ, ◌+◌, List, [], ◌∷◌, Bool, true, false, ◌&&◌, cond, Option, None, Some}
 use Rattle.std.specs.Prelude.{is_some, not}
-use Rattle.hir_base.specs.Types.{AdtId, EnumId, ModuleDefId, PathKind}
+use Rattle.hir_base.specs.declared.ids.AdtId.{AdtId}
+use Rattle.hir_base.specs.declared.ids.EnumId.{EnumId}
+use Rattle.hir_base.specs.declared.ids.ModuleDefId.{ModuleDefId}
+use Rattle.hir_base.specs.declared.mod_path.PathKind.{PathKind}
 use Rattle.hir_base.specs.declared.ids.AdtId.TheVariants as adts
 use Rattle.hir_base.specs.declared.ids.ModuleId.{ModuleId as AnyModule}
 use Rattle.hir_base.specs.declared.ids.ModuleDefId.TheVariants.{ModuleId, FunctionId, AdtId as AnyAdt, EnumVariantId, ConstId, StaticId, TraitId, TypeAliasId}
@@ -12,7 +15,8 @@ use Rattle.hir_item_tree.specs.Shape.{has_constructor}
 use Rattle.hir_scope.specs.Bindings.{first_of}
 use Rattle.hir_scope.specs.ModuleTree.{same_block, same_crate}
 use Rattle.hir_scope.specs.PerNs.{Item, with_constructor}
-use Rattle.hir_scope.specs.Types.{ImportOrExternCrate, PerNs}
+use Rattle.hir_scope.specs.declared.imports.ImportOrExternCrate.{ImportOrExternCrate}
+use Rattle.hir_scope.specs.declared.per_ns.PerNs.{PerNs}
 use Rattle.hir_def_map_rules.specs.Ancestors.{holders_in}
 use Rattle.hir_def_map_rules.specs.Overlay.{Maps, map_in, overlay}
 use Rattle.hir_def_map_rules.specs.Scoping.Asking.{Asking}
@@ -24,7 +28,8 @@ use Rattle.hir_def_map_rules.specs.Scoping.Segments.{variant_in}
 use Rattle.hir_def_map_rules.specs.Scoping.Start.{abs_from, climb, from_start, is_import, is_in_edition_2015, is_in_reach, module_bound, settled_in_block}
 use Rattle.hir_def_map_rules.specs.Scoping.Start.{super_from}
 use Rattle.hir_def_map_rules.specs.State.{Map, Variants, crate_root}
-use Rattle.hir_def_map_rules.specs.Types.{EnumVariant, ResolvePathResult}
+use Rattle.hir_def_map_rules.specs.declared.enum_variants.EnumVariant.{EnumVariant}
+use Rattle.hir_def_map_rules.specs.declared.path_result.ResolvePathResult.{ResolvePathResult}
 use Rattle.hir_def_map_rules.specs.declared.path_result.ReachedFixedPoint.TheVariants.{No, Yes}
 use Rattle.hir_def_map_laws.proofs.EnumsApart.{same_2015, same_climb, same_holders, same_in_module, same_in_preludes, same_in_root, same_nearest, same_reach}
 use Rattle.hir_def_map_laws.proofs.EnumsApart.{same_seen}

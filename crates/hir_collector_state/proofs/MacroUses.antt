@@ -2,16 +2,16 @@
 use Rattle.std.specs.Prelude.{◌≡◌, Bool, true, false, ◌&&◌, ◌||◌, not, is_none, List, [], ◌∷◌, ◌++◌, codes, Option, None, Some, cond, if◌then◌else◌}
 use Rattle.std.specs.List.{list_any}
 use Rattle.std.proofs.Common.{◌∙◌, ap, refl}
-use Rattle.hir_base.specs.Types.{MacroId}
+use Rattle.hir_base.specs.declared.macro_kind.MacroId.{MacroId}
 use Rattle.hir_item_tree.specs.Collected.{Numbered}
 use Rattle.hir_item_tree.specs.KeptForest.{Head}
-use Rattle.hir_item_tree.specs.Types.{ExternCrateName}
+use Rattle.hir_item_tree.specs.declared.shape.ExternCrateName.{ExternCrateName}
 use Rattle.hir_scope.specs.Scope.{ScopeValue}
 use Rattle.hir_def_map_rules.specs.Overlay.{Maps}
 use Rattle.hir_def_map_rules.specs.State.{Map}
 use Rattle.hir_collector_rules.specs.CrateTop.{is_keyed, listed_under, names_in, says}
 use Rattle.hir_collector_rules.specs.Macros.{lists_names, macros_brought, other_scope, public_among, public_at, wanted_in, wants_all}
-use Rattle.hir_collector_rules.specs.Types.{Dependency}
+use Rattle.hir_collector_rules.specs.declared.source_database.Dependency.{Dependency}
 
 -- where no attribute has the key, none lists anything under it
 none_listed : (attrs : List Numbered) → says (codes "macro_use") attrs ≡ false → (wants_all attrs ≡ false) × (listed_under (codes "macro_use") attrs ≡ [])

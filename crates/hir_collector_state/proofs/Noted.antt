@@ -12,9 +12,17 @@ use Rattle.std.specs.declared.cmp.Ordering.{Ordering}
 use Rattle.std.specs.declared.cmp.Ordering.TheVariants.{Less, Equal, Greater}
 use Rattle.hir_base.specs.contracts.ast_id.AstIdOrd.TheImpl as ast_order
 use Rattle.hir_base.specs.contracts.ast_id.AstIdOrd.TheImpl.Laws.{total-law as ast_total}
-use Rattle.hir_base.specs.Types.{AstId, BuiltinDeriveImplId, EnumId, ExternCrateId, FunctionId, MacroId, ModuleId, ProcMacroId}
+use Rattle.hir_base.specs.declared.ast_id.AstId.{AstId}
+use Rattle.hir_base.specs.declared.macro_kind.BuiltinDeriveImplId.{BuiltinDeriveImplId}
+use Rattle.hir_base.specs.declared.ids.EnumId.{EnumId}
+use Rattle.hir_base.specs.declared.ids.ExternCrateId.{ExternCrateId}
+use Rattle.hir_base.specs.declared.ids.FunctionId.{FunctionId}
+use Rattle.hir_base.specs.declared.macro_kind.MacroId.{MacroId}
+use Rattle.hir_base.specs.declared.ids.ModuleId.{ModuleId}
+use Rattle.hir_base.specs.declared.macro_kind.ProcMacroId.{ProcMacroId}
 use Rattle.hir_scope.specs.Scope.{ScopeValue}
-use Rattle.hir_scope.specs.Types.{PerNs, Visibility}
+use Rattle.hir_scope.specs.declared.per_ns.PerNs.{PerNs}
+use Rattle.hir_scope.specs.declared.visibility.Visibility.{Visibility}
 use Rattle.hir_def_map_rules.proofs.Grown.{kept, length-changed}
 use Rattle.hir_def_map_rules.specs.Declaration.{listed}
 use Rattle.hir_def_map_rules.specs.Overlay.{Maps}
@@ -23,7 +31,9 @@ use Rattle.hir_def_map_rules.specs.State.{IsInOrder, Local, MacroDataValue, Map,
 use Rattle.hir_def_map_rules.specs.State.{parent_of, pushed, pushed_module, place_at, Variants, variants_at, with_enum, with_extern, with_module}
 use Rattle.hir_def_map_rules.specs.State.{with_module_scope, with_scope}
 use Rattle.hir_def_map_rules.specs.declared.declaration.Declaration.{Declaration as Listing}
-use Rattle.hir_def_map_rules.specs.Types.{DefDiagnostic, DeriveHelper, ModuleOrigin}
+use Rattle.hir_def_map_rules.specs.declared.diagnostics.DefDiagnostic.{DefDiagnostic}
+use Rattle.hir_def_map_rules.specs.declared.derive_helpers.DeriveHelper.{DeriveHelper}
+use Rattle.hir_def_map_rules.specs.declared.origin.ModuleOrigin.{ModuleOrigin}
 use Rattle.hir_def_map.specs.declared.nameres.path_resolution.slots.Slot.{Slot as PathSlot}
 use Rattle.hir_def_map.specs.declared.nameres.path_resolution.slots.Slot.TheVariants.{Module as of_module, Preludes as of_preludes}
 use Rattle.hir_def_map_rules.specs.Scoping.FirstSegment.{legacy_of}
@@ -41,7 +51,7 @@ use Rattle.hir_import_resolution.specs.Changes.{forgotten}
 use Rattle.hir_import_resolution.specs.Directives.{TakenValue}
 use Rattle.hir_import_resolution.specs.Inner.Steps.{IsBound}
 use Rattle.hir_import_resolution.specs.Rounds.{GlobsLast, GrowsAround, HaveGlobs}
-use Rattle.hir_import_resolution.specs.Types.{ImportDirective}
+use Rattle.hir_import_resolution.specs.declared.directive.ImportDirective.{ImportDirective}
 use Rattle.hir_call_queue.specs.Changes.{ChangedValue, IsThere, IsUntouched, everything, with_preludes, with_slot}
 use Rattle.hir_collector_rules.specs.Attributes.{is_named_by}
 use Rattle.hir_collector_rules.specs.Changes.{with_builtin_derive, with_derived}

@@ -1,7 +1,7 @@
 //! The transitive dependencies of each crate.
 ghost use Rattle.std.specs.Prelude.{◌≡◌, ℕ, ◌<◌, ◌^◌, [], List, length, map, true, OnOk, OnErr, IfOk, option_map, slice_get};
 ghost use Rattle.hir_base.specs.Refusal.{Gives};
-ghost use Rattle.hir_base.specs.Types.{Crate};
+ghost use Rattle.hir_base.specs.declared.ids.Crate.{Crate};
 ghost use Rattle.hir_crate_graph.specs.declared.transitive.CrateGraphError.TheVariants.{Memory};
 ghost use Rattle.hir_crate_graph.specs.CrateSet.{Gains, IsAscending};
 ghost use Rattle.hir_crate_graph.specs.Dependencies.{has_late, AreTransitive};

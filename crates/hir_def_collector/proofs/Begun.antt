@@ -1,14 +1,15 @@
 -- A run begins over the tables as they are, and as it leaves them.
 use Rattle.std.proofs.Common.{◌≡◌, ◌∙◌, if◌then◌else◌, Bool, true, false, List, [], Option, Some, None, refl, sym, ap, subst}
 use Rattle.std.specs.Prelude.{IsSome, is_some, not, option_map}
-use Rattle.hir_base.specs.Types.{Crate, ModuleId}
+use Rattle.hir_base.specs.declared.ids.Crate.{Crate}
+use Rattle.hir_base.specs.declared.ids.ModuleId.{ModuleId}
 use Rattle.hir_item_tree.specs.ItemTree.{empty_tree}
 use Rattle.hir_item_tree.specs.SourceTree.{SourceTreeValue}
-use Rattle.hir_item_tree.specs.Types.{TreeId}
+use Rattle.hir_item_tree.specs.declared.tree_id.TreeId.{TreeId}
 use Rattle.hir_tables.specs.SourcePlaces.{SourcePlaceValue}
 use Rattle.hir_tables.specs.Tables.{KeepsTables, TablesValue, source_of}
 use Rattle.hir_def_map_rules.specs.Overlay.{Maps}
-use Rattle.hir_collector_rules.specs.Types.{Start}
+use Rattle.hir_collector_rules.specs.declared.start.Start.{Start}
 use Rattle.hir_collector_rules.specs.Workspace.{Workspace, crate_in}
 use Rattle.hir_collector_rules.specs.Keys.{source_in, source_under}
 use Rattle.hir_collector_rules.specs.Start.{began, core_of, exports_macros, is_declared, krate_of, root_site, start_by, tree_key, tree_visits}

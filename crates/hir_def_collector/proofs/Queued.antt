@@ -10,7 +10,7 @@ use Rattle.hir_worklist.specs.Queue.{IsIdle, Queue, count_of, is_among}
 use Rattle.hir_call_queue.specs.Waking.{KeepsQueued, worklist_of}
 use Rattle.hir_call_queue.specs.declared.queue.CallQueue.{CallQueue}
 use Rattle.hir_collector_rules.specs.declared.macro_directive.Fate.TheVariants.{Handled, Waits}
-use Rattle.hir_collector_rules.specs.Types.{MacroDirective}
+use Rattle.hir_collector_rules.specs.declared.macro_directive.MacroDirective.{MacroDirective}
 use Rattle.hir_collector_rules.specs.CallMoves.{ComesToRest, NoneWaits, TriesCall, TriesCalls, handled, idle, left, rested, round}
 use Rattle.hir_collector_rules.specs.Calls.{IsWaiting, LeadsNowhere}
 use Rattle.hir_collector_rules.specs.Keys.{Environment}

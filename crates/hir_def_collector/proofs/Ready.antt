@@ -1,7 +1,9 @@
 -- What a part of a run needs holds wherever steps lead.
 use Rattle.std.proofs.Common.{◌≡◌, ◌∙◌, ◌+◌, ℕ, zero, suc, ◌<◌, ◌≤◌, List, [], ◌∷◌, length, map as list_map, slice_get, None, Some, refl, sym, ap, subst, arith}
-use Rattle.hir_base.specs.Types.{Crate, ModuleId, TraitId}
-use Rattle.hir_item_tree.specs.Types.{TreeId}
+use Rattle.hir_base.specs.declared.ids.Crate.{Crate}
+use Rattle.hir_base.specs.declared.ids.ModuleId.{ModuleId}
+use Rattle.hir_base.specs.declared.ids.TraitId.{TraitId}
+use Rattle.hir_item_tree.specs.declared.tree_id.TreeId.{TreeId}
 use Rattle.hir_tables.specs.Tables.{KeepsTables, TablesValue}
 use Rattle.hir_textual_scope.specs.Macros.{with_macro}
 use Rattle.hir_scope.specs.Scope.{ScopeValue}
@@ -9,7 +11,8 @@ use Rattle.hir_def_map_rules.specs.Macros.{with_derive_helper, with_diagnostic, 
 use Rattle.hir_def_map_rules.specs.Overlay.{Maps}
 use Rattle.hir_def_map_rules.specs.State.{IsInOrder, Map, entry_at, module_at, new_module, with_enum}
 use Rattle.hir_glob_imports.specs.Waves.{Stands}
-use Rattle.hir_glob_imports.specs.Types.{Brought, Slot}
+use Rattle.hir_glob_imports.specs.declared.edge.Brought.{Brought}
+use Rattle.hir_glob_imports.specs.declared.edge.Slot.{Slot}
 use Rattle.hir_glob_imports.specs.declared.edge.Key.{Key as SlotKey}
 use Rattle.hir_glob_imports.specs.declared.edge.Target.TheVariants.{Own}
 use Rattle.hir_import_resolution.specs.Changes.{Change as ImportChange, act as act_on_imports, along, keeps_trait, pushes, records, takes}
@@ -19,10 +22,11 @@ use Rattle.hir_import_resolution.specs.Rest.{IsRecorded, IsSound, IsSource}
 use Rattle.hir_import_resolution.specs.Rounds.{GrowsAround}
 use Rattle.hir_import_resolution.specs.Rules as imports
 use Rattle.hir_import_resolution.specs.State.{ImportState, scopes_of}
-use Rattle.hir_import_resolution.specs.Types.{ImportDirective}
+use Rattle.hir_import_resolution.specs.declared.directive.ImportDirective.{ImportDirective}
 use Rattle.hir_import_resolution.proofs.GrowingAround.{lists_around, modules_around, scopes_around}
 use Rattle.hir_import_resolution.proofs.Soundness.{local_keeps_sound, pushes_keep_sound, reached_keep_sound, steps_keep_sound}
-use Rattle.hir_collector_rules.specs.Types.{MacroDirective, Start}
+use Rattle.hir_collector_rules.specs.declared.macro_directive.MacroDirective.{MacroDirective}
+use Rattle.hir_collector_rules.specs.declared.start.Start.{Start}
 use Rattle.hir_collector_rules.specs.Calls.{IsMeantAt, IsMeantCall, error_of}
 use Rattle.hir_collector_rules.specs.CallMoves.{IsReady}
 use Rattle.hir_collector_rules.specs.Keys.{environment, node_tree}

@@ -2,13 +2,16 @@
 use Rattle.std.specs.Prelude.{◌≡◌, ◌&&◌, Bool, true, false, not, is_none, is_some, IsSome, List, Option, None, Some, option_map}
 use Rattle.std.specs.BTreeMap.{BTreeMap}
 use Rattle.std.proofs.Common.{refl, subst, sym}
-use Rattle.hir_base.specs.Types.{Crate, FileId, MapId, ModuleId}
+use Rattle.hir_base.specs.declared.ids.Crate.{Crate}
+use Rattle.hir_base.specs.declared.ast_id.FileId.{FileId}
+use Rattle.hir_base.specs.declared.ids.MapId.{MapId}
+use Rattle.hir_base.specs.declared.ids.ModuleId.{ModuleId}
 use Rattle.hir_tables.specs.Tables.{TablesValue, file_at}
 use Rattle.hir_def_map_rules.specs.Overlay.{Maps, Placed}
 use Rattle.hir_def_map_rules.specs.State.{Local}
 use Rattle.hir_def_map.specs.World.{IsChecked, finished_in}
 use Rattle.hir_def_map.specs.WorldParts.{among}
-use Rattle.hir_def_map.specs.Types.{Finished}
+use Rattle.hir_def_map.specs.declared.world.finished.Finished.{Finished}
 use Rattle.hir_collector_rules.specs.ModuleFiles.{IsFileMeant, is_file_meant}
 use Rattle.hir_def_map_laws.specs.ReadLaw.{KeepApart}
 use Rattle.hir_def_map_laws.proofs.Apart.{some_apart, worlds_apart}

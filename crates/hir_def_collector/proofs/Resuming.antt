@@ -2,7 +2,7 @@
 use Rattle.std.proofs.Common.{Result, Err, ◌≡◌, ◌⊎◌, inl, inr, ◌∙◌, ap, sym, refl, subst, ℕ, ◌+◌, ◌<◌, Bool, true, false, List, [], ◌++◌, length, slice_get}
 use Rattle.std.proofs.Common.{Contains, Some, cond, append-nil, arith}
 use Rattle.std.proofs.lemmas.List.Elements.{Contains-append_cases, Contains-append_left, Contains-append_right}
-use Rattle.hir_base.specs.Types.{MapId}
+use Rattle.hir_base.specs.declared.ids.MapId.{MapId}
 use Rattle.hir_def_map_rules.specs.Overlay.{Maps}
 use Rattle.hir_def_map_rules.specs.State.{Local}
 use Rattle.hir_def_map.specs.declared.nameres.path_resolution.slots.Slot.{Slot as PathSlot}
@@ -11,7 +11,7 @@ use Rattle.hir_import_resolution.specs.Rounds.{GlobsLast, Grew, HaveGlobs, IsRes
 use Rattle.hir_import_resolution.specs.Rest.{BroughtStands}
 use Rattle.hir_import_resolution.specs.State.{ImportState}
 use Rattle.hir_import_resolution.proofs.GlobsLasting.{globs_at_rest}
-use Rattle.hir_import_resolution.specs.Types.{ImportQueue}
+use Rattle.hir_import_resolution.specs.declared.import_queue.ImportQueue.{ImportQueue}
 use Rattle.hir_call_queue.specs.Changes.{ChangedValue, IsUntouched, everything, joined, nothing, with_slots}
 use Rattle.hir_collector_rules.specs.CallMoves.{Rested, already, moved}
 use Rattle.hir_collector_rules.specs.State.{Core, Run, at_rest, core_in, import_state}

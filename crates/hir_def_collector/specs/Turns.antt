@@ -5,7 +5,8 @@ use Rattle.hir_def_collector.specs.declared.collector.calls.Due.{Due}
 use Rattle.hir_def_collector.specs.declared.collector.calls.Turn.{Turn}
 use Rattle.hir_def_collector.specs.declared.collector.calls.Turn.TheVariants.{GaveUp, Rests, Round}
 use Rattle.hir_def_collector.specs.declared.collector.calls.Due.TheVariants.{Derives, Drops, Nothing, Reaches, Skips, TooDeep}
-use Rattle.hir_collector_rules.specs.Types.{MacroDirective, WaitingItem}
+use Rattle.hir_collector_rules.specs.declared.macro_directive.MacroDirective.{MacroDirective}
+use Rattle.hir_collector_rules.specs.declared.macro_directive.WaitingItem.{WaitingItem}
 use Rattle.hir_collector_rules.specs.Calls.{called_macro, is_call, is_inert_now, waiting_item}
 use Rattle.hir_collector_rules.specs.Keys.{Environment}
 use Rattle.hir_collector_rules.specs.State.{Core, at_rest}

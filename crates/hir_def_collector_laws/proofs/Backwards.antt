@@ -5,7 +5,14 @@ use Rattle.std.proofs.Common.{Option, None, Some, map as list_map, refl, sym, ap
 use Rattle.std.proofs.lemmas.List.Elements.{Contains-append_right}
 use Rattle.either.specs.declared.Either.TheVariants as either
 use Rattle.hir_base.specs.Cfg.{Cfg}
-use Rattle.hir_base.specs.Types.{AstId, Crate, Edition, FileId, MacroId, MapId, ModuleDefId, ModuleId}
+use Rattle.hir_base.specs.declared.ast_id.AstId.{AstId}
+use Rattle.hir_base.specs.declared.ids.Crate.{Crate}
+use Rattle.hir_base.specs.declared.edition.Edition.{Edition}
+use Rattle.hir_base.specs.declared.ast_id.FileId.{FileId}
+use Rattle.hir_base.specs.declared.macro_kind.MacroId.{MacroId}
+use Rattle.hir_base.specs.declared.ids.MapId.{MapId}
+use Rattle.hir_base.specs.declared.ids.ModuleDefId.{ModuleDefId}
+use Rattle.hir_base.specs.declared.ids.ModuleId.{ModuleId}
 use Rattle.hir_base.specs.declared.ast_id.AstKind.TheVariants as nodes
 use Rattle.hir_base.specs.declared.ids.AdtId.TheVariants as adts
 use Rattle.hir_base.specs.declared.ids.ModuleDefId.TheVariants as definitions
@@ -16,17 +23,24 @@ use Rattle.hir_item_tree.specs.Kinds.{item_head}
 use Rattle.hir_item_tree.specs.KeptForest.{Head, Leaf, KeptItem, KeptForest, constant, enumeration, extern_block, extern_crate, function, holder}
 use Rattle.hir_item_tree.specs.KeptForest.{implementation, import, inline_module, leaf, macro_call, macro_def, macro_rules, no_items, outline_module}
 use Rattle.hir_item_tree.specs.KeptForest.{static_item, structure, trait_item, type_alias, union_structure}
-use Rattle.hir_item_tree.specs.Types.{TreeId, TreeKey}
+use Rattle.hir_item_tree.specs.declared.tree_id.TreeId.{TreeId}
+use Rattle.hir_item_tree.specs.declared.tree_id.TreeKey.{TreeKey}
 use Rattle.hir_mod_dir.specs.Directory.{Directory}
 use Rattle.hir_mod_dir.specs.ModuleFiles.{inline_directory}
 use Rattle.hir_tables.specs.Tables.{TablesValue}
-use Rattle.hir_scope.specs.Types.{Visibility}
+use Rattle.hir_scope.specs.declared.visibility.Visibility.{Visibility}
 use Rattle.hir_def_map_rules.specs.Overlay.{Maps}
 use Rattle.hir_def_map_rules.specs.State.{CrateData, Map, module_at, new_id}
-use Rattle.hir_def_map_rules.specs.Types.{DefDiagnostic, DeriveHelper, ModuleOrigin}
+use Rattle.hir_def_map_rules.specs.declared.diagnostics.DefDiagnostic.{DefDiagnostic}
+use Rattle.hir_def_map_rules.specs.declared.derive_helpers.DeriveHelper.{DeriveHelper}
+use Rattle.hir_def_map_rules.specs.declared.origin.ModuleOrigin.{ModuleOrigin}
 use Rattle.hir_import_resolution.specs.Changes.{Change as ImportChange}
 use Rattle.hir_import_resolution.specs.Rules.{acts as import_acts}
-use Rattle.hir_collector_rules.specs.Types.{Declaration, Export, MacroDirective, Site, WaitingItem}
+use Rattle.hir_collector_rules.specs.declared.declaration.Declaration.{Declaration}
+use Rattle.hir_collector_rules.specs.declared.exported.Export.{Export}
+use Rattle.hir_collector_rules.specs.declared.macro_directive.MacroDirective.{MacroDirective}
+use Rattle.hir_collector_rules.specs.declared.site.Site.{Site}
+use Rattle.hir_collector_rules.specs.declared.macro_directive.WaitingItem.{WaitingItem}
 use Rattle.hir_collector_rules.specs.declared.macro_directive.Fate.TheVariants.{Handled}
 use Rattle.hir_collector_rules.specs.declared.source_database.Key.TheVariants as keys
 use Rattle.hir_collector_rules.specs.Attributes.{attr_id, export_at, is_derive, is_passed, item_node, proc_macro_id}

@@ -23,8 +23,21 @@ use Rattle.hir_base.specs.contracts.macro_kind.MacroIdPartialEq.TheImpl as makro
 use Rattle.hir_base.specs.contracts.macro_kind.MacroLocPartialEq.TheImpl as macro_loc
 use Rattle.hir_base.specs.contracts.macro_kind.ProcMacroLocPartialEq.TheImpl as proc_macro_loc
 use Rattle.hir_base.specs.contracts.macro_kind.ProcMacroStyle.{the_type as proc_macro_styles}
-use Rattle.hir_base.specs.Types.{AdtId, BlockId, BuiltinType, EnumId, HirFileId, ItemContainerId, ItemLoc, MacroCallStyles, MacroExpander, MacroId, MacroLoc}
-use Rattle.hir_base.specs.Types.{ModuleDefId, ModuleId, ProcMacroLoc, SyntaxId}
+use Rattle.hir_base.specs.declared.ids.AdtId.{AdtId}
+use Rattle.hir_base.specs.declared.ast_id.BlockId.{BlockId}
+use Rattle.hir_base.specs.declared.builtin_type.BuiltinType.{BuiltinType}
+use Rattle.hir_base.specs.declared.ids.EnumId.{EnumId}
+use Rattle.hir_base.specs.declared.ast_id.HirFileId.{HirFileId}
+use Rattle.hir_base.specs.declared.ids.ItemContainerId.{ItemContainerId}
+use Rattle.hir_base.specs.declared.ids.ItemLoc.{ItemLoc}
+use Rattle.hir_base.specs.declared.macro_kind.MacroCallStyles.{MacroCallStyles}
+use Rattle.hir_base.specs.declared.macro_kind.MacroExpander.{MacroExpander}
+use Rattle.hir_base.specs.declared.macro_kind.MacroId.{MacroId}
+use Rattle.hir_base.specs.declared.macro_kind.MacroLoc.{MacroLoc}
+use Rattle.hir_base.specs.declared.ids.ModuleDefId.{ModuleDefId}
+use Rattle.hir_base.specs.declared.ids.ModuleId.{ModuleId}
+use Rattle.hir_base.specs.declared.macro_kind.ProcMacroLoc.{ProcMacroLoc}
+use Rattle.hir_base.specs.declared.ast_id.SyntaxId.{SyntaxId}
 use Rattle.hir_base.specs.declared.ast_id.HirFileId.TheVariants as files
 use Rattle.hir_base.specs.declared.builtin_type.BuiltinType.TheVariants as builtins
 use Rattle.hir_base.specs.declared.ids.AdtId.TheVariants as adts
@@ -33,11 +46,12 @@ use Rattle.hir_base.specs.declared.ids.ModuleDefId.TheVariants as definitions
 use Rattle.hir_base.specs.declared.macro_kind.MacroExpander.TheVariants as expanders
 use Rattle.hir_base.specs.declared.macro_kind.MacroId.TheVariants as macros
 use Rattle.hir_item_tree.specs.contracts.raw_visibility.VisibilityExplicitness.{the_type as ways_of_writing}
-use Rattle.hir_scope.specs.Types.{ItemInNs, Visibility}
+use Rattle.hir_scope.specs.declared.item_in_ns.ItemInNs.{ItemInNs}
+use Rattle.hir_scope.specs.declared.visibility.Visibility.{Visibility}
 use Rattle.hir_scope.specs.declared.item_in_ns.ItemInNs.TheVariants as in_ns
 use Rattle.hir_scope.specs.declared.visibility.Visibility.TheVariants.{Module, PubCrate, Public}
 use Rattle.hir_glob_imports.specs.Moves.{same_bound, same_def, same_vis}
-use Rattle.hir_glob_imports.specs.Types.{Bound}
+use Rattle.hir_glob_imports.specs.declared.edge.Bound.{Bound}
 use Rattle.hir_def_collector_laws.proofs.Places.{exact_module}
 
 same_nat : (m n : ℕ) → nat_eq m n ≡ true → m ≡ n

@@ -8,7 +8,11 @@ use Rattle.std.specs.Cmp.{first_so, second_so, unsigned_Decides}
 use Rattle.std.specs.Cmp.Lexicographic.{slice_cmp}
 use Rattle.std.specs.Map.{remove_entry}
 use Rattle.std.specs.Ordering.{nat_cmp}
-use Rattle.hir_base.specs.Types.{Crate, MacroId, MapId, ModuleDefId, TraitId}
+use Rattle.hir_base.specs.declared.ids.Crate.{Crate}
+use Rattle.hir_base.specs.declared.macro_kind.MacroId.{MacroId}
+use Rattle.hir_base.specs.declared.ids.MapId.{MapId}
+use Rattle.hir_base.specs.declared.ids.ModuleDefId.{ModuleDefId}
+use Rattle.hir_base.specs.declared.ids.TraitId.{TraitId}
 use Rattle.hir_base.specs.contracts.ids.ModuleDefIdPartialEq.TheImpl as module_def
 use Rattle.hir_base.specs.declared.ids.ModuleDefId.TheVariants as definitions
 use Rattle.hir_scope.specs.Entries.{item_at}
@@ -20,7 +24,12 @@ use Rattle.hir_scope.specs.PerNs.{Item}
 use Rattle.hir_scope.specs.Scope.{ScopeValue}
 use Rattle.hir_scope.specs.Scope.Updates.{censored_item, censored_macro, is_definition}
 use Rattle.hir_scope.specs.contracts.item_in_ns.ItemInNsEq.TheImpl.Laws.{laws-law as item_laws}
-use Rattle.hir_scope.specs.Types.{GlobId, ImportOrExternCrate, ImportOrGlob, ItemInNs, PerNs, Visibility}
+use Rattle.hir_scope.specs.declared.imports.GlobId.{GlobId}
+use Rattle.hir_scope.specs.declared.imports.ImportOrExternCrate.{ImportOrExternCrate}
+use Rattle.hir_scope.specs.declared.imports.ImportOrGlob.{ImportOrGlob}
+use Rattle.hir_scope.specs.declared.item_in_ns.ItemInNs.{ItemInNs}
+use Rattle.hir_scope.specs.declared.per_ns.PerNs.{PerNs}
+use Rattle.hir_scope.specs.declared.visibility.Visibility.{Visibility}
 use Rattle.hir_scope.specs.declared.item_in_ns.ItemInNs.TheVariants as in_ns
 use Rattle.hir_scope.specs.declared.visibility.Visibility.TheVariants.{Module, PubCrate, Public}
 use Rattle.hir_tables.specs.Tables.{TablesValue}
@@ -33,7 +42,10 @@ use Rattle.hir_glob_imports.specs.Rules.{BroughtBy, CanCopy, CanFollow, CanRaise
 use Rattle.hir_glob_imports.specs.Rules.{follows_along, noted, raises_along}
 use Rattle.hir_glob_imports.specs.View.{View, bound_in}
 use Rattle.hir_glob_imports.specs.Waves.{Stands}
-use Rattle.hir_glob_imports.specs.Types.{Bound, Brought, Edge, Key}
+use Rattle.hir_glob_imports.specs.declared.edge.Bound.{Bound}
+use Rattle.hir_glob_imports.specs.declared.edge.Brought.{Brought}
+use Rattle.hir_glob_imports.specs.declared.edge.Edge.{Edge}
+use Rattle.hir_glob_imports.specs.declared.edge.Key.{Key}
 use Rattle.hir_glob_imports.specs.declared.edge.Key.TheVariants.{Types, Values, Macros, Unnamed}
 use Rattle.hir_import_resolution.specs.Changes.{Change as ImportChange, along, keeps_trait, kept_vis, pushes, pushing, records, takes}
 use Rattle.hir_import_resolution.specs.Inner.ScopeLaws.{vacant_of}
@@ -42,13 +54,14 @@ use Rattle.hir_import_resolution.specs.Names.{scope_table, trait_vis, view_of, w
 use Rattle.hir_import_resolution.specs.Rules.{Rule as ImportRule, May as MayImport, goes_along, takes_glob, takes_import}
 use Rattle.hir_import_resolution.specs.State.{glob_state, scopes_of}
 use Rattle.hir_import_resolution.specs.Visibilities.{greater_in, lesser_in}
-use Rattle.hir_import_resolution.specs.Types.{ImportDirective, ImportSource}
+use Rattle.hir_import_resolution.specs.declared.directive.ImportDirective.{ImportDirective}
+use Rattle.hir_import_resolution.specs.declared.directive.ImportSource.{ImportSource}
 use Rattle.hir_import_resolution.specs.declared.directive.ImportSource.TheVariants as sources
 use Rattle.hir_collector_rules.specs.Calls.{error_of}
 use Rattle.hir_collector_rules.specs.Changes.{Change, lists, makes, gives_variants, begins_paths, reaches, awaits, ends, settles, changes_imports, adds_textual}
 use Rattle.hir_collector_rules.specs.Changes.{takes_textual, defines, describes, helps, lists_derive, exports, uses_macros, tells, goes_on, act, perform}
 use Rattle.hir_collector_rules.specs.Changes.{with_builtin_derive}
-use Rattle.hir_collector_rules.specs.Types.{ExportedFunction}
+use Rattle.hir_collector_rules.specs.declared.exported.ExportedFunction.{ExportedFunction}
 use Rattle.hir_collector_rules.specs.Derivation.{CollectedValue, Ends}
 use Rattle.hir_collector_rules.specs.Ended.{ended, exporting_scope, without_function, without_functions}
 use Rattle.hir_collector_rules.specs.ItemIds.{module_id}

@@ -1,15 +1,16 @@
 -- So is each import that is left over, each glob and each call.
 use Rattle.std.proofs.Common.{◌≡◌, ◌∙◌, ◌<◌, ℕ, zero, suc, List, [], ◌∷◌, length, Some, Bool, true, false, cond, sym, ap, subst, arith, Contains}
 use Rattle.std.proofs.lemmas.List.Elements.{Contains-append_left}
-use Rattle.hir_base.specs.Types.{MapId}
-use Rattle.hir_scope.specs.Types.{ImportOrExternCrate}
+use Rattle.hir_base.specs.declared.ids.MapId.{MapId}
+use Rattle.hir_scope.specs.declared.imports.ImportOrExternCrate.{ImportOrExternCrate}
 use Rattle.hir_tables.specs.Tables.{TablesValue}
 use Rattle.hir_def_map_rules.specs.Overlay.{Maps}
 use Rattle.hir_def_map_rules.specs.State.{Map}
-use Rattle.hir_glob_imports.specs.Types.{Edge}
+use Rattle.hir_glob_imports.specs.declared.edge.Edge.{Edge}
 use Rattle.hir_import_resolution.specs.Directives.{TakenValue, glob_of, is_untaken, way_of}
-use Rattle.hir_import_resolution.specs.Types.{ImportDirective}
-use Rattle.hir_collector_rules.specs.Types.{Key, MacroDirective}
+use Rattle.hir_import_resolution.specs.declared.directive.ImportDirective.{ImportDirective}
+use Rattle.hir_collector_rules.specs.declared.source_database.Key.{Key}
+use Rattle.hir_collector_rules.specs.declared.macro_directive.MacroDirective.{MacroDirective}
 use Rattle.hir_collector_rules.specs.Derivation.{CollectedValue, Ends, leftover_among}
 use Rattle.hir_collector_rules.specs.Keys.{map_keys}
 use Rattle.hir_collector_rules.specs.Start.{Beginning, begin_of, holders_by, krate_of, read_by}

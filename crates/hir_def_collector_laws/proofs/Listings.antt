@@ -1,7 +1,11 @@
 -- What changes add to the lists of modules, and what they leave of modules.
 use Rattle.std.proofs.Common.{◌≡◌, ◌∙◌, ◌<◌, ◌+◌, ℕ, zero, suc, Bool, true, false, cond, List, [], ◌∷◌, ◌++◌, length, map as list_map, slice_get, Option, None}
 use Rattle.std.proofs.Common.{Some, refl, sym, ap, subst, arith, append-nil, append_assoc}
-use Rattle.hir_base.specs.Types.{AstId, MacroExpander, MacroId, ModuleDefId, ModuleId}
+use Rattle.hir_base.specs.declared.ast_id.AstId.{AstId}
+use Rattle.hir_base.specs.declared.macro_kind.MacroExpander.{MacroExpander}
+use Rattle.hir_base.specs.declared.macro_kind.MacroId.{MacroId}
+use Rattle.hir_base.specs.declared.ids.ModuleDefId.{ModuleDefId}
+use Rattle.hir_base.specs.declared.ids.ModuleId.{ModuleId}
 use Rattle.hir_item_tree.specs.KeptForest.{Head}
 use Rattle.hir_scope.specs.PerNs.{macros_only}
 use Rattle.hir_scope.specs.Scope.{ScopeValue}
@@ -12,11 +16,12 @@ use Rattle.hir_def_map_rules.specs.State.{with_scope}
 use Rattle.hir_def_map_rules.specs.Overlay.{Maps}
 use Rattle.hir_def_map_rules.specs.declared.declaration.Declaration.{Declaration as Listing}
 use Rattle.hir_def_map_rules.specs.declared.declaration.Declaration.TheVariants as listings
-use Rattle.hir_def_map_rules.specs.Types.{DeriveHelper}
+use Rattle.hir_def_map_rules.specs.declared.derive_helpers.DeriveHelper.{DeriveHelper}
 use Rattle.hir_def_map_rules.proofs.Grown.{length-changed}
 use Rattle.hir_def_map_rules.proofs.StaysWellFormed.{length-made}
 use Rattle.hir_import_resolution.specs.Changes.{Change as ImportChange, pushes}
-use Rattle.hir_collector_rules.specs.Types.{ExportedFunction, MacroDirective}
+use Rattle.hir_collector_rules.specs.declared.exported.ExportedFunction.{ExportedFunction}
+use Rattle.hir_collector_rules.specs.declared.macro_directive.MacroDirective.{MacroDirective}
 use Rattle.hir_collector_rules.specs.Causes.{declarations_of}
 use Rattle.hir_collector_rules.specs.Changes.{Change, lists, makes, gives_variants, begins_paths, reaches, awaits, ends, settles, changes_imports, adds_textual}
 use Rattle.hir_collector_rules.specs.Changes.{takes_textual, defines, describes, helps, lists_derive, exports, uses_macros, tells, goes_on, act, perform}

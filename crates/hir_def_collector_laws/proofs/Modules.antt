@@ -3,17 +3,23 @@ use Rattle.std.proofs.Common.{◌≡◌, ◌∙◌, ◌<◌, inl, inr, ℕ, zero
 use Rattle.std.proofs.Common.{subst, arith, Contains, append-nil}
 use Rattle.std.proofs.lemmas.List.Elements.{Contains-append_right}
 use Rattle.std.specs.Prelude.{if◌then◌else◌}
-use Rattle.hir_base.specs.Types.{AstId, AttrId, ModuleDefId, ModuleId}
+use Rattle.hir_base.specs.declared.ast_id.AstId.{AstId}
+use Rattle.hir_base.specs.declared.ast_id.AttrId.{AttrId}
+use Rattle.hir_base.specs.declared.ids.ModuleDefId.{ModuleDefId}
+use Rattle.hir_base.specs.declared.ids.ModuleId.{ModuleId}
 use Rattle.hir_item_tree.specs.Collected.{Numbered, is_enabled}
 use Rattle.hir_item_tree.specs.ItemTree.{Tree}
 use Rattle.hir_item_tree.specs.KeptForest.{KeptForest, KeptItem, no_items}
-use Rattle.hir_item_tree.specs.Types.{TreeKey}
+use Rattle.hir_item_tree.specs.declared.tree_id.TreeKey.{TreeKey}
 use Rattle.hir_tables.specs.Tables.{TablesValue}
 use Rattle.hir_def_map_rules.specs.Overlay.{Maps}
 use Rattle.hir_def_map_rules.specs.State.{CrateData, Map, module_at, new_module}
-use Rattle.hir_def_map_rules.specs.Types.{DefDiagnostic}
+use Rattle.hir_def_map_rules.specs.declared.diagnostics.DefDiagnostic.{DefDiagnostic}
 use Rattle.hir_collector_rules.specs.declared.macro_directive.Fate.TheVariants.{GivenUp, Handled}
-use Rattle.hir_collector_rules.specs.Types.{Key, MacroDirective, MacroDirectiveKind, Site}
+use Rattle.hir_collector_rules.specs.declared.source_database.Key.{Key}
+use Rattle.hir_collector_rules.specs.declared.macro_directive.MacroDirective.{MacroDirective}
+use Rattle.hir_collector_rules.specs.declared.macro_directive.MacroDirectiveKind.{MacroDirectiveKind}
+use Rattle.hir_collector_rules.specs.declared.site.Site.{Site}
 use Rattle.hir_collector_rules.specs.declared.macro_directive.MacroDirectiveKind.TheVariants.{Attr, Derive, FnLike}
 use Rattle.hir_collector_rules.specs.Attributes.{is_always_passed}
 use Rattle.hir_collector_rules.specs.declared.source_database.Key.TheVariants as keys

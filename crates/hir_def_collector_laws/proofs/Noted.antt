@@ -5,12 +5,15 @@ use Rattle.std.specs.BTreeMap.{insert_entry, is_at}
 use Rattle.std.specs.Cmp.Lexicographic.{slice_cmp}
 use Rattle.std.specs.Map.{set_value}
 use Rattle.std.specs.Ordering.{nat_cmp}
-use Rattle.hir_base.specs.Types.{Crate, MapId}
+use Rattle.hir_base.specs.declared.ids.Crate.{Crate}
+use Rattle.hir_base.specs.declared.ids.MapId.{MapId}
 use Rattle.hir_scope.specs.Bindings.{Candidate, Push, taken, takes as takes_slot, written_items, written_places}
 use Rattle.hir_scope.specs.Entries.{item_at, with_entry}
 use Rattle.hir_scope.specs.Globs.{Place, has_place, with_place, without_place}
 use Rattle.hir_scope.specs.PerNs.{Item}
-use Rattle.hir_scope.specs.Types.{GlobId, PerNs, Visibility}
+use Rattle.hir_scope.specs.declared.imports.GlobId.{GlobId}
+use Rattle.hir_scope.specs.declared.per_ns.PerNs.{PerNs}
+use Rattle.hir_scope.specs.declared.visibility.Visibility.{Visibility}
 use Rattle.hir_scope.proofs.AfterPush.{item_at-with_entry, item_at-with_entry_other}
 use Rattle.hir_scope_table.specs.Table.{rewritten}
 use Rattle.hir_def_map_rules.specs.State.{place_at}
@@ -18,7 +21,10 @@ use Rattle.hir_glob_imports.specs.Keys.{same_slot, slot_at}
 use Rattle.hir_glob_imports.specs.Rules.{BroughtBy, with_brought}
 use Rattle.hir_glob_imports.specs.View.{View}
 use Rattle.hir_glob_imports.specs.Waves.{Records, adds, edge_with_vis, stays, widens}
-use Rattle.hir_glob_imports.specs.Types.{Brought, Edge, Key, Slot}
+use Rattle.hir_glob_imports.specs.declared.edge.Brought.{Brought}
+use Rattle.hir_glob_imports.specs.declared.edge.Edge.{Edge}
+use Rattle.hir_glob_imports.specs.declared.edge.Key.{Key}
+use Rattle.hir_glob_imports.specs.declared.edge.Slot.{Slot}
 use Rattle.hir_glob_imports.specs.declared.edge.Key.TheVariants.{Types, Values, Macros}
 use Rattle.hir_glob_imports.proofs.Exact.{exact_slot}
 use Rattle.hir_glob_imports.proofs.Settling.{same_itself}

@@ -3,7 +3,10 @@ use Rattle.std.proofs.Common.{◌≡◌, ◌≢◌, ◌∙◌, ℕ, Bool, true, 
 use Rattle.std.proofs.Common.{if◌then◌else◌, refl, sym, ap, subst, true≢false}
 use Rattle.hir_base.specs.contracts.ids.ModuleDefIdPartialEq.TheImpl as module_def
 use Rattle.hir_base.specs.contracts.macro_kind.MacroIdPartialEq.TheImpl as makro
-use Rattle.hir_base.specs.Types.{MacroId, MapId, ModuleDefId, TraitId}
+use Rattle.hir_base.specs.declared.macro_kind.MacroId.{MacroId}
+use Rattle.hir_base.specs.declared.ids.MapId.{MapId}
+use Rattle.hir_base.specs.declared.ids.ModuleDefId.{ModuleDefId}
+use Rattle.hir_base.specs.declared.ids.TraitId.{TraitId}
 use Rattle.hir_base.specs.declared.ids.ModuleDefId.TheVariants as definitions
 use Rattle.hir_scope.specs.contracts.imports.ImportOrExternCratePartialEq.TheImpl as item_import
 use Rattle.hir_scope.specs.contracts.imports.ImportOrGlobPartialEq.TheImpl as glob_import
@@ -16,7 +19,10 @@ use Rattle.hir_scope.specs.PerNs.{Item, macros_only, types_only, value_import, v
 use Rattle.hir_scope.specs.Scope.{ScopeValue, empty_scope}
 use Rattle.hir_scope.specs.Scope.Push.{pushed_globs, pushed_scope, taken_macro, taken_type, taken_value}
 use Rattle.hir_scope.specs.declared.imports.ImportOrDef.TheVariants as reached
-use Rattle.hir_scope.specs.Types.{ImportOrExternCrate, ImportOrGlob, PerNs, Visibility}
+use Rattle.hir_scope.specs.declared.imports.ImportOrExternCrate.{ImportOrExternCrate}
+use Rattle.hir_scope.specs.declared.imports.ImportOrGlob.{ImportOrGlob}
+use Rattle.hir_scope.specs.declared.per_ns.PerNs.{PerNs}
+use Rattle.hir_scope.specs.declared.visibility.Visibility.{Visibility}
 use Rattle.hir_scope.specs.declared.imports.ImportOrExternCrate.TheVariants as ways
 use Rattle.hir_scope.specs.declared.imports.ImportOrGlob.TheVariants as value_ways
 use Rattle.hir_scope.proofs.Pushes.{pushed-macros, pushed-types, pushed-values}
@@ -26,7 +32,9 @@ use Rattle.hir_def_map_rules.specs.declared.declaration.Declaration.{Declaration
 use Rattle.hir_def_map_rules.specs.declared.declaration.Declaration.TheVariants as listings
 use Rattle.hir_glob_imports.specs.Keys.{same_slot, slot_at}
 use Rattle.hir_glob_imports.specs.Rules.{BroughtBy, with_brought}
-use Rattle.hir_glob_imports.specs.Types.{Brought, Edge, Key}
+use Rattle.hir_glob_imports.specs.declared.edge.Brought.{Brought}
+use Rattle.hir_glob_imports.specs.declared.edge.Edge.{Edge}
+use Rattle.hir_glob_imports.specs.declared.edge.Key.{Key}
 use Rattle.hir_glob_imports.specs.declared.edge.Key.TheVariants.{Types, Values, Macros, Unnamed}
 use Rattle.hir_import_resolution.specs.Changes.{forgotten}
 use Rattle.hir_import_resolution.specs.Names.{with_macro, with_macro_vis, with_type, with_type_vis, with_value, with_value_vis}

@@ -13,7 +13,7 @@ use Rattle.hir_base.specs.contracts.ids.ModuleIdEq.TheImpl.Laws.{laws-law as mod
 use Rattle.hir_base.specs.contracts.ids.ModuleIdOrd.TheImpl as module_order
 use Rattle.hir_base.specs.contracts.ids.ModuleIdOrd.TheImpl.Laws.{matches_eq-law as module_ties}
 use Rattle.hir_base.specs.contracts.ids.ModuleIdPartialEq.TheImpl as module_id
-use Rattle.hir_base.specs.Types.{ModuleId}
+use Rattle.hir_base.specs.declared.ids.ModuleId.{ModuleId}
 use Rattle.hir_def_map_rules.specs.Inner.OverlayLaws.{exact_map}
 use Rattle.hir_scope.specs.Globs.{Place, has_place, place_cmp, with_place, without_place}
 

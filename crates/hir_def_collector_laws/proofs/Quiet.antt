@@ -2,7 +2,9 @@
 use Rattle.std.proofs.Common.{◌≡◌, ◌≢◌, ◌<◌, ◌||◌, ◌+◌, ℕ, zero, suc, Bool, true, false, List, [], ◌∷◌, ◌++◌, length, slice_get, Option, None, Some, sym, subst}
 use Rattle.std.proofs.Common.{arith, append_assoc}
 use Rattle.hir_base.specs.ModPath.{Path}
-use Rattle.hir_base.specs.Types.{AdtId, AstId, AttrId}
+use Rattle.hir_base.specs.declared.ids.AdtId.{AdtId}
+use Rattle.hir_base.specs.declared.ast_id.AstId.{AstId}
+use Rattle.hir_base.specs.declared.ast_id.AttrId.{AttrId}
 use Rattle.hir_use_tree.specs.UseTree.{count_of}
 use Rattle.hir_item_tree.specs.Collected.{Numbered, is_enabled}
 use Rattle.hir_item_tree.specs.Kinds.{item_head}
@@ -13,7 +15,8 @@ use Rattle.hir_mod_dir.specs.Directory.{Directory}
 use Rattle.hir_mod_dir.specs.ModuleFiles.{inline_directory}
 use Rattle.hir_def_map_rules.specs.Overlay.{Maps}
 use Rattle.hir_import_resolution.specs.Rules.{acts as import_acts}
-use Rattle.hir_collector_rules.specs.Types.{MacroDirective, Site}
+use Rattle.hir_collector_rules.specs.declared.macro_directive.MacroDirective.{MacroDirective}
+use Rattle.hir_collector_rules.specs.declared.site.Site.{Site}
 use Rattle.hir_collector_rules.specs.Attributes.{AreAlwaysPassed, attr_id, is_always_passed, is_passed, item_node}
 use Rattle.hir_collector_rules.specs.Calls.{call_site, error_of}
 use Rattle.hir_collector_rules.specs.Changes.{Change, lists, makes, gives_variants, begins_paths, reaches, awaits, ends, settles, changes_imports, adds_textual}

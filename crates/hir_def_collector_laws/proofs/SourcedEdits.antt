@@ -8,15 +8,22 @@ use Rattle.std.specs.Map.{lookup}
 use Rattle.std.specs.Ordering.{nat_cmp}
 use Rattle.std.proofs.Common.{refl, subst, sym}
 use Rattle.hir_base.specs.contracts.ids.EnumIdOrd.TheImpl as enum_order
-use Rattle.hir_base.specs.Types.{EnumId, MacroId, ModuleDefId, ModuleId}
+use Rattle.hir_base.specs.declared.ids.EnumId.{EnumId}
+use Rattle.hir_base.specs.declared.macro_kind.MacroId.{MacroId}
+use Rattle.hir_base.specs.declared.ids.ModuleDefId.{ModuleDefId}
+use Rattle.hir_base.specs.declared.ids.ModuleId.{ModuleId}
 use Rattle.hir_base.specs.declared.ids.ModuleDefId.TheVariants as definitions
 use Rattle.hir_item_tree.specs.Shape.{has_constructor}
-use Rattle.hir_item_tree.specs.Types.{VisibilityExplicitness}
+use Rattle.hir_item_tree.specs.declared.raw_visibility.VisibilityExplicitness.{VisibilityExplicitness}
 use Rattle.hir_scope.specs.Bindings.{with_item_definition, with_item_visibility}
 use Rattle.hir_scope.specs.ModuleTree.{is_at_or_above, same_crate, same_module}
 use Rattle.hir_scope.specs.PerNs.{Item, with_constructor}
 use Rattle.hir_scope.specs.Visibility.{both_in, either_written, upper_of}
-use Rattle.hir_scope.specs.Types.{ImportOrExternCrate, ImportOrGlob, ItemInNs, PerNs, Visibility}
+use Rattle.hir_scope.specs.declared.imports.ImportOrExternCrate.{ImportOrExternCrate}
+use Rattle.hir_scope.specs.declared.imports.ImportOrGlob.{ImportOrGlob}
+use Rattle.hir_scope.specs.declared.item_in_ns.ItemInNs.{ItemInNs}
+use Rattle.hir_scope.specs.declared.per_ns.PerNs.{PerNs}
+use Rattle.hir_scope.specs.declared.visibility.Visibility.{Visibility}
 use Rattle.hir_scope.specs.declared.imports.ImportOrExternCrate.TheVariants as ways
 use Rattle.hir_scope.specs.declared.item_in_ns.ItemInNs.TheVariants as in_ns
 use Rattle.hir_scope.specs.declared.visibility.Visibility.TheVariants as visibilities
@@ -29,11 +36,13 @@ use Rattle.hir_def_map_rules.specs.Sources.{HoldsNowhere, HoldsNowhereIn, HoldsO
 use Rattle.hir_def_map_rules.specs.Sources.{on_some, on_type, on_types_in, on_value, on_value_def, on_value_import, on_values, on_values_in, on_variant}
 use Rattle.hir_def_map_rules.specs.Sources.{on_visibility}
 use Rattle.hir_def_map_rules.specs.State.{Map, ModuleValue, Variants, at_name, entry_of, module_at, numbered, variants_at, with_scope}
-use Rattle.hir_def_map_rules.specs.Types.{EnumVariant}
+use Rattle.hir_def_map_rules.specs.declared.enum_variants.EnumVariant.{EnumVariant}
 use Rattle.hir_glob_imports.specs.Moves.{same_vis, seen_by}
 use Rattle.hir_glob_imports.specs.View.{View}
 use Rattle.hir_glob_imports.specs.Waves.{Records, adds, edge_with_vis, stays, widens, wider_of}
-use Rattle.hir_glob_imports.specs.Types.{Bound, Edge, Key}
+use Rattle.hir_glob_imports.specs.declared.edge.Bound.{Bound}
+use Rattle.hir_glob_imports.specs.declared.edge.Edge.{Edge}
+use Rattle.hir_glob_imports.specs.declared.edge.Key.{Key}
 use Rattle.hir_glob_imports.specs.declared.edge.Key.TheVariants.{Types, Values, Macros, Unnamed}
 use Rattle.hir_import_resolution.specs.Names.{bound_at, bound_by, items_by, redefined, revised, variant_items}
 use Rattle.hir_import_resolution.specs.Visibilities.{greater_in}

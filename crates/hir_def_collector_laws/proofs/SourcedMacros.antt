@@ -6,18 +6,22 @@ use Rattle.std.specs.Cmp.Lexicographic.{slice_cmp}
 use Rattle.std.specs.List.{list_any}
 use Rattle.std.specs.Ordering.{nat_cmp}
 use Rattle.std.proofs.Common.{refl}
-use Rattle.hir_base.specs.Types.{Crate, ExternCrateId, MacroId, ModuleId, UseId}
+use Rattle.hir_base.specs.declared.ids.Crate.{Crate}
+use Rattle.hir_base.specs.declared.ids.ExternCrateId.{ExternCrateId}
+use Rattle.hir_base.specs.declared.macro_kind.MacroId.{MacroId}
+use Rattle.hir_base.specs.declared.ids.ModuleId.{ModuleId}
+use Rattle.hir_base.specs.declared.ids.UseId.{UseId}
 use Rattle.hir_item_tree.specs.Collected.{Numbered}
 use Rattle.hir_item_tree.specs.KeptForest.{Head}
-use Rattle.hir_item_tree.specs.Types.{ExternCrateName}
+use Rattle.hir_item_tree.specs.declared.shape.ExternCrateName.{ExternCrateName}
 use Rattle.hir_item_tree.specs.declared.shape.ExternCrateName.TheVariants.{SelfCrate, Name}
 use Rattle.hir_textual_scope.specs.Macros.{with_macro}
-use Rattle.hir_textual_scope.specs.Types.{TextualMacro}
+use Rattle.hir_textual_scope.specs.declared.textual_scope.TextualMacro.{TextualMacro}
 use Rattle.hir_scope.specs.Entries.{item_at}
 use Rattle.hir_scope.specs.ModuleTree.{same_crate}
 use Rattle.hir_scope.specs.PerNs.{Item}
 use Rattle.hir_scope.specs.Scope.{ScopeValue}
-use Rattle.hir_scope.specs.Types.{ImportOrExternCrate}
+use Rattle.hir_scope.specs.declared.imports.ImportOrExternCrate.{ImportOrExternCrate}
 use Rattle.hir_def_map_rules.specs.Overlay.{Maps, Placed}
 use Rattle.hir_def_map_rules.specs.References.{crate_map}
 use Rattle.hir_def_map_rules.specs.Sources.{HoldsNowhere, HoldsNowhereIn, SourceTest, on_extern, on_import, on_legacy_in, on_macro, on_macro_item, on_macro_use}
@@ -30,7 +34,7 @@ use Rattle.hir_collector_rules.specs.CrateTop.{listed_under}
 use Rattle.hir_collector_rules.specs.Imports.{dependency_named}
 use Rattle.hir_collector_rules.specs.Macros.{macros_beside, macros_brought, other_scope, public_among, public_at, public_in, public_named, public_one}
 use Rattle.hir_collector_rules.specs.Macros.{root_scope, textual_at, textual_in, wanted_in, wants_all, with_macros_used, with_used}
-use Rattle.hir_collector_rules.specs.Types.{Dependency}
+use Rattle.hir_collector_rules.specs.declared.source_database.Dependency.{Dependency}
 use Rattle.hir_collector_rules.proofs.Lists.{none_joined}
 
 module _ (t : SourceTest) where

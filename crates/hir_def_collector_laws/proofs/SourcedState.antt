@@ -4,15 +4,16 @@ use Rattle.std.specs.List.{list_any}
 use Rattle.std.proofs.Common.{Contains, ap, refl, sym, ◌∙◌, arith}
 use mathlib.Core.Bool.{true≢false}
 use Rattle.hir_base.specs.contracts.ids.MapIdPartialEq.TheImpl as map_id
-use Rattle.hir_base.specs.Types.{MapId, ModuleId}
-use Rattle.hir_item_tree.specs.Types.{TreeKey}
+use Rattle.hir_base.specs.declared.ids.MapId.{MapId}
+use Rattle.hir_base.specs.declared.ids.ModuleId.{ModuleId}
+use Rattle.hir_item_tree.specs.declared.tree_id.TreeKey.{TreeKey}
 use Rattle.hir_def_map_rules.specs.Closed.{ModuleIsThere}
 use Rattle.hir_def_map_rules.specs.Sources.{HoldsNowhereIn, HoldsOfNoExtern, SourceTest, on_import}
 use Rattle.hir_def_map_rules.specs.State.{Map, module_at}
 use Rattle.hir_def_map_rules.specs.Overlay.{Maps, Placed, overlay, placed_in}
-use Rattle.hir_import_resolution.specs.Types.{ImportDirective}
+use Rattle.hir_import_resolution.specs.declared.directive.ImportDirective.{ImportDirective}
 use Rattle.hir_import_resolution.specs.Directives.{way_of}
-use Rattle.hir_collector_rules.specs.Types.{MacroDirective}
+use Rattle.hir_collector_rules.specs.declared.macro_directive.MacroDirective.{MacroDirective}
 use Rattle.hir_collector_rules.specs.State.{State, Task, visits, closes}
 use Rattle.hir_collector_rules.specs.declared.source_database.Key.TheVariants as keys
 use Rattle.hir_collector_rules.proofs.Grows.{Grows}

@@ -7,7 +7,17 @@ use Rattle.std.specs.Cmp.{second_so}
 use Rattle.std.specs.Prelude.{nat_eq}
 use Rattle.std.specs.Str.{bytes_eq}
 use Rattle.std.specs.Cmp.Lexicographic.{pointwise}
-use Rattle.hir_base.specs.Types.{AstId, Crate, EnumId, ExternCrateId, FunctionId, MacroId, MapId, ModuleDefId, ModuleId, ProcMacroId, TraitId}
+use Rattle.hir_base.specs.declared.ast_id.AstId.{AstId}
+use Rattle.hir_base.specs.declared.ids.Crate.{Crate}
+use Rattle.hir_base.specs.declared.ids.EnumId.{EnumId}
+use Rattle.hir_base.specs.declared.ids.ExternCrateId.{ExternCrateId}
+use Rattle.hir_base.specs.declared.ids.FunctionId.{FunctionId}
+use Rattle.hir_base.specs.declared.macro_kind.MacroId.{MacroId}
+use Rattle.hir_base.specs.declared.ids.MapId.{MapId}
+use Rattle.hir_base.specs.declared.ids.ModuleDefId.{ModuleDefId}
+use Rattle.hir_base.specs.declared.ids.ModuleId.{ModuleId}
+use Rattle.hir_base.specs.declared.macro_kind.ProcMacroId.{ProcMacroId}
+use Rattle.hir_base.specs.declared.ids.TraitId.{TraitId}
 use Rattle.hir_base.specs.declared.ast_id.AstKind.TheVariants as nodes
 use Rattle.hir_base.specs.declared.ids.AdtId.TheVariants as adts
 use Rattle.hir_base.specs.declared.ids.ModuleDefId.TheVariants as definitions
@@ -15,16 +25,25 @@ use Rattle.hir_base.specs.declared.macro_kind.MacroId.TheVariants as macros
 use Rattle.hir_item_tree.specs.Shape.{has_constructor}
 use Rattle.hir_item_tree.specs.KeptForest.{Head, function, leaf}
 use Rattle.hir_item_tree.specs.Imports.{imports_of}
-use Rattle.hir_item_tree.specs.Types.{ExternCrateName, RawVisibility}
+use Rattle.hir_item_tree.specs.declared.shape.ExternCrateName.{ExternCrateName}
+use Rattle.hir_item_tree.specs.declared.raw_visibility.RawVisibility.{RawVisibility}
 use Rattle.hir_item_tree.specs.declared.shape.ExternCrateName.TheVariants.{SelfCrate, Name}
-use Rattle.hir_scope.specs.Types.{GlobId, ImportId, ImportOrExternCrate, ItemInNs, PerNs, Visibility}
+use Rattle.hir_scope.specs.declared.imports.GlobId.{GlobId}
+use Rattle.hir_scope.specs.declared.imports.ImportId.{ImportId}
+use Rattle.hir_scope.specs.declared.imports.ImportOrExternCrate.{ImportOrExternCrate}
+use Rattle.hir_scope.specs.declared.item_in_ns.ItemInNs.{ItemInNs}
+use Rattle.hir_scope.specs.declared.per_ns.PerNs.{PerNs}
+use Rattle.hir_scope.specs.declared.visibility.Visibility.{Visibility}
 use Rattle.hir_scope.specs.declared.item_in_ns.ItemInNs.TheVariants as in_ns
 use Rattle.hir_scope.specs.PerNs.{Item, with_constructor, item_of, macros_only}
 use Rattle.hir_scope.specs.ModuleTree.{same_crate}
 use Rattle.hir_scope.specs.declared.visibility.Visibility.TheVariants as visibilities
 use Rattle.hir_def_map_rules.specs.declared.declaration.Declaration.TheVariants as listings
 use Rattle.hir_def_map_rules.specs.declared.declaration.Declaration.{Declaration as Listing}
-use Rattle.hir_def_map_rules.specs.Types.{DefDiagnostic, EnumVariant, ModuleOrigin, Reference}
+use Rattle.hir_def_map_rules.specs.declared.diagnostics.DefDiagnostic.{DefDiagnostic}
+use Rattle.hir_def_map_rules.specs.declared.enum_variants.EnumVariant.{EnumVariant}
+use Rattle.hir_def_map_rules.specs.declared.origin.ModuleOrigin.{ModuleOrigin}
+use Rattle.hir_def_map_rules.specs.declared.reference.Reference.{Reference}
 use Rattle.hir_def_map_rules.specs.declared.reference.Reference.TheVariants as named
 use Rattle.hir_base.specs.contracts.ids.MapIdPartialEq.TheImpl as map_id
 use Rattle.hir_def_map_rules.specs.Sources.{on_some}
@@ -49,14 +68,22 @@ use Rattle.hir_def_map_rules.specs.State.{new_module, numbered, root_of, with_de
 use Rattle.hir_def_map_rules.specs.Overlay.{Maps, Placed, entry_in, overlay, placed_in, module_in, variants_in}
 use Rattle.hir_def_map_rules.proofs.StaysWellFormed.{Extends-overlay, Extends-grown, Extends-made, Extends-scope, IsClosed-overlay, LocalIsThere-begins}
 use Rattle.hir_def_map_rules.proofs.StaysWellFormed.{HasNoDanglingReference-prelude, module_there, new_there, Extends-enum}
-use Rattle.hir_collector_rules.specs.Types.{Declaration, Dependency, Site, Start}
+use Rattle.hir_collector_rules.specs.declared.declaration.Declaration.{Declaration}
+use Rattle.hir_collector_rules.specs.declared.source_database.Dependency.{Dependency}
+use Rattle.hir_collector_rules.specs.declared.site.Site.{Site}
+use Rattle.hir_collector_rules.specs.declared.start.Start.{Start}
 use Rattle.hir_collector_rules.specs.declared.start.Start.TheVariants as starts
 use Rattle.hir_glob_imports.specs.Moves.{brought_vis, shown as shown_along}
-use Rattle.hir_glob_imports.specs.Types.{Bound, Edge, Key, Slot, Target}
+use Rattle.hir_glob_imports.specs.declared.edge.Bound.{Bound}
+use Rattle.hir_glob_imports.specs.declared.edge.Edge.{Edge}
+use Rattle.hir_glob_imports.specs.declared.edge.Key.{Key}
+use Rattle.hir_glob_imports.specs.declared.edge.Slot.{Slot}
+use Rattle.hir_glob_imports.specs.declared.edge.Target.{Target}
 use Rattle.hir_glob_imports.specs.Rules.{Rule as GlobRule, acts as glob_acts, copies_along, follows_along, raises_along, May as MayAlong}
 use Rattle.hir_glob_imports.specs.declared.edge.Key.TheVariants.{Types, Values, Macros, Unnamed}
 use Rattle.hir_glob_imports.specs.declared.edge.Target.TheVariants as targets
-use Rattle.hir_import_resolution.specs.Types.{ImportDirective, ImportSource}
+use Rattle.hir_import_resolution.specs.declared.directive.ImportDirective.{ImportDirective}
+use Rattle.hir_import_resolution.specs.declared.directive.ImportSource.{ImportSource}
 use Rattle.hir_collector_rules.specs.Workspace.{Workspace, dependencies_in, transitive_dependencies_in}
 use Rattle.hir_tables.specs.Tables.{TablesValue}
 use Rattle.hir_collector_rules.specs.Keys.{Environment, environment}

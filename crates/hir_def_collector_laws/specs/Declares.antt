@@ -1,6 +1,7 @@
 -- Which definitions do items declare in the module in which they are written?
 use Rattle.std.specs.Prelude.{◌≡◌, ◌<◌, ◌⊎◌, ℕ, Bool, true, false, List, [], ◌∷◌, ◌++◌, Option, None, Some, Contains, drop}
-use Rattle.hir_base.specs.Types.{AstId, ModuleDefId}
+use Rattle.hir_base.specs.declared.ast_id.AstId.{AstId}
+use Rattle.hir_base.specs.declared.ids.ModuleDefId.{ModuleDefId}
 use Rattle.hir_base.specs.declared.ids.AdtId.TheVariants as adts
 use Rattle.hir_base.specs.declared.ids.ModuleDefId.TheVariants as definitions
 use Rattle.hir_base.specs.declared.macro_kind.MacroId.TheVariants.{ProcMacroId}
@@ -14,8 +15,11 @@ use Rattle.hir_mod_dir.specs.ModuleFiles.{candidates_of, inline_directory}
 use Rattle.hir_tables.specs.Tables.{TablesValue}
 use Rattle.hir_def_map_rules.specs.Overlay.{Maps}
 use Rattle.hir_def_map_rules.specs.State.{Map, ModuleValue, module_at, numbered}
-use Rattle.hir_def_map_rules.specs.Types.{ModuleOrigin}
-use Rattle.hir_collector_rules.specs.Types.{Export, MacroDirective, Site, WaitingItem}
+use Rattle.hir_def_map_rules.specs.declared.origin.ModuleOrigin.{ModuleOrigin}
+use Rattle.hir_collector_rules.specs.declared.exported.Export.{Export}
+use Rattle.hir_collector_rules.specs.declared.macro_directive.MacroDirective.{MacroDirective}
+use Rattle.hir_collector_rules.specs.declared.site.Site.{Site}
+use Rattle.hir_collector_rules.specs.declared.macro_directive.WaitingItem.{WaitingItem}
 use Rattle.hir_collector_rules.specs.Attributes.{AreAlwaysPassed, export_at, is_derive, is_passed, item_node, proc_macro_id}
 use Rattle.hir_collector_rules.specs.Calls.{item_kept, waiting_item}
 use Rattle.hir_collector_rules.specs.Causes.{declarations_of}

@@ -1,11 +1,14 @@
 -- Which calls, derives and attributes did a run expand, which items went on that had waited, and what do these declare?
 use Rattle.std.specs.Prelude.{◌≡◌, ◌<◌, ◌≤◌, ℕ, zero, suc, false, List, [], ◌∷◌, ◌++◌, Option, None, Some, Contains}
-use Rattle.hir_base.specs.Types.{BuiltinDeriveImplId, MacroId, ModuleDefId}
+use Rattle.hir_base.specs.declared.macro_kind.BuiltinDeriveImplId.{BuiltinDeriveImplId}
+use Rattle.hir_base.specs.declared.macro_kind.MacroId.{MacroId}
+use Rattle.hir_base.specs.declared.ids.ModuleDefId.{ModuleDefId}
 use Rattle.hir_item_tree.specs.KeptForest.{KeptItem}
 use Rattle.hir_tables.specs.Tables.{TablesValue}
 use Rattle.hir_def_map_rules.specs.Overlay.{Maps}
 use Rattle.hir_def_map_rules.specs.State.{Map, ModuleValue, module_at}
-use Rattle.hir_collector_rules.specs.Types.{MacroDirective, WaitingItem}
+use Rattle.hir_collector_rules.specs.declared.macro_directive.MacroDirective.{MacroDirective}
+use Rattle.hir_collector_rules.specs.declared.macro_directive.WaitingItem.{WaitingItem}
 use Rattle.hir_collector_rules.specs.declared.source_database.Key.TheVariants.{Tree}
 use Rattle.hir_collector_rules.specs.Calls.{Expanding, IsNumberedCall, builtin_impl, call_key, call_site, expansion_readings, has_expansion, item_kept}
 use Rattle.hir_collector_rules.specs.Calls.{text_readings, waiting_item}

@@ -1,15 +1,17 @@
 -- Where is written what a run binds?
 use Rattle.std.specs.Prelude.{◌≡◌, false, List, Some, Contains, option_map}
-use Rattle.hir_base.specs.Types.{ModuleId}
+use Rattle.hir_base.specs.declared.ids.ModuleId.{ModuleId}
 use Rattle.hir_def_map_rules.specs.Closed.{ModuleIsThere}
 use Rattle.hir_def_map_rules.specs.WellFormed.{AreWellFormed}
 use Rattle.hir_def_map_rules.specs.Sources.{HoldsNowhere, HoldsNowhereIn, HoldsOfNoExtern, SourceTest}
 use Rattle.hir_def_map_rules.specs.State.{Map, crate_map}
 use Rattle.hir_def_map_rules.specs.Overlay.{Maps, Placed, overlay}
 use Rattle.hir_def_map_rules.specs.Scoping.Asking.{local_of}
-use Rattle.hir_item_tree.specs.Types.{TreeId, TreeKey}
+use Rattle.hir_item_tree.specs.declared.tree_id.TreeId.{TreeId}
+use Rattle.hir_item_tree.specs.declared.tree_id.TreeKey.{TreeKey}
 use Rattle.hir_tables.specs.Tables.{TablesValue}
-use Rattle.hir_collector_rules.specs.Types.{Key, Start}
+use Rattle.hir_collector_rules.specs.declared.source_database.Key.{Key}
+use Rattle.hir_collector_rules.specs.declared.start.Start.{Start}
 use Rattle.hir_collector_rules.specs.declared.start.Start.TheVariants as starts
 use Rattle.hir_collector_rules.specs.declared.source_database.Key.TheVariants.{Tree}
 use Rattle.hir_collector_rules.specs.Derivation.{CollectedValue, Ends}

@@ -4,11 +4,12 @@ use Rattle.std.proofs.Common.{arith}
 use Rattle.std.specs.Prelude.{option_map, slice_get, slice_index_or}
 use Rattle.std.proofs.lemmas.Bool.{cases_lt}
 use Rattle.std.proofs.lemmas.Option.{slice_get_past}
-use Rattle.hir_base.specs.Types.{Crate}
+use Rattle.hir_base.specs.declared.ids.Crate.{Crate}
 use Rattle.hir_crate_graph.specs.Dependencies.{AreTransitive, transitive_below, transitive_dependencies}
 use Rattle.std.proofs.lemmas.List.{length-append}
 use Rattle.hir_crate_graph.specs.Graph.{Adds, crates_at}
-use Rattle.hir_collector_rules.specs.Types.{Config, Dependency}
+use Rattle.hir_collector_rules.specs.declared.source_database.Config.{Config}
+use Rattle.hir_collector_rules.specs.declared.source_database.Dependency.{Dependency}
 use Rattle.hir_crate_graph.proofs.Closure.{transitive_at}
 use Rattle.hir_collector_rules.specs.Workspace.{ConfigValue, config_view, direct_by, transitive_by}
 use Rattle.hir_def_collector_tests.specs.Crates.{AreTheirs, config_in}

@@ -4,12 +4,12 @@ use Rattle.std.specs.BTreeMap.{is_at}
 use Rattle.std.specs.Cmp.Lexicographic.{slice_cmp}
 use Rattle.std.specs.Map.{lookup}
 use Rattle.std.specs.Ordering.{nat_cmp}
-use Rattle.hir_base.specs.Types.{Crate}
+use Rattle.hir_base.specs.declared.ids.Crate.{Crate}
 use Rattle.hir_item_tree.specs.Source.{SourceValue, source_view}
-use Rattle.hir_item_tree.specs.Types.{Source}
+use Rattle.hir_item_tree.specs.declared.source.Source.{Source}
 use Rattle.hir_tables.specs.SourcePlaces.{SourcePlaceValue, file, block, expansion}
 use Rattle.hir_collector_rules.specs.Workspace.{ConfigValue, config_view, transitive_by}
-use Rattle.hir_collector_rules.specs.Types.{Config}
+use Rattle.hir_collector_rules.specs.declared.source_database.Config.{Config}
 
 -- the source at a place, if it is that of a file that is there; each block has the same
 abbrev pub source_in : List (List ℕ × Source) → Option Source → SourcePlaceValue → Option SourceValue

@@ -13,7 +13,9 @@ use Rattle.hir_scope.proofs.AfterPush.{item_at-with_entry, item_at-with_entry_ot
 use Rattle.hir_scope_table.specs.Table.{rewritten}
 use Rattle.hir_glob_imports.specs.Keys.{same_slot, slot_at}
 use Rattle.hir_glob_imports.specs.Rules.{BroughtBy, with_brought}
-use Rattle.hir_glob_imports.specs.Types.{Brought, Key, Slot}
+use Rattle.hir_glob_imports.specs.declared.edge.Brought.{Brought}
+use Rattle.hir_glob_imports.specs.declared.edge.Key.{Key}
+use Rattle.hir_glob_imports.specs.declared.edge.Slot.{Slot}
 use Rattle.hir_glob_imports.specs.declared.edge.Key.TheVariants.{Types}
 use Rattle.hir_glob_imports.proofs.Exact.{exact_slot}
 use Rattle.hir_glob_imports.proofs.Settling.{same_itself}

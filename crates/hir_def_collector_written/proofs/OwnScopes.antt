@@ -2,7 +2,10 @@
 use Rattle.std.proofs.Common.{◌≡◌, ◌∙◌, ℕ, true, List, [], ◌∷◌, ◌++◌, Option, None, Some, slice_get, refl, sym, ap, subst}
 use Rattle.hir_base.specs.contracts.ids.ModuleDefIdPartialEq.TheImpl as module_def
 use Rattle.hir_base.specs.contracts.macro_kind.MacroIdPartialEq.TheImpl as makro
-use Rattle.hir_base.specs.Types.{MacroId, ModuleDefId, ModuleId, TraitId}
+use Rattle.hir_base.specs.declared.macro_kind.MacroId.{MacroId}
+use Rattle.hir_base.specs.declared.ids.ModuleDefId.{ModuleDefId}
+use Rattle.hir_base.specs.declared.ids.ModuleId.{ModuleId}
+use Rattle.hir_base.specs.declared.ids.TraitId.{TraitId}
 use Rattle.hir_base.specs.declared.ids.ModuleDefId.TheVariants as definitions
 use Rattle.hir_scope.specs.contracts.imports.ImportOrExternCratePartialEq.TheImpl as item_import
 use Rattle.hir_scope.specs.contracts.imports.ImportOrGlobPartialEq.TheImpl as glob_import
@@ -12,14 +15,21 @@ use Rattle.hir_scope.specs.ImportRecords.{is_glob, reached_by, value_reached_by}
 use Rattle.hir_scope.specs.PerNs.{Item, value_import}
 use Rattle.hir_scope.specs.Scope.{ScopeValue, empty_scope}
 use Rattle.hir_scope.specs.Scope.Push.{pushed_scope}
-use Rattle.hir_scope.specs.Types.{ImportId, ImportOrExternCrate, ImportOrGlob, ItemInNs, PerNs, Visibility}
+use Rattle.hir_scope.specs.declared.imports.ImportId.{ImportId}
+use Rattle.hir_scope.specs.declared.imports.ImportOrExternCrate.{ImportOrExternCrate}
+use Rattle.hir_scope.specs.declared.imports.ImportOrGlob.{ImportOrGlob}
+use Rattle.hir_scope.specs.declared.item_in_ns.ItemInNs.{ItemInNs}
+use Rattle.hir_scope.specs.declared.per_ns.PerNs.{PerNs}
+use Rattle.hir_scope.specs.declared.visibility.Visibility.{Visibility}
 use Rattle.hir_scope.specs.declared.imports.ImportOrExternCrate.TheVariants as ways
 use Rattle.hir_scope.specs.declared.item_in_ns.ItemInNs.TheVariants as in_ns
 use Rattle.hir_scope.proofs.Pushes.{pushed-macros, pushed-types, pushed-values}
 use Rattle.hir_def_map_rules.specs.State.{ModuleValue, changed_at, with_module_scope}
 use Rattle.hir_glob_imports.specs.Keys.{slot_at}
 use Rattle.hir_glob_imports.specs.Rules.{BroughtBy, with_brought}
-use Rattle.hir_glob_imports.specs.Types.{Brought, Key, Slot}
+use Rattle.hir_glob_imports.specs.declared.edge.Brought.{Brought}
+use Rattle.hir_glob_imports.specs.declared.edge.Key.{Key}
+use Rattle.hir_glob_imports.specs.declared.edge.Slot.{Slot}
 use Rattle.hir_glob_imports.specs.declared.edge.Key.TheVariants.{Types, Values, Macros, Unnamed}
 use Rattle.hir_import_resolution.specs.Names.{redefined, revised, with_trait}
 use Rattle.hir_collector_rules.proofs.ImportEdits.{Edit, edit, keeps_unnamed, pushes_to, redefines, revises}

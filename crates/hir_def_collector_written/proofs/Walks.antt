@@ -7,7 +7,8 @@ use Rattle.hir_item_tree.specs.KeptForest.{import, item, leaf, macro_call, macro
 use Rattle.hir_item_tree.specs.KeptForest.{type_alias, union_structure}
 use Rattle.hir_def_map_rules.specs.Overlay.{Maps}
 use Rattle.hir_def_map_rules.specs.State.{Local, Map}
-use Rattle.hir_collector_rules.specs.Types.{Declaration, Site}
+use Rattle.hir_collector_rules.specs.declared.declaration.Declaration.{Declaration}
+use Rattle.hir_collector_rules.specs.declared.site.Site.{Site}
 use Rattle.hir_collector_rules.specs.Derivation.{CollectedValue}
 use Rattle.hir_collector_rules.specs.Items.{declaration_of, declared_by}
 use Rattle.hir_collector_rules.specs.State.{Core, Task, Visit, closes, visits, visits_over}

@@ -1,6 +1,8 @@
 -- Which item declares what a name stands for that no import brought?
 use Rattle.std.specs.Prelude.{◌≡◌, ℕ, zero, suc, Bool, true, false, List, Option, None, Some, Contains}
-use Rattle.hir_base.specs.Types.{MacroExpander, MacroId, ModuleDefId}
+use Rattle.hir_base.specs.declared.macro_kind.MacroExpander.{MacroExpander}
+use Rattle.hir_base.specs.declared.macro_kind.MacroId.{MacroId}
+use Rattle.hir_base.specs.declared.ids.ModuleDefId.{ModuleDefId}
 use Rattle.hir_base.specs.declared.ids.ModuleDefId.TheVariants as definitions
 use Rattle.hir_base.specs.declared.macro_kind.MacroId.TheVariants.{ProcMacroId}
 use Rattle.hir_item_tree.specs.Collected.{is_enabled}
@@ -9,12 +11,16 @@ use Rattle.hir_item_tree.specs.KeptForest.{Head, Holder, KeptItem, Leaf, enumera
 use Rattle.hir_item_tree.specs.KeptForest.{macro_rules, outline_module}
 use Rattle.hir_scope.specs.PerNs.{Item}
 use Rattle.hir_scope.specs.Scope.Updates.{censored_item, censored_macro}
-use Rattle.hir_scope.specs.Types.{ImportOrExternCrate, ImportOrGlob, PerNs}
+use Rattle.hir_scope.specs.declared.imports.ImportOrExternCrate.{ImportOrExternCrate}
+use Rattle.hir_scope.specs.declared.imports.ImportOrGlob.{ImportOrGlob}
+use Rattle.hir_scope.specs.declared.per_ns.PerNs.{PerNs}
 use Rattle.hir_scope.specs.declared.visibility.Visibility.TheVariants as visibilities
 use Rattle.hir_tables.specs.Tables.{TablesValue}
 use Rattle.hir_def_map_rules.specs.Overlay.{Maps}
 use Rattle.hir_def_map_rules.specs.State.{Local, Map, entry_at, module_at}
-use Rattle.hir_collector_rules.specs.Types.{Declaration, Export, Site}
+use Rattle.hir_collector_rules.specs.declared.declaration.Declaration.{Declaration}
+use Rattle.hir_collector_rules.specs.declared.exported.Export.{Export}
+use Rattle.hir_collector_rules.specs.declared.site.Site.{Site}
 use Rattle.hir_collector_rules.specs.Attributes.{export_at, proc_macro_id}
 use Rattle.hir_collector_rules.specs.Causes.{IsPassed, declarations_of}
 use Rattle.hir_collector_rules.specs.Derivation.{CollectedValue, Ends}

@@ -9,7 +9,10 @@ use Rattle.std.specs.Ordering.{is_eq}
 use Rattle.std.specs.BTreeMap.{BTreeMap, get, is_at, Updates, IsUnchanged}
 use Rattle.std.specs.Map.{lookup}
 use Rattle.std.specs.Result.{OnOk, OnErr}
-use Rattle.hir_base.specs.Types.{Crate, MapId, ModuleDefId, ModuleId}
+use Rattle.hir_base.specs.declared.ids.Crate.{Crate}
+use Rattle.hir_base.specs.declared.ids.MapId.{MapId}
+use Rattle.hir_base.specs.declared.ids.ModuleDefId.{ModuleDefId}
+use Rattle.hir_base.specs.declared.ids.ModuleId.{ModuleId}
 use Rattle.hir_base.specs.contracts.ids.MapIdOrd.TheImpl as map_order
 use Rattle.hir_base.specs.contracts.ids.MapIdOrd.TheImpl.Laws.{total-law as order_total, matches_eq-law as order_ties}
 use Rattle.hir_base.specs.contracts.ids.MapIdPartialEq.TheImpl as map_id
@@ -17,7 +20,7 @@ use Rattle.hir_scope.specs.ModuleTree.{same_crate}
 use Rattle.hir_scope.specs.PerNs.{Item}
 use Rattle.hir_scope.specs.Scope.{ScopeValue}
 use Rattle.hir_def_map.specs.Types.{Finished}
-use Rattle.hir_def_map_rules.specs.Types.{Reference}
+use Rattle.hir_def_map_rules.specs.declared.reference.Reference.{Reference}
 use Rattle.hir_def_map_rules.specs.declared.reference.Reference.TheVariants as named
 use Rattle.hir_def_map_rules.specs.State.{Local, Map, ModuleValue, module_at, variants_at}
 use Rattle.hir_def_map_rules.specs.Overlay.{Maps, Placed, overlay, holders_of, holders_or, holders_under, module_in, placed_in, placed_with, with_map}

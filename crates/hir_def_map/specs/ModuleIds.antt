@@ -2,13 +2,18 @@
 use Rattle.std.specs.Prelude.{ℕ, suc, List, [], ◌∷◌, Bool, false, Option, None, Some, cond}
 use Rattle.hir_base.specs.contracts.ast_id.FileIdPartialEq.TheImpl as file_id
 use Rattle.hir_base.specs.contracts.ast_id.MacroCallIdPartialEq.TheImpl as call_id
-use Rattle.hir_base.specs.Types.{EditionedFileId, FileId, HirFileId, MacroCallId, MapId, ModuleId}
+use Rattle.hir_base.specs.declared.ast_id.EditionedFileId.{EditionedFileId}
+use Rattle.hir_base.specs.declared.ast_id.FileId.{FileId}
+use Rattle.hir_base.specs.declared.ast_id.HirFileId.{HirFileId}
+use Rattle.hir_base.specs.declared.ast_id.MacroCallId.{MacroCallId}
+use Rattle.hir_base.specs.declared.ids.MapId.{MapId}
+use Rattle.hir_base.specs.declared.ids.ModuleId.{ModuleId}
 use Rattle.hir_base.specs.declared.ast_id.HirFileId.TheVariants as files
 use Rattle.hir_def_map_rules.specs.Origins.{file_of}
 use Rattle.hir_def_map_rules.specs.State.{ModuleValue, numbered}
 use Rattle.hir_def_map.specs.declared.nameres.module_ids.WantedFile.{WantedFile}
 use Rattle.hir_def_map.specs.declared.nameres.module_ids.WantedFile.TheVariants.{Expansion, Own}
-use Rattle.hir_def_map_rules.specs.Types.{ModuleOrigin}
+use Rattle.hir_def_map_rules.specs.declared.origin.ModuleOrigin.{ModuleOrigin}
 use Rattle.hir_def_map_rules.specs.declared.origin.ModuleOrigin.TheVariants as origins
 
 -- whether a module's own file is this one, whatever its edition

@@ -4,7 +4,7 @@ use Rattle.std.specs.BTreeMap.{BTreeMap, get, is_at}
 use Rattle.std.specs.BTreeSet.{contains}
 use Rattle.std.specs.Map.{lookup}
 use Rattle.std.proofs.Common.{ap, sym, ◌∙◌}
-use Rattle.hir_base.specs.Types.{MapId}
+use Rattle.hir_base.specs.declared.ids.MapId.{MapId}
 use Rattle.hir_base.specs.contracts.ids.MapIdOrd.TheImpl as map_order
 use Rattle.hir_def_map.specs.declared.world.finished.Finished.{Finished}
 use Rattle.hir_def_map_rules.specs.State.{Local, Map}

@@ -7,7 +7,10 @@ use Rattle.std.specs.Option.{option_and_then, option_copied, option_map}
 use Rattle.std.specs.Prelude.{is_some, not}
 use Rattle.std.proofs.lemmas.List.Elements.{All-cons, All-nil}
 use mathlib.Core.Bool.{true≢false}
-use Rattle.hir_base.specs.Types.{Crate, MapId, ModuleId, UseId}
+use Rattle.hir_base.specs.declared.ids.Crate.{Crate}
+use Rattle.hir_base.specs.declared.ids.MapId.{MapId}
+use Rattle.hir_base.specs.declared.ids.ModuleId.{ModuleId}
+use Rattle.hir_base.specs.declared.ids.UseId.{UseId}
 use Rattle.hir_base.specs.contracts.ids.MapIdOrd.TheImpl as map_order
 use Rattle.hir_base.specs.contracts.ids.MapIdPartialEq.TheImpl as map_id
 use Rattle.hir_def_map_rules.specs.Inner.OverlayLaws.{exact_map}
@@ -20,8 +23,8 @@ use Rattle.hir_def_map_rules.specs.Overlay.{Maps, Placed, map_in, module_in, ove
 use Rattle.hir_def_map.specs.Scoping.Slots.{is_in, prelude_module_of}
 use Rattle.hir_def_map.specs.World.{IsChecked, finished_in, placed_of}
 use Rattle.hir_def_map.specs.WorldParts.{among, limited_to, part_of}
-use Rattle.hir_def_map.specs.Types.{Finished}
-use Rattle.hir_def_map_rules.specs.Types.{Reference}
+use Rattle.hir_def_map.specs.declared.world.finished.Finished.{Finished}
+use Rattle.hir_def_map_rules.specs.declared.reference.Reference.{Reference}
 use Rattle.hir_def_map_rules.specs.declared.reference.Reference.TheVariants as named
 use Rattle.hir_def_map_rules.proofs.NoneOf.{none_at, not_first, not_second}
 use Rattle.hir_def_map_rules.proofs.Referred.{module_less}

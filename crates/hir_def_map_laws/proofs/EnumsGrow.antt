@@ -4,7 +4,12 @@ use Rattle.std.specs.List.{All}
 use Rattle.std.specs.Option.{option_and_then, option_map}
 use Rattle.std.specs.Prelude.{is_some, not}
 use Rattle.hir_base.specs.ModPath.{Path}
-use Rattle.hir_base.specs.Types.{AdtId, EnumId, MapId, ModuleDefId, PathKind, UseId}
+use Rattle.hir_base.specs.declared.ids.AdtId.{AdtId}
+use Rattle.hir_base.specs.declared.ids.EnumId.{EnumId}
+use Rattle.hir_base.specs.declared.ids.MapId.{MapId}
+use Rattle.hir_base.specs.declared.ids.ModuleDefId.{ModuleDefId}
+use Rattle.hir_base.specs.declared.mod_path.PathKind.{PathKind}
+use Rattle.hir_base.specs.declared.ids.UseId.{UseId}
 use Rattle.hir_base.specs.declared.ids.AdtId.TheVariants as adts
 use Rattle.hir_base.specs.declared.ids.ModuleId.{ModuleId as AnyModule}
 use Rattle.hir_base.specs.declared.ids.ModuleDefId.TheVariants.{ModuleId, FunctionId, AdtId as AnyAdt, EnumVariantId, ConstId, StaticId, TraitId, TypeAliasId}
@@ -13,7 +18,8 @@ use Rattle.hir_base.specs.declared.mod_path.PathKind.TheVariants as kinds
 use Rattle.hir_base.specs.contracts.ids.MapIdPartialEq.TheImpl as map_id
 use Rattle.hir_scope.specs.ModuleTree.{same_block, same_crate}
 use Rattle.hir_scope.specs.PerNs.{Item}
-use Rattle.hir_scope.specs.Types.{ImportOrExternCrate, PerNs}
+use Rattle.hir_scope.specs.declared.imports.ImportOrExternCrate.{ImportOrExternCrate}
+use Rattle.hir_scope.specs.declared.per_ns.PerNs.{PerNs}
 use Rattle.hir_def_map_rules.proofs.Fails.{Fails-nowhere}
 use Rattle.hir_def_map_rules.specs.Overlay.{Maps, Placed, map_in, overlay, placed_in}
 use Rattle.hir_def_map_rules.specs.Scoping.{Resolution, resolution_of}
@@ -27,9 +33,10 @@ use Rattle.hir_def_map.specs.Scoping.Slots.{slots_from_root, slots_of, with_prel
 use Rattle.hir_def_map_rules.specs.Scoping.Start.{abs_from, climb, from_start, is_import, is_in_edition_2015, is_in_reach, module_bound, settled_in_block}
 use Rattle.hir_def_map_rules.specs.Scoping.Start.{super_from}
 use Rattle.hir_def_map_rules.specs.State.{IsInOrder, Local, Map, Variants, at_name, crate_root, entry_at, numbered, variants_at}
-use Rattle.hir_def_map_rules.specs.Types.{EnumVariant, ResolvePathResult}
+use Rattle.hir_def_map_rules.specs.declared.enum_variants.EnumVariant.{EnumVariant}
+use Rattle.hir_def_map_rules.specs.declared.path_result.ResolvePathResult.{ResolvePathResult}
 use Rattle.hir_def_map_rules.specs.declared.path_result.ReachedFixedPoint.TheVariants.{No, Yes}
-use Rattle.hir_def_map.specs.Types.{Slot}
+use Rattle.hir_def_map.specs.declared.nameres.path_resolution.slots.Slot.{Slot}
 use Rattle.hir_def_map.specs.declared.nameres.path_resolution.slots.Slot.TheVariants.{Module as of_module, Preludes as of_preludes}
 use Rattle.hir_def_map_laws.proofs.Changed.{Change, has_others}
 use Rattle.hir_def_map_laws.proofs.EnumsApart.{same_2015, same_climb, same_in_module, same_in_root, same_nearest, same_prelude_of, same_reach, same_seen}

@@ -1,7 +1,8 @@
 -- What is asked of a block is asked of its holder too.
 use Rattle.std.proofs.Common.{◌≡◌, ◌∙◌, ap, sym, refl, ◌==◌, ℕ, List, [], ◌∷◌, Bool, true, false, ◌&&◌, ◌||◌, cond, Option, None, Some, max, arith}
 use Rattle.std.specs.Prelude.{is_some, not}
-use Rattle.hir_base.specs.Types.{BlockId, PathKind}
+use Rattle.hir_base.specs.declared.ast_id.BlockId.{BlockId}
+use Rattle.hir_base.specs.declared.mod_path.PathKind.{PathKind}
 use Rattle.hir_base.specs.declared.ids.ModuleId.{ModuleId as AnyModule}
 use Rattle.hir_scope.specs.Bindings.{first_of}
 use Rattle.hir_def_map_rules.specs.Overlay.{Maps}
@@ -11,7 +12,8 @@ use Rattle.hir_def_map_rules.specs.Scoping.Blocks.{either_reached, from_blocks, 
 use Rattle.hir_def_map_rules.specs.Scoping.FirstSegment.{is_block_root}
 use Rattle.hir_def_map_rules.specs.State.{crate_root}
 use Rattle.hir_def_map_rules.specs.Scoping.Start.{from_start}
-use Rattle.hir_def_map_rules.specs.Types.{ReachedFixedPoint, ResolvePathResult}
+use Rattle.hir_def_map_rules.specs.declared.path_result.ReachedFixedPoint.{ReachedFixedPoint}
+use Rattle.hir_def_map_rules.specs.declared.path_result.ResolvePathResult.{ResolvePathResult}
 use Rattle.hir_def_map_rules.specs.declared.path_result.ReachedFixedPoint.TheVariants.{Yes, No}
 use Rattle.hir_def_map_rules.proofs.Blocks.{inherited-stop}
 

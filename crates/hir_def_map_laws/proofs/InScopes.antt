@@ -2,14 +2,16 @@
 use Rattle.std.proofs.Common.{◌≡◌, ◌∙◌, ap, sym, refl, ℕ, List, [], Bool, true, false, ◌&&◌, Option, None}
 use Rattle.std.specs.Option.{option_and_then}
 use Rattle.std.specs.Prelude.{is_some, slice_get}
-use Rattle.hir_base.specs.Types.{BlockId, MapId, ModuleId}
+use Rattle.hir_base.specs.declared.ast_id.BlockId.{BlockId}
+use Rattle.hir_base.specs.declared.ids.MapId.{MapId}
+use Rattle.hir_base.specs.declared.ids.ModuleId.{ModuleId}
 use Rattle.hir_base.specs.contracts.ids.MapIdPartialEq.TheImpl as map_id
 use Rattle.hir_def_map_rules.specs.Inner.OverlayLaws.{exact_map}
 use Rattle.hir_def_map_rules.specs.Ancestors.{Frame, frame_of, numbers_above}
 use Rattle.hir_def_map_rules.specs.State.{Map, entry_at, parent_at}
 use Rattle.hir_def_map_rules.specs.Overlay.{Maps, holders_or, holders_under, placed_in}
 use Rattle.hir_def_map.specs.Scoping.Slots.{is_in}
-use Rattle.hir_def_map_rules.specs.Types.{Reference}
+use Rattle.hir_def_map_rules.specs.declared.reference.Reference.{Reference}
 use Rattle.hir_def_map_rules.specs.declared.reference.Reference.TheVariants as named
 use Rattle.hir_def_map_rules.proofs.Grown.{frame_of-changed}
 use Rattle.hir_def_map_rules.proofs.WellFormed.{parent_listed}

@@ -4,7 +4,12 @@ use Rattle.std.specs.List.{All}
 use Rattle.std.specs.Option.{option_map}
 use Rattle.std.specs.Prelude.{is_some, not}
 use Rattle.std.proofs.lemmas.List.Elements.{All-head, All-tail}
-use Rattle.hir_base.specs.Types.{AdtId, BlockId, ExternCrateId, MapId, ModuleDefId, PathKind}
+use Rattle.hir_base.specs.declared.ids.AdtId.{AdtId}
+use Rattle.hir_base.specs.declared.ast_id.BlockId.{BlockId}
+use Rattle.hir_base.specs.declared.ids.ExternCrateId.{ExternCrateId}
+use Rattle.hir_base.specs.declared.ids.MapId.{MapId}
+use Rattle.hir_base.specs.declared.ids.ModuleDefId.{ModuleDefId}
+use Rattle.hir_base.specs.declared.mod_path.PathKind.{PathKind}
 use Rattle.hir_base.specs.declared.ids.AdtId.TheVariants as adts
 use Rattle.hir_base.specs.declared.ids.ModuleId.{ModuleId as AnyModule}
 use Rattle.hir_base.specs.declared.ids.ModuleDefId.TheVariants.{ModuleId, FunctionId, AdtId as AnyAdt, EnumVariantId, ConstId, StaticId, TraitId, TypeAliasId}
@@ -13,7 +18,8 @@ use Rattle.hir_base.specs.declared.mod_path.PathKind.TheVariants as kinds
 use Rattle.hir_scope.specs.ModuleTree.{same_block, same_crate}
 use Rattle.hir_scope.specs.PerNs.{Item, or_of}
 use Rattle.hir_scope.specs.Visibility.{is_visible}
-use Rattle.hir_scope.specs.Types.{ImportOrExternCrate, PerNs}
+use Rattle.hir_scope.specs.declared.imports.ImportOrExternCrate.{ImportOrExternCrate}
+use Rattle.hir_scope.specs.declared.per_ns.PerNs.{PerNs}
 use Rattle.hir_scope.specs.declared.imports.ImportOrExternCrate.TheVariants as ways
 use Rattle.hir_def_map_rules.specs.Ancestors.{above_in, holders_in}
 use Rattle.hir_def_map_rules.specs.References.{reference_to, test_of, test_visibility, Fails, FailsAtItem}
@@ -27,7 +33,7 @@ use Rattle.hir_def_map_rules.specs.Scoping.Start.{abs_from, climb, from_start, i
 use Rattle.hir_def_map_rules.specs.State.{Local, Map, at_name, crate_root}
 use Rattle.hir_def_map_rules.specs.Overlay.{entry_in, map_in}
 use Rattle.hir_def_map_rules.specs.declared.path_result.ReachedFixedPoint.TheVariants.{No}
-use Rattle.hir_def_map_rules.specs.Types.{ResolvePathResult}
+use Rattle.hir_def_map_rules.specs.declared.path_result.ResolvePathResult.{ResolvePathResult}
 use Rattle.hir_def_map_laws.proofs.Agreement.{bound-in, bound_in}
 use Rattle.hir_def_map_rules.proofs.Fails.{Fails-in_module, Fails-in_preludes, Fails-in_root, Fails-keep, Fails-nothing, Fails-public}
 use Rattle.hir_def_map_rules.proofs.NoneOf.{not_first}

@@ -12,19 +12,25 @@ use Rattle.std.proofs.lemmas.List.Elements.{All-contains_itself, All-weaker}
 use mathlib.Core.Bool.{true≢false}
 use Rattle.hir_base.specs.contracts.ids.EnumIdOrd.TheImpl as enum_order
 use Rattle.hir_base.specs.contracts.ids.EnumIdOrd.TheImpl.Laws.{total-law as enum_total}
-use Rattle.hir_base.specs.Types.{EnumId, ExternCrateId, MacroId, ModuleId}
+use Rattle.hir_base.specs.declared.ids.EnumId.{EnumId}
+use Rattle.hir_base.specs.declared.ids.ExternCrateId.{ExternCrateId}
+use Rattle.hir_base.specs.declared.macro_kind.MacroId.{MacroId}
+use Rattle.hir_base.specs.declared.ids.ModuleId.{ModuleId}
 use Rattle.hir_scope.specs.Globs.{GlobNames, Place}
 use Rattle.hir_scope.specs.PerNs.{is_nothing}
 use Rattle.hir_scope.specs.Scope.{ScopeValue}
 use Rattle.hir_scope.specs.Scope.Push.{pushed_scope, taken_candidates, with_unresolved, written_scope}
 use Rattle.hir_scope.specs.Scope.Reads.{last_legacy_at}
-use Rattle.hir_scope.specs.Types.{ImportOrExternCrate, PerNs, Visibility}
+use Rattle.hir_scope.specs.declared.imports.ImportOrExternCrate.{ImportOrExternCrate}
+use Rattle.hir_scope.specs.declared.per_ns.PerNs.{PerNs}
+use Rattle.hir_scope.specs.declared.visibility.Visibility.{Visibility}
 use Rattle.hir_def_map_rules.specs.Declaration.{listed}
 use Rattle.hir_def_map_rules.specs.Scoping.FirstSegment.{legacy_of}
 use Rattle.hir_def_map_rules.specs.State.{Local, Map, ModuleValue, Variants, changed_at, entry_at, module_at, new_id, new_module, numbered, parent_at}
 use Rattle.hir_def_map_rules.specs.State.{parent_of, place_at, pushed, pushed_module, variants_at, with_child, with_enum, with_extern, with_macro_use}
 use Rattle.hir_def_map_rules.specs.State.{with_module, with_module_scope, with_scope}
-use Rattle.hir_def_map_rules.specs.Types.{Declaration, ModuleOrigin}
+use Rattle.hir_def_map_rules.specs.declared.declaration.Declaration.{Declaration}
+use Rattle.hir_def_map_rules.specs.declared.origin.ModuleOrigin.{ModuleOrigin}
 use Rattle.hir_def_map_rules.specs.declared.declaration.Declaration.TheVariants as declaration
 use Rattle.hir_def_map_rules.proofs.Externs.{at_name-with_extern_other}
 use Rattle.hir_def_map_rules.proofs.Grown.{at_name-with_name_other, entry_at-pushed_elsewhere, entry_at-pushed_other, entry_at-with_module, kept}
@@ -32,7 +38,7 @@ use Rattle.hir_def_map_rules.proofs.Listed.{KeepsNames-listed}
 use Rattle.hir_def_map_laws.specs.ReadLaw.{AgreeAt, Grows}
 use Rattle.hir_def_map_laws.proofs.ReadLaw.{reads_decide}
 use Rattle.hir_def_map_laws.specs.SlotChanges.{ChangesOnly, OtherSlotsDoNotMatter}
-use Rattle.hir_def_map.specs.Types.{Slot}
+use Rattle.hir_def_map.specs.declared.nameres.path_resolution.slots.Slot.{Slot}
 use Rattle.hir_def_map.specs.declared.nameres.path_resolution.slots.Slot.TheVariants.{Module as of_module, Preludes as of_preludes}
 use Rattle.hir_def_map.specs.Scoping.Slots.{reads}
 

@@ -1,12 +1,15 @@
 -- Updates of what a name stands for, by what is there.
 use Rattle.std.proofs.Common.{◌≡◌, ℕ, Bool, false, List, Option}
-use Rattle.hir_base.specs.Types.{MacroId, ModuleDefId, TraitId}
+use Rattle.hir_base.specs.declared.macro_kind.MacroId.{MacroId}
+use Rattle.hir_base.specs.declared.ids.ModuleDefId.{ModuleDefId}
+use Rattle.hir_base.specs.declared.ids.TraitId.{TraitId}
 use Rattle.hir_scope.specs.Scope.{ScopeValue}
-use Rattle.hir_scope.specs.Types.{ImportId, Visibility}
+use Rattle.hir_scope.specs.declared.imports.ImportId.{ImportId}
+use Rattle.hir_scope.specs.declared.visibility.Visibility.{Visibility}
 use Rattle.hir_def_map_rules.specs.Overlay.{Maps, overlay}
 use Rattle.hir_def_map_rules.specs.References.{any_reference_in_scope, is_missing, reference_to, test_of, test_visibility}
 use Rattle.hir_def_map_rules.specs.State.{Map}
-use Rattle.hir_def_map_rules.specs.Types.{Reference}
+use Rattle.hir_def_map_rules.specs.declared.reference.Reference.{Reference}
 use Rattle.hir_def_map_rules.proofs.Referred.{FailsInScope, scope_parts, scope_whole}
 use Rattle.hir_def_map_rules.proofs.ScopeChanges.{defined_fail, macros_defined_fail, macros_seen_fail, seen_fail, trait_fails}
 use Rattle.hir_def_map_rules.proofs.StaysWellFormed.{HasNoDanglingReference-scope}

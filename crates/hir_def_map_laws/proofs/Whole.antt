@@ -4,7 +4,9 @@ use Rattle.std.specs.Option.{option_and_then, option_map}
 use Rattle.std.specs.Prelude.{is_some, not}
 use Rattle.std.proofs.lemmas.List.Elements.{All-weaker}
 use mathlib.Core.Bool.{true≢false}
-use Rattle.hir_base.specs.Types.{MapId, ModuleId, UseId}
+use Rattle.hir_base.specs.declared.ids.MapId.{MapId}
+use Rattle.hir_base.specs.declared.ids.ModuleId.{ModuleId}
+use Rattle.hir_base.specs.declared.ids.UseId.{UseId}
 use Rattle.hir_base.specs.contracts.ids.MapIdPartialEq.TheImpl as map_id
 use Rattle.hir_def_map_rules.specs.Inner.OverlayLaws.{exact_map, same_id}
 use Rattle.hir_def_map_rules.specs.Ancestors.{holders_in}
@@ -13,7 +15,7 @@ use Rattle.hir_def_map_rules.specs.WellFormed.{AreWellFormed, HasNoDanglingRefer
 use Rattle.hir_def_map_rules.specs.References.{any_reference_in, is_missing, is_there, map_of_reference, prelude_reference, test_of}
 use Rattle.hir_def_map_rules.specs.State.{Map, ModuleValue, entry_at, entry_of, module_at, numbered, variants_at}
 use Rattle.hir_def_map_rules.specs.Overlay.{Maps, Placed, overlay, entry_in, module_in, placed_in}
-use Rattle.hir_def_map_rules.specs.Types.{Reference}
+use Rattle.hir_def_map_rules.specs.declared.reference.Reference.{Reference}
 use Rattle.hir_def_map_rules.specs.declared.reference.Reference.TheVariants as named
 use Rattle.hir_def_map_rules.proofs.WellFormed.{IsClosed-well_formed}
 use Rattle.hir_def_map_rules.proofs.StaysWellFormed.{IsClosed-overlay}

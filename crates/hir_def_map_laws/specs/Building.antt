@@ -1,9 +1,16 @@
 -- What does building leave of a map?
 use Rattle.std.specs.Prelude.{◌≡◌, ℕ, List, Option, ◌<◌, length, Some, false, true}
-use Rattle.hir_base.specs.Types.{EnumId, MacroId, ModuleDefId, ModuleId, TraitId}
+use Rattle.hir_base.specs.declared.ids.EnumId.{EnumId}
+use Rattle.hir_base.specs.declared.macro_kind.MacroId.{MacroId}
+use Rattle.hir_base.specs.declared.ids.ModuleDefId.{ModuleDefId}
+use Rattle.hir_base.specs.declared.ids.ModuleId.{ModuleId}
+use Rattle.hir_base.specs.declared.ids.TraitId.{TraitId}
 use Rattle.hir_scope.specs.Globs.{GlobNames}
 use Rattle.hir_scope.specs.Scope.{ScopeValue}
-use Rattle.hir_scope.specs.Types.{ImportId, ImportOrExternCrate, PerNs, Visibility}
+use Rattle.hir_scope.specs.declared.imports.ImportId.{ImportId}
+use Rattle.hir_scope.specs.declared.imports.ImportOrExternCrate.{ImportOrExternCrate}
+use Rattle.hir_scope.specs.declared.per_ns.PerNs.{PerNs}
+use Rattle.hir_scope.specs.declared.visibility.Visibility.{Visibility}
 use Rattle.hir_def_map_rules.specs.Ancestors.{above_in, holders_in}
 use Rattle.hir_def_map_rules.specs.Listed.{KeepsNames}
 use Rattle.hir_def_map_rules.specs.Overlay.{Maps, overlay}
@@ -13,7 +20,8 @@ use Rattle.hir_def_map_rules.specs.WellFormed.{HasNoDanglingReference}
 use Rattle.hir_def_map_rules.specs.Sources.{SourceTest, HoldsOfNone, HoldsNowhereIn, on_import, on_some, on_origin, on_values, on_variant}
 use Rattle.hir_def_map_rules.specs.State.{Map, pushed, with_scope, new_module, numbered, with_module, Variants, with_enum}
 use Rattle.hir_def_map_rules.specs.Declaration.{listed}
-use Rattle.hir_def_map_rules.specs.Types.{Declaration, ModuleOrigin}
+use Rattle.hir_def_map_rules.specs.declared.declaration.Declaration.{Declaration}
+use Rattle.hir_def_map_rules.specs.declared.origin.ModuleOrigin.{ModuleOrigin}
 use Rattle.hir_def_map_laws.specs.SlotChanges.{with_macro, with_macro_vis, with_trait, with_type, with_type_vis, with_value, with_value_vis}
 
 -- the same lies above each module, and the same modules hold its map

@@ -3,12 +3,18 @@ use Rattle.std.specs.Prelude.{◌≡◌, ℕ, ◌<◌, ◌≤◌, List, length, 
 use Rattle.std.specs.BTreeMap.{BTreeMap}
 use Rattle.std.specs.List.{All}
 use Rattle.hir_base.specs.ModPath.{Path}
-use Rattle.hir_base.specs.Types.{AdtId, Crate, EnumId, ExternCrateId, MapId, ModuleDefId, ModuleId}
+use Rattle.hir_base.specs.declared.ids.AdtId.{AdtId}
+use Rattle.hir_base.specs.declared.ids.Crate.{Crate}
+use Rattle.hir_base.specs.declared.ids.EnumId.{EnumId}
+use Rattle.hir_base.specs.declared.ids.ExternCrateId.{ExternCrateId}
+use Rattle.hir_base.specs.declared.ids.MapId.{MapId}
+use Rattle.hir_base.specs.declared.ids.ModuleDefId.{ModuleDefId}
+use Rattle.hir_base.specs.declared.ids.ModuleId.{ModuleId}
 use Rattle.hir_base.specs.declared.ids.AdtId.TheVariants as adts
 use Rattle.hir_base.specs.declared.ids.ModuleDefId.TheVariants as definitions
 use Rattle.hir_base.specs.contracts.ids.MapIdPartialEq.TheImpl as map_id
 use Rattle.hir_scope.specs.PerNs.{Item}
-use Rattle.hir_scope.specs.Types.{ImportOrExternCrate}
+use Rattle.hir_scope.specs.declared.imports.ImportOrExternCrate.{ImportOrExternCrate}
 use Rattle.hir_def_map_rules.specs.Ancestors.{holders_in}
 use Rattle.hir_def_map_rules.specs.WellFormed.{AreWellFormed, HasNoDanglingReference}
 use Rattle.hir_def_map_rules.specs.References.{map_of_reference, any_reference_in, Fails}
@@ -21,8 +27,10 @@ use Rattle.hir_def_map_rules.specs.State.{variants_at}
 use Rattle.hir_def_map_rules.specs.Overlay.{Maps, overlay, map_in, module_in}
 use Rattle.hir_def_map.specs.World.{IsChecked, finished_in}
 use Rattle.hir_def_map.specs.WorldParts.{among, part_of}
-use Rattle.hir_def_map.specs.Types.{Finished, Slot, WorldPart}
-use Rattle.hir_def_map_rules.specs.Types.{Reference}
+use Rattle.hir_def_map.specs.declared.world.finished.Finished.{Finished}
+use Rattle.hir_def_map.specs.declared.nameres.path_resolution.slots.Slot.{Slot}
+use Rattle.hir_def_map.specs.declared.world.part.WorldPart.{WorldPart}
+use Rattle.hir_def_map_rules.specs.declared.reference.Reference.{Reference}
 use Rattle.hir_def_map_rules.specs.declared.reference.Reference.TheVariants as named
 use Rattle.hir_def_map.specs.declared.nameres.path_resolution.slots.Slot.TheVariants.{Module as of_module, Preludes as of_preludes}
 use Rattle.hir_def_map.specs.Scoping.Slots.{is_in, prelude_module_of, reads}

@@ -1,6 +1,7 @@
 -- Where a walk outwards ends.
 use Rattle.std.proofs.Common.{◌≡◌, refl, ℕ, false, List, [], ◌∷◌}
-use Rattle.hir_base.specs.Types.{ModuleId, PathKind}
+use Rattle.hir_base.specs.declared.ids.ModuleId.{ModuleId}
+use Rattle.hir_base.specs.declared.mod_path.PathKind.{PathKind}
 use Rattle.hir_def_map_rules.specs.Overlay.{Maps}
 use Rattle.hir_def_map_rules.specs.Scoping.Asking.{Asking}
 use Rattle.hir_def_map_rules.specs.Scoping.Blocks.{inherited, with_preludes}

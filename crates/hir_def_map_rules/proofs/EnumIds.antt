@@ -10,7 +10,11 @@ use Rattle.hir_base.specs.contracts.edition.Edition.{the_type as editions}
 use Rattle.hir_base.specs.contracts.ids.EnumIdPartialEq.TheImpl as enum_id
 use Rattle.hir_base.specs.contracts.ids.MapIdPartialEq.TheImpl as map_id
 use Rattle.hir_base.specs.contracts.ids.ModuleIdPartialEq.TheImpl as module_id
-use Rattle.hir_base.specs.Types.{BlockId, EnumId, HirFileId, ModuleId, SyntaxId}
+use Rattle.hir_base.specs.declared.ast_id.BlockId.{BlockId}
+use Rattle.hir_base.specs.declared.ids.EnumId.{EnumId}
+use Rattle.hir_base.specs.declared.ast_id.HirFileId.{HirFileId}
+use Rattle.hir_base.specs.declared.ids.ModuleId.{ModuleId}
+use Rattle.hir_base.specs.declared.ast_id.SyntaxId.{SyntaxId}
 use Rattle.hir_base.specs.declared.ast_id.HirFileId.TheVariants as files
 use Rattle.hir_def_map_rules.specs.Inner.OverlayLaws.{exact_map}
 

@@ -10,13 +10,20 @@ use Rattle.std.specs.declared.cmp.Ordering.TheVariants.{Less, Equal, Greater}
 use Rattle.std.proofs.Common.{refl, ap, sym, ◌∙◌, arith}
 use Rattle.std.proofs.lemmas.Cmp.{nat_list_cmp_total}
 use Rattle.std.proofs.lemmas.Map.Lookups.{exact_bytes}
-use Rattle.hir_base.specs.Types.{MacroId, MapId, ModuleDefId, ModuleId}
+use Rattle.hir_base.specs.declared.macro_kind.MacroId.{MacroId}
+use Rattle.hir_base.specs.declared.ids.MapId.{MapId}
+use Rattle.hir_base.specs.declared.ids.ModuleDefId.{ModuleDefId}
+use Rattle.hir_base.specs.declared.ids.ModuleId.{ModuleId}
 use Rattle.hir_base.specs.contracts.ids.MapIdPartialEq.TheImpl as map_id
 use Rattle.hir_base.specs.contracts.ids.ModuleDefIdPartialEq.TheImpl as module_def
 use Rattle.hir_base.specs.contracts.macro_kind.MacroIdPartialEq.TheImpl as makro
 use Rattle.hir_scope.specs.contracts.imports.ImportOrExternCratePartialEq.TheImpl as import_or_extern_crate
 use Rattle.hir_scope.specs.contracts.imports.ImportOrGlobPartialEq.TheImpl as import_or_glob
-use Rattle.hir_scope.specs.Types.{ImportOrDef, ImportOrExternCrate, ImportOrGlob, PerNs, Visibility}
+use Rattle.hir_scope.specs.declared.imports.ImportOrDef.{ImportOrDef}
+use Rattle.hir_scope.specs.declared.imports.ImportOrExternCrate.{ImportOrExternCrate}
+use Rattle.hir_scope.specs.declared.imports.ImportOrGlob.{ImportOrGlob}
+use Rattle.hir_scope.specs.declared.per_ns.PerNs.{PerNs}
+use Rattle.hir_scope.specs.declared.visibility.Visibility.{Visibility}
 use Rattle.hir_scope.specs.PerNs.{Item, item_of, value_import}
 use Rattle.hir_scope.specs.Bindings.{Candidate, Push, after_push, slot_after, is_reresolved_by, takes, macro_candidate, written_places, written_items, taken}
 use Rattle.hir_scope.specs.Bindings.{type_candidate, value_candidate}

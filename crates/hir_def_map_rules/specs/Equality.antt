@@ -11,7 +11,9 @@ use Rattle.hir_base.specs.contracts.edition.EditionPartialEq.TheImpl as edition
 use Rattle.hir_base.specs.contracts.edition.EditionEq.TheImpl.Laws.{laws-law as edition_laws}
 use Rattle.hir_base.specs.contracts.ids.CratePartialEq.TheImpl as krate
 use Rattle.hir_base.specs.contracts.ids.CrateEq.TheImpl.Laws.{laws-law as krate_laws}
-use Rattle.hir_base.specs.Types.{ExternCrateId, ModuleId, UseId}
+use Rattle.hir_base.specs.declared.ids.ExternCrateId.{ExternCrateId}
+use Rattle.hir_base.specs.declared.ids.ModuleId.{ModuleId}
+use Rattle.hir_base.specs.declared.ids.UseId.{UseId}
 use Rattle.hir_base.specs.contracts.ids.EnumIdPartialEq.TheImpl as enum_id
 use Rattle.hir_base.specs.contracts.ids.EnumIdEq.TheImpl.Laws.{laws-law as enum_id_laws}
 use Rattle.hir_base.specs.contracts.ids.ExternCrateIdPartialEq.TheImpl as extern_crate

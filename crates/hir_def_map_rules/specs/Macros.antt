@@ -2,7 +2,10 @@
 use Rattle.std.specs.Prelude.{List, [], ◌∷◌, ◌++◌, Option, None, Some, cond}
 use Rattle.std.specs.BTreeMap.{insert_entry, is_at}
 use Rattle.std.specs.Map.{lookup, set_value}
-use Rattle.hir_base.specs.Types.{AstId, FunctionId, MacroId, ProcMacroId}
+use Rattle.hir_base.specs.declared.ast_id.AstId.{AstId}
+use Rattle.hir_base.specs.declared.ids.FunctionId.{FunctionId}
+use Rattle.hir_base.specs.declared.macro_kind.MacroId.{MacroId}
+use Rattle.hir_base.specs.declared.macro_kind.ProcMacroId.{ProcMacroId}
 use Rattle.hir_base.specs.contracts.ast_id.AstIdOrd.TheImpl as ast_order
 use Rattle.hir_base.specs.contracts.ids.FunctionIdOrd.TheImpl as function_order
 use Rattle.hir_base.specs.contracts.macro_kind.MacroIdOrd.TheImpl as macro_order

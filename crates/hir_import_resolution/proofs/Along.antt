@@ -11,7 +11,7 @@ use Rattle.hir_glob_imports.specs.Rules.{Act, GlobState, May as MayAlong, IsSpen
 use Rattle.hir_glob_imports.specs.Rules.{StepsIn, act as act_along, acts as acts_along, after as after_along, copies, brings, follows, raises, copies_along}
 use Rattle.hir_glob_imports.specs.Rules.{follows_along, raises_along, more as more_along, more_in, none as none_along, none_in, perform as perform_along}
 use Rattle.hir_glob_imports.specs.Rules.{slot_of, ticked as ticked_along}
-use Rattle.hir_glob_imports.specs.Types.{Slot}
+use Rattle.hir_glob_imports.specs.declared.edge.Slot.{Slot}
 use Rattle.hir_import_resolution.specs.Changes.{along, perform}
 use Rattle.hir_import_resolution.specs.Inner.State.{path_slots, slots_named}
 use Rattle.hir_import_resolution.specs.Names.{ScopesValue, scope_table, view_of}

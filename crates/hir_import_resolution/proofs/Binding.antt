@@ -6,10 +6,17 @@ use Rattle.std.specs.Prelude.{IsSome, nat_lt, slice_get}
 use mathlib.Core.Bool.{true≢false}
 use Rattle.hir_base.specs.contracts.ids.ModuleDefIdPartialEq.TheImpl as module_def
 use Rattle.hir_base.specs.contracts.macro_kind.MacroIdPartialEq.TheImpl as makro
-use Rattle.hir_base.specs.Types.{MacroId, ModuleDefId, TraitId}
+use Rattle.hir_base.specs.declared.macro_kind.MacroId.{MacroId}
+use Rattle.hir_base.specs.declared.ids.ModuleDefId.{ModuleDefId}
+use Rattle.hir_base.specs.declared.ids.TraitId.{TraitId}
 use Rattle.hir_scope.specs.contracts.imports.ImportOrExternCratePartialEq.TheImpl as item_import
 use Rattle.hir_scope.specs.contracts.imports.ImportOrGlobPartialEq.TheImpl as value_import
-use Rattle.hir_scope.specs.Types.{ImportId, ImportOrExternCrate, ImportOrGlob, ItemInNs, PerNs, Visibility}
+use Rattle.hir_scope.specs.declared.imports.ImportId.{ImportId}
+use Rattle.hir_scope.specs.declared.imports.ImportOrExternCrate.{ImportOrExternCrate}
+use Rattle.hir_scope.specs.declared.imports.ImportOrGlob.{ImportOrGlob}
+use Rattle.hir_scope.specs.declared.item_in_ns.ItemInNs.{ItemInNs}
+use Rattle.hir_scope.specs.declared.per_ns.PerNs.{PerNs}
+use Rattle.hir_scope.specs.declared.visibility.Visibility.{Visibility}
 use Rattle.hir_scope.specs.declared.item_in_ns.ItemInNs.TheVariants as in_ns
 use Rattle.hir_scope.specs.Bindings.{Candidate, macro_candidate, taken, takes, type_candidate, value_candidate, written_items}
 use Rattle.hir_scope.specs.Entries.{item_at}
@@ -25,7 +32,7 @@ use Rattle.hir_def_map_rules.specs.State.{ModuleValue, globs_after, module_at, p
 use Rattle.hir_glob_imports.specs.Keys.{slot_at}
 use Rattle.hir_glob_imports.specs.View.{bound_in}
 use Rattle.hir_glob_imports.specs.Waves.{IsExplicit}
-use Rattle.hir_glob_imports.specs.Types.{Key}
+use Rattle.hir_glob_imports.specs.declared.edge.Key.{Key}
 use Rattle.hir_glob_imports.specs.declared.edge.Key.TheVariants.{Types, Values, Macros, Unnamed}
 use Rattle.hir_import_resolution.specs.Inner.Steps.{IsBound}
 use Rattle.hir_import_resolution.specs.Names.{ScopesValue, bound_by, bound_trait, view_of, with_trait}

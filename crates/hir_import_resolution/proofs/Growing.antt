@@ -10,7 +10,7 @@ use Rattle.hir_worklist.proofs.Idle.{idle-appended}
 use Rattle.hir_worklist.specs.Moves.{Appends, Wakes, empty_queue}
 use Rattle.hir_worklist.specs.Queue.{IsIdle, Queue, count_of, is_unfinished}
 use Rattle.hir_worklist.specs.Watching.{Forgets, is_watching}
-use Rattle.hir_worklist.specs.Types.{Watchers}
+use Rattle.hir_worklist.specs.declared.watchers.Watchers.{Watchers}
 use Rattle.hir_import_resolution.specs.Types.{ImportDirective, ImportQueue}
 use Rattle.hir_import_resolution.specs.Inner.Queue.{AreIdleSettled, IsLonger, IsWoken, WakesEach, slot_cmp, more, none}
 use Rattle.hir_import_resolution.specs.Rounds.{AreQueued, IsResumable, is_lasting}

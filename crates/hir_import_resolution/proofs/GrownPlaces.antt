@@ -6,12 +6,15 @@ use Rattle.std.specs.Option.{option_and_then, option_map}
 use Rattle.std.specs.Prelude.{is_some, not, map as list_map}
 use Rattle.std.proofs.lemmas.List.Elements.{All-head, All-tail}
 use Rattle.hir_base.specs.contracts.ids.MapIdPartialEq.TheImpl as map_id
-use Rattle.hir_base.specs.Types.{BlockId, Crate, EnumId, MapId}
+use Rattle.hir_base.specs.declared.ast_id.BlockId.{BlockId}
+use Rattle.hir_base.specs.declared.ids.Crate.{Crate}
+use Rattle.hir_base.specs.declared.ids.EnumId.{EnumId}
+use Rattle.hir_base.specs.declared.ids.MapId.{MapId}
 use Rattle.hir_base.specs.declared.ids.ModuleId.{ModuleId as AnyModule}
-use Rattle.hir_item_tree.specs.Types.{VisibilityExplicitness}
+use Rattle.hir_item_tree.specs.declared.raw_visibility.VisibilityExplicitness.{VisibilityExplicitness}
 use Rattle.hir_scope.specs.ModuleTree.{same_crate, same_map, same_module}
 use Rattle.hir_scope.specs.Visibility.{both_in, either_written, greater_of, is_visible, lesser_of, lower_of, stands_for, upper_of}
-use Rattle.hir_scope.specs.Types.{Visibility}
+use Rattle.hir_scope.specs.declared.visibility.Visibility.{Visibility}
 use Rattle.hir_scope.specs.declared.visibility.Visibility.TheVariants.{Module, PubCrate, Public}
 use Rattle.hir_def_map_rules.specs.Ancestors.{above_in, above_inside, above_under, frame_of, frames_of, holders_in, numbers_of}
 use Rattle.hir_def_map_rules.specs.Inner.OverlayLaws.{frame_holders}

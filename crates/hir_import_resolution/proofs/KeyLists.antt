@@ -13,20 +13,25 @@ use Rattle.std.proofs.lemmas.List.Elements.{Contains-append_left, Contains-appen
 use Rattle.std.proofs.lemmas.Map.Lookups.{exact_bytes}
 use Rattle.hir_base.specs.contracts.ids.TraitIdPartialEq.TheImpl as trait_id
 use Rattle.hir_base.specs.declared.ids.ModuleDefId.TheVariants as definitions
-use Rattle.hir_base.specs.Types.{TraitId}
+use Rattle.hir_base.specs.declared.ids.TraitId.{TraitId}
 use Rattle.hir_item_tree.specs.Shape.{has_constructor}
 use Rattle.hir_scope.specs.Entries.{item_at}
 use Rattle.hir_scope.specs.PerNs.{Item, keep_item, with_constructor}
 use Rattle.hir_scope.specs.Scope.{ScopeValue, binding_of}
 use Rattle.hir_scope.specs.Scope.Reads.{traits_among, unnamed_vis}
-use Rattle.hir_scope.specs.Types.{ImportId, ItemInNs, Namespace, PerNs, Visibility}
+use Rattle.hir_scope.specs.declared.imports.ImportId.{ImportId}
+use Rattle.hir_scope.specs.declared.item_in_ns.ItemInNs.{ItemInNs}
+use Rattle.hir_scope.specs.declared.per_ns.Namespace.{Namespace}
+use Rattle.hir_scope.specs.declared.per_ns.PerNs.{PerNs}
+use Rattle.hir_scope.specs.declared.visibility.Visibility.{Visibility}
 use Rattle.hir_scope.specs.declared.item_in_ns.ItemInNs.TheVariants as in_ns
 use Rattle.hir_scope.specs.declared.per_ns.Namespace.TheVariants as namespaces
 use Rattle.hir_scope.specs.declared.visibility.Visibility.TheVariants.{Public}
 use Rattle.hir_def_map_rules.specs.Overlay.{module_in, overlay, variants_in}
 use Rattle.hir_def_map_rules.specs.State.{ModuleValue, Variants, at_name, entry_of, module_at}
-use Rattle.hir_def_map_rules.specs.Types.{EnumVariant}
-use Rattle.hir_glob_imports.specs.Types.{Key, Target}
+use Rattle.hir_def_map_rules.specs.declared.enum_variants.EnumVariant.{EnumVariant}
+use Rattle.hir_glob_imports.specs.declared.edge.Key.{Key}
+use Rattle.hir_glob_imports.specs.declared.edge.Target.{Target}
 use Rattle.hir_glob_imports.specs.declared.edge.Key.TheVariants.{Types, Values, Macros, Unnamed}
 use Rattle.hir_glob_imports.specs.declared.edge.Target.TheVariants as targets
 use Rattle.hir_import_resolution.specs.Directives.{open_items}

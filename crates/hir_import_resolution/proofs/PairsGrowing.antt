@@ -1,6 +1,6 @@
 -- Where nothing is to be done along an edge at a key, nothing is while the map grows elsewhere.
 use Rattle.std.proofs.Common.{◌≡◌, ◌∙◌, ℕ, ◌<◌, ◌≤◌, length, true, Some}
-use Rattle.hir_base.specs.Types.{TraitId}
+use Rattle.hir_base.specs.declared.ids.TraitId.{TraitId}
 use Rattle.hir_scope.specs.Globs.{GlobNames}
 use Rattle.hir_def_map_rules.specs.Overlay.{Maps}
 use Rattle.hir_def_map_rules.specs.State.{Map}
@@ -11,7 +11,10 @@ use Rattle.hir_glob_imports.specs.Moves.{brought_vis, shown, update_of}
 use Rattle.hir_glob_imports.specs.Rules.{BroughtBy}
 use Rattle.hir_glob_imports.specs.View.{View, bound_in}
 use Rattle.hir_glob_imports.specs.Waves.{update_at}
-use Rattle.hir_glob_imports.specs.Types.{Bound, Brought, Edge, Key}
+use Rattle.hir_glob_imports.specs.declared.edge.Bound.{Bound}
+use Rattle.hir_glob_imports.specs.declared.edge.Brought.{Brought}
+use Rattle.hir_glob_imports.specs.declared.edge.Edge.{Edge}
+use Rattle.hir_glob_imports.specs.declared.edge.Key.{Key}
 use Rattle.hir_glob_imports.specs.declared.edge.Key.TheVariants.{Unnamed}
 use Rattle.hir_glob_imports.specs.declared.edge.Target.TheVariants.{Own}
 use Rattle.hir_glob_imports.specs.declared.edge.Update.TheVariants.{Nothing}

@@ -2,8 +2,10 @@
 use Rattle.std.proofs.Common.{◌≡◌, ◌∙◌, ap, sym, subst, refl, ℕ, ◌<◌, Bool, true, false, List, length, Option, None, Some}
 use Rattle.std.specs.Option.{option_map}
 use Rattle.std.specs.Prelude.{is_some, slice_get, if◌then◌else◌}
-use Rattle.hir_base.specs.Types.{MapId, TraitId}
-use Rattle.hir_scope.specs.Types.{PerNs, Visibility}
+use Rattle.hir_base.specs.declared.ids.MapId.{MapId}
+use Rattle.hir_base.specs.declared.ids.TraitId.{TraitId}
+use Rattle.hir_scope.specs.declared.per_ns.PerNs.{PerNs}
+use Rattle.hir_scope.specs.declared.visibility.Visibility.{Visibility}
 use Rattle.hir_scope.specs.declared.visibility.Visibility.TheVariants.{Module, PubCrate, Public}
 use Rattle.hir_def_map_rules.specs.Overlay.{Maps}
 use Rattle.hir_def_map.specs.Scoping.Slots.{is_in}
@@ -14,7 +16,11 @@ use Rattle.hir_glob_imports.specs.Keys.{is_unnamed, same_slot, slot_at}
 use Rattle.hir_glob_imports.specs.Rules.{BroughtBy, with_brought}
 use Rattle.hir_glob_imports.specs.View.{ChangesOnly, View, bound_in}
 use Rattle.hir_glob_imports.specs.Waves.{AreOfKind, GlobsValue, IsExplicit, brought_of}
-use Rattle.hir_glob_imports.specs.Types.{Bound, Brought, Edge, Key, Slot}
+use Rattle.hir_glob_imports.specs.declared.edge.Bound.{Bound}
+use Rattle.hir_glob_imports.specs.declared.edge.Brought.{Brought}
+use Rattle.hir_glob_imports.specs.declared.edge.Edge.{Edge}
+use Rattle.hir_glob_imports.specs.declared.edge.Key.{Key}
+use Rattle.hir_glob_imports.specs.declared.edge.Slot.{Slot}
 use Rattle.hir_glob_imports.specs.declared.edge.Key.TheVariants.{Types, Values, Macros, Unnamed}
 use Rattle.hir_glob_imports.specs.declared.edge.Target.TheVariants as targets
 use Rattle.hir_import_resolution.specs.Changes.{forgotten, forgotten_in}

@@ -10,13 +10,14 @@ use Rattle.std.specs.List.{All, list_any}
 use Rattle.std.specs.Option.{option_map}
 use Rattle.std.specs.Prelude.{is_some, nat_lt, unwrap_or}
 use Rattle.hir_base.specs.contracts.ids.MapIdPartialEq.TheImpl as map_id
-use Rattle.hir_base.specs.Types.{BlockId, MapId}
+use Rattle.hir_base.specs.declared.ast_id.BlockId.{BlockId}
+use Rattle.hir_base.specs.declared.ids.MapId.{MapId}
 use Rattle.hir_base.specs.declared.ids.ModuleId.{ModuleId as AnyModule}
 use Rattle.hir_scope.proofs.Wider.{exact_module}
 use Rattle.hir_scope.specs.Globs.{GlobNames}
 use Rattle.hir_scope.specs.ModuleTree.{is_at_or_above, same_block, same_crate, same_module}
 use Rattle.hir_scope.specs.Visibility.{both_in, greater_of, is_visible, stands_for}
-use Rattle.hir_scope.specs.Types.{Visibility}
+use Rattle.hir_scope.specs.declared.visibility.Visibility.{Visibility}
 use Rattle.hir_scope.specs.declared.visibility.Visibility.TheVariants.{Module, PubCrate, Public}
 use Rattle.hir_def_map_rules.specs.Ancestors.{above_in, above_inside, above_under, frame_of, frames_of, holders_in, leads_to_root, number_in, numbers_above}
 use Rattle.hir_def_map_rules.specs.Ancestors.{numbers_of, step_in, step_to, steps_by, steps_from}

@@ -7,7 +7,8 @@ use Rattle.std.proofs.lemmas.List.Elements.{Contains-push_cases}
 use mathlib.Core.Bool.{true≢false}
 use Rattle.hir_glob_imports.specs.View.{View}
 use Rattle.hir_glob_imports.specs.Waves.{Records, adds, edge_with_vis, same_own, stays, widens}
-use Rattle.hir_glob_imports.specs.Types.{Edge, Target}
+use Rattle.hir_glob_imports.specs.declared.edge.Edge.{Edge}
+use Rattle.hir_glob_imports.specs.declared.edge.Target.{Target}
 use Rattle.hir_glob_imports.specs.declared.edge.Target.TheVariants as targets
 use Rattle.hir_import_resolution.specs.Types.{ImportDirective}
 use Rattle.hir_import_resolution.specs.Directives.{TakenValue, taken_for}

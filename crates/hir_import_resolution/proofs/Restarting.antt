@@ -6,7 +6,7 @@ use Rattle.hir_def_map_rules.specs.Overlay.{Maps}
 use Rattle.hir_glob_imports.proofs.Resting.{waved}
 use Rattle.hir_glob_imports.proofs.Taking.{brought_by_list}
 use Rattle.hir_glob_imports.specs.Waves.{GlobsValue}
-use Rattle.hir_glob_imports.specs.Types.{Edge}
+use Rattle.hir_glob_imports.specs.declared.edge.Edge.{Edge}
 use Rattle.hir_import_resolution.specs.Types.{ImportQueue, Resolver}
 use Rattle.hir_import_resolution.specs.Inner.State.{AreRecorded, IsKeptIn, finished_by, queue_by, state_by, with_globs}
 use Rattle.hir_import_resolution.specs.Names.{view_of}

@@ -5,8 +5,10 @@ use Rattle.std.specs.Prelude.{Contains, slice_get, slice_set}
 use Rattle.std.specs.Option.{option_and_then}
 use Rattle.std.proofs.lemmas.List.Elements.{All-contains_itself, Contains-append_right}
 use Rattle.std.specs.List.{All}
-use Rattle.hir_base.specs.Types.{Crate, ExternCrateId}
-use Rattle.hir_scope.specs.Types.{GlobId, PerNs}
+use Rattle.hir_base.specs.declared.ids.Crate.{Crate}
+use Rattle.hir_base.specs.declared.ids.ExternCrateId.{ExternCrateId}
+use Rattle.hir_scope.specs.declared.imports.GlobId.{GlobId}
+use Rattle.hir_scope.specs.declared.per_ns.PerNs.{PerNs}
 use Rattle.hir_use_tree.specs.declared.imports.ImportKind.TheVariants as kinds
 use Rattle.hir_def_map_rules.specs.Overlay.{Maps, overlay}
 use Rattle.hir_def_map_rules.specs.Reaches.{by_import}
@@ -18,7 +20,7 @@ use Rattle.hir_def_map_laws.proofs.EnumsGrow.{unstopped_reads}
 use Rattle.hir_def_map_laws.proofs.SlotLists.{unread_scopes}
 use Rattle.hir_def_map_laws.specs.ReadLaw.{AgreeAt, IsReadAlike, stops_bare}
 use Rattle.hir_def_map_laws.specs.SlotChanges.{ScopesChangeAmong}
-use Rattle.hir_glob_imports.specs.Types.{Target}
+use Rattle.hir_glob_imports.specs.declared.edge.Target.{Target}
 use Rattle.hir_import_resolution.specs.Types.{ImportDirective, ImportSource, Namespaces, Taking}
 use Rattle.hir_import_resolution.specs.declared.directive.ImportSource.TheVariants as sources
 use Rattle.hir_import_resolution.specs.Directives.{AreAmong, TakenValue, answer_by_source, answer_in, answer_to, both_of, glob_of, goes_beyond, namespaces_of}

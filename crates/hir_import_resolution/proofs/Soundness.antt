@@ -3,8 +3,11 @@ use Rattle.std.proofs.Common.{◌≡◌, ◌∙◌, ap, sym, subst, refl, ℕ, z
 use Rattle.std.proofs.Common.{Some, is_some, if◌then◌else◌, map as list_map, arith}
 use Rattle.std.proofs.lemmas.Bool.{lt-ltb, ltb-true, true≢false}
 use Rattle.std.specs.Prelude.{Contains, slice_get, slice_set}
-use Rattle.hir_base.specs.Types.{TraitId}
-use Rattle.hir_scope.specs.Types.{ImportId, ImportOrExternCrate, PerNs, Visibility}
+use Rattle.hir_base.specs.declared.ids.TraitId.{TraitId}
+use Rattle.hir_scope.specs.declared.imports.ImportId.{ImportId}
+use Rattle.hir_scope.specs.declared.imports.ImportOrExternCrate.{ImportOrExternCrate}
+use Rattle.hir_scope.specs.declared.per_ns.PerNs.{PerNs}
+use Rattle.hir_scope.specs.declared.visibility.Visibility.{Visibility}
 use Rattle.hir_def_map_rules.specs.Overlay.{Maps}
 use Rattle.hir_def_map_rules.specs.State.{globs_after, module_at, place_at, pushed, pushed_module, with_module_scope}
 use Rattle.hir_def_map_rules.proofs.Grown.{length-changed}
@@ -18,7 +21,12 @@ use Rattle.hir_glob_imports.specs.Rules.{BroughtBy, GlobState, May as MayAlong, 
 use Rattle.hir_glob_imports.specs.Rules.{noted, perform as perform_along, raises_along, with_brought}
 use Rattle.hir_glob_imports.specs.View.{Binds, ChangesOnly, View, bound_in, with_vis}
 use Rattle.hir_glob_imports.specs.Waves.{Records, Stands, adds, edge_with_vis, stays, widens}
-use Rattle.hir_glob_imports.specs.Types.{Bound, Brought, Edge, Key, Slot, Target}
+use Rattle.hir_glob_imports.specs.declared.edge.Bound.{Bound}
+use Rattle.hir_glob_imports.specs.declared.edge.Brought.{Brought}
+use Rattle.hir_glob_imports.specs.declared.edge.Edge.{Edge}
+use Rattle.hir_glob_imports.specs.declared.edge.Key.{Key}
+use Rattle.hir_glob_imports.specs.declared.edge.Slot.{Slot}
+use Rattle.hir_glob_imports.specs.declared.edge.Target.{Target}
 use Rattle.hir_glob_imports.specs.declared.edge.Key.TheVariants.{Types, Values, Macros, Unnamed}
 use Rattle.hir_glob_imports.specs.declared.edge.Target.TheVariants as targets
 use Rattle.hir_import_resolution.specs.Types.{ImportDirective, ImportSource}

@@ -5,7 +5,8 @@ use Rattle.hir_def_map_laws.specs.SlotChanges.{ScopesChangeAmong}
 use Rattle.hir_glob_imports.proofs.OfKind.{kinds_kept}
 use Rattle.hir_glob_imports.specs.Rules.{IsSpent as IsSpentAlong, StepsIn}
 use Rattle.hir_glob_imports.specs.Waves.{brought_of, state_of}
-use Rattle.hir_glob_imports.specs.Types.{GlobError, Slot}
+use Rattle.hir_glob_imports.specs.declared.step.GlobError.{GlobError}
+use Rattle.hir_glob_imports.specs.declared.edge.Slot.{Slot}
 use Rattle.hir_glob_imports.specs.declared.step.GlobError.TheVariants as glob_errors
 use Rattle.hir_import_resolution.specs.Inner.State.{AreRecorded, IsKeptIn, IsSpread, finished_by, path_slots, refusal_of, state_by}
 use Rattle.hir_import_resolution.specs.Inner.OpenLaws.{is_open_table}

@@ -3,8 +3,10 @@ use Rattle.std.proofs.Common.{◌≡◌, ◌∙◌, ◌⊎◌, inl, inr, ap, sym
 use Rattle.std.specs.Prelude.{slice_get, slice_set}
 use Rattle.std.specs.declared.vec.Vec.{Vec}
 use Rattle.std.specs.declared.alloc.Global.{Global}
-use Rattle.hir_base.specs.Types.{TraitId}
-use Rattle.hir_scope.specs.Types.{ImportId, PerNs, Visibility}
+use Rattle.hir_base.specs.declared.ids.TraitId.{TraitId}
+use Rattle.hir_scope.specs.declared.imports.ImportId.{ImportId}
+use Rattle.hir_scope.specs.declared.per_ns.PerNs.{PerNs}
+use Rattle.hir_scope.specs.declared.visibility.Visibility.{Visibility}
 use Rattle.hir_def_map_rules.specs.Overlay.{Maps}
 use Rattle.hir_def_map_rules.specs.State.{Local, Map, module_at}
 use Rattle.hir_def_map.specs.WorldParts.{part_of}
@@ -15,7 +17,7 @@ use Rattle.hir_glob_imports.proofs.Linking.{one_or_last, one_or_written}
 use Rattle.hir_glob_imports.proofs.OfKind.{kind_linked}
 use Rattle.hir_glob_imports.specs.Rules.{BroughtBy}
 use Rattle.hir_glob_imports.specs.Waves.{AreOfKind, GlobsValue, IsKept, Records, adds, brought_of, edge_with_vis, stays as stays_recorded, widens}
-use Rattle.hir_glob_imports.specs.Types.{Edge}
+use Rattle.hir_glob_imports.specs.declared.edge.Edge.{Edge}
 use Rattle.hir_import_resolution.specs.Changes.{bound_as, kept_vis, pushing, with_kept}
 use Rattle.hir_import_resolution.specs.Directives.{TakenValue, leaf_of, taken_after, taken_for}
 use Rattle.hir_import_resolution.specs.Inner.State.{ArePlacedIn, AreRecorded, IsKeptIn, IsLinked, IsTaken, IsTraitPlaced, finished_by, slots_named, state_by}

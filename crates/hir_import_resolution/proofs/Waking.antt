@@ -12,14 +12,14 @@ use Rattle.hir_def_map.specs.contracts.nameres.path_resolution.slots.SlotOrd.The
 use Rattle.hir_def_map.specs.declared.nameres.path_resolution.slots.Slot.{Slot as PathSlot}
 use Rattle.hir_def_map.specs.declared.nameres.path_resolution.slots.Slot.TheVariants.{Module as of_module}
 use Rattle.hir_glob_imports.specs.Keys.{name_of}
-use Rattle.hir_glob_imports.specs.Types.{Slot}
+use Rattle.hir_glob_imports.specs.declared.edge.Slot.{Slot}
 use Rattle.hir_worklist.proofs.Idle.{current-woken_outside}
 use Rattle.hir_worklist.proofs.Settled.{none_changed, one_more_changed, IsUnread}
 use Rattle.hir_worklist.specs.Moves.{Wakes}
 use Rattle.hir_worklist.specs.Queue.{Queue}
 use Rattle.hir_worklist.specs.Settling.{AreSettled, WatchesEach}
 use Rattle.hir_worklist.specs.Watching.{Forgets, Watches, is_watching}
-use Rattle.hir_worklist.specs.Types.{Watchers}
+use Rattle.hir_worklist.specs.declared.watchers.Watchers.{Watchers}
 use Rattle.hir_import_resolution.specs.Inner.Queue.{IsSamePass, KeepsWatched, WakesEach, slot_cmp, more, none}
 use Rattle.hir_import_resolution.specs.Inner.State.{path_slots, slots_named}
 

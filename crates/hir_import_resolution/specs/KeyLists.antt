@@ -1,15 +1,20 @@
 -- At which keys does a target have something, in the order in which a glob brings it?
 use Rattle.std.specs.Prelude.{ℕ, Bool, false, List, [], ◌∷◌, ◌++◌, Option, None, Some, is_some, cond, map, option_map}
 use Rattle.std.specs.Map.{values_of}
-use Rattle.hir_base.specs.Types.{ModuleId, TraitId}
+use Rattle.hir_base.specs.declared.ids.ModuleId.{ModuleId}
+use Rattle.hir_base.specs.declared.ids.TraitId.{TraitId}
 use Rattle.hir_scope.specs.PerNs.{Item}
 use Rattle.hir_scope.specs.Scope.{ScopeValue}
 use Rattle.hir_scope.specs.Scope.Reads.{traits_among, unnamed_vis}
-use Rattle.hir_scope.specs.Types.{ImportId, Namespace, PerNs, Visibility}
+use Rattle.hir_scope.specs.declared.imports.ImportId.{ImportId}
+use Rattle.hir_scope.specs.declared.per_ns.Namespace.{Namespace}
+use Rattle.hir_scope.specs.declared.per_ns.PerNs.{PerNs}
+use Rattle.hir_scope.specs.declared.visibility.Visibility.{Visibility}
 use Rattle.hir_scope.specs.declared.per_ns.Namespace.TheVariants as namespaces
 use Rattle.hir_def_map_rules.specs.Overlay.{Maps, module_in, overlay, variants_in}
 use Rattle.hir_def_map_rules.specs.State.{ModuleValue, Variants, scope_at}
-use Rattle.hir_glob_imports.specs.Types.{Key, Target}
+use Rattle.hir_glob_imports.specs.declared.edge.Key.{Key}
+use Rattle.hir_glob_imports.specs.declared.edge.Target.{Target}
 use Rattle.hir_glob_imports.specs.declared.edge.Key.TheVariants.{Types, Values, Macros, Unnamed}
 use Rattle.hir_glob_imports.specs.declared.edge.Target.TheVariants as targets
 use Rattle.hir_import_resolution.specs.Names.{ScopesValue, is_foreign, is_open, variant_items}

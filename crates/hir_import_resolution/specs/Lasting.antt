@@ -1,9 +1,9 @@
 -- What of imports and globs lasts as a map grows?
 use Rattle.std.specs.Prelude.{◌≡◌, ℕ, ◌<◌, true, false, List, None, Some, length, slice_get}
 use Rattle.std.specs.List.{All}
-use Rattle.hir_base.specs.Types.{ModuleId}
+use Rattle.hir_base.specs.declared.ids.ModuleId.{ModuleId}
 use Rattle.hir_scope.specs.Globs.{GlobNames}
-use Rattle.hir_scope.specs.Types.{Visibility}
+use Rattle.hir_scope.specs.declared.visibility.Visibility.{Visibility}
 use Rattle.hir_scope.specs.declared.visibility.Visibility.TheVariants as visibilities
 use Rattle.hir_def_map_rules.specs.Overlay.{Maps, placed_in}
 use Rattle.hir_def_map.specs.Scoping.Slots.{is_in}
@@ -13,7 +13,8 @@ use Rattle.hir_def_map.specs.declared.nameres.path_resolution.slots.Slot.TheVari
 use Rattle.hir_def_map_rules.specs.declared.reference.Reference.TheVariants as named
 use Rattle.hir_def_map_laws.specs.ReadLaw.{has_no_variants, stops_bare}
 use Rattle.hir_glob_imports.specs.Waves.{AreOfKind}
-use Rattle.hir_glob_imports.specs.Types.{Edge, Target}
+use Rattle.hir_glob_imports.specs.declared.edge.Edge.{Edge}
+use Rattle.hir_glob_imports.specs.declared.edge.Target.{Target}
 use Rattle.hir_glob_imports.specs.declared.edge.Target.TheVariants as targets
 use Rattle.hir_import_resolution.specs.declared.directive.ImportDirective.{ImportDirective}
 use Rattle.hir_import_resolution.specs.Directives.{path_answer}

@@ -1,9 +1,12 @@
 -- Where do imports rest?
 use Rattle.std.specs.Prelude.{◌≡◌, ℕ, ◌≤◌, ◌<◌, Some, Contains, length, slice_get}
 use Rattle.hir_def_map_rules.specs.Overlay.{Maps}
-use Rattle.hir_scope.specs.Types.{GlobId}
+use Rattle.hir_scope.specs.declared.imports.GlobId.{GlobId}
 use Rattle.hir_glob_imports.specs.Waves.{IsWaved, Stands}
-use Rattle.hir_glob_imports.specs.Types.{Brought, Edge, Slot, Target}
+use Rattle.hir_glob_imports.specs.declared.edge.Brought.{Brought}
+use Rattle.hir_glob_imports.specs.declared.edge.Edge.{Edge}
+use Rattle.hir_glob_imports.specs.declared.edge.Slot.{Slot}
+use Rattle.hir_glob_imports.specs.declared.edge.Target.{Target}
 use Rattle.hir_glob_imports.specs.declared.step.TheConstants.{MAX_STEPS}
 use Rattle.hir_import_resolution.specs.declared.directive.ImportDirective.{ImportDirective}
 use Rattle.hir_import_resolution.specs.Directives.{AreAmong, TakenValue, glob_of, namespaces_of, reached_by, target_of}

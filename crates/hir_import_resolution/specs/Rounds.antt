@@ -1,19 +1,27 @@
 -- What may happen to imports between two times that they rest?
 use Rattle.std.specs.Prelude.{◌≡◌, ℕ, ◌<◌, ◌≤◌, Bool, true, List, [], Option, None, Some, Contains, length, slice_get}
-use Rattle.hir_base.specs.Types.{EnumId, ExternCrateId, MacroId, ModuleId, TraitId}
+use Rattle.hir_base.specs.declared.ids.EnumId.{EnumId}
+use Rattle.hir_base.specs.declared.ids.ExternCrateId.{ExternCrateId}
+use Rattle.hir_base.specs.declared.macro_kind.MacroId.{MacroId}
+use Rattle.hir_base.specs.declared.ids.ModuleId.{ModuleId}
+use Rattle.hir_base.specs.declared.ids.TraitId.{TraitId}
 use Rattle.hir_scope.specs.Scope.{ScopeValue, binding_of}
 use Rattle.hir_scope.specs.Scope.Reads.{unnamed_vis}
-use Rattle.hir_scope.specs.Types.{ImportOrExternCrate, PerNs, Visibility}
+use Rattle.hir_scope.specs.declared.imports.ImportOrExternCrate.{ImportOrExternCrate}
+use Rattle.hir_scope.specs.declared.per_ns.PerNs.{PerNs}
+use Rattle.hir_scope.specs.declared.visibility.Visibility.{Visibility}
 use Rattle.hir_def_map_rules.specs.Declaration.{listed}
 use Rattle.hir_def_map_rules.specs.Overlay.{Maps}
 use Rattle.hir_def_map_rules.specs.State.{IsInOrder, Map, Variants, entry_at, globs_after, module_at, new_module, pushed, variants_at, with_enum}
 use Rattle.hir_def_map_rules.specs.State.{with_macro_use, with_module, with_scope}
-use Rattle.hir_def_map_rules.specs.Types.{Declaration, ModuleOrigin}
+use Rattle.hir_def_map_rules.specs.declared.declaration.Declaration.{Declaration}
+use Rattle.hir_def_map_rules.specs.declared.origin.ModuleOrigin.{ModuleOrigin}
 use Rattle.hir_def_map.specs.declared.nameres.path_resolution.slots.Slot.{Slot as PathSlot}
 use Rattle.hir_def_map_laws.specs.ReadLaw.{AgreeAt, Grows}
 use Rattle.hir_glob_imports.specs.View.{View}
 use Rattle.hir_glob_imports.specs.Waves.{GlobsValue, IsKept, brought_of, update_at}
-use Rattle.hir_glob_imports.specs.Types.{Edge, Key}
+use Rattle.hir_glob_imports.specs.declared.edge.Edge.{Edge}
+use Rattle.hir_glob_imports.specs.declared.edge.Key.{Key}
 use Rattle.hir_glob_imports.specs.declared.edge.Update.TheVariants.{Nothing}
 use Rattle.hir_worklist.specs.Queue.{count_of, is_unfinished}
 use Rattle.hir_import_resolution.specs.declared.directive.ImportDirective.{ImportDirective}

@@ -1,10 +1,11 @@
 -- The rules by which imports are taken.
 use Rattle.std.specs.Prelude.{◌≡◌, ℕ, true, List, [], ◌∷◌, map, Some, Contains, slice_get}
-use Rattle.hir_scope.specs.Types.{GlobId}
+use Rattle.hir_scope.specs.declared.imports.GlobId.{GlobId}
 use Rattle.hir_def_map_rules.specs.Overlay.{Maps}
 use Rattle.hir_glob_imports.specs.Rules.{Rule as GlobRule, May as MayAlong, acts as glob_acts}
 use Rattle.hir_glob_imports.specs.Waves.{Records}
-use Rattle.hir_glob_imports.specs.Types.{Edge, Target}
+use Rattle.hir_glob_imports.specs.declared.edge.Edge.{Edge}
+use Rattle.hir_glob_imports.specs.declared.edge.Target.{Target}
 use Rattle.hir_import_resolution.specs.declared.directive.ImportDirective.{ImportDirective}
 use Rattle.hir_import_resolution.specs.Changes.{Change, along, keeps_trait, perform, pushes, records, takes}
 use Rattle.hir_import_resolution.specs.Directives.{TakenValue, answer_to, edge_to, glob_of, goes_beyond, kept_trait, leaf_of, name_of, namespaces_of}

@@ -4,7 +4,7 @@ use Rattle.hir_scope.specs.Globs.{GlobNames}
 use Rattle.hir_def_map_rules.specs.State.{Local, Map}
 use Rattle.hir_def_map_rules.specs.Overlay.{Maps}
 use Rattle.hir_glob_imports.specs.Rules.{BroughtBy, GlobState}
-use Rattle.hir_glob_imports.specs.Types.{Edge}
+use Rattle.hir_glob_imports.specs.declared.edge.Edge.{Edge}
 use Rattle.hir_import_resolution.specs.declared.directive.ImportDirective.{ImportDirective}
 use Rattle.hir_import_resolution.specs.Directives.{TakenValue}
 use Rattle.hir_import_resolution.specs.Names.{ScopesValue}

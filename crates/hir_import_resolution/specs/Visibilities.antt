@@ -1,9 +1,9 @@
 -- What visibilities mean in a map beside finished ones.
 use Rattle.std.specs.Prelude.{Bool, true, false, Option}
-use Rattle.hir_base.specs.Types.{ModuleId}
-use Rattle.hir_item_tree.specs.Types.{RawVisibility}
+use Rattle.hir_base.specs.declared.ids.ModuleId.{ModuleId}
+use Rattle.hir_item_tree.specs.declared.raw_visibility.RawVisibility.{RawVisibility}
 use Rattle.hir_scope.specs.Visibility.{greater_of, is_visible, lesser_of}
-use Rattle.hir_scope.specs.Types.{Visibility}
+use Rattle.hir_scope.specs.declared.visibility.Visibility.{Visibility}
 use Rattle.hir_scope.specs.declared.visibility.Visibility.TheVariants as visibilities
 use Rattle.hir_def_map_rules.specs.Ancestors.{above_in, holders_in}
 use Rattle.hir_def_map_rules.specs.State.{Local, Map}

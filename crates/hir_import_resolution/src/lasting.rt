@@ -2,12 +2,14 @@
 ghost use Rattle.std.specs.Prelude.{◌≡◌, ℕ, true, Some, slice_get};
 ghost use Rattle.hir_def_map_rules.specs.State.{IsInOrder, module_at};
 ghost use Rattle.hir_def_map.specs.WorldParts.{part_of};
-ghost use Rattle.hir_base.specs.Types.{TraitId};
-ghost use Rattle.hir_scope.specs.Types.{Visibility};
+ghost use Rattle.hir_base.specs.declared.ids.TraitId.{TraitId};
+ghost use Rattle.hir_scope.specs.declared.visibility.Visibility.{Visibility};
 ghost use Rattle.hir_def_map_laws.specs.ReadLaw.{has_no_variants, is_bare, is_bare_def, stops_bare};
 ghost use Rattle.hir_def_map.specs.Scoping.Slots.{slot_of};
 ghost use Rattle.hir_def_map_rules.specs.declared.reference.Reference.TheVariants as named;
-ghost use Rattle.hir_glob_imports.specs.Types.{Bound, Brought, Edge};
+ghost use Rattle.hir_glob_imports.specs.declared.edge.Bound.{Bound};
+ghost use Rattle.hir_glob_imports.specs.declared.edge.Brought.{Brought};
+ghost use Rattle.hir_glob_imports.specs.declared.edge.Edge.{Edge};
 ghost use Rattle.hir_glob_imports.specs.Waves.{brought_of};
 ghost use Rattle.hir_glob_imports.specs.declared.edge.Slot.{Slot as GlobSlot};
 ghost use Rattle.hir_import_resolution.specs.Inner.State.{IsApart, state_in};

@@ -1,7 +1,7 @@
 -- The row of an associated item.
 use Rattle.std.proofs.Common.{◌≡◌, Bool, true, List, [], ◌∷◌, ◌++◌, map, refl, sym, ap, ◌∙◌}
 use Rattle.std.proofs.lemmas.List.{map-append}
-use Rattle.hir_base.specs.Types.{CfgAtom}
+use Rattle.hir_base.specs.declared.cfg.CfgAtom.{CfgAtom}
 use Rattle.hir_item_tree.specs.Source.{Item, plain, holder}
 use Rattle.hir_item_tree.specs.KeptForest.{KeptItem, kept_item}
 use Rattle.hir_item_tree.specs.Rows.{RowValue, rows_view, item_of, Laid, lay}

@@ -2,7 +2,7 @@
 use Rattle.std.proofs.Common.{◌≡◌, ℕ, ◌+◌, Bool, true, false, if◌then◌else◌, List, ◌++◌, map, Option, Some, None, refl, ap, ap₂, sym, ◌∙◌, append-nil}
 use Rattle.std.proofs.lemmas.List.{map-append, append_assoc}
 use Rattle.hir_base.specs.Cfg.{Cfg}
-use Rattle.hir_base.specs.Types.{CfgAtom}
+use Rattle.hir_base.specs.declared.cfg.CfgAtom.{CfgAtom}
 use Rattle.hir_use_tree.specs.UseTree.{count_of}
 use Rattle.hir_item_tree.specs.Attributes.{MetaValue, Attribute, meta, cfg, cfg_attr, Attributes, no_attributes, attribute, attribute_size}
 use Rattle.hir_item_tree.specs.Collected.{Numbered, Collected, merge, merged, empty, holds, collect, collect_all}

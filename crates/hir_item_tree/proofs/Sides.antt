@@ -1,7 +1,7 @@
 -- Kept items have none of what is kept beside a tree.
 use Rattle.std.proofs.Common.{◌≡◌, Bool, refl, sym, ap, ap₂, ◌∙◌}
 use Rattle.hir_item_tree.specs.Attributes.{Attributes}
-use Rattle.hir_base.specs.Types.{CfgAtom}
+use Rattle.hir_base.specs.declared.cfg.CfgAtom.{CfgAtom}
 use Rattle.hir_item_tree.specs.Source as written
 use Rattle.hir_item_tree.specs.Source.{NodeHead, Plain, Item, Items, SourceValue}
 use Rattle.hir_item_tree.specs.KeptForest.{leaf, item, plain_visibility, kept_leaf, is_foreign, is_foreign_kind, kept_head, kept_holder, and_item, kept_item}

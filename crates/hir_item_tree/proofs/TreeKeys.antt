@@ -14,7 +14,9 @@ use Rattle.hir_base.specs.contracts.ast_id.HirFileIdPartialEq.TheImpl as file_eq
 use Rattle.hir_base.specs.contracts.edition.Edition.{the_type as editions}
 use Rattle.hir_base.specs.contracts.ids.CrateOrd.TheImpl.{ghosts as crates}
 use Rattle.hir_base.specs.contracts.ids.CrateOrd.TheImpl.Laws.{total-law as crates_total, matches_eq-law as crates_tie}
-use Rattle.hir_base.specs.Types.{BlockId, Crate, HirFileId}
+use Rattle.hir_base.specs.declared.ast_id.BlockId.{BlockId}
+use Rattle.hir_base.specs.declared.ids.Crate.{Crate}
+use Rattle.hir_base.specs.declared.ast_id.HirFileId.{HirFileId}
 use Rattle.hir_base.specs.declared.ast_id.HirFileId.TheVariants.{File, Macro}
 use Rattle.hir_item_tree.specs.contracts.tree_id.TreeIdOrd.TheImpl.{ghosts as ids}
 use Rattle.hir_item_tree.specs.contracts.tree_id.TreeIdOrd.TheImpl.Laws.{total-law as ids_total, matches_eq-law as ids_tie}

@@ -1,6 +1,6 @@
 -- Which sources differ in the texts of bodies alone?
 use Rattle.std.specs.Prelude.{◌≡◌, Bool, []}
-use Rattle.hir_base.specs.Types.{CfgAtom}
+use Rattle.hir_base.specs.declared.cfg.CfgAtom.{CfgAtom}
 use Rattle.hir_item_tree.specs.Source.{Plain, function, constant, static_item, Item, plain, holder, Items, no_items, item, SourceValue, broken, unit}
 use Rattle.hir_item_tree.specs.Attributes.{Attributes}
 use Rattle.hir_item_tree.specs.ItemTree.{tree_of}

@@ -2,7 +2,7 @@
 use Rattle.std.specs.Prelude.{ℕ, ◌+◌, Bool, true, false, if◌then◌else◌, List, [], ◌∷◌, ◌++◌, map, Option, Some, None, option_map, unwrap_or}
 use Rattle.hir_base.specs.Cfg.{Cfg, cfg_view}
 use Rattle.hir_base.specs.CfgOptions.{check}
-use Rattle.hir_base.specs.Types.{CfgAtom}
+use Rattle.hir_base.specs.declared.cfg.CfgAtom.{CfgAtom}
 use Rattle.hir_use_tree.specs.UseTree.{count_of}
 use Rattle.hir_item_tree.specs.Attributes.{MetaValue, meta_view, Attribute, meta, cfg, cfg_attr, Attributes, no_attributes, attribute, attribute_size}
 use Rattle.hir_item_tree.specs.declared.attrs.Attr.{Attr}

@@ -4,7 +4,7 @@ use Rattle.std.specs.Coded.{Coded, codes, coded_bool}
 use Rattle.std.proofs.Common.{refl, ap, ap₂, arith}
 use base.Stored.{Gv, gnil, gnum, gcons}
 use Rattle.hir_base.specs.Cfg.{Cfg, Cfgs, invalid, constant, atom, all, any, unless, no_cfgs, cfg}
-use Rattle.hir_base.specs.Types.{CfgAtom}
+use Rattle.hir_base.specs.declared.cfg.CfgAtom.{CfgAtom}
 use Rattle.hir_item_tree.specs.Attributes.{MetaValue}
 use Rattle.hir_item_tree.specs.Collected.{Collected}
 use Rattle.hir_item_tree.specs.ValueCodes.{coded_path, number, halves}

@@ -3,7 +3,7 @@ use Rattle.std.specs.Coded.{Coded, code_by, coded×}
 use Rattle.std.specs.Prelude.{Bool}
 use Rattle.std.proofs.Common.{refl}
 use Rattle.hir_item_tree.specs.Attributes.{Attributes}
-use Rattle.hir_base.specs.Types.{CfgAtom}
+use Rattle.hir_base.specs.declared.cfg.CfgAtom.{CfgAtom}
 use Rattle.hir_item_tree.specs.Check.{handed_in_attributes, handed_in}
 use Rattle.hir_item_tree.specs.Collected.{Collected, empty, merge}
 use Rattle.hir_item_tree.specs.Source.{SourceValue}

@@ -1,6 +1,6 @@
 -- What is an item as a tree lends it?
 use Rattle.std.specs.Prelude.{Option, Some, None}
-use Rattle.hir_base.specs.Types.{AstKind}
+use Rattle.hir_base.specs.declared.ast_id.AstKind.{AstKind}
 use Rattle.hir_base.specs.declared.ast_id.AstKind.TheVariants as nodes
 use Rattle.hir_use_tree.specs.UseTree.{use_tree_view}
 use Rattle.hir_item_tree.specs.KeptForest.{Head, Leaf, import, extern_crate, function, structure, union_structure, enumeration, constant, static_item}

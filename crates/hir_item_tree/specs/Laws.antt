@@ -1,7 +1,7 @@
 -- What holds of all attributes?
 use Rattle.std.specs.Prelude.{◌≡◌, Bool, List, map, Option}
 use Rattle.hir_base.specs.Cfg.{Cfg}
-use Rattle.hir_base.specs.Types.{CfgAtom}
+use Rattle.hir_base.specs.declared.cfg.CfgAtom.{CfgAtom}
 use Rattle.hir_item_tree.specs.Attributes.{MetaValue, Attributes, no_attributes, attribute}
 use Rattle.hir_item_tree.specs.Collected.{Numbered, Collected, merge, empty, collect_all}
 

@@ -7,7 +7,7 @@ use Rattle.hir_item_tree.specs.declared.side_lists.VariantItem.{VariantItem}
 use Rattle.hir_item_tree.specs.declared.side_lists.Side.{Side as KeptSide}
 use Rattle.hir_item_tree.specs.declared.side_lists.Side.TheVariants as sides
 use Rattle.hir_item_tree.specs.declared.side_lists.SideEntry.{SideEntry as KeptEntry}
-use Rattle.hir_base.specs.Types.{CfgAtom}
+use Rattle.hir_base.specs.declared.cfg.CfgAtom.{CfgAtom}
 use Rattle.hir_item_tree.specs.Collected.{is_enabled}
 use Rattle.hir_item_tree.specs.Source.{VariantValue, Plain, import, extern_crate, function, structure, union_structure, enumeration, constant, static_item}
 use Rattle.hir_item_tree.specs.Source.{type_alias, outline_module, macro_call, macro_rules, macro_def, Holder, extern_block, trait_item, implementation}

@@ -4,7 +4,7 @@ use Rattle.std.specs.Coded.{Coded, coded_option}
 use Rattle.std.proofs.Common.{refl, ap, ap₂, arith}
 use base.Stored.{Gv, gnil, gnum, gcons}
 use Rattle.hir_base.specs.ModPath.{Path}
-use Rattle.hir_use_tree.specs.Types.{ImportAlias}
+use Rattle.hir_use_tree.specs.declared.imports.ImportAlias.{ImportAlias}
 use Rattle.hir_use_tree.specs.UseTree.{UseTree, single, glob, prefixed, UseTrees, no_trees, tree}
 use Rattle.hir_item_tree.specs.ValueCodes.{coded_path, coded_alias, number, halves}
 

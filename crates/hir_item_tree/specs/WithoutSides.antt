@@ -1,6 +1,6 @@
 -- Which sources differ in what is kept beside their trees alone? In texts of bodies and macros, inputs, variants and associated items.
 use Rattle.std.specs.Prelude.{◌≡◌, Bool, []}
-use Rattle.hir_base.specs.Types.{CfgAtom}
+use Rattle.hir_base.specs.declared.cfg.CfgAtom.{CfgAtom}
 use Rattle.hir_item_tree.specs.Source.{NodeHead, MacroValue, Plain, function, enumeration, constant, static_item, macro_rules, macro_def, Holder, trait_item}
 use Rattle.hir_item_tree.specs.Source.{implementation, Item, plain, holder, Items, no_items, item, SourceValue, broken, unit}
 use Rattle.hir_item_tree.specs.Attributes.{Attributes}

@@ -1,6 +1,6 @@
 -- Calls that have numbers stay where numbers lead, as tables grow by files.
 use Rattle.std.proofs.Common.{◌≡◌, ◌∙◌, List, slice_get, sym, ap}
-use Rattle.hir_base.specs.Types.{MacroCallLoc}
+use Rattle.hir_base.specs.declared.macro_kind.MacroCallLoc.{MacroCallLoc}
 use Rattle.hir_tables.specs.Tables.{KeepsTables, TablesValue}
 use Rattle.hir_def_map_rules.specs.Diagnostics.{call_node}
 use Rattle.hir_collector_rules.specs.Calls.{AreCallsPlaced}

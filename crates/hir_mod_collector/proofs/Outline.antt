@@ -4,23 +4,26 @@ use Rattle.std.proofs.Common.{◌≡◌, ◌∙◌, ℕ, ◌+◌, ◌<◌, ◌�
 use Rattle.std.proofs.Common.{Option, Some, None, inl, refl, sym, ap, subst, arith}
 use Rattle.std.specs.Prelude.{IsSome, option_map}
 use Rattle.std.specs.Option.{option_to_list}
-use Rattle.hir_base.specs.Types.{Crate, Edition, FileId}
+use Rattle.hir_base.specs.declared.ids.Crate.{Crate}
+use Rattle.hir_base.specs.declared.edition.Edition.{Edition}
+use Rattle.hir_base.specs.declared.ast_id.FileId.{FileId}
 use Rattle.hir_item_tree.specs.Collected.{is_enabled}
 use Rattle.hir_item_tree.specs.ItemTree.{Tree}
 use Rattle.hir_item_tree.specs.KeptForest.{Head, KeptForest, KeptItem, holder, inline_module, leaf, outline_module}
 use Rattle.hir_item_tree.specs.SourceTree.{SourceTreeValue}
-use Rattle.hir_item_tree.specs.Types.{TreeId}
+use Rattle.hir_item_tree.specs.declared.tree_id.TreeId.{TreeId}
 use Rattle.hir_mod_dir.specs.Directory.{Directory}
 use Rattle.hir_mod_dir.specs.ModuleFiles.{candidate, candidates_of, child, file_directory, inline_directory, inline_path, is_mod_rs}
 use Rattle.hir_mod_dir.specs.PathText.{joined as joined_path}
-use Rattle.hir_mod_dir.specs.Types.{Candidate}
+use Rattle.hir_mod_dir.specs.declared.candidate.Candidate.{Candidate}
 use Rattle.hir_tables.specs.SourcePlaces.{SourcePlaceValue, file as file_place}
 use Rattle.hir_tables.specs.Tables.{KeepsTables, TablesValue, file_at, source_of}
 use Rattle.hir_tables.proofs.Growth.{source_of-kept}
 use Rattle.hir_def_map_rules.specs.State.{Map}
 use Rattle.hir_def_map_rules.specs.Overlay.{Maps}
-use Rattle.hir_def_map_rules.specs.Types.{DefDiagnostic, ModuleOrigin}
-use Rattle.hir_collector_rules.specs.Types.{Site}
+use Rattle.hir_def_map_rules.specs.declared.diagnostics.DefDiagnostic.{DefDiagnostic}
+use Rattle.hir_def_map_rules.specs.declared.origin.ModuleOrigin.{ModuleOrigin}
+use Rattle.hir_collector_rules.specs.declared.site.Site.{Site}
 use Rattle.hir_collector_rules.specs.Workspace.{Workspace}
 use Rattle.hir_collector_rules.specs.Keys.{Environment, environment, source_in, source_under}
 use Rattle.hir_collector_rules.specs.Items.{file_origin, inline_origin, own_visibility}

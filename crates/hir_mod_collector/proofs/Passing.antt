@@ -3,17 +3,20 @@ use Rattle.std.proofs.Common.{◌≡◌, ◌∙◌, ℕ, zero, suc, ◌+◌, ◌
 use Rattle.std.proofs.Common.{option_map, cond, inl, refl, sym, ap, subst, arith}
 use Rattle.std.proofs.lemmas.Option.{slice_get-map}
 use Rattle.hir_base.specs.ModPath.{Path}
-use Rattle.hir_base.specs.Types.{AdtId, AstId, MapId}
+use Rattle.hir_base.specs.declared.ids.AdtId.{AdtId}
+use Rattle.hir_base.specs.declared.ast_id.AstId.{AstId}
+use Rattle.hir_base.specs.declared.ids.MapId.{MapId}
 use Rattle.hir_base.specs.declared.ids.AdtId.TheVariants as adts
 use Rattle.hir_item_tree.specs.Collected.{Numbered as Attribute, numbered}
 use Rattle.hir_item_tree.specs.KeptForest.{Head, KeptItem, Leaf, enumeration, holder, leaf, structure, union_structure}
-use Rattle.hir_item_tree.specs.Types.{Attr}
+use Rattle.hir_item_tree.specs.declared.attrs.Attr.{Attr}
 use Rattle.hir_item_tree.specs.Kinds.{item_head}
 use Rattle.hir_def_map_rules.specs.Macros.{with_diagnostic}
 use Rattle.hir_def_map_rules.specs.Overlay.{Maps}
 use Rattle.hir_def_map_rules.specs.State.{Map}
 use Rattle.hir_mod_collector.specs.Types.{Visited}
-use Rattle.hir_collector_rules.specs.Types.{Site, WaitingItem}
+use Rattle.hir_collector_rules.specs.declared.site.Site.{Site}
+use Rattle.hir_collector_rules.specs.declared.macro_directive.WaitingItem.{WaitingItem}
 use Rattle.hir_collector_rules.specs.declared.start.TheConstants.{STEP_LIMIT}
 use Rattle.hir_collector_rules.specs.Attributes.{adt_by, adt_of, attr_id, first_looked_up, is_derive, is_passed, item_node, next_among, next_attribute}
 use Rattle.hir_collector_rules.specs.Attributes.{paths_in}

@@ -8,11 +8,15 @@ use Rattle.std.proofs.lemmas.List.Elements.{All-head, All-tail}
 use Rattle.hir_item_tree.specs.Collected.{is_enabled, numbered}
 use Rattle.hir_item_tree.specs.ItemTree.{Tree}
 use Rattle.hir_base.specs.Cfg.{Cfg}
-use Rattle.hir_def_map_rules.specs.Types.{DefDiagnostic}
-use Rattle.hir_base.specs.Types.{AstKind}
+use Rattle.hir_def_map_rules.specs.declared.diagnostics.DefDiagnostic.{DefDiagnostic}
+use Rattle.hir_base.specs.declared.ast_id.AstKind.{AstKind}
 use Rattle.hir_base.specs.declared.ast_id.AstKind.TheVariants as nodes
 use Rattle.hir_item_tree.specs.Kinds.{item_head, item_kind, kind_content, kind_of, module_content}
-use Rattle.hir_item_tree.specs.Types.{ExternBlock, Mod, ModItemId, ModItemKind, ModKind}
+use Rattle.hir_item_tree.specs.declared.kinds.ExternBlock.{ExternBlock}
+use Rattle.hir_item_tree.specs.declared.kinds.Mod.{Mod}
+use Rattle.hir_item_tree.specs.declared.rows.ModItemId.{ModItemId}
+use Rattle.hir_item_tree.specs.declared.kinds.ModItemKind.{ModItemKind}
+use Rattle.hir_item_tree.specs.declared.kinds.ModKind.{ModKind}
 use Rattle.hir_item_tree.specs.declared.kinds.ModKind.TheVariants.{Inline, Outline}
 use Rattle.hir_item_tree.specs.declared.kinds.ModItemKind.TheVariants as kinds
 use Rattle.hir_item_tree.specs.KeptForest.{Head, KeptItem, KeptForest, all_items, no_items}
@@ -21,7 +25,7 @@ use Rattle.hir_def_map_rules.specs.Overlay.{Maps}
 use Rattle.hir_def_map_rules.specs.State.{Map}
 use Rattle.hir_mod_collector.specs.Types.{Visited}
 use Rattle.hir_collector_rules.specs.Attributes.{adt_of}
-use Rattle.hir_collector_rules.specs.Types.{Site}
+use Rattle.hir_collector_rules.specs.declared.site.Site.{Site}
 use Rattle.hir_collector_rules.specs.Keys.{Environment, absent_source}
 use Rattle.hir_collector_rules.specs.State.{Task, Visit, visits, Core, at_rest, joined, visits_over, counted}
 use Rattle.hir_collector_rules.specs.Start.{is_declared, tree_visits}

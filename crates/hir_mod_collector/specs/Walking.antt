@@ -11,7 +11,7 @@ use Rattle.hir_mod_collector.specs.declared.mod_collector.Inside.{Inside}
 use Rattle.hir_mod_collector.specs.declared.mod_collector.Inside.TheVariants.{Nothing, Held, File}
 use Rattle.hir_def_map_rules.specs.Overlay.{Maps}
 use Rattle.hir_def_map_rules.specs.State.{Map}
-use Rattle.hir_collector_rules.specs.Types.{Site}
+use Rattle.hir_collector_rules.specs.declared.site.Site.{Site}
 use Rattle.hir_item_tree.specs.SourceTree.{SourceTreeValue}
 use Rattle.hir_tables.specs.Tables.{TablesValue}
 use Rattle.hir_collector_rules.specs.Workspace.{seen_of}

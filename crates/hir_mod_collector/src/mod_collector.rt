@@ -8,7 +8,7 @@ ghost use Rattle.hir_item_tree.specs.Kinds.{item_head, kind_content, kind_of};
 ghost use Rattle.hir_item_tree.specs.Rows.{held_numbers, item_of, items_at, numbers_of};
 ghost use Rattle.hir_tables.specs.Tables.{KeepsTables, TablesValue};
 ghost use Rattle.hir_def_map_rules.specs.Overlay.{Maps};
-ghost use Rattle.hir_def_map_rules.specs.Types.{DefDiagnostic};
+ghost use Rattle.hir_def_map_rules.specs.declared.diagnostics.DefDiagnostic.{DefDiagnostic};
 ghost use Rattle.hir_def_map.specs.WorldParts.{part_of};
 ghost use Rattle.hir_collector_rules.specs.Keys.{Environment};
 ghost use Rattle.hir_collector_rules.specs.ItemIds.{module_id, node_of};

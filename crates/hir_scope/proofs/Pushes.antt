@@ -13,7 +13,8 @@ use Rattle.hir_base.specs.contracts.ids.ModuleDefIdPartialEq.TheImpl as module_d
 use Rattle.hir_base.specs.contracts.ids.ModuleDefIdEq.TheImpl.Laws.{laws-law as module_def_laws}
 use Rattle.hir_base.specs.contracts.macro_kind.MacroIdPartialEq.TheImpl as makro
 use Rattle.hir_base.specs.contracts.macro_kind.MacroIdEq.TheImpl.Laws.{laws-law as makro_laws}
-use Rattle.hir_base.specs.Types.{MacroId, ModuleDefId}
+use Rattle.hir_base.specs.declared.macro_kind.MacroId.{MacroId}
+use Rattle.hir_base.specs.declared.ids.ModuleDefId.{ModuleDefId}
 use Rattle.hir_scope.specs.contracts.imports.ImportOrExternCratePartialEq.TheImpl as import_or_extern_crate
 use Rattle.hir_scope.specs.contracts.imports.ImportOrExternCrateEq.TheImpl.Laws.{laws-law as import_or_extern_crate_laws}
 use Rattle.hir_scope.specs.contracts.imports.ImportOrExternCrateOrd.TheImpl as import_or_extern_crate_order

@@ -10,14 +10,15 @@ use Rattle.std.specs.List.Sorted.{IsStrictlySortedBy}
 use Rattle.std.specs.Map.{keys_of, lookup, set_value, remove_entry}
 use Rattle.std.proofs.lemmas.Map.Keys.{sorted_head, sorted_tail}
 use Rattle.std.proofs.lemmas.Map.Lookups.{exact_bytes}
-use Rattle.hir_base.specs.Types.{MacroId, ModuleDefId}
+use Rattle.hir_base.specs.declared.macro_kind.MacroId.{MacroId}
+use Rattle.hir_base.specs.declared.ids.ModuleDefId.{ModuleDefId}
 use Rattle.hir_scope.specs.declared.imports.ImportOrExternCrate.{ImportOrExternCrate}
 use Rattle.hir_scope.specs.declared.imports.ImportOrGlob.{ImportOrGlob}
 use Rattle.hir_scope.specs.PerNs as of_scope
 use Rattle.hir_scope.specs.Scope.{ScopeValue}
 use Rattle.hir_scope_table.specs.Entries.{item_at}
 use Rattle.hir_scope_table.specs.Table.{is_definition, rewritten, without_definition}
-use Rattle.hir_scope_table.specs.Types.{Item}
+use Rattle.hir_scope_table.specs.declared.item.Item.{Item}
 use Rattle.hir_scope_table.proofs.Pushes.{name-apart}
 use Rattle.hir_scope_table.proofs.Slots.{lookup-below}
 

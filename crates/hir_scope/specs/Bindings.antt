@@ -1,6 +1,7 @@
 -- What does a push bring to a name in each namespace, and what prevails there?
 use Rattle.std.specs.Prelude.{Option, None, Some, option_map}
-use Rattle.hir_base.specs.Types.{MacroId, ModuleDefId}
+use Rattle.hir_base.specs.declared.macro_kind.MacroId.{MacroId}
+use Rattle.hir_base.specs.declared.ids.ModuleDefId.{ModuleDefId}
 use Rattle.hir_base.specs.declared.ids.ModuleDefId.TheVariants as defs
 use Rattle.hir_base.specs.contracts.ids.ModuleDefIdPartialEq.TheImpl as module_def
 use Rattle.hir_base.specs.contracts.macro_kind.MacroIdPartialEq.TheImpl as makro

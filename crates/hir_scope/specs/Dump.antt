@@ -5,10 +5,13 @@ use Rattle.std.specs.Ordering.{nat_cmp}
 use Rattle.std.specs.Cmp.Lexicographic.{slice_cmp}
 use Rattle.std.specs.BTreeSet.{insert_key}
 use Rattle.hir_base.specs.declared.edition.Edition.TheVariants.{Edition2024}
-use Rattle.hir_base.specs.Types.{MacroCallStyles, MacroId, ModuleDefId, TraitId}
+use Rattle.hir_base.specs.declared.macro_kind.MacroCallStyles.{MacroCallStyles}
+use Rattle.hir_base.specs.declared.macro_kind.MacroId.{MacroId}
+use Rattle.hir_base.specs.declared.ids.ModuleDefId.{ModuleDefId}
+use Rattle.hir_base.specs.declared.ids.TraitId.{TraitId}
 use Rattle.hir_base.specs.MacroKind.{styles_of}
 use Rattle.hir_base.specs.Display.{shown}
-use Rattle.hir_textual_scope.specs.Types.{TextualMacro}
+use Rattle.hir_textual_scope.specs.declared.textual_scope.TextualMacro.{TextualMacro}
 use Rattle.hir_scope.specs.declared.imports.ImportId.{ImportId}
 use Rattle.hir_scope.specs.declared.imports.ImportOrExternCrate.{ImportOrExternCrate}
 use Rattle.hir_scope.specs.declared.imports.ImportOrExternCrate.TheVariants as item

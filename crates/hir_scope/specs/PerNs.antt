@@ -4,7 +4,10 @@ use Rattle.hir_scope_table.specs.Bindings.{first_of}
 use Rattle.std.specs.Prelude.{Bool, ◌&&◌, not, is_some, Option, None, Some, cond, List, ◌++◌, ◌≡◌}
 use Rattle.std.specs.Option.{option_map, option_to_list}
 use Rattle.hir_base.specs.declared.ids.AdtId.TheVariants as adt
-use Rattle.hir_base.specs.Types.{Crate, MacroId, ModuleDefId, ModuleId}
+use Rattle.hir_base.specs.declared.ids.Crate.{Crate}
+use Rattle.hir_base.specs.declared.macro_kind.MacroId.{MacroId}
+use Rattle.hir_base.specs.declared.ids.ModuleDefId.{ModuleDefId}
+use Rattle.hir_base.specs.declared.ids.ModuleId.{ModuleId}
 use Rattle.hir_base.specs.declared.ids.ModuleDefId.TheVariants as def
 use Rattle.hir_scope.specs.declared.imports.ImportOrExternCrate.{ImportOrExternCrate}
 use Rattle.hir_scope.specs.declared.imports.ImportOrGlob.{ImportOrGlob}

@@ -1,6 +1,6 @@
 //! Modules with what lies above them.
 ghost use Rattle.std.specs.Prelude.{◌≡◌, Option, List};
-ghost use Rattle.hir_base.specs.Types.{ModuleId};
+ghost use Rattle.hir_base.specs.declared.ids.ModuleId.{ModuleId};
 ghost use Rattle.hir_scope.specs.ModuleTree.{up_of, chain_from, IsInOneCrate};
 
 use hir_base::ids::ModuleId;

@@ -1,7 +1,7 @@
 //! Scopes of modules, lent to follow imports from one to the next.
 ghost use Rattle.std.specs.Prelude.{◌≡◌, Option};
 ghost use Rattle.std.specs.Option.{option_copied};
-ghost use Rattle.hir_base.specs.Types.{ModuleId};
+ghost use Rattle.hir_base.specs.declared.ids.ModuleId.{ModuleId};
 ghost use Rattle.hir_scope.specs.Scope.{ScopeValue};
 
 use crate::item_scope::ItemScope;

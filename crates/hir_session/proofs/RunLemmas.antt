@@ -5,7 +5,7 @@ use Rattle.std.proofs.lemmas.Bool.Decides.{nat_tests}
 use Rattle.std.specs.Io.KnownBytes.{Appends, IsAtEnd}
 use Rattle.std.proofs.KnownBytes.{Appends-nil, Appends-trans}
 use Rattle.hir_wire.specs.Replies.{is_fixed}
-use Rattle.hir_wire.specs.Types.{Reply}
+use Rattle.hir_wire.specs.declared.reply.Reply.{Reply}
 use Rattle.hir_wire.specs.declared.reply.Reply.TheVariants as reply
 use Rattle.hir_lines.specs.declared.output.Fault.{Fault}
 use Rattle.hir_lines.specs.declared.output.Fault.TheVariants as fault

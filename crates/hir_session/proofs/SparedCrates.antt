@@ -1,6 +1,9 @@
 -- An edit of a block changes no mark of a crate: no crate's run asks for something of a block.
 use Rattle.std.proofs.Common.{◌≡◌, ◌≢◌, ◌∙◌, ap, sym, subst, refl, ℕ, zero, suc, ◌<◌, true, Option, Some, None, option_map, List, [], arith, Contains}
-use Rattle.hir_base.specs.Types.{BlockId, BlockPlace, HirFileId, MapId}
+use Rattle.hir_base.specs.declared.ast_id.BlockId.{BlockId}
+use Rattle.hir_base.specs.declared.place.BlockPlace.{BlockPlace}
+use Rattle.hir_base.specs.declared.ast_id.HirFileId.{HirFileId}
+use Rattle.hir_base.specs.declared.ids.MapId.{MapId}
 use Rattle.hir_base.specs.declared.ast_id.HirFileId.TheVariants as syntax
 use Rattle.hir_base.specs.declared.macro_kind.MacroId.TheVariants as macros
 use Rattle.hir_item_tree.specs.Source.{SourceValue}
@@ -10,7 +13,7 @@ use Rattle.hir_def_map_rules.specs.Overlay.{Placed}
 use Rattle.hir_def_map_rules.specs.Sources.{HoldsNowhere, HoldsNowhereIn}
 use Rattle.hir_collector_rules.specs.Derivation.{Ends}
 use Rattle.hir_collector_rules.specs.Start.{Beginning}
-use Rattle.hir_collector_rules.specs.Types.{Key}
+use Rattle.hir_collector_rules.specs.declared.source_database.Key.{Key}
 use Rattle.hir_collector_rules.specs.declared.source_database.Key.TheVariants as keys
 use Rattle.hir_def_collector_laws.specs.BlockKeys.{CratesAskForNoBlock, block_of_key, in_blocks}
 use Rattle.hir_wire.specs.Edits.{set_file, remove_file, set_block, remove_block, set_expansion, remove_expansion}

@@ -3,17 +3,29 @@ use Rattle.std.specs.Prelude.{is_some, slice_get, map}
 use Rattle.std.proofs.Common.{◌≡◌, ◌≢◌, ◌∙◌, ap, sym, subst, refl, ℕ, zero, suc, ◌<◌, ◌≤◌, ◌++◌, true, List, [], ◌∷◌, length, IsSome, Option, None, Some}
 use Rattle.std.proofs.Common.{option_map, arith, Contains}
 use Rattle.std.specs.Option.{option_and_then}
-use Rattle.hir_base.specs.Types.{AstId, BlockId, Crate, Edition, EditionedFileId, FileId, HirFileId, MacroCallId, MacroCallLoc, MacroId, MapId, ModuleId}
+use Rattle.hir_base.specs.declared.ast_id.AstId.{AstId}
+use Rattle.hir_base.specs.declared.ast_id.BlockId.{BlockId}
+use Rattle.hir_base.specs.declared.ids.Crate.{Crate}
+use Rattle.hir_base.specs.declared.edition.Edition.{Edition}
+use Rattle.hir_base.specs.declared.ast_id.EditionedFileId.{EditionedFileId}
+use Rattle.hir_base.specs.declared.ast_id.FileId.{FileId}
+use Rattle.hir_base.specs.declared.ast_id.HirFileId.{HirFileId}
+use Rattle.hir_base.specs.declared.ast_id.MacroCallId.{MacroCallId}
+use Rattle.hir_base.specs.declared.macro_kind.MacroCallLoc.{MacroCallLoc}
+use Rattle.hir_base.specs.declared.macro_kind.MacroId.{MacroId}
+use Rattle.hir_base.specs.declared.ids.MapId.{MapId}
+use Rattle.hir_base.specs.declared.ids.ModuleId.{ModuleId}
 use Rattle.hir_base.specs.declared.ast_id.HirFileId.TheVariants.{File, Macro}
 use Rattle.hir_base.specs.declared.macro_kind.MacroId.TheVariants as macros
 use Rattle.hir_item_tree.specs.KeptForest.{KeptForest}
-use Rattle.hir_item_tree.specs.Types.{TreeId, TreeKey}
+use Rattle.hir_item_tree.specs.declared.tree_id.TreeId.{TreeId}
+use Rattle.hir_item_tree.specs.declared.tree_id.TreeKey.{TreeKey}
 use Rattle.hir_tables.specs.SourcePlaces.{file}
 use Rattle.hir_tables.specs.Tables.{TablesValue, call_at, file_at, source_of}
 use Rattle.hir_def_map_rules.specs.Diagnostics.{call_node}
 use Rattle.hir_def_map_rules.specs.Overlay.{Maps}
 use Rattle.hir_def_map_rules.specs.State.{ModuleValue, module_at}
-use Rattle.hir_def_map_rules.specs.Types.{ModuleOrigin}
+use Rattle.hir_def_map_rules.specs.declared.origin.ModuleOrigin.{ModuleOrigin}
 use Rattle.hir_collector_rules.specs.Calls.{AreCallsPlaced, Expanding, IsMeantAt, IsPlacedBelow, call_key, call_kind, call_loc, expansion_readings, kind_by}
 use Rattle.hir_collector_rules.specs.Calls.{text_readings}
 use Rattle.hir_collector_rules.specs.Causes.{HasCause, IsOfCall, IsPassed}
@@ -24,7 +36,10 @@ use Rattle.hir_collector_rules.specs.Start.{Beginning, held_keys, holder_keys, h
 use Rattle.hir_collector_rules.specs.State.{State}
 use Rattle.hir_collector_rules.specs.Steps.{keys_read}
 use Rattle.hir_collector_rules.specs.Workspace.{Workspace}
-use Rattle.hir_collector_rules.specs.Types.{MacroDirective, MacroDirectiveKind, Site, Start}
+use Rattle.hir_collector_rules.specs.declared.macro_directive.MacroDirective.{MacroDirective}
+use Rattle.hir_collector_rules.specs.declared.macro_directive.MacroDirectiveKind.{MacroDirectiveKind}
+use Rattle.hir_collector_rules.specs.declared.site.Site.{Site}
+use Rattle.hir_collector_rules.specs.declared.start.Start.{Start}
 use Rattle.hir_collector_rules.specs.declared.macro_directive.MacroDirectiveKind.TheVariants.{Attr, Derive, FnLike}
 use Rattle.hir_collector_rules.specs.declared.source_database.Key.TheVariants as keys
 use Rattle.hir_collector_rules.specs.declared.start.Start.TheVariants as starts

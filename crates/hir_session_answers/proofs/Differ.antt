@@ -6,7 +6,12 @@ use Rattle.std.specs.Option.{option_and_then}
 use Rattle.hir_base.specs.ModPath.{Path}
 use Rattle.hir_base.specs.Place.{PlaceValue}
 use Rattle.hir_base.specs.contracts.ids.MapIdPartialEq.TheImpl as map_id
-use Rattle.hir_base.specs.Types.{BlockId, BlockPlace, Crate, MapId, ModuleId, PlaceElement}
+use Rattle.hir_base.specs.declared.ast_id.BlockId.{BlockId}
+use Rattle.hir_base.specs.declared.place.BlockPlace.{BlockPlace}
+use Rattle.hir_base.specs.declared.ids.Crate.{Crate}
+use Rattle.hir_base.specs.declared.ids.MapId.{MapId}
+use Rattle.hir_base.specs.declared.ids.ModuleId.{ModuleId}
+use Rattle.hir_base.specs.declared.place.PlaceElement.{PlaceElement}
 use Rattle.hir_base.specs.declared.place.PlaceElement.TheVariants as element
 use Rattle.hir_tables.specs.Tables.{KeepsTables, TablesValue, block_at}
 use Rattle.hir_tables.proofs.Growth.{KeepsTables-refl, KeepsTables-trans}
@@ -20,11 +25,13 @@ use Rattle.hir_def_map_rules.specs.State.{child_at, crate_map, root_of}
 use Rattle.hir_collector_rules.specs.Workspace.{Workspace}
 use Rattle.hir_collector_rules.specs.Keys.{look}
 use Rattle.hir_def_collector_laws.specs.Sources.{RunsBindFromSources}
-use Rattle.hir_collector_rules.specs.Types.{Key}
+use Rattle.hir_collector_rules.specs.declared.source_database.Key.{Key}
 use Rattle.hir_wire.specs.Edits.{EditValue}
-use Rattle.hir_wire.specs.Types.{Answer, MacroStyle, Shadow}
+use Rattle.hir_wire.specs.declared.answer.Answer.{Answer}
+use Rattle.hir_wire.specs.declared.command.MacroStyle.{MacroStyle}
+use Rattle.hir_wire.specs.declared.command.Shadow.{Shadow}
 use Rattle.hir_wire.specs.declared.reply.Status.TheVariants as status
-use Rattle.hir_session_state.specs.Types.{QueryError}
+use Rattle.hir_session_state.specs.declared.error.QueryError.{QueryError}
 use Rattle.hir_session_state.specs.Blocks.{Blocks}
 use Rattle.hir_session_state.specs.Crates.{CrateValue, dependency_maps, transitive_in}
 use Rattle.hir_session_state.specs.Kept.{Resolutions, placed_by}

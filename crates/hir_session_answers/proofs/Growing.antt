@@ -2,13 +2,24 @@
 use Rattle.std.proofs.Common.{◌≡◌, ◌⊎◌, inl, inr, ℕ, zero, suc, is_some, List, Option, None, Some, option_map, slice_get, refl, sym, ap, ◌∙◌, subst}
 use Rattle.std.specs.Option.{option_and_then}
 use Rattle.hir_base.specs.ModPath.{Path}
-use Rattle.hir_base.specs.Types.{AdtId, BlockId, BlockPlace, Crate, HirFileId, MacroCallLoc, MacroId, ModuleDefId, ModuleId, SyntaxId}
+use Rattle.hir_base.specs.declared.ids.AdtId.{AdtId}
+use Rattle.hir_base.specs.declared.ast_id.BlockId.{BlockId}
+use Rattle.hir_base.specs.declared.place.BlockPlace.{BlockPlace}
+use Rattle.hir_base.specs.declared.ids.Crate.{Crate}
+use Rattle.hir_base.specs.declared.ast_id.HirFileId.{HirFileId}
+use Rattle.hir_base.specs.declared.macro_kind.MacroCallLoc.{MacroCallLoc}
+use Rattle.hir_base.specs.declared.macro_kind.MacroId.{MacroId}
+use Rattle.hir_base.specs.declared.ids.ModuleDefId.{ModuleDefId}
+use Rattle.hir_base.specs.declared.ids.ModuleId.{ModuleId}
+use Rattle.hir_base.specs.declared.ast_id.SyntaxId.{SyntaxId}
 use Rattle.hir_base.specs.declared.ast_id.HirFileId.TheVariants.{File, Macro}
 use Rattle.hir_base.specs.declared.ids.AdtId.TheVariants as adt
 use Rattle.hir_base.specs.declared.ids.ModuleDefId.TheVariants as def
 use Rattle.hir_base.specs.declared.macro_kind.MacroId.TheVariants as macro
 use Rattle.hir_scope.specs.PerNs.{Item}
-use Rattle.hir_scope.specs.Types.{ImportOrExternCrate, ImportOrGlob, Visibility}
+use Rattle.hir_scope.specs.declared.imports.ImportOrExternCrate.{ImportOrExternCrate}
+use Rattle.hir_scope.specs.declared.imports.ImportOrGlob.{ImportOrGlob}
+use Rattle.hir_scope.specs.declared.visibility.Visibility.{Visibility}
 use Rattle.hir_scope.specs.declared.imports.ImportOrExternCrate.TheVariants as import
 use Rattle.hir_scope.specs.declared.imports.ImportOrGlob.TheVariants as value_import
 use Rattle.hir_scope.specs.declared.visibility.Visibility.TheVariants as vis
@@ -17,9 +28,16 @@ use Rattle.hir_def_map_rules.specs.Diagnostics.{call_node}
 use Rattle.hir_def_map_rules.specs.Scoping.{resolution_of}
 use Rattle.hir_def_map_rules.specs.State.{Local, ModuleValue}
 use Rattle.hir_def_map_rules.specs.Overlay.{Maps, module_in}
-use Rattle.hir_def_map_rules.specs.Types.{ModuleOrigin}
+use Rattle.hir_def_map_rules.specs.declared.origin.ModuleOrigin.{ModuleOrigin}
 use Rattle.hir_def_map_rules.specs.declared.origin.ModuleOrigin.TheVariants as origin
-use Rattle.hir_wire.specs.Types.{AnswerItem, AnswerVisibility, Definition, ImportSource, ItemSource, MacroStyle, Shadow, SourceKind}
+use Rattle.hir_wire.specs.declared.answer.AnswerItem.{AnswerItem}
+use Rattle.hir_wire.specs.declared.answer.AnswerVisibility.{AnswerVisibility}
+use Rattle.hir_wire.specs.declared.answer.Definition.{Definition}
+use Rattle.hir_wire.specs.declared.answer.ImportSource.{ImportSource}
+use Rattle.hir_wire.specs.declared.answer.ItemSource.{ItemSource}
+use Rattle.hir_wire.specs.declared.command.MacroStyle.{MacroStyle}
+use Rattle.hir_wire.specs.declared.command.Shadow.{Shadow}
+use Rattle.hir_wire.specs.declared.answer.SourceKind.{SourceKind}
 use Rattle.hir_session_answers.specs.Answers.{answer_in, asking_of}
 use Rattle.hir_session_state.specs.Standing.{most_calls}
 use Rattle.hir_session_answers.specs.LeavesOut.{LeavesNothingOut}

@@ -4,14 +4,28 @@ use Rattle.std.specs.Prelude.{option_map, option_and_then}
 use Rattle.std.proofs.Common.{ap, arith, refl, subst, sym, ◌∙◌}
 use mathlib.Core.Bool.{true≢false}
 use Rattle.hir_base.specs.ModPath.{Path}
-use Rattle.hir_base.specs.Types.{AdtId, AstId, BlockId, BlockPlace, Crate, EditionedFileId, HirFileId, MacroCallId, MacroCallLoc, MacroId, MapId, ModuleDefId}
-use Rattle.hir_base.specs.Types.{ModuleId, SyntaxId}
+use Rattle.hir_base.specs.declared.ids.AdtId.{AdtId}
+use Rattle.hir_base.specs.declared.ast_id.AstId.{AstId}
+use Rattle.hir_base.specs.declared.ast_id.BlockId.{BlockId}
+use Rattle.hir_base.specs.declared.place.BlockPlace.{BlockPlace}
+use Rattle.hir_base.specs.declared.ids.Crate.{Crate}
+use Rattle.hir_base.specs.declared.ast_id.EditionedFileId.{EditionedFileId}
+use Rattle.hir_base.specs.declared.ast_id.HirFileId.{HirFileId}
+use Rattle.hir_base.specs.declared.ast_id.MacroCallId.{MacroCallId}
+use Rattle.hir_base.specs.declared.macro_kind.MacroCallLoc.{MacroCallLoc}
+use Rattle.hir_base.specs.declared.macro_kind.MacroId.{MacroId}
+use Rattle.hir_base.specs.declared.ids.MapId.{MapId}
+use Rattle.hir_base.specs.declared.ids.ModuleDefId.{ModuleDefId}
+use Rattle.hir_base.specs.declared.ids.ModuleId.{ModuleId}
+use Rattle.hir_base.specs.declared.ast_id.SyntaxId.{SyntaxId}
 use Rattle.hir_base.specs.declared.ast_id.HirFileId.TheVariants.{File, Macro}
 use Rattle.hir_base.specs.declared.ids.AdtId.TheVariants as adt
 use Rattle.hir_base.specs.declared.ids.ModuleDefId.TheVariants as def
 use Rattle.hir_base.specs.contracts.ids.MapIdPartialEq.TheImpl as map_id
 use Rattle.hir_base.specs.declared.macro_kind.MacroId.TheVariants as macro
-use Rattle.hir_scope.specs.Types.{ImportOrExternCrate, ImportOrGlob, Visibility}
+use Rattle.hir_scope.specs.declared.imports.ImportOrExternCrate.{ImportOrExternCrate}
+use Rattle.hir_scope.specs.declared.imports.ImportOrGlob.{ImportOrGlob}
+use Rattle.hir_scope.specs.declared.visibility.Visibility.{Visibility}
 use Rattle.hir_scope.specs.declared.imports.ImportOrExternCrate.TheVariants as import
 use Rattle.hir_scope.specs.declared.imports.ImportOrGlob.TheVariants as value_import
 use Rattle.hir_scope.specs.PerNs.{Item}
@@ -30,10 +44,11 @@ use Rattle.hir_def_map_rules.specs.State.{ModuleValue, crate_map, module_at}
 use Rattle.hir_def_map_rules.specs.Overlay.{Maps, Placed, holders_of, overlay, module_in, placed_in}
 use Rattle.hir_def_map_rules.proofs.StaysWellFormed.{Extends-overlay, IsClosed-overlay, LocalIsThere-begins}
 use Rattle.hir_def_map_rules.proofs.StaysSourced.{HoldsNowhere-overlay}
-use Rattle.hir_def_map_rules.specs.Types.{ModuleOrigin}
+use Rattle.hir_def_map_rules.specs.declared.origin.ModuleOrigin.{ModuleOrigin}
 use Rattle.hir_def_map_rules.specs.declared.origin.ModuleOrigin.TheVariants as origin
 use Rattle.hir_def_map_rules.specs.declared.reference.Reference.TheVariants as named
-use Rattle.hir_item_tree.specs.Types.{TreeId, TreeKey}
+use Rattle.hir_item_tree.specs.declared.tree_id.TreeId.{TreeId}
+use Rattle.hir_item_tree.specs.declared.tree_id.TreeKey.{TreeKey}
 use Rattle.hir_tables.specs.SourcePlaces.{file, block as block_place, expansion}
 use Rattle.hir_tables.specs.Tables.{TablesValue, block_at, call_at, entry_at, source_of as source_of_tree}
 use Rattle.hir_def_map_rules.specs.Diagnostics.{call_node}
@@ -43,7 +58,13 @@ use Rattle.hir_collector_rules.specs.Start.{Beginning, read_by}
 use Rattle.hir_def_collector_laws.specs.Sources.{BeginsClear, IsClearOf, RunsBindFromSources}
 use Rattle.hir_def_collector_laws.specs.Whole.{StandsOnWhole}
 use Rattle.hir_collector_rules.specs.declared.source_database.Key.TheVariants as keys
-use Rattle.hir_wire.specs.Types.{AnswerVisibility, Definition, ImportSource, ItemSource, MacroStyle, Shadow, SourceKind}
+use Rattle.hir_wire.specs.declared.answer.AnswerVisibility.{AnswerVisibility}
+use Rattle.hir_wire.specs.declared.answer.Definition.{Definition}
+use Rattle.hir_wire.specs.declared.answer.ImportSource.{ImportSource}
+use Rattle.hir_wire.specs.declared.answer.ItemSource.{ItemSource}
+use Rattle.hir_wire.specs.declared.command.MacroStyle.{MacroStyle}
+use Rattle.hir_wire.specs.declared.command.Shadow.{Shadow}
+use Rattle.hir_wire.specs.declared.answer.SourceKind.{SourceKind}
 use Rattle.hir_session_answers.specs.Answers.{answer_in, asking_of}
 use Rattle.hir_session_answers.specs.LeavesOut.{LeavesNothingOut}
 use Rattle.hir_session_state.specs.Kept.{collected_of, placed_by}

@@ -5,12 +5,15 @@ use Rattle.std.specs.Option.{option_and_then}
 use Rattle.std.proofs.Common.{◌≡◌, inl, inr, ◌∙◌, ap, sym, subst, refl, ℕ, zero, suc, ◌+◌, ◌<◌, Bool, true, false, not, ◌&&◌, ◌||◌, Option, Some, None}
 use Rattle.std.proofs.Common.{option_map, List, [], ◌∷◌, length, arith, Contains}
 use Rattle.hir_base.specs.contracts.ids.MapIdPartialEq.TheImpl as map_id
-use Rattle.hir_base.specs.Types.{BlockId, Crate, MapId, ModuleId}
+use Rattle.hir_base.specs.declared.ast_id.BlockId.{BlockId}
+use Rattle.hir_base.specs.declared.ids.Crate.{Crate}
+use Rattle.hir_base.specs.declared.ids.MapId.{MapId}
+use Rattle.hir_base.specs.declared.ids.ModuleId.{ModuleId}
 use Rattle.hir_crate_graph.specs.CrateSet.{has_crate}
 use Rattle.hir_collector_rules.specs.Derivation.{Ends}
 use Rattle.hir_collector_rules.specs.Start.{id_of as start_id, krate_of}
 use Rattle.hir_collector_rules.specs.Workspace.{dependencies_in}
-use Rattle.hir_collector_rules.specs.Types.{Dependency}
+use Rattle.hir_collector_rules.specs.declared.source_database.Dependency.{Dependency}
 use Rattle.hir_def_collector_laws.specs.Whole.{StandsOnWhole}
 use Rattle.hir_def_map.specs.Inner.PartLaws.{among-only, among-there}
 use Rattle.hir_def_map.specs.WorldParts.{are_of_some, is_of_some}

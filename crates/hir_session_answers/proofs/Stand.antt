@@ -1,6 +1,8 @@
 -- An answer that is given stands on what is kept.
 use Rattle.std.proofs.Common.{◌≡◌, List, Option, Some, None, option_map, Result, Ok, refl, sym, ap, subst, ◌∙◌}
-use Rattle.hir_base.specs.Types.{Crate, MapId, ModuleId}
+use Rattle.hir_base.specs.declared.ids.Crate.{Crate}
+use Rattle.hir_base.specs.declared.ids.MapId.{MapId}
+use Rattle.hir_base.specs.declared.ids.ModuleId.{ModuleId}
 use Rattle.hir_base.specs.ModPath.{Path}
 use Rattle.hir_base.specs.Place.{PlaceValue}
 use Rattle.hir_def_map_rules.specs.Closed.{PathsLeadToWhatIsThere}
@@ -9,10 +11,13 @@ use Rattle.hir_def_map_rules.specs.Sources.{PathsAnswerFromSources}
 use Rattle.hir_def_map_rules.specs.Overlay.{Maps, overlay}
 use Rattle.hir_def_map.specs.WorldParts.{among}
 use Rattle.hir_def_collector_laws.specs.Sources.{RunsBindFromSources}
-use Rattle.hir_wire.specs.Types.{Answer, MacroStyle, Shadow, Status}
+use Rattle.hir_wire.specs.declared.answer.Answer.{Answer}
+use Rattle.hir_wire.specs.declared.command.MacroStyle.{MacroStyle}
+use Rattle.hir_wire.specs.declared.command.Shadow.{Shadow}
+use Rattle.hir_wire.specs.declared.reply.Status.{Status}
 use Rattle.hir_wire.specs.declared.reply.Status.TheVariants as status
 use Rattle.hir_session_state.specs.SessionState.{SessionState, Resolution, kept_of, module_of, read_of, IsSound}
-use Rattle.hir_session_state.specs.Types.{QueryError}
+use Rattle.hir_session_state.specs.declared.error.QueryError.{QueryError}
 use Rattle.hir_session_answers.specs.Status.{status_of}
 use Rattle.hir_session_answers.specs.Answers.{answer_at, answer_by, answer_from, answer_in, answer_kept, answer_of, asking_of}
 use Rattle.hir_session_answers.specs.AnswersStand.{AnswersStand, StandsAt}

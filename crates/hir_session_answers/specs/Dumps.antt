@@ -1,12 +1,12 @@
 -- What does a dump show?
 use Rattle.std.specs.Prelude.{ℕ, List, Option, None, Some, Result, Ok, Err}
 use Rattle.hir_base.specs.Place.{PlaceValue}
-use Rattle.hir_base.specs.Types.{ModuleId}
+use Rattle.hir_base.specs.declared.ids.ModuleId.{ModuleId}
 use Rattle.hir_def_map_rules.specs.Dump.{dump_of}
 use Rattle.hir_def_map_rules.specs.Overlay.{Maps, overlay}
-use Rattle.hir_wire.specs.Types.{Status}
+use Rattle.hir_wire.specs.declared.reply.Status.{Status}
 use Rattle.hir_wire.specs.declared.reply.Status.TheVariants as status
-use Rattle.hir_session_state.specs.Types.{QueryError}
+use Rattle.hir_session_state.specs.declared.error.QueryError.{QueryError}
 use Rattle.hir_session_state.specs.declared.error.QueryError.TheVariants as error
 use Rattle.hir_session_state.specs.SessionState.{SessionState, Resolution, finished_of, kept_of, module_of}
 use Rattle.hir_session_answers.specs.Status.{status_of}

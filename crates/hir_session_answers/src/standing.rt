@@ -1,6 +1,6 @@
 //! Where the steps of a place lead, in what is kept. It takes no memory.
 ghost use Rattle.std.specs.Prelude.{◌≡◌, [], ◌∷◌, ◌++◌, List, is_some, option_map};
-ghost use Rattle.hir_base.specs.Types.{PlaceElement};
+ghost use Rattle.hir_base.specs.declared.place.PlaceElement.{PlaceElement};
 ghost use Rattle.hir_session_state.specs.Standing.{child_kept, down, kept_block, module_by, standing_in, step, to_child, to_root};
 ghost use Rattle.hir_session_state.specs.Standing.Standing.{at};
 ghost use Rattle.hir_session_answers.specs.Status.{status_by};

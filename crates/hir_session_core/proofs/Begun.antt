@@ -4,7 +4,15 @@ use Rattle.std.specs.Option.{IsSome, option_and_then}
 use Rattle.std.proofs.Common.{◌≡◌, ◌∙◌, ◌⊎◌, inl, inr, ap, sym, subst, refl, ℕ, zero, suc, ◌<◌, ◌≤◌, true, false, List, [], ◌∷◌, ◌++◌, length, Option, Some}
 use Rattle.std.proofs.Common.{None, option_map, Result, Ok, Err, IsErrAnd, OnErr, arith}
 use Rattle.hir_base.specs.Locations.{max_locations}
-use Rattle.hir_base.specs.Types.{BlockId, BlockPlace, Crate, EditionedFileId, FileId, LocationsError, MapId, ModuleId, SyntaxId}
+use Rattle.hir_base.specs.declared.ast_id.BlockId.{BlockId}
+use Rattle.hir_base.specs.declared.place.BlockPlace.{BlockPlace}
+use Rattle.hir_base.specs.declared.ids.Crate.{Crate}
+use Rattle.hir_base.specs.declared.ast_id.EditionedFileId.{EditionedFileId}
+use Rattle.hir_base.specs.declared.ast_id.FileId.{FileId}
+use Rattle.hir_base.specs.declared.locations.LocationsError.{LocationsError}
+use Rattle.hir_base.specs.declared.ids.MapId.{MapId}
+use Rattle.hir_base.specs.declared.ids.ModuleId.{ModuleId}
+use Rattle.hir_base.specs.declared.ast_id.SyntaxId.{SyntaxId}
 use Rattle.hir_base.specs.declared.locations.LocationsError.TheVariants as number_error
 use Rattle.hir_tables.specs.SourcePlaces.{block}
 use Rattle.hir_tables.specs.Tables.{KeepsTables, TablesValue, block_at, file_at}
@@ -29,7 +37,7 @@ use Rattle.hir_session_state.specs.SessionState.{IsResolved, IsResolutionOf, IsS
 use Rattle.hir_session_state.specs.SessionState.IsPlace.{of_block, of_crate}
 use Rattle.hir_session_state.specs.SourceTable.{SourceTable}
 use Rattle.hir_session_state.specs.Refusals.{refresh_error_of_number}
-use Rattle.hir_session_state.specs.Types.{RefreshError}
+use Rattle.hir_session_state.specs.declared.error.RefreshError.{RefreshError}
 use Rattle.hir_session_state.specs.declared.error.RefreshError.TheVariants as refresh_error
 use Rattle.hir_session_state.specs.Standing.{block_map, block_number, definition_file, is_set, module_by}
 use Rattle.hir_session_state.proofs.Holders.{ends_held}

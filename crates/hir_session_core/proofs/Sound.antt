@@ -3,7 +3,13 @@ use Rattle.std.specs.Prelude.{is_none, map}
 use Rattle.std.proofs.Common.{◌≡◌, ◌≢◌, ◌⊎◌, inl, inr, ℕ, zero, suc, ◌<◌, Bool, true, false, ◌||◌, is_some, List, [], ◌∷◌, length, arith, Option, Some, None}
 use Rattle.std.proofs.Common.{option_map, refl, sym, ap, ◌∙◌, subst, Contains}
 use Rattle.hir_base.specs.contracts.ids.MapIdPartialEq.TheImpl as map_id
-use Rattle.hir_base.specs.Types.{BlockId, BlockPlace, Crate, EditionedFileId, MapId, ModuleId, SyntaxId}
+use Rattle.hir_base.specs.declared.ast_id.BlockId.{BlockId}
+use Rattle.hir_base.specs.declared.place.BlockPlace.{BlockPlace}
+use Rattle.hir_base.specs.declared.ids.Crate.{Crate}
+use Rattle.hir_base.specs.declared.ast_id.EditionedFileId.{EditionedFileId}
+use Rattle.hir_base.specs.declared.ids.MapId.{MapId}
+use Rattle.hir_base.specs.declared.ids.ModuleId.{ModuleId}
+use Rattle.hir_base.specs.declared.ast_id.SyntaxId.{SyntaxId}
 use Rattle.hir_tables.specs.SourcePlaces.{block}
 use Rattle.hir_tables.specs.Tables.{TablesValue, block_at}
 use Rattle.hir_tables.proofs.Growth.{KeepsTables-refl}
@@ -18,7 +24,7 @@ use Rattle.hir_collector_rules.specs.Start.{Beginning, holder_of, root_key}
 use Rattle.hir_collector_rules.specs.Workspace.{Workspace, seen_of}
 use Rattle.hir_collector_rules.proofs.Asks.{still_asked}
 use Rattle.std.proofs.lemmas.List.Elements.{Contains-append_left}
-use Rattle.hir_collector_rules.specs.Types.{Key}
+use Rattle.hir_collector_rules.specs.declared.source_database.Key.{Key}
 use Rattle.hir_crate_graph.specs.CrateSet.{has_crate}
 use Rattle.hir_session_state.specs.Crates.{CrateValue, begins_in_block, transitive_in, id_of}
 use Rattle.hir_session_state.specs.SourceEdits.{SourceEditValue, edited as made}

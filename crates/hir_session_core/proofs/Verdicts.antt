@@ -2,12 +2,13 @@
 use Rattle.std.proofs.Common.{◌≡◌, ℕ, ◌≤◌, false, nat_lt, List, length, map, Option, None, Some, option_map, Result, Ok, Err, OnOk, IfErr, ◌⊎◌, inl, inr, refl}
 use Rattle.std.proofs.Common.{sym, subst, arith}
 use Rattle.std.proofs.lemmas.List.{length-map}
-use Rattle.hir_base.specs.Types.{Crate, PlaceElement}
+use Rattle.hir_base.specs.declared.ids.Crate.{Crate}
+use Rattle.hir_base.specs.declared.place.PlaceElement.{PlaceElement}
 use Rattle.std.specs.List.{list_any}
 use Rattle.hir_wire.specs.CommandValue.{CrateInputValue}
 use Rattle.hir_session_state.specs.Refusals.{IsEditMemory, first_out_of_order, is_too_deep, is_too_long, verdict_of_new, verdict_with_steps}
 use Rattle.hir_session_state.specs.SessionState.{max_crates}
-use Rattle.hir_session_state.specs.Types.{EditError}
+use Rattle.hir_session_state.specs.declared.error.EditError.{EditError}
 use Rattle.hir_session_state.specs.declared.error.EditError.TheVariants as edit_error
 use Rattle.hir_session_core.specs.BlockVerdicts.{told_with_steps}
 

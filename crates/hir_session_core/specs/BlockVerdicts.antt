@@ -1,8 +1,8 @@
 -- How is a block checked? No public clause speaks of this.
 use Rattle.std.specs.Prelude.{List, Result, Ok, Err}
-use Rattle.hir_base.specs.Types.{PlaceElement}
+use Rattle.hir_base.specs.declared.place.PlaceElement.{PlaceElement}
 use Rattle.hir_session_state.specs.Refusals.{verdict_with_steps}
-use Rattle.hir_session_state.specs.Types.{EditError}
+use Rattle.hir_session_state.specs.declared.error.EditError.{EditError}
 use Rattle.hir_session_state.specs.declared.error.EditError.TheVariants as edit_error
 
 -- what is told where this came of the check of a source, with the steps to its block: that memory ran out before all else

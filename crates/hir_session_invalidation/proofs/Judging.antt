@@ -7,14 +7,15 @@ use Rattle.std.proofs.lemmas.Map.Views.{btree_set_contains_iff}
 use Rattle.std.specs.BTreeSet.{BTreeSet}
 use Rattle.std.specs.Ordering.{is_eq}
 use Rattle.std.proofs.lemmas.List.Elements.{Contains-append_left, Contains-append_right, Contains-append_cases}
-use Rattle.hir_base.specs.Types.{Crate, MapId}
+use Rattle.hir_base.specs.declared.ids.Crate.{Crate}
+use Rattle.hir_base.specs.declared.ids.MapId.{MapId}
 use Rattle.hir_base.specs.contracts.ids.MapIdOrd.TheImpl as map_order
 use Rattle.hir_base.specs.contracts.ids.MapIdOrd.TheImpl.Laws.{total-law as order_total}
 use Rattle.hir_def_map_rules.specs.Overlay.{no_maps}
 use Rattle.hir_tables.specs.Tables.{TablesValue}
 use Rattle.hir_collector_rules.specs.Asked.{IsOwnPart}
 use Rattle.hir_collector_rules.specs.Keys.{AgreeOn, look, map_keys}
-use Rattle.hir_collector_rules.specs.Types.{Key}
+use Rattle.hir_collector_rules.specs.declared.source_database.Key.{Key}
 use Rattle.hir_collector_rules.specs.Workspace.{Workspace}
 use Rattle.hir_session_state.specs.Crates.{CrateValue}
 use Rattle.hir_session_state.specs.Kept.{Resolutions, kept_in}
@@ -26,7 +27,7 @@ use Rattle.hir_session_state.specs.SourceTable.{SourceTable, workspace_in}
 use Rattle.hir_session_state.specs.EditedSources.{AreHit, AreJudged, HasAltered, IsAsked, IsJudged, IsNoted}
 use Rattle.hir_session_state.specs.EditedSources.IsJudged.{hit, missed}
 use Rattle.hir_session_state.specs.EditedSources.IsNoted.{hit as noted, missed as unnoted}
-use Rattle.hir_session_state.specs.Types.{SourceNumber}
+use Rattle.hir_session_state.specs.declared.source_number.SourceNumber.{SourceNumber}
 use Rattle.hir_session_state.proofs.Depending.{any-found, found-any}
 use Rattle.hir_session_state.proofs.NumberLemmas.{is-number, unasked-place, unnumbered-place}
 use Rattle.hir_session_sources.proofs.SourceLemmas.{look-apart}

@@ -3,13 +3,18 @@ use Rattle.std.proofs.Common.{◌≡◌, ◌⊎◌, inl, inr, ℕ, zero, suc, �
 use Rattle.std.proofs.Common.{Result, Ok, Err, refl, sym, subst, ◌∙◌}
 use Rattle.hir_base.specs.ModPath.{Path}
 use Rattle.hir_base.specs.Place.{PlaceValue}
-use Rattle.hir_base.specs.Types.{Crate, MapId}
-use Rattle.hir_collector_rules.specs.Types.{Key}
+use Rattle.hir_base.specs.declared.ids.Crate.{Crate}
+use Rattle.hir_base.specs.declared.ids.MapId.{MapId}
+use Rattle.hir_collector_rules.specs.declared.source_database.Key.{Key}
 use Rattle.hir_wire.specs.CommandValue.{CommandValue, diagnostics, resolve}
 use Rattle.hir_wire.specs.Commands.{reading_of}
-use Rattle.hir_wire.specs.Types.{Answer, Diagnostic, MacroStyle, Reply, Shadow}
+use Rattle.hir_wire.specs.declared.answer.Answer.{Answer}
+use Rattle.hir_wire.specs.declared.diagnostic.Diagnostic.{Diagnostic}
+use Rattle.hir_wire.specs.declared.command.MacroStyle.{MacroStyle}
+use Rattle.hir_wire.specs.declared.reply.Reply.{Reply}
+use Rattle.hir_wire.specs.declared.command.Shadow.{Shadow}
 use Rattle.hir_wire.specs.declared.reply.Reply.TheVariants as reply
-use Rattle.hir_session_state.specs.Types.{QueryError}
+use Rattle.hir_session_state.specs.declared.error.QueryError.{QueryError}
 use Rattle.hir_session_state.specs.declared.error.QueryError.TheVariants as query_error
 use Rattle.hir_lines.specs.declared.open_line.TheConstants.{LINE_LIMIT}
 use Rattle.hir_session_state.specs.SessionState.{SessionState, standing_of, IsSound}

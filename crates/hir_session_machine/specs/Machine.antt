@@ -3,14 +3,24 @@ use Rattle.std.specs.Prelude.{◌≡◌, ℕ, Bool, true, false, List, length, O
 use Rattle.std.specs.declared.alloc.Global.{Global}
 use Rattle.hir_base.specs.ModPath.{Path}
 use Rattle.hir_base.specs.Place.{PlaceValue}
-use Rattle.hir_base.specs.Types.{Crate}
+use Rattle.hir_base.specs.declared.ids.Crate.{Crate}
 use Rattle.hir_wire.specs.Edits.{EditValue}
 use Rattle.hir_wire.specs.CommandValue.{CommandValue, CrateInputValue, crates, diagnostics, dump, edit, refresh, resolve, status, tree}
 use Rattle.hir_wire.specs.Commands.{reading_of}
-use Rattle.hir_wire.specs.Types.{Answer, Diagnostic, MacroStyle, ReadError, Reply, Shadow}
+use Rattle.hir_wire.specs.declared.answer.Answer.{Answer}
+use Rattle.hir_wire.specs.declared.diagnostic.Diagnostic.{Diagnostic}
+use Rattle.hir_wire.specs.declared.command.MacroStyle.{MacroStyle}
+use Rattle.hir_wire.specs.declared.read_error.ReadError.{ReadError}
+use Rattle.hir_wire.specs.declared.reply.Reply.{Reply}
+use Rattle.hir_wire.specs.declared.command.Shadow.{Shadow}
 use Rattle.hir_wire.specs.declared.read_error.ReadError.TheVariants as read_error
 use Rattle.hir_wire.specs.declared.reply.Reply.TheVariants as reply
-use Rattle.hir_session_state.specs.Types.{DiagnosticsError, EditError, NewSessionError, QueryError, RefreshError, TreeTextError}
+use Rattle.hir_session_state.specs.declared.error.DiagnosticsError.{DiagnosticsError}
+use Rattle.hir_session_state.specs.declared.error.EditError.{EditError}
+use Rattle.hir_session_state.specs.declared.error.NewSessionError.{NewSessionError}
+use Rattle.hir_session_state.specs.declared.error.QueryError.{QueryError}
+use Rattle.hir_session_state.specs.declared.error.RefreshError.{RefreshError}
+use Rattle.hir_session_state.specs.declared.error.TreeTextError.{TreeTextError}
 use Rattle.hir_session_state.specs.declared.error.NewSessionError.TheVariants as new_error
 use Rattle.hir_session_state.specs.declared.error.EditError.TheVariants as edit_error
 use Rattle.hir_session_state.specs.declared.error.RefreshError.TheVariants as refresh_error

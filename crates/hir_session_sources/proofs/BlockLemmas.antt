@@ -21,7 +21,9 @@ use Rattle.hir_base.specs.contracts.place.BlockPlacePartialEq.TheImpl as block_e
 use Rattle.hir_base.specs.contracts.place.PlaceElementOrd.TheImpl as element_order
 use Rattle.hir_base.specs.contracts.place.PlaceElementOrd.TheImpl.Laws.{total-law as elements_total, matches_eq-law as elements_tie}
 use Rattle.hir_base.specs.contracts.place.PlaceElementPartialEq.TheImpl as element_eq
-use Rattle.hir_base.specs.Types.{BlockPlace, Crate, PlaceElement}
+use Rattle.hir_base.specs.declared.place.BlockPlace.{BlockPlace}
+use Rattle.hir_base.specs.declared.ids.Crate.{Crate}
+use Rattle.hir_base.specs.declared.place.PlaceElement.{PlaceElement}
 use Rattle.hir_base.specs.declared.place.PlaceElement.TheVariants as element
 use Rattle.hir_item_tree.specs.Source.{SourceValue}
 use Rattle.hir_session_state.specs.Blocks.{Blocks, CrateBlocks, block_in, blocks_in, blocks_of, blocks_with, place_of_block, steps_cmp, steps_with, with_block}

@@ -14,7 +14,9 @@ use Rattle.hir_base.specs.contracts.macro_kind.ExpansionKeyOrd.TheImpl as key_or
 use Rattle.hir_base.specs.contracts.macro_kind.MacroTextOrd.TheImpl as text_order
 use Rattle.hir_base.specs.contracts.macro_kind.MacroTextOrd.TheImpl.Laws.{total-law as macros_total, matches_eq-law as macros_tie}
 use Rattle.hir_base.specs.contracts.macro_kind.MacroTextPartialEq.TheImpl as text_eq
-use Rattle.hir_base.specs.Types.{CallStyle, ExpansionKey, MacroText}
+use Rattle.hir_base.specs.declared.macro_kind.CallStyle.{CallStyle}
+use Rattle.hir_base.specs.declared.macro_kind.ExpansionKey.{ExpansionKey}
+use Rattle.hir_base.specs.declared.macro_kind.MacroText.{MacroText}
 use Rattle.hir_base.specs.declared.macro_kind.CallStyle.TheVariants as style
 use Rattle.hir_tables.specs.SourcePlaces.{ExpansionValue, expansion_value}
 use Rattle.hir_session_state.specs.Entries.{expansion_cmp}

@@ -12,7 +12,9 @@ use Rattle.std.specs.declared.rc.Rc.{Rc}
 use Rattle.hir_base.specs.contracts.ids.CrateOrd.TheImpl as crate_order
 use Rattle.hir_base.specs.contracts.macro_kind.ExpansionKeyOrd.TheImpl as key_order
 use Rattle.hir_base.specs.contracts.place.BlockPlaceOrd.TheImpl as block_order
-use Rattle.hir_base.specs.Types.{BlockPlace, Crate, ExpansionKey}
+use Rattle.hir_base.specs.declared.place.BlockPlace.{BlockPlace}
+use Rattle.hir_base.specs.declared.ids.Crate.{Crate}
+use Rattle.hir_base.specs.declared.macro_kind.ExpansionKey.{ExpansionKey}
 use Rattle.hir_item_tree.specs.SourceTree.{SourceTreeValue}
 use Rattle.hir_tables.specs.SourcePlaces.{ExpansionValue, SourcePlaceValue, expansion_value, block, expansion, file}
 use Rattle.hir_session_state.specs.Entries.{by_value, expansion_cmp}

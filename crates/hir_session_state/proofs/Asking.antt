@@ -1,12 +1,13 @@
 -- For which sources the runs of places asked.
 use Rattle.std.proofs.Common.{◌≡◌, ◌≢◌, ◌⊎◌, ◌∙◌, ap, sym, subst, zero, suc, ◌<◌, true, Some, None, List, [], ◌∷◌, inl, inr, arith, Contains}
 use Rattle.std.proofs.lemmas.List.Elements.{Contains-append_cases}
-use Rattle.hir_base.specs.Types.{Crate, MapId}
+use Rattle.hir_base.specs.declared.ids.Crate.{Crate}
+use Rattle.hir_base.specs.declared.ids.MapId.{MapId}
 use Rattle.hir_tables.specs.Tables.{TablesValue, KeepsTables}
 use Rattle.hir_collector_rules.specs.Asked.{IsOwnPart}
 use Rattle.hir_collector_rules.specs.Growth.{AskedKeysHaveMeaning}
 use Rattle.hir_collector_rules.specs.Keys.{HasMeaning, map_keys}
-use Rattle.hir_collector_rules.specs.Types.{Key}
+use Rattle.hir_collector_rules.specs.declared.source_database.Key.{Key}
 use Rattle.hir_session_state.specs.Askers.{is_asker, AreNoted, KeepsAskers}
 use Rattle.hir_session_state.specs.Kept.{Resolutions, collected_of, kept_in}
 use Rattle.hir_session_state.specs.SessionState.{SessionState, Resolution, IsSound, workspace_of, finished_of}

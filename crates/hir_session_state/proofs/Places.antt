@@ -18,7 +18,10 @@ use Rattle.hir_base.specs.contracts.place.BlockPlacePartialEq.TheImpl as block_e
 use Rattle.hir_base.specs.contracts.place.PlaceElementPartialEq.TheImpl as element_eq
 use Rattle.hir_base.specs.contracts.place.PlaceOrd.TheImpl.Laws.{total-law as place_total}
 use Rattle.hir_base.specs.contracts.place.PlacePartialEq.TheImpl as place_eq
-use Rattle.hir_base.specs.Types.{BlockId, BlockPlace, PlaceElement, SyntaxId}
+use Rattle.hir_base.specs.declared.ast_id.BlockId.{BlockId}
+use Rattle.hir_base.specs.declared.place.BlockPlace.{BlockPlace}
+use Rattle.hir_base.specs.declared.place.PlaceElement.{PlaceElement}
+use Rattle.hir_base.specs.declared.ast_id.SyntaxId.{SyntaxId}
 use Rattle.hir_base.specs.declared.place.PlaceElement.TheVariants as element
 use Rattle.hir_tables.specs.Tables.{TablesValue, HasEachOnce, KeepsTables, block_at}
 use Rattle.hir_session_state.specs.Blocks.{block_cmp, nesting_of, place_of_block}

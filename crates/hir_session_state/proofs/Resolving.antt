@@ -5,7 +5,11 @@ use Rattle.std.proofs.Common.{option_map, refl, sym, ap, ◌∙◌, subst, Conta
 use Rattle.std.specs.List.{list_any}
 use Rattle.std.specs.Option.{IsSome, option_and_then}
 use Rattle.hir_base.specs.contracts.ids.MapIdPartialEq.TheImpl as map_id
-use Rattle.hir_base.specs.Types.{BlockId, BlockPlace, Crate, MapId, ModuleId}
+use Rattle.hir_base.specs.declared.ast_id.BlockId.{BlockId}
+use Rattle.hir_base.specs.declared.place.BlockPlace.{BlockPlace}
+use Rattle.hir_base.specs.declared.ids.Crate.{Crate}
+use Rattle.hir_base.specs.declared.ids.MapId.{MapId}
+use Rattle.hir_base.specs.declared.ids.ModuleId.{ModuleId}
 use Rattle.hir_scope.specs.ModuleTree.{same_crate}
 use Rattle.hir_tables.specs.SourcePlaces.{file}
 use Rattle.hir_tables.specs.Tables.{KeepsTables, TablesValue, file_at}
@@ -21,7 +25,7 @@ use Rattle.hir_collector_rules.specs.Derivation.{CollectedValue, Ends}
 use Rattle.hir_collector_rules.specs.Growth.{AnswersStand, AskedKeysHaveMeaning, LooksStand}
 use Rattle.hir_collector_rules.specs.Start.{Beginning, holder_of, holders_by, id_of as start_id, krate_of, read_by, root_site}
 use Rattle.hir_collector_rules.specs.Workspace.{dependencies_of as named_by}
-use Rattle.hir_collector_rules.specs.Types.{Dependency}
+use Rattle.hir_collector_rules.specs.declared.source_database.Dependency.{Dependency}
 use Rattle.hir_collector_rules.proofs.ModuleFiles.{site_kept}
 use Rattle.hir_def_collector_laws.specs.Whole.{RunsNameWhatIsThere, StandsOnWhole}
 use Rattle.hir_crate_graph.specs.CrateSet.{has_crate}

@@ -2,7 +2,11 @@
 use Rattle.std.proofs.Common.{◌≡◌, ◌≢◌, ◌⊎◌, inl, inr, ℕ, zero, suc, ◌<◌, List, [], ◌∷◌, ◌++◌, length, true, ◌&&◌, cond, is_some, arith, Option, Some, None}
 use Rattle.std.proofs.Common.{option_map, refl, sym, ap, ◌∙◌, subst, Contains, eq-eqb}
 use Rattle.hir_base.specs.contracts.ids.MapIdPartialEq.TheImpl as map_id
-use Rattle.hir_base.specs.Types.{BlockId, Crate, MacroId, MapId, ModuleId}
+use Rattle.hir_base.specs.declared.ast_id.BlockId.{BlockId}
+use Rattle.hir_base.specs.declared.ids.Crate.{Crate}
+use Rattle.hir_base.specs.declared.macro_kind.MacroId.{MacroId}
+use Rattle.hir_base.specs.declared.ids.MapId.{MapId}
+use Rattle.hir_base.specs.declared.ids.ModuleId.{ModuleId}
 use Rattle.hir_base.specs.declared.macro_kind.MacroId.TheVariants as macros
 use Rattle.hir_scope.specs.ModuleTree.{same_crate}
 use Rattle.hir_tables.specs.Tables.{TablesValue}
@@ -20,7 +24,8 @@ use Rattle.hir_collector_rules.specs.Start.{Beginning, held_keys, holder_keys, h
 use Rattle.hir_collector_rules.specs.State.{State}
 use Rattle.hir_collector_rules.specs.Steps.{keys_read}
 use Rattle.hir_collector_rules.specs.Workspace.{Workspace, transitive_dependencies_in}
-use Rattle.hir_collector_rules.specs.Types.{Key, MacroDirective}
+use Rattle.hir_collector_rules.specs.declared.source_database.Key.{Key}
+use Rattle.hir_collector_rules.specs.declared.macro_directive.MacroDirective.{MacroDirective}
 use Rattle.hir_collector_rules.specs.declared.source_database.Key.TheVariants as keys
 use Rattle.hir_crate_graph.specs.CrateSet.{has_crate}
 use Rattle.hir_session_state.specs.Crates.{begins_in_block, id_of, transitive_in}

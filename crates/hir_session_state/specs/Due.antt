@@ -3,10 +3,12 @@ use Rattle.std.specs.Prelude.{◌≡◌, ◌≢◌, IsTrue, ℕ, ◌<◌, ◌≤
 use Rattle.std.specs.Ordering.{is_le}
 use Rattle.hir_base.specs.Locations.{max_locations}
 use Rattle.hir_base.specs.Place.{PlaceValue}
-use Rattle.hir_base.specs.Types.{BlockPlace, MapId, ModuleId}
+use Rattle.hir_base.specs.declared.place.BlockPlace.{BlockPlace}
+use Rattle.hir_base.specs.declared.ids.MapId.{MapId}
+use Rattle.hir_base.specs.declared.ids.ModuleId.{ModuleId}
 use Rattle.hir_collector_rules.specs.Derivation.{IsOverlong}
 use Rattle.hir_collector_rules.specs.Start.{Beginning}
-use Rattle.hir_collector_rules.specs.Types.{Key}
+use Rattle.hir_collector_rules.specs.declared.source_database.Key.{Key}
 use Rattle.hir_session_state.specs.Blocks.{block_cmp, place_of_block}
 use Rattle.hir_session_state.specs.Crates.{id_of}
 use Rattle.hir_session_state.specs.Standing.{block_number, is_set, place_of_map}

@@ -8,7 +8,7 @@ use Rattle.std.specs.declared.cmp.Ordering.{Ordering}
 use Rattle.hir_base.specs.contracts.ids.CrateOrd.TheImpl as crate_order
 use Rattle.hir_base.specs.contracts.macro_kind.CallStyleOrd.TheImpl as style_order
 use Rattle.hir_base.specs.contracts.macro_kind.MacroTextOrd.TheImpl as text_order
-use Rattle.hir_base.specs.Types.{ExpansionKey}
+use Rattle.hir_base.specs.declared.macro_kind.ExpansionKey.{ExpansionKey}
 use Rattle.hir_item_tree.specs.Source.{SourceValue}
 use Rattle.hir_tables.specs.SourcePlaces.{ExpansionValue, expansion_value}
 use Rattle.hir_collector_rules.specs.Workspace.{EntryLook}

@@ -2,7 +2,12 @@
 use Rattle.std.specs.Prelude.{◌≡◌, ℕ, ◌+◌, Bool, false, true, ◌&&◌, not, nat_le, nat_lt, List, [], ◌∷◌, length, map, Option, Some, None, Result, Ok, Err}
 use Rattle.std.specs.Prelude.{if◌then◌else◌}
 use Rattle.std.specs.List.{list_all, list_any}
-use Rattle.hir_base.specs.Types.{BlockPlace, Crate, Limit, LocationsError, MacroText, PlaceElement}
+use Rattle.hir_base.specs.declared.place.BlockPlace.{BlockPlace}
+use Rattle.hir_base.specs.declared.ids.Crate.{Crate}
+use Rattle.hir_base.specs.declared.limit.Limit.{Limit}
+use Rattle.hir_base.specs.declared.locations.LocationsError.{LocationsError}
+use Rattle.hir_base.specs.declared.macro_kind.MacroText.{MacroText}
+use Rattle.hir_base.specs.declared.place.PlaceElement.{PlaceElement}
 use Rattle.hir_base.specs.declared.locations.LocationsError.TheVariants as number_error
 use Rattle.hir_base.specs.declared.limit.Limit.TheVariants as limit
 use Rattle.hir_base.specs.declared.place.PlaceElement.TheVariants as element
@@ -10,12 +15,12 @@ use Rattle.hir_tables.specs.SourcePlaces.{ExpansionValue}
 use Rattle.hir_item_tree.specs.Source.{SourceValue}
 use Rattle.hir_item_tree.specs.Check.{verdict_of_check}
 use Rattle.hir_item_tree.specs.Limits.{are_deep, have_long_attribute}
-use Rattle.hir_item_tree.specs.Types.{CheckError}
+use Rattle.hir_item_tree.specs.declared.check.CheckError.{CheckError}
 use Rattle.hir_item_tree.specs.declared.check.CheckError.TheVariants as check_error
-use Rattle.hir_collector_rules.specs.Types.{CollectError}
+use Rattle.hir_collector_rules.specs.declared.start.CollectError.{CollectError}
 use Rattle.hir_collector_rules.specs.declared.start.CollectError.TheVariants as collect_error
 use Rattle.hir_wire.specs.CommandValue.{CrateInputValue}
-use Rattle.hir_wire.specs.Types.{Dependency}
+use Rattle.hir_wire.specs.declared.command.Dependency.{Dependency}
 use Rattle.hir_wire.specs.Edits.{EditValue, set_file, remove_file, set_block, remove_block, set_expansion, remove_expansion}
 use Rattle.hir_session_state.specs.declared.error.NewSessionError.{NewSessionError}
 use Rattle.hir_session_state.specs.declared.error.NewSessionError.TheVariants as new_error

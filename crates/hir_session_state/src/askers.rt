@@ -1,7 +1,7 @@
 //! Which places asked for a source.
 ghost use Rattle.std.specs.Prelude.{◌≡◌, true, Some, Contains, OnOk, option_map};
 ghost use Rattle.std.specs.BTreeMap.{get};
-ghost use Rattle.hir_collector_rules.specs.Types.{Key};
+ghost use Rattle.hir_collector_rules.specs.declared.source_database.Key.{Key};
 ghost use Rattle.hir_session_state.specs.declared.source_number.SourceNumber.{SourceNumber as Number};
 ghost use Rattle.hir_session_state.specs.contracts.source_number.SourceNumberOrd.TheImpl as number_order;
 ghost use Rattle.hir_session_state.specs.Askers.{is_asker, KeepsAskers};

@@ -1,7 +1,7 @@
 //! What is kept of the places that were resolved.
 ghost use Rattle.std.specs.Prelude.{◌≡◌, ◌≢◌, true, None, Some, OnOk, OnErr, option_map};
 ghost use Rattle.std.specs.BTreeMap.{get, IsUnchanged};
-ghost use Rattle.hir_base.specs.Types.{MapId};
+ghost use Rattle.hir_base.specs.declared.ids.MapId.{MapId};
 ghost use Rattle.hir_base.specs.contracts.ids.MapIdOrd.TheImpl as map_order;
 ghost use Rattle.hir_def_map.specs.Insertion.{may_join};
 ghost use Rattle.hir_def_map_rules.specs.References.{is_well_formed};

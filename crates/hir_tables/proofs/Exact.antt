@@ -25,7 +25,17 @@ use Rattle.hir_base.specs.contracts.place.BlockPlaceEq.TheImpl.Laws.{laws-law as
 use Rattle.hir_base.specs.contracts.place.BlockPlacePartialEq.TheImpl as block_eq
 use Rattle.hir_base.specs.contracts.place.PlaceElementPartialEq.TheImpl as element_eq
 use Rattle.hir_base.specs.contracts.place.PlacePartialEq.TheImpl as place_eq
-use Rattle.hir_base.specs.Types.{AstId, BlockId, BlockPlace, CallStyle, ExpansionKey, HirFileId, MacroCallKind, MacroCallLoc, MacroText, PlaceElement, SyntaxId}
+use Rattle.hir_base.specs.declared.ast_id.AstId.{AstId}
+use Rattle.hir_base.specs.declared.ast_id.BlockId.{BlockId}
+use Rattle.hir_base.specs.declared.place.BlockPlace.{BlockPlace}
+use Rattle.hir_base.specs.declared.macro_kind.CallStyle.{CallStyle}
+use Rattle.hir_base.specs.declared.macro_kind.ExpansionKey.{ExpansionKey}
+use Rattle.hir_base.specs.declared.ast_id.HirFileId.{HirFileId}
+use Rattle.hir_base.specs.declared.macro_kind.MacroCallKind.{MacroCallKind}
+use Rattle.hir_base.specs.declared.macro_kind.MacroCallLoc.{MacroCallLoc}
+use Rattle.hir_base.specs.declared.macro_kind.MacroText.{MacroText}
+use Rattle.hir_base.specs.declared.place.PlaceElement.{PlaceElement}
+use Rattle.hir_base.specs.declared.ast_id.SyntaxId.{SyntaxId}
 use Rattle.hir_base.specs.declared.ast_id.HirFileId.TheVariants as hir_file
 use Rattle.hir_base.specs.declared.macro_kind.CallStyle.TheVariants as style
 use Rattle.hir_base.specs.declared.macro_kind.MacroCallKind.TheVariants as kind

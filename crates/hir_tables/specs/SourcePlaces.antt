@@ -1,6 +1,10 @@
 -- Where does a source stand?
 use Rattle.std.specs.Prelude.{ℕ, List}
-use Rattle.hir_base.specs.Types.{BlockPlace, CallStyle, Crate, ExpansionKey, MacroText}
+use Rattle.hir_base.specs.declared.place.BlockPlace.{BlockPlace}
+use Rattle.hir_base.specs.declared.macro_kind.CallStyle.{CallStyle}
+use Rattle.hir_base.specs.declared.ids.Crate.{Crate}
+use Rattle.hir_base.specs.declared.macro_kind.ExpansionKey.{ExpansionKey}
+use Rattle.hir_base.specs.declared.macro_kind.MacroText.{MacroText}
 use Rattle.hir_tables.specs.declared.source_place.SourcePlace.{SourcePlace}
 use Rattle.hir_tables.specs.declared.source_place.SourcePlace.TheVariants.{File, Block, Expansion}
 

@@ -1,7 +1,7 @@
 -- What does a `use` item mean: which imports?
 use Rattle.std.specs.Prelude.{ℕ, zero, suc, ◌+◌, List, [], ◌∷◌, ◌++◌, Option, Some, None, nat_lt, if◌then◌else◌}
 use Rattle.hir_base.specs.ModPath.{Path}
-use Rattle.hir_base.specs.Types.{PathKind}
+use Rattle.hir_base.specs.declared.mod_path.PathKind.{PathKind}
 use Rattle.hir_base.specs.declared.mod_path.PathKind.TheVariants as roots
 use Rattle.hir_use_tree.specs.declared.imports.ImportAlias.{ImportAlias}
 use Rattle.hir_use_tree.specs.declared.imports.ImportKind.TheVariants as kinds

@@ -7,7 +7,7 @@ use Rattle.serde_json.specs.Data.{Data, string}
 use Rattle.serde_json.specs.View.{items_of}
 use Rattle.serde_json.specs.Written.{has_float, items_have_float, members_have_float, compact_text}
 use Rattle.hir_base.specs.Place.{PlaceValue}
-use Rattle.hir_base.specs.Types.{PlaceElement}
+use Rattle.hir_base.specs.declared.place.PlaceElement.{PlaceElement}
 use Rattle.hir_base.specs.declared.place.PlaceElement.TheVariants as element
 use Rattle.hir_wire.specs.Types.{Answer, AnswerItem, AnswerVisibility, CalledItem, Definition, Diagnostic, DiagnosticKind, ImportOrigin, ImportSource}
 use Rattle.hir_wire.specs.Types.{ItemSource, Reply, SourceCall, SourceCallKind, SourceItem, SourceRoot}

@@ -1,6 +1,6 @@
 -- What does an edit hand in?
 use Rattle.std.specs.Prelude.{ℕ, List, Option}
-use Rattle.hir_base.specs.Types.{BlockPlace}
+use Rattle.hir_base.specs.declared.place.BlockPlace.{BlockPlace}
 use Rattle.hir_item_tree.specs.Source.{SourceValue, source_view}
 use Rattle.hir_tables.specs.SourcePlaces.{ExpansionValue, expansion_value}
 use Rattle.hir_wire.specs.Types.{Edit, ExpansionEntry}

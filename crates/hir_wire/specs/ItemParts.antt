@@ -5,7 +5,7 @@ use Rattle.serde_json.specs.Data.{Data, Members}
 use Rattle.serde_json.specs.Find.{as_str}
 use Rattle.hir_item_tree.specs.Source.{NodeHead, import, extern_crate, function, constant, static_item, type_alias, macro_call, Item, plain, kind_step}
 use Rattle.hir_item_tree.specs.Source.{node_step}
-use Rattle.hir_item_tree.specs.Types.{ExternCrateName}
+use Rattle.hir_item_tree.specs.declared.shape.ExternCrateName.{ExternCrateName}
 use Rattle.hir_item_tree.specs.declared.shape.ExternCrateName.TheVariants.{SelfCrate, Name}
 use Rattle.hir_item_tree.specs.declared.source.NodeKind.{NodeKind, fold-NodeKind}
 use Rattle.hir_wire.specs.Paths.{name_meant, name_of, path_of, text_as, text_of}

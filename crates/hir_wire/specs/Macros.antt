@@ -3,7 +3,8 @@ use Rattle.std.specs.Prelude.{ℕ, List, [], ◌∷◌, false, ◌||◌, Option,
 use Rattle.std.specs.Str.{bytes_eq}
 use Rattle.serde_json.specs.Data.{Data, Members}
 use Rattle.hir_base.specs.MacroKind.{fn_like_alone, attr_alone, derive_alone}
-use Rattle.hir_base.specs.Types.{MacroCallStyles, MacroExpander}
+use Rattle.hir_base.specs.declared.macro_kind.MacroCallStyles.{MacroCallStyles}
+use Rattle.hir_base.specs.declared.macro_kind.MacroExpander.{MacroExpander}
 use Rattle.hir_base.specs.declared.macro_kind.MacroExpander.TheVariants as expander
 use Rattle.hir_item_tree.specs.Source.{NodeHead, MacroValue, macro_rules, macro_def, Item, plain}
 use Rattle.hir_wire.specs.Paths.{name_of, text_of}

@@ -7,7 +7,12 @@ use Rattle.hir_base.specs.Name.{name_verdict}
 use Rattle.hir_base.specs.ParseFile.{folded_path}
 use Rattle.hir_base.specs.ParsePath.{path_of_text}
 use Rattle.hir_base.specs.Place.{PlaceValue}
-use Rattle.hir_base.specs.Types.{BlockPlace, Crate, NameError, ParseError, PlaceElement, SyntaxId}
+use Rattle.hir_base.specs.declared.place.BlockPlace.{BlockPlace}
+use Rattle.hir_base.specs.declared.ids.Crate.{Crate}
+use Rattle.hir_base.specs.declared.name.NameError.{NameError}
+use Rattle.hir_base.specs.declared.mod_path.ParseError.{ParseError}
+use Rattle.hir_base.specs.declared.place.PlaceElement.{PlaceElement}
+use Rattle.hir_base.specs.declared.ast_id.SyntaxId.{SyntaxId}
 use Rattle.hir_base.specs.declared.limit.Limit.TheVariants.{Name}
 use Rattle.hir_base.specs.declared.mod_path.ParseError.TheVariants as parse
 use Rattle.hir_base.specs.declared.name.NameError.TheVariants as naming

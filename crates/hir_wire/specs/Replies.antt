@@ -7,7 +7,8 @@ use Rattle.hir_base.specs.BuiltinType.{builtin_text}
 use Rattle.hir_base.specs.Display.{path_shown}
 use Rattle.hir_base.specs.Limit.{limit_text}
 use Rattle.hir_base.specs.Place.{PlaceValue}
-use Rattle.hir_base.specs.Types.{PlaceElement, SyntaxId}
+use Rattle.hir_base.specs.declared.place.PlaceElement.{PlaceElement}
+use Rattle.hir_base.specs.declared.ast_id.SyntaxId.{SyntaxId}
 use Rattle.hir_base.specs.declared.place.PlaceElement.TheVariants as element
 use Rattle.hir_wire.specs.Types.{Answer, AnswerItem, AnswerVisibility, CalledItem, Definition, Diagnostic, DiagnosticKind, ImportOrigin, ImportSource}
 use Rattle.hir_wire.specs.Types.{ItemSource, Reply, SourceCall, SourceCallKind, SourceItem, SourceRoot}

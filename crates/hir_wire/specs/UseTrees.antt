@@ -6,7 +6,7 @@ use Rattle.std.specs.Str.{bytes_eq}
 use Rattle.serde_json.specs.Data.{Data, null, boolean, number, string, array, object, Items, no_items, item, Members, no_members, member}
 use Rattle.serde_json.specs.Find.{as_str}
 use Rattle.hir_base.specs.ModPath.{Path}
-use Rattle.hir_use_tree.specs.Types.{ImportAlias}
+use Rattle.hir_use_tree.specs.declared.imports.ImportAlias.{ImportAlias}
 use Rattle.hir_use_tree.specs.declared.imports.ImportAlias.TheVariants.{Underscore, Alias}
 use Rattle.hir_item_tree.specs.UseTree.{UseTree, single, glob, prefixed, trees_of as forest}
 use Rattle.hir_wire.specs.declared.read_error.ReadError.TheVariants.{Command}

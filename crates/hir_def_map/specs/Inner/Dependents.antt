@@ -6,7 +6,7 @@ use Rattle.std.specs.BTreeSet.{BTreeSet, contains}
 use Rattle.std.specs.Vec.{vec_capacity}
 use Rattle.std.specs.declared.vec.Vec.{Vec}
 use Rattle.std.specs.declared.alloc.Global.{Global}
-use Rattle.hir_base.specs.Types.{MapId}
+use Rattle.hir_base.specs.declared.ids.MapId.{MapId}
 use Rattle.hir_base.specs.contracts.ids.MapIdOrd.TheImpl as map_order
 use Rattle.hir_def_map.specs.declared.world.dependents.Dependents.{Dependents}
 use Rattle.hir_def_map.specs.declared.world.finished.Finished.{Finished}

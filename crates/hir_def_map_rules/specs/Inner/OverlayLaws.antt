@@ -3,7 +3,10 @@ use Rattle.std.specs.Prelude.{◌≡◌, ◌==◌, Bool, true, false, ◌&&◌, 
 use Rattle.std.specs.Cmp.{unsigned_Decides, first_so, second_so}
 use Rattle.std.proofs.Common.{refl, ap, sym, subst, ◌∙◌}
 use mathlib.Core.Bool.{true≢false}
-use Rattle.hir_base.specs.Types.{BlockId, Crate, MapId, ModuleId}
+use Rattle.hir_base.specs.declared.ast_id.BlockId.{BlockId}
+use Rattle.hir_base.specs.declared.ids.Crate.{Crate}
+use Rattle.hir_base.specs.declared.ids.MapId.{MapId}
+use Rattle.hir_base.specs.declared.ids.ModuleId.{ModuleId}
 use Rattle.hir_base.specs.contracts.ids.MapIdPartialEq.TheImpl as map_id
 use Rattle.hir_scope.specs.ModuleTree.{same_crate}
 use Rattle.hir_def_map_rules.specs.State.{Local, Map}

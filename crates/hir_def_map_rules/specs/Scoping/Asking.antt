@@ -3,7 +3,8 @@ use Rattle.std.specs.Prelude.{Option, None, Some, []}
 use Rattle.hir_def_map_rules.specs.State.{Local}
 use Rattle.hir_def_map_rules.specs.declared.path_result.ResolveMode.{ResolveMode}
 use Rattle.hir_def_map_rules.specs.declared.path_result.ResolveMode.TheVariants as modes
-use Rattle.hir_base.specs.Types.{BuiltinShadowMode, MacroSubNs}
+use Rattle.hir_base.specs.declared.resolve_mode.BuiltinShadowMode.{BuiltinShadowMode}
+use Rattle.hir_base.specs.declared.resolve_mode.MacroSubNs.{MacroSubNs}
 
 -- over these crates, by an import or else, whether a builtin type yields to a module, which macros fit
 pub record Asking : Type 0 where

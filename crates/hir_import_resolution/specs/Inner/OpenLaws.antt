@@ -1,9 +1,13 @@
 -- Writes leave the finished maps beside the scopes.
 use Rattle.std.proofs.Common.{◌≡◌, sym, subst, refl, Option, None, Some}
-use Rattle.hir_scope.specs.Types.{GlobId, Visibility}
+use Rattle.hir_scope.specs.declared.imports.GlobId.{GlobId}
+use Rattle.hir_scope.specs.declared.visibility.Visibility.{Visibility}
 use Rattle.hir_def_map.specs.WorldParts.{part_of}
 use Rattle.hir_glob_imports.specs.View.{Binds, IsNameTable, with_vis}
-use Rattle.hir_glob_imports.specs.Types.{Bound, Key, Slot, Target}
+use Rattle.hir_glob_imports.specs.declared.edge.Bound.{Bound}
+use Rattle.hir_glob_imports.specs.declared.edge.Key.{Key}
+use Rattle.hir_glob_imports.specs.declared.edge.Slot.{Slot}
+use Rattle.hir_glob_imports.specs.declared.edge.Target.{Target}
 use Rattle.hir_glob_imports.specs.declared.edge.Key.TheVariants.{Types, Values, Macros, Unnamed}
 use Rattle.hir_import_resolution.specs.declared.scopes.OpenScopes.{OpenScopes}
 use Rattle.hir_import_resolution.specs.Inner.TableLaws.{is_name_table}

@@ -13,7 +13,7 @@ use Rattle.hir_worklist.specs.Moves.{Wakes}
 use Rattle.hir_worklist.specs.Queue.{IsIdle, Queue, count_of, is_unfinished}
 use Rattle.hir_worklist.specs.Settling.{AreSettled, WatchesEach}
 use Rattle.hir_worklist.specs.Watching.{Forgets, is_watching}
-use Rattle.hir_worklist.specs.Types.{Watchers}
+use Rattle.hir_worklist.specs.declared.watchers.Watchers.{Watchers}
 use Rattle.hir_import_resolution.specs.declared.directive.ImportDirective.{ImportDirective}
 use Rattle.hir_import_resolution.specs.declared.directive.ImportSource.{ImportSource}
 use Rattle.hir_import_resolution.specs.declared.directive.ImportSource.TheVariants as sources

@@ -5,11 +5,12 @@ use Rattle.std.specs.Option.{option_and_then, option_map, unwrap_or}
 use Rattle.std.specs.Prelude.{slice_get}
 use mathlib.Core.Bool.{true≢false}
 use Rattle.hir_base.specs.contracts.ids.MapIdPartialEq.TheImpl as map_id
-use Rattle.hir_base.specs.Types.{EnumId, MapId}
+use Rattle.hir_base.specs.declared.ids.EnumId.{EnumId}
+use Rattle.hir_base.specs.declared.ids.MapId.{MapId}
 use Rattle.hir_scope.specs.Globs.{GlobNames}
 use Rattle.hir_scope.specs.Scope.{ScopeValue}
 use Rattle.hir_scope.specs.Visibility.{greater_of, is_visible, lesser_of}
-use Rattle.hir_scope.specs.Types.{Visibility}
+use Rattle.hir_scope.specs.declared.visibility.Visibility.{Visibility}
 use Rattle.hir_def_map_rules.specs.Ancestors.{Frame, above_by, above_in, frame_of, frames_of, holders_by, holders_in}
 use Rattle.hir_def_map_rules.specs.Overlay.{Maps, Placed, entry_in, holders_or, holders_under, module_in, overlay, placed_in, variants_in}
 use Rattle.hir_def_map_rules.specs.Scoping.Segments.{variant_in}
@@ -19,7 +20,9 @@ use Rattle.hir_def_map_rules.proofs.Grown.{frame_of-changed}
 use Rattle.hir_def_map_laws.specs.ReadLaw.{DiffersInScopes}
 use Rattle.hir_glob_imports.specs.Keys.{is_slot, same_slot, slot_at}
 use Rattle.hir_glob_imports.specs.View.{ChangesOnly, bound_in}
-use Rattle.hir_glob_imports.specs.Types.{Bound, Key, Target}
+use Rattle.hir_glob_imports.specs.declared.edge.Bound.{Bound}
+use Rattle.hir_glob_imports.specs.declared.edge.Key.{Key}
+use Rattle.hir_glob_imports.specs.declared.edge.Target.{Target}
 use Rattle.hir_glob_imports.specs.declared.edge.Key.TheVariants.{Types, Values, Macros, Unnamed}
 use Rattle.hir_glob_imports.specs.declared.edge.Target.TheVariants as targets
 use Rattle.hir_glob_imports.proofs.Settling.{same_itself}

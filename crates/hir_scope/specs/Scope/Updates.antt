@@ -6,7 +6,10 @@ use Rattle.std.specs.Cmp.Lexicographic.{slice_cmp}
 use Rattle.std.specs.BTreeMap.{is_at}
 use Rattle.std.specs.Map.{lookup, set_value, remove_entry}
 use Rattle.indexmap.specs.IndexMap.{insert_entry}
-use Rattle.hir_base.specs.Types.{Crate, MacroId, ModuleDefId, TraitId}
+use Rattle.hir_base.specs.declared.ids.Crate.{Crate}
+use Rattle.hir_base.specs.declared.macro_kind.MacroId.{MacroId}
+use Rattle.hir_base.specs.declared.ids.ModuleDefId.{ModuleDefId}
+use Rattle.hir_base.specs.declared.ids.TraitId.{TraitId}
 use Rattle.hir_base.specs.contracts.ids.ModuleDefIdPartialEq.TheImpl as module_def
 use Rattle.hir_base.specs.contracts.ids.TraitIdPartialEq.TheImpl as trait_id
 use Rattle.hir_scope.specs.declared.imports.ImportId.{ImportId}

@@ -5,7 +5,7 @@
 ghost use Rattle.std.specs.Prelude.{◌≡◌, ◌≢◌, ℕ, ◌<◌, ◌≤◌, ◌++◌, ◌∷◌, [], true, false, length, None, Some, IfOk, IfSome, IsSome, OnOk, OnErr, OnSome, Err};
 ghost use Rattle.hir_base.specs.Locations.{max_locations};
 ghost use Rattle.hir_base.specs.Place.{PlaceValue};
-ghost use Rattle.hir_base.specs.Types.{BlockPlace};
+ghost use Rattle.hir_base.specs.declared.place.BlockPlace.{BlockPlace};
 ghost use Rattle.hir_collector_rules.specs.Derivation.{IsOverlong, collected_view};
 ghost use Rattle.hir_tables.specs.Tables.{block_at, file_at};
 ghost use Rattle.hir_session_state.specs.Blocks.{place_of_block};

@@ -2,9 +2,9 @@
 use Rattle.std.proofs.Common.{rules, ◌≡◌, ◌∙◌, ◌<◌, ◌≤◌, List, Some, ap, length, map, subst, sym}
 use Rattle.either.specs.declared.Either.TheVariants as either
 use Rattle.hir_def_map.specs.WorldParts.{part_of}
-use Rattle.hir_def_map_rules.specs.Types.{DeriveHelper}
+use Rattle.hir_def_map_rules.specs.declared.derive_helpers.DeriveHelper.{DeriveHelper}
 use Rattle.hir_collector_rules.specs.declared.start.TheConstants.{STEP_LIMIT}
-use Rattle.hir_collector_rules.specs.Types.{MacroDirective}
+use Rattle.hir_collector_rules.specs.declared.macro_directive.MacroDirective.{MacroDirective}
 use Rattle.hir_collector_rules.specs.Calls.{DerivedCall, helper_by, helpers_brought}
 use Rattle.hir_collector_rules.specs.Moves.{Makes}
 use Rattle.hir_collector_rules.specs.State.{Core, core_in}

@@ -2,7 +2,7 @@
 use Rattle.std.proofs.Common.{rules, ◌≡◌, ◌∙◌, ◌≤◌, None, ap, subst}
 use Rattle.hir_def_map.specs.WorldParts.{part_of}
 use Rattle.hir_collector_rules.specs.declared.start.TheConstants.{STEP_LIMIT}
-use Rattle.hir_collector_rules.specs.Types.{MacroDirective}
+use Rattle.hir_collector_rules.specs.declared.macro_directive.MacroDirective.{MacroDirective}
 use Rattle.hir_collector_rules.specs.Calls.{helpers_brought}
 use Rattle.hir_collector_rules.specs.State.{Core, core_in}
 use Rattle.hir_collector_rules.specs.Steps.{bringing, drops_reached}

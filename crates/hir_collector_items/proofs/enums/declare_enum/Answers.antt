@@ -1,14 +1,14 @@
 use Rattle.std.proofs.Common.{◌≡◌, ◌∙◌, List, Option, sym, ap, refl}
 use Rattle.hir_item_tree.specs.SourceTree.{SourceTreeValue, variants_of}
-use Rattle.hir_item_tree.specs.Types.{VariantItem}
-use Rattle.hir_base.specs.Types.{MapId}
+use Rattle.hir_item_tree.specs.declared.side_lists.VariantItem.{VariantItem}
+use Rattle.hir_base.specs.declared.ids.MapId.{MapId}
 use Rattle.hir_def_map_rules.specs.State.{Map}
 use Rattle.hir_def_map.specs.WorldParts.{part_of}
 use Rattle.hir_collector_rules.specs.ItemIds.{enum_id}
 use Rattle.hir_collector_rules.specs.Keys.{look, of_variants, source_in}
 use Rattle.hir_collector_rules.specs.State.{core_in}
 use Rattle.hir_collector_rules.specs.TreeReads.{head_of}
-use Rattle.hir_collector_rules.specs.Types.{Key}
+use Rattle.hir_collector_rules.specs.declared.source_database.Key.{Key}
 use Rattle.hir_collector_rules.specs.declared.source_database.Key.TheVariants as keys
 use Rattle.hir_collector_state.proofs.Made.{declared_enum}
 use Rattle.hir_collector_rules.proofs.Meaning.{looks_stand}

@@ -1,13 +1,14 @@
 -- The walk's steps lead on to where imports and calls rest.
 use Rattle.std.proofs.Common.{rules, ◌≡◌, ◌∙◌, false, List, None, Some, option_map, refl, ap, sym, subst}
 use Rattle.std.specs.Prelude.{IsSome}
-use Rattle.hir_base.specs.Types.{Crate, MapId}
+use Rattle.hir_base.specs.declared.ids.Crate.{Crate}
+use Rattle.hir_base.specs.declared.ids.MapId.{MapId}
 use Rattle.hir_tables.specs.SourcePlaces.{source_value}
 use Rattle.hir_tables.specs.Tables.{source_of}
 use Rattle.hir_tables.proofs.Growth.{KeepsTables-trans}
 use Rattle.hir_def_map.specs.WorldParts.{among, part_of}
 use Rattle.hir_def_map_rules.specs.Overlay.{map_in}
-use Rattle.hir_def_map_rules.specs.Types.{BlockInfo}
+use Rattle.hir_def_map_rules.specs.declared.block_info.BlockInfo.{BlockInfo}
 use Rattle.hir_def_map.specs.World.{finished_in}
 use Rattle.hir_collector_rules.specs.CallMoves.{ComesToRest}
 use Rattle.hir_collector_rules.specs.Derivation.{IsSpent, collected_view}

@@ -1,12 +1,12 @@
 use Rattle.std.proofs.Common.{rules, ◌≡◌, ◌∙◌, ◌<◌, true, false, None, Option, length, sym, ap, subst}
 use Rattle.std.proofs.lemmas.List.Elements.{All-map}
 use Rattle.std.specs.List.{All}
-use Rattle.hir_base.specs.Types.{FileId}
+use Rattle.hir_base.specs.declared.ast_id.FileId.{FileId}
 use Rattle.hir_item_tree.specs.ItemTree.{Tree}
 use Rattle.hir_item_tree.specs.SourceTree.{SourceTreeValue}
 use Rattle.hir_item_tree.specs.KeptForest.{all_items}
 use Rattle.hir_item_tree.specs.Rows.{items_at, numbers_of}
-use Rattle.hir_item_tree.specs.Types.{ModItemId}
+use Rattle.hir_item_tree.specs.declared.rows.ModItemId.{ModItemId}
 use Rattle.hir_mod_dir.specs.Directory.{Directory}
 use Rattle.hir_def_map.specs.WorldParts.{part_of}
 use Rattle.hir_collector_rules.specs.Keys.{environment}

@@ -1,5 +1,5 @@
 use Rattle.std.proofs.Common.{◌≡◌, ◌++◌, drop, map}
-use Rattle.hir_collector_rules.specs.Types.{Dependency}
+use Rattle.hir_collector_rules.specs.declared.source_database.Dependency.{Dependency}
 use Rattle.hir_def_collector_tests.proofs.collector.direct.Given as goal
 
 -- with those that are left, all are there

@@ -1,6 +1,6 @@
 use Rattle.std.proofs.Common.{rules, List, ◌≡◌, ◌∙◌, ◌+◌, ◌<◌, length, sym, ap, arith}
 use Rattle.hir_collector_rules.specs.Workspace.{direct_by}
-use Rattle.hir_collector_rules.specs.Types.{Config}
+use Rattle.hir_collector_rules.specs.declared.source_database.Config.{Config}
 use Rattle.hir_def_collector_tests.specs.Crates.{config_in}
 use Rattle.hir_def_collector_tests.proofs.Transitive.{are_theirs, direct_of, one_longer}
 use Rattle.hir_def_collector_tests.proofs.collector.transitive.Goals as goal

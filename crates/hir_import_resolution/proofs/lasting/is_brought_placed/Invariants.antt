@@ -2,7 +2,9 @@ use Rattle.std.proofs.Common.{◌≡◌, ◌⊎◌, Some}
 use Rattle.std.specs.Prelude.{Contains}
 use Rattle.hir_def_map_rules.specs.State.{module_at}
 use Rattle.hir_glob_imports.specs.Waves.{brought_of}
-use Rattle.hir_glob_imports.specs.Types.{Bound, Brought, Slot}
+use Rattle.hir_glob_imports.specs.declared.edge.Bound.{Bound}
+use Rattle.hir_glob_imports.specs.declared.edge.Brought.{Brought}
+use Rattle.hir_glob_imports.specs.declared.edge.Slot.{Slot}
 use Rattle.hir_import_resolution.specs.Inner.ViewLaws.{bound_inside}
 use Rattle.hir_import_resolution.specs.Lasting.{IsPlaced}
 use Rattle.hir_import_resolution.proofs.lasting.is_brought_placed.Given as goal

@@ -3,7 +3,7 @@ use Rattle.std.proofs.Common.{rules, ◌≡◌, ◌∙◌, ◌∷◌, ◌+◌, �
 use Rattle.std.proofs.lemmas.List.{drop_all, drop_more}
 use Rattle.hir_base.specs.ModPath.{Path}
 use Rattle.hir_use_tree.specs.UseTree.{count_of}
-use Rattle.hir_collector_rules.specs.Types.{MacroDirective}
+use Rattle.hir_collector_rules.specs.declared.macro_directive.MacroDirective.{MacroDirective}
 use Rattle.hir_collector_rules.specs.State.{Core, core_in, with_calls}
 use Rattle.hir_collector_rules.specs.Steps.{derive_at, derives_from}
 use Rattle.hir_mod_collector.proofs.Deriving.{no_more_calls, one_more_call}

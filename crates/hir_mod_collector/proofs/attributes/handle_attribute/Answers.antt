@@ -3,8 +3,8 @@ use Rattle.std.proofs.Common.{◌≡◌, ◌∙◌, ◌+◌, ◌∷◌, [], Bool
 use Rattle.hir_item_tree.specs.Collected.{numbered}
 use Rattle.hir_item_tree.specs.KeptForest.{all_items}
 use Rattle.hir_item_tree.specs.SourceTree.{SourceTreeValue}
-use Rattle.hir_item_tree.specs.Types.{Attr}
-use Rattle.hir_collector_rules.specs.Types.{WaitingItem}
+use Rattle.hir_item_tree.specs.declared.attrs.Attr.{Attr}
+use Rattle.hir_collector_rules.specs.declared.macro_directive.WaitingItem.{WaitingItem}
 use Rattle.hir_collector_rules.specs.Calls.{item_kept}
 use Rattle.hir_collector_rules.specs.Attributes.{attr_id, is_derive}
 use Rattle.hir_collector_rules.specs.Moves.{HandlesAttribute, TakesDerive, goes_behind}

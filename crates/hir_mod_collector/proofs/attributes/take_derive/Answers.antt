@@ -1,10 +1,10 @@
 -- The paths that are listed, or what is reported.
 use Rattle.std.proofs.Common.{◌∙◌, sym, ap}
 use Rattle.std.proofs.lemmas.Result.{on_ok_weaker}
-use Rattle.hir_base.specs.Types.{ModuleId}
+use Rattle.hir_base.specs.declared.ids.ModuleId.{ModuleId}
 use Rattle.hir_item_tree.specs.Collected.{numbered}
 use Rattle.hir_def_map_rules.specs.Macros.{with_diagnostic}
-use Rattle.hir_def_map_rules.specs.Types.{DefDiagnostic}
+use Rattle.hir_def_map_rules.specs.declared.diagnostics.DefDiagnostic.{DefDiagnostic}
 use Rattle.hir_collector_rules.specs.Attributes.{attr_id}
 use Rattle.hir_collector_rules.specs.Moves.{listed, no_paths}
 use Rattle.hir_collector_rules.specs.Reports.{malformed_derive}

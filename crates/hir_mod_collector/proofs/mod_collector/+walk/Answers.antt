@@ -4,13 +4,13 @@ use Rattle.std.specs.List.{All}
 use Rattle.std.specs.Option.{IfSome}
 use Rattle.std.specs.Prelude.{not, option_map}
 use Rattle.hir_base.specs.Cfg.{cfg_view}
-use Rattle.hir_base.specs.Types.{CfgExpr}
+use Rattle.hir_base.specs.declared.cfg.CfgExpr.{CfgExpr}
 use Rattle.hir_item_tree.specs.ItemTree.{Tree}
 use Rattle.hir_item_tree.specs.KeptForest.{KeptItem, all_items}
 use Rattle.hir_item_tree.specs.Kinds.{item_head, kind_content, kind_of}
 use Rattle.hir_item_tree.specs.Rows.{numbers_of, held_numbers, item_of, items_at}
 use Rattle.hir_item_tree.specs.SourceTree.{SourceTreeValue}
-use Rattle.hir_item_tree.specs.Types.{ModItemId}
+use Rattle.hir_item_tree.specs.declared.rows.ModItemId.{ModItemId}
 use Rattle.hir_tables.proofs.Growth.{KeepsTables-trans}
 use Rattle.hir_def_map.specs.WorldParts.{part_of}
 use Rattle.hir_def_map_rules.specs.declared.diagnostics.DefDiagnosticKind.TheVariants as diagnostics

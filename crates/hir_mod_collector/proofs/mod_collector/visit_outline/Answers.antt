@@ -1,9 +1,9 @@
 use Rattle.std.proofs.Common.{rules, ◌≡◌, ◌∙◌, ℕ, List, Option, Some, None, map, refl, ap, sym, subst}
 use Rattle.std.specs.Prelude.{IfSome, option_map}
 use Rattle.hir_item_tree.specs.Collected.{numbered}
-use Rattle.hir_item_tree.specs.Types.{Attr}
+use Rattle.hir_item_tree.specs.declared.attrs.Attr.{Attr}
 use Rattle.hir_mod_dir.specs.ModuleFiles.{candidates_of}
-use Rattle.hir_mod_dir.specs.Types.{Candidate}
+use Rattle.hir_mod_dir.specs.declared.candidate.Candidate.{Candidate}
 use Rattle.hir_tables.specs.Tables.{KeepsTables, TablesValue}
 use Rattle.hir_tables.proofs.Growth.{KeepsTables-trans}
 use Rattle.hir_def_map.specs.WorldParts.{part_of}

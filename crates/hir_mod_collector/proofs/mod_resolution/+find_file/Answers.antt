@@ -1,7 +1,7 @@
 use Rattle.std.proofs.Common.{rules, ◌≡◌, ◌∙◌, ◌-◌, true, false, List, Option, None, length, take, drop, sym, subst}
 use Rattle.std.specs.Prelude.{option_map}
 use Rattle.std.specs.Option.{option_map_or}
-use Rattle.hir_mod_dir.specs.Types.{Candidate}
+use Rattle.hir_mod_dir.specs.declared.candidate.Candidate.{Candidate}
 use Rattle.hir_tables.proofs.Growth.{KeepsTables-trans}
 use Rattle.hir_collector_rules.specs.Workspace.{Workspace}
 use Rattle.hir_collector_rules.specs.ModuleFiles.{IsTriedFile, LookedAt, ModuleFile, taken_by}

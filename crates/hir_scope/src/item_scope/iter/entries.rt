@@ -2,7 +2,7 @@
 ghost use Rattle.std.specs.Prelude.{◌≡◌, ℕ, List, Option};
 ghost use Rattle.std.specs.Option.{option_copied};
 ghost use Rattle.std.specs.Iterator.{YieldsFirstBy, item_count};
-ghost use Rattle.hir_base.specs.Types.{Name};
+ghost use Rattle.hir_base.specs.declared.name.Name.{Name};
 ghost use Rattle.hir_scope.specs.declared.per_ns.PerNs.{PerNs};
 ghost use Rattle.hir_scope.specs.Inner.Entries.{items_of};
 ghost use Rattle.hir_scope.specs.Scope.Entries.{entries_of, resolutions_in, import_as_item, unnamed_binding};

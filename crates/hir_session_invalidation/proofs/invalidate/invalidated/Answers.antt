@@ -1,6 +1,6 @@
 -- A source without a number is named by no run.
 use Rattle.std.proofs.Common.{ap, refl, Option, is_some}
-use Rattle.hir_session_state.specs.Types.{SourceNumber}
+use Rattle.hir_session_state.specs.declared.source_number.SourceNumber.{SourceNumber}
 use Rattle.hir_session_sources.specs.EditValues.{edit_value}
 use Rattle.hir_session_sources.proofs.Changing.{no_trees}
 use Rattle.hir_session_invalidation.proofs.Judging.{unnumbered_hit}

@@ -1,7 +1,7 @@
 use Rattle.std.proofs.Common.{◌≡◌, ℕ, ◌<◌, get_or}
 use Rattle.hir_def_map_rules.specs.Overlay.{no_maps}
 use Rattle.hir_collector_rules.specs.Keys.{look}
-use Rattle.hir_collector_rules.specs.Types.{Key}
+use Rattle.hir_collector_rules.specs.declared.source_database.Key.{Key}
 use Rattle.hir_session_state.specs.Inputs.{workspace_after, workspace_by}
 use Rattle.hir_session_invalidation.specs.Invalidated.{AreChanges}
 use Rattle.hir_session_sources.specs.EditValues.{edit_value}

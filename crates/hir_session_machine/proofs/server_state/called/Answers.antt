@@ -1,6 +1,6 @@
 -- Each command is its call; a second session is none.
 use Rattle.std.proofs.Common.{ap, refl}
-use Rattle.hir_wire.specs.Types.{Status}
+use Rattle.hir_wire.specs.declared.reply.Status.{Status}
 use Rattle.hir_wire.specs.declared.reply.Reply.TheVariants as reply
 use Rattle.hir_session_machine.specs.Machine.Moves.{tells}
 use Rattle.hir_session_machine.specs.Machine.AnswersCommand.{calls, comes_too_late}

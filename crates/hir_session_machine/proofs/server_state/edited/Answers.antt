@@ -1,6 +1,6 @@
 -- An accepted edit is applied; a refused one changes nothing.
 use Rattle.std.proofs.Common.{ap, inl, inr, refl, ◌∙◌, Some}
-use Rattle.hir_session_state.specs.Types.{EditError}
+use Rattle.hir_session_state.specs.declared.error.EditError.{EditError}
 use Rattle.hir_session_state.specs.SessionState.{SessionState}
 use Rattle.hir_session_machine.specs.Machine.{edit_reply}
 use Rattle.hir_session_machine.specs.Machine.Moves.{applies, refuses}

@@ -2,7 +2,7 @@
 use Rattle.std.proofs.Common.{refl, ap, List, Err}
 use Rattle.hir_base.specs.Place.{PlaceValue}
 use Rattle.hir_wire.specs.declared.reply.Reply.TheVariants as reply
-use Rattle.hir_session_state.specs.Types.{RefreshError}
+use Rattle.hir_session_state.specs.declared.error.RefreshError.{RefreshError}
 use Rattle.hir_session_state.specs.declared.error.RefreshError.TheVariants.{Memory}
 use Rattle.hir_session_machine.specs.Machine.Moves.{refreshes, refreshes_partly}
 use Rattle.hir_session_machine.specs.Machine.AnswersCommand.{calls}

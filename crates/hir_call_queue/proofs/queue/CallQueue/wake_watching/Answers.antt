@@ -1,6 +1,6 @@
 -- What watches one of the slots is queued.
 use Rattle.std.proofs.Common.{List, refl, subst}
-use Rattle.hir_def_map.specs.Types.{Slot}
+use Rattle.hir_def_map.specs.declared.nameres.path_resolution.slots.Slot.{Slot}
 use Rattle.hir_import_resolution.specs.Inner.Queue.{WakesEach}
 use Rattle.hir_call_queue.specs.Waking.{watchers_of, worklist_of}
 use Rattle.hir_call_queue.specs.declared.queue.CallQueue.{CallQueue}

@@ -1,7 +1,7 @@
 -- What is bound explicitly no glob has brought, and its slot is noted.
 use Rattle.std.proofs.Common.{◌≡◌, ◌∙◌, ℕ, List, None, ap, refl, subst}
 use Rattle.hir_scope.specs.Globs.{GlobNames}
-use Rattle.hir_scope.specs.Types.{PerNs}
+use Rattle.hir_scope.specs.declared.per_ns.PerNs.{PerNs}
 use Rattle.hir_call_queue.specs.Changes.{ChangedValue}
 use Rattle.hir_def_map_rules.specs.State.{Map, globs_after, pushed}
 use Rattle.hir_glob_imports.specs.Waves.{GlobsValue, brought_of}

@@ -2,8 +2,8 @@
 use Rattle.std.proofs.Common.{rules, ◌≡◌, ◌<◌, ℕ, List, Some, length, slice_get, refl, sym, subst}
 use Rattle.hir_def_map_rules.specs.State.{IsInOrder}
 use Rattle.hir_def_map.specs.WorldParts.{part_of}
-use Rattle.hir_def_map.specs.Types.{Slot}
-use Rattle.hir_import_resolution.specs.Types.{ImportDirective}
+use Rattle.hir_def_map.specs.declared.nameres.path_resolution.slots.Slot.{Slot}
+use Rattle.hir_import_resolution.specs.declared.directive.ImportDirective.{ImportDirective}
 use Rattle.hir_import_resolution.specs.Inner.State.{state_in}
 use Rattle.hir_import_resolution.specs.Rounds.{GlobsLast, IsResumable}
 use Rattle.hir_call_queue.specs.Changes.{with_slots}

@@ -1,7 +1,7 @@
 -- One turn: imports rest, what is queued is tried, and where nothing was handled the first attribute that waits is given up.
 use Rattle.std.proofs.lemmas.Result.{err_from_is_err_and}
 use Rattle.std.proofs.Common.{Err, ◌≡◌, ◌∙◌, ◌<◌, None, Some, ap, false, length, subst, sym, true, arith}
-use Rattle.hir_base.specs.Types.{MapId}
+use Rattle.hir_base.specs.declared.ids.MapId.{MapId}
 use Rattle.hir_tables.proofs.Growth.{KeepsTables-trans}
 use Rattle.hir_def_map.specs.WorldParts.{part_of}
 use Rattle.hir_import_resolution.specs.Inner.State.{IsApart}

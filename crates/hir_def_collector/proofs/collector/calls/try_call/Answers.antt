@@ -1,10 +1,10 @@
 -- What waits at a place is handled, or left to wait where nothing is to be done about it.
 use Rattle.std.proofs.Common.{◌≡◌, ◌<◌, None, Some, false, refl, slice_get, subst, sym, true}
-use Rattle.hir_base.specs.Types.{MacroId}
+use Rattle.hir_base.specs.declared.macro_kind.MacroId.{MacroId}
 use Rattle.hir_def_map.specs.WorldParts.{part_of}
 use Rattle.hir_def_collector.specs.declared.collector.calls.Due.{Due}
 use Rattle.hir_def_collector.specs.declared.collector.calls.Due.TheVariants.{Nothing, Reaches}
-use Rattle.hir_collector_rules.specs.Types.{MacroDirective}
+use Rattle.hir_collector_rules.specs.declared.macro_directive.MacroDirective.{MacroDirective}
 use Rattle.hir_collector_rules.specs.CallMoves.{left}
 use Rattle.hir_def_collector.specs.Turns.{IsDueOf}
 use Rattle.hir_collector_rules.specs.State.{Core, at_rest, core_in}

@@ -9,7 +9,7 @@ use Rattle.hir_collector_rules.specs.Keys.{environment}
 use Rattle.hir_collector_rules.specs.State.{Core, at_rest, core_in}
 use Rattle.hir_collector_rules.specs.Steps.{Steps}
 use Rattle.hir_collector_rules.specs.Waiting.{IsUpToDate}
-use Rattle.hir_collector_rules.specs.Types.{MacroDirective}
+use Rattle.hir_collector_rules.specs.declared.macro_directive.MacroDirective.{MacroDirective}
 use Rattle.hir_collector_rules.proofs.Changes.{id-Steps}
 use Rattle.hir_collector_rules.proofs.Numbers.{tables_stay}
 use Rattle.hir_def_collector.proofs.Queued.{was_handled, was_left}

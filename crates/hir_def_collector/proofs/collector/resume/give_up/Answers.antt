@@ -1,6 +1,6 @@
 -- Where no attribute waits nothing changes; the other ways out aren't taken, since an attribute that waits has an item.
 use Rattle.std.proofs.Common.{arith, rules, ◌≡◌, ◌∙◌, None, Some, ap, refl, subst, sym}
-use Rattle.hir_collector_rules.specs.Types.{MacroDirective}
+use Rattle.hir_collector_rules.specs.declared.macro_directive.MacroDirective.{MacroDirective}
 use Rattle.hir_collector_rules.specs.CallMoves.{IsAttributeWaiting}
 use Rattle.hir_collector_rules.specs.Calls.{IsWaiting, waiting_item}
 use Rattle.hir_collector_rules.specs.State.{Core, at_rest, core_in}

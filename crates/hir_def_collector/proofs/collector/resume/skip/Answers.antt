@@ -6,7 +6,8 @@ use Rattle.hir_item_tree.specs.SourceTree.{SourceTreeValue}
 use Rattle.hir_def_map.specs.WorldParts.{part_of}
 use Rattle.hir_collector_rules.specs.declared.start.TheConstants.{STEP_LIMIT}
 use Rattle.hir_collector_rules.specs.declared.macro_directive.Fate.TheVariants.{Handled, Waits}
-use Rattle.hir_collector_rules.specs.Types.{Site, WaitingItem}
+use Rattle.hir_collector_rules.specs.declared.site.Site.{Site}
+use Rattle.hir_collector_rules.specs.declared.macro_directive.WaitingItem.{WaitingItem}
 use Rattle.hir_collector_rules.specs.Calls.{IsMeantAt, IsMeantCall, item_kept}
 use Rattle.hir_collector_rules.specs.Derivation.{IsSpent}
 use Rattle.hir_collector_rules.specs.Keys.{environment}

@@ -1,8 +1,11 @@
 -- A name takes the definition that the target has there.
 use Rattle.std.proofs.Common.{◌≡◌, ◌∙◌, ap, sym, ℕ, List, Some, ◌⊎◌, inl, inr}
-use Rattle.hir_scope.specs.Types.{Visibility}
+use Rattle.hir_scope.specs.declared.visibility.Visibility.{Visibility}
 use Rattle.hir_def_map_rules.specs.State.{Map, with_scope}
-use Rattle.hir_glob_imports.specs.Types.{Bound, Key, Slot, Target}
+use Rattle.hir_glob_imports.specs.declared.edge.Bound.{Bound}
+use Rattle.hir_glob_imports.specs.declared.edge.Key.{Key}
+use Rattle.hir_glob_imports.specs.declared.edge.Slot.{Slot}
+use Rattle.hir_glob_imports.specs.declared.edge.Target.{Target}
 use Rattle.hir_glob_imports.specs.declared.edge.Key.TheVariants.{Macros, Types, Values}
 use Rattle.hir_import_resolution.specs.Names.{bound_of, followed, followed_to, followed_where, redefined, redefined_at}
 use Rattle.hir_import_resolution.specs.Scopes.{value_of, with_value}

@@ -6,7 +6,8 @@ use Rattle.std.specs.declared.alloc.Global.{Global}
 use Rattle.std.specs.declared.result.Result.{Result}
 use Rattle.std.specs.declared.result.Result.TheVariants.{Err, Ok}
 use Rattle.std.specs.declared.vec.Vec.{Vec}
-use Rattle.hir_glob_imports.specs.Types.{Key, Target}
+use Rattle.hir_glob_imports.specs.declared.edge.Key.{Key}
+use Rattle.hir_glob_imports.specs.declared.edge.Target.{Target}
 use Rattle.hir_import_resolution.specs.KeyLists.{keys_of}
 use Rattle.hir_import_resolution.specs.Names.{ScopesValue, bound_of}
 use Rattle.hir_import_resolution.specs.Scopes.{value_of}

@@ -3,7 +3,7 @@ use Rattle.std.proofs.Common.{◌≡◌, ◌∙◌, ap, subst, List}
 use Rattle.std.specs.List.{IsAnyAnswer}
 use Rattle.std.proofs.lemmas.List.Elements.{contains_decides, Decides-contains}
 use Rattle.hir_glob_imports.specs.contracts.edge.TargetPartialEq.TheImpl as target
-use Rattle.hir_glob_imports.specs.Types.{Target}
+use Rattle.hir_glob_imports.specs.declared.edge.Target.{Target}
 use Rattle.hir_import_resolution.specs.Directives.{TakenValue}
 use Rattle.hir_import_resolution.proofs.Targets.{targets_decide}
 use Rattle.hir_import_resolution.proofs.taken.Taken.is_for.Goals as goal

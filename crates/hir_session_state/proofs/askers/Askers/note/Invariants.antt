@@ -1,5 +1,5 @@
 use Rattle.std.proofs.Common.{◌≡◌, true, Some, ℕ, ◌<◌, get_or}
-use Rattle.hir_collector_rules.specs.Types.{Key}
+use Rattle.hir_collector_rules.specs.declared.source_database.Key.{Key}
 use Rattle.hir_session_state.specs.Askers.{is_asker, KeepsAskers}
 use Rattle.hir_session_state.specs.SourceNumbers.{asked_number}
 use Rattle.hir_session_state.specs.Types.{SourceNumber}
