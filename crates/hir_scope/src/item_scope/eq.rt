@@ -8,7 +8,7 @@ ghost use Rattle.hir_scope.specs.Inner.Equality.{same_entry, same_item, same_der
 use crate::item_scope::ItemScope;
 use crate::item_scope::iter::bindings::Bindings;
 use crate::item_scope::macro_calls::{DeriveAttribute, DeriveAttributes};
-use crate::per_ns::{MacrosItem, TypesItem, ValuesItem};
+use crate::per_ns::{Item, MacrosItem, TypesItem, ValuesItem};
 use hir_base::name::Name;
 use hir_scope_table::entry::Entry;
 use indexmap::IndexMap;
@@ -66,6 +66,18 @@ fn same_entries<K: Eq + Hash, V: PartialEq>(map: &IndexMap<K, V>, other: &IndexM
     map.iter().as_slice() == other.iter().as_slice()
 }
 
+/// Whether a name with its item is another.
+fn same_binding<Def: PartialEq, Import: PartialEq>(
+    name: &Name,
+    item: &Item<Def, Import>,
+    other_name: &Name,
+    other_item: &Item<Def, Import>,
+) -> bool
+    ensures value { result ≡ same_entry (pointwise nat_eq) (same_item Def.eq Import.eq) (name.now, item.now) (other_name.now, other_item.now) }
+{
+    name == other_name && item == other_item
+}
+
 /// Whether two walks give the same names with the same items.
 fn same_walk<Def: PartialEq, Import: PartialEq>(
     walk: Bindings<'_, Def, Import>,
@@ -75,11 +87,11 @@ fn same_walk<Def: PartialEq, Import: PartialEq>(
 {
     let mut left = walk;
     let mut others = other;
-    'next: while let Some((name, item)) = left.next() {
+    'walk: while let Some((name, item)) = left.next() {
         let Some((other_name, other_item)) = others.next() else {
             return false;
         };
-        if name != other_name || item != other_item {
+        if !same_binding(name, item, other_name, other_item) {
             return false;
         }
     }
@@ -105,7 +117,7 @@ fn same_unresolved(entries: &[ScopeEntry], other: &[ScopeEntry]) -> bool
 {
     let mut left = entries;
     let mut others = other;
-    'next: while let Some(name) = next_unresolved(&mut left) {
+    'walk: while let Some(name) = next_unresolved(&mut left) {
         let Some(other_name) = next_unresolved(&mut others) else {
             return false;
         };

@@ -263,51 +263,55 @@ impl ItemScope {
             pushed_item(values),
             pushed_item(macros),
         );
-        if let Err(refused) = written {
-            roll_back(
-                &mut self.macro_records,
-                &mut globs.macros,
-                at,
-                macros,
-                for_macros,
-            );
-            roll_back(
-                &mut self.value_records,
-                &mut globs.values,
-                at,
-                values,
-                for_values,
-            );
-            roll_back(
-                &mut self.type_records,
-                &mut globs.types,
-                at,
-                types,
-                for_types,
-            );
-            return Err(refused);
+        match written {
+            Ok(()) => {
+                write(
+                    &mut self.type_records,
+                    &mut globs.types,
+                    at,
+                    types,
+                    for_types,
+                );
+                write(
+                    &mut self.value_records,
+                    &mut globs.values,
+                    at,
+                    values,
+                    for_values,
+                );
+                write(
+                    &mut self.macro_records,
+                    &mut globs.macros,
+                    at,
+                    macros,
+                    for_macros,
+                );
+                Ok(())
+            }
+            Err(refused) => {
+                roll_back(
+                    &mut self.macro_records,
+                    &mut globs.macros,
+                    at,
+                    macros,
+                    for_macros,
+                );
+                roll_back(
+                    &mut self.value_records,
+                    &mut globs.values,
+                    at,
+                    values,
+                    for_values,
+                );
+                roll_back(
+                    &mut self.type_records,
+                    &mut globs.types,
+                    at,
+                    types,
+                    for_types,
+                );
+                Err(refused)
+            }
         }
-        write(
-            &mut self.type_records,
-            &mut globs.types,
-            at,
-            types,
-            for_types,
-        );
-        write(
-            &mut self.value_records,
-            &mut globs.values,
-            at,
-            values,
-            for_values,
-        );
-        write(
-            &mut self.macro_records,
-            &mut globs.macros,
-            at,
-            macros,
-            for_macros,
-        );
-        Ok(())
     }
 }

@@ -4,10 +4,10 @@ use Rattle.std.specs.Cmp.Lexicographic.{pointwise}
 use Rattle.hir_scope.specs.Slots.{unresolved_in}
 use Rattle.hir_scope.proofs.item_scope.eq.same_unresolved.Given as goal
 
-abbrev pub invariant-next : goal.invariant-next
-invariant-next l =
+abbrev pub invariant-walk : goal.invariant-walk
+invariant-walk l =
     pointwise (pointwise nat_eq) (unresolved_in l.left) (unresolved_in l.others)
     ≡ pointwise (pointwise nat_eq) (unresolved_in l.fn.entries.now) (unresolved_in l.fn.other.now)
 
-abbrev pub decreases-next : goal.decreases-next
-decreases-next l = length (unresolved_in l.left)
+abbrev pub decreases-walk : goal.decreases-walk
+decreases-walk l = length (unresolved_in l.left)
