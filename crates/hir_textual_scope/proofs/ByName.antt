@@ -124,8 +124,10 @@ leads_at name (x ∷ xs) (suc n) m e = leads_at name xs n m e
 
 -- it gives the macro at its place, if that has the name
 pub gives_next : (name : List ℕ) (ms : List TextualMacro) (n : ℕ) (m : TextualMacro) → Some m ≡ slice_get ms n → has_name name m ≡ true
-    → leading name (drop n ms) ≡ m.makro ∷ leading name (drop (suc n) ms)
-gives_next name ms n m e h = leads_at name ms n m e ∙ leads m (drop (suc n) ms) name true h
+    → leading name (drop n ms) ≡ m.makro ∷ leading name (drop (n + 1) ms)
+gives_next name ms n m e h =
+    let next : suc n ≡ n + 1 = omega arith in
+    leads_at name ms n m e ∙ leads m (drop (suc n) ms) name true h ∙ ap (λ k. m.makro ∷ leading name (drop k ms)) next
 
 -- and ends there, if it hasn't
 pub ends_there : (name : List ℕ) (ms : List TextualMacro) (n : ℕ) (m : TextualMacro) → Some m ≡ slice_get ms n → has_name name m ≡ false

@@ -265,7 +265,8 @@ pub(crate) fn count_before(tree: &Link, name: &Name) -> usize
     };
     let node: &Node = &**node;
     if node.entry.name < *name {
-        len(&node.left) + 1 + count_before(&node.right, name)
+        let before = node.len - len(&node.right);
+        before + count_before(&node.right, name)
     } else {
         count_before(&node.left, name)
     }
