@@ -13,14 +13,13 @@ returns-in-Some c =
     let name = c.args.name.now in
     let old = c.args.self.now.values in
     let made = c.with_definition.result in
-    let new = with_item_definition c.args.def c.args.vis in
     let is = c.in-Some.ensures.value in
     let made_is = c.with_definition.ensures.value in
     let now_is = c.set_value.ensures.values
     ∙ ap (λ es. set_value (is_at (slice_cmp nat_cmp name)) es made) (ap (λ (s : ScopeValue). s.values) c.self.view_is) in
-    let was = rewritten_is new old _ name c.in-Some.item made is made_is now_is in
+    let was = rewritten_is (with_item_definition c.args.def c.args.vis) old _ name c.in-Some.item made is made_is now_is in
     record {
       value = values_change _ _ c.self.view_is _ _ _ _ c.set_value.ensures.unresolved _ c.set_value.ensures.types was c.set_value.ensures.macros;
-      bound = rewritten_bound new old _ name c.in-Some.item made is made_is now_is;
-      others = rewritten_others new old _ name c.in-Some.item made is made_is now_is;
+      bound = rewritten_bound (with_item_definition c.args.def c.args.vis) old _ name c.in-Some.item made is made_is now_is;
+      others = rewritten_others (with_item_definition c.args.def c.args.vis) old _ name c.in-Some.item made is made_is now_is;
     }
