@@ -14,10 +14,15 @@ use Rattle.hir_base.specs.declared.macro_kind.MacroId.{MacroId}
 use Rattle.hir_base.specs.declared.ids.ModuleDefId.{ModuleDefId}
 use Rattle.hir_scope.specs.declared.imports.ImportOrExternCrate.{ImportOrExternCrate}
 use Rattle.hir_scope.specs.declared.imports.ImportOrGlob.{ImportOrGlob}
+use Rattle.hir_scope.specs.declared.imports.ImportOrDef.{ImportOrDef}
+use Rattle.hir_scope.specs.declared.item_scope.push.Candidates.{Candidates}
+use Rattle.hir_scope.specs.contracts.imports.ImportOrExternCrateOrd.TheImpl as item_order
+use Rattle.hir_scope.specs.contracts.imports.ImportOrGlobOrd.TheImpl as value_order
 use Rattle.hir_scope.specs.PerNs as of_scope
 use Rattle.hir_scope.specs.Scope.{ScopeValue}
+use Rattle.hir_scope.specs.Scope.Push.{written_scope}
 use Rattle.hir_scope_table.specs.Entries.{item_at}
-use Rattle.hir_scope_table.specs.Table.{is_definition, rewritten, without_definition}
+use Rattle.hir_scope_table.specs.Table.{is_definition, rewritten, without_definition, written_items, written_records}
 use Rattle.hir_scope_table.specs.declared.item.Item.{Item}
 use Rattle.hir_scope_table.proofs.Pushes.{name-apart}
 use Rattle.hir_scope_table.proofs.Slots.{lookup-below}
@@ -121,18 +126,6 @@ module _ {D V I : Type 0} (same : D → D → Bool) (old now : List (List ℕ ×
       ap (λ es. item_at es other) now_is
       ∙ others-remove (is_at (slice_cmp nat_cmp name)) (is_at (slice_cmp nat_cmp other)) (names_apart name other n) old
 
--- what is another definition, or nothing, stays
-pub unremoved_is : {D V I : Type 0} (same : D → D → Bool) (old : List (List ℕ × Item D V I)) (name : List ℕ) (def : D) (bound : Option (Item D V I))
-    → bound ≡ item_at old name → is_definition same def bound ≡ false → old ≡ without_definition same old name def
-unremoved_is same old name def bound is no =
-    ap (λ b. cond b (remove_entry (is_at (slice_cmp nat_cmp name)) old) old) (sym (ap (is_definition same def) (sym is) ∙ no))
-
-pub unremoved_bound : {D V I : Type 0} (same : D → D → Bool) (old : List (List ℕ × Item D V I)) (name : List ℕ) (def : D) (bound : Option (Item D V I))
-    → bound ≡ item_at old name → is_definition same def bound ≡ false
-    → item_at old name ≡ cond (is_definition same def (item_at old name)) None (item_at old name)
-unremoved_bound same old name def bound is no =
-    ap (λ b. cond b None (item_at old name)) (sym (ap (is_definition same def) (sym is) ∙ no))
-
 -- ---- a scope of which one namespace changes
 
 abbrev pub TypeItems : Type 0
@@ -172,3 +165,34 @@ module _ (seen scope : ScopeValue) (is : seen ≡ scope) (types : TypeItems) (va
       → record seen { types = types; values = values; macros = macros; unresolved = unresolved } ≡ record scope { macros = made }
   macros_change made t v m =
       λ i. record (is i) { types = seen_types t i; values = seen_values v i; macros = m i; unresolved = seen_unresolved i }
+
+-- ---- a scope in which candidates are bound to a name
+
+pub all_bound : (seen scope : ScopeValue) → seen ≡ scope → (name : List ℕ) (given : Candidates) (types : TypeItems) (values : ValueItems) (macros : MacroItems)
+    (unresolved : List (List ℕ)) (type_imports : List (ImportOrExternCrate × ImportOrDef)) (value_imports : List (ImportOrGlob × ImportOrDef))
+    (macro_imports : List (ImportOrExternCrate × ImportOrDef))
+    → types ≡ written_items name given.types seen.types → values ≡ written_items name given.values seen.values
+    → macros ≡ written_items name given.macros seen.macros → unresolved ≡ seen.unresolved
+    → type_imports ≡ written_records item_order.ghosts.cmp given.types seen.type_imports
+    → value_imports ≡ written_records value_order.ghosts.cmp given.values seen.value_imports
+    → macro_imports ≡ written_records item_order.ghosts.cmp given.macros seen.macro_imports
+    → record seen {
+      types = types;
+      values = values;
+      macros = macros;
+      unresolved = unresolved;
+      type_imports = type_imports;
+      value_imports = value_imports;
+      macro_imports = macro_imports;
+    }
+    ≡ written_scope name given scope
+all_bound seen scope is name given types values macros unresolved type_imports value_imports macro_imports t v m u ti vi mi =
+    λ i. record (is i) {
+      types = (t ∙ ap (λ (s : ScopeValue). written_items name given.types s.types) is) i;
+      values = (v ∙ ap (λ (s : ScopeValue). written_items name given.values s.values) is) i;
+      macros = (m ∙ ap (λ (s : ScopeValue). written_items name given.macros s.macros) is) i;
+      unresolved = (u ∙ ap (λ (s : ScopeValue). s.unresolved) is) i;
+      type_imports = (ti ∙ ap (λ (s : ScopeValue). written_records item_order.ghosts.cmp given.types s.type_imports) is) i;
+      value_imports = (vi ∙ ap (λ (s : ScopeValue). written_records value_order.ghosts.cmp given.values s.value_imports) is) i;
+      macro_imports = (mi ∙ ap (λ (s : ScopeValue). written_records item_order.ghosts.cmp given.macros s.macro_imports) is) i;
+    }

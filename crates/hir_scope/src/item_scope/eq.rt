@@ -129,13 +129,19 @@ fn same_unresolved(entries: &[ScopeEntry], other: &[ScopeEntry]) -> bool
 }
 
 impl ItemScope {
+    fn has_same_unresolved(&self, other: &ItemScope) -> bool
+        ensures value { result ≡ pointwise (pointwise nat_eq) self.now.unresolved other.now.unresolved }
+    {
+        same_unresolved(self.names.as_slice(), other.names.as_slice())
+    }
+
     fn has_same_bindings(&self, other: &ItemScope) -> bool
         ensures value { result ≡ same_bindings self.now other.now }
     {
         same_walk(self.types(), other.types())
             && same_walk(self.values(), other.values())
             && same_walk(self.macros(), other.macros())
-            && same_unresolved(self.names.as_slice(), other.names.as_slice())
+            && self.has_same_unresolved(other)
     }
 
     fn has_same_declarations(&self, other: &ItemScope) -> bool

@@ -1,4 +1,4 @@
-use Rattle.std.proofs.Common.{◌≡◌, ◌∙◌, ap, true}
+use Rattle.std.proofs.Common.{◌≡◌, ◌∙◌, ap, sym, true}
 use Rattle.std.specs.BTreeMap.{is_at}
 use Rattle.std.specs.Cmp.Lexicographic.{slice_cmp}
 use Rattle.std.specs.Map.{remove_entry}
@@ -16,7 +16,7 @@ returns-then-eq c =
     let old = c.args.self.now.values in
     let item = c.in-Some.item in
     let is = c.in-Some.ensures.value in
-    let fits : module_def.ghosts.eq c.in-Some.item.def c.args.def ≡ true = cc in
+    let fits : module_def.ghosts.eq c.in-Some.item.def c.args.def ≡ true = sym c.eq.ensures ∙ c.if-eq.true in
     let now_is = c.remove_value.ensures.values
     ∙ ap (remove_entry (is_at (slice_cmp nat_cmp name))) (ap (λ (s : ScopeValue). s.values) c.self.view_is) in
     let was = removed_is same old _ name c.args.def item is fits now_is in

@@ -7,7 +7,7 @@ use Rattle.hir_scope.proofs.item_scope.eq.same_unresolved.Given as goal
 abbrev pub invariant-walk : goal.invariant-walk
 invariant-walk l =
     pointwise (pointwise nat_eq) (unresolved_in l.left) (unresolved_in l.others)
-    ≡ pointwise (pointwise nat_eq) (unresolved_in l.fn.entries.now) (unresolved_in l.fn.other.now)
+    ≡ pointwise (pointwise nat_eq) (unresolved_in l.fn.entries) (unresolved_in l.fn.other)
 
 abbrev pub decreases-walk : goal.decreases-walk
 decreases-walk l = length (unresolved_in l.left)

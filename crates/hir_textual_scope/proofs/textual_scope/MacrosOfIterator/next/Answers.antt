@@ -22,5 +22,5 @@ pub returns-else-eq-clause-steps : goal.returns-else-eq-clause-steps
 returns-else-eq-clause-steps c =
     let ms = macros_under c.self.inside.root.now in
     let name = c.self.inside.name.now in
-    let none = ends_there name ms c.self.inside.next c.in_ok-entry.entry.now c.in_ok-entry.ensures.value (cc) in
-    (sym c.self.view_is ∙ none, none)
+    let none = sym c.self.view_is ∙ ends_there name ms c.self.inside.next c.in_ok-entry.entry.now c.in_ok-entry.ensures.value (cc) in
+    (none, none)
