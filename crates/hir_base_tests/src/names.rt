@@ -7,8 +7,9 @@ use hir_base::builtin_type::{
 };
 use hir_base::edition::Edition;
 use hir_base::file_path::FilePath;
-use hir_base::mod_path::ModPath;
-use hir_base::name::Name;
+use hir_base::mod_path::{ModPath, PathKind};
+use hir_base::name::{Name, NameError};
+use smallvec::SmallVec;
 use std::alloc::{AllocError, Global};
 use std::process::Abort;
 use std::test::Fail;
@@ -134,6 +135,14 @@ fn builtin_types_by_name(rt: HostRuntime) -> Result<(), Fail> {
     for (at, builtin) in all_builtin_types().into_iter().enumerate() {
         let found = named_alike(rt.alloc(), builtin)?;
         assert_eq!(rt; found, Some(builtin), "{at}");
+        let name = builtin.as_name();
+        assert_eq!(rt;
+            BuiltinType::by_name(&name),
+            Some(builtin),
+            "{at}, by its own name"
+        );
+        let shown = builtin.to_string(rt.alloc())?;
+        same_text(&rt, name.as_str(), shown.as_str(), builtin.as_str());
     }
     Ok(())
 }
@@ -166,4 +175,83 @@ fn suffixes_of_literals(rt: HostRuntime) {
     for (suffix, int, uint, float) in rows {
         assert_eq!(rt; types_by_suffix(suffix), (int, uint, float), "{suffix}");
     }
+}
+
+fn types_by_suffix_name(
+    alloc: Global,
+    suffix: &str,
+) -> Result<(Option<BuiltinInt>, Option<BuiltinUint>), Fail> {
+    let suffix = Name::new(alloc, suffix)?;
+    Ok((
+        BuiltinInt::from_suffix_sym(&suffix),
+        BuiltinUint::from_suffix_sym(&suffix),
+    ))
+}
+
+/// The same of suffixes that are names.
+#[test]
+fn names_as_suffixes(rt: HostRuntime) -> Result<(), Fail> {
+    let rows = [
+        ("i8", Some(BuiltinInt::I8), None),
+        ("usize", None, Some(BuiltinUint::Usize)),
+        ("f64", None, None),
+        ("u7", None, None),
+    ];
+    for (suffix, int, uint) in rows {
+        let found = types_by_suffix_name(rt.alloc(), suffix)?;
+        assert_eq!(rt; found, (int, uint), "{suffix}");
+    }
+    Ok(())
+}
+
+/// Whether a text is no name, or a name above the limit.
+fn refusal(alloc: Global, text: &str) -> (bool, bool) {
+    match Name::new(alloc, text) {
+        Err(NameError::Bad) => (true, false),
+        Err(NameError::TooLarge) => (false, true),
+        _ => (false, false),
+    }
+}
+
+/// What is no name is told before its length.
+#[test]
+fn texts_that_are_no_names(rt: HostRuntime) -> Result<(), Fail> {
+    let mut long = String::new(rt.alloc());
+    for _ in 0..1000 {
+        long.push('a')?;
+    }
+    assert_eq!(rt;
+        refusal(rt.alloc(), long.as_str()),
+        (false, false),
+        "1,000 bytes"
+    );
+    long.push('a')?;
+    assert_eq!(rt;
+        refusal(rt.alloc(), long.as_str()),
+        (false, true),
+        "1,001 bytes"
+    );
+    long.push('/')?;
+    assert_eq!(rt;
+        refusal(rt.alloc(), long.as_str()),
+        (true, false),
+        "and a slash"
+    );
+    for text in ["", "$a", "self", "super", "crate", "_", "*", "a b", "a:b"] {
+        assert_eq!(rt; refusal(rt.alloc(), text), (true, false), "{text}");
+    }
+    Ok(())
+}
+
+/// `self` in front of names, made of its parts.
+#[test]
+fn path_of_parts(rt: HostRuntime) -> Result<(), Fail> {
+    let mut segments = SmallVec::new(rt.alloc());
+    segments.push(Name::new(rt.alloc(), "a")?)?;
+    let path = ModPath::from_segments(PathKind::SELF, segments);
+    assert!(rt; path == path_of(rt.alloc(), "self::a")?);
+    assert_eq!(rt; path.kind(), PathKind::Super(0));
+    let shown = path.display(Edition::LATEST).to_string(rt.alloc())?;
+    same_text(&rt, "in the latest edition", shown.as_str(), "self::a");
+    Ok(())
 }
