@@ -91,6 +91,15 @@ fn kind_text(kind: &DefDiagnosticKind) -> &'static str {
     }
 }
 
+fn write_report(diagnostic: &DefDiagnostic, out: &mut String) -> Result<(), Fault> {
+    out.push_str(" ")?;
+    out.push_str(kind_text(&diagnostic.kind))?;
+    let module = ModuleText(diagnostic.in_module);
+    let node = diagnostic.kind.ast_id().id.hash;
+    write!(out, " {module}#{node}")?;
+    Ok(())
+}
+
 /// What a map's diagnostics are, in their order: the kind, the module, and the node.
 pub fn reports(stage: &Stage, words: &[&str], out: &mut String) -> Result<(), Fault> {
     let [at] = words else {
@@ -98,13 +107,13 @@ pub fn reports(stage: &Stage, words: &[&str], out: &mut String) -> Result<(), Fa
     };
     let asker = asker_at(stage, at)?;
     out.push_str(" ->")?;
-    let mut separator = "";
+    let mut is_first = true;
     for diagnostic in asker.map.diagnostics().iter() {
-        let kind = kind_text(&diagnostic.kind);
-        let module = ModuleText(diagnostic.in_module);
-        let node = diagnostic.kind.ast_id().id.hash;
-        write!(out, "{separator} {kind} {module}#{node}")?;
-        separator = ",";
+        if !is_first {
+            out.push_str(",")?;
+        }
+        write_report(diagnostic, out)?;
+        is_first = false;
     }
     Ok(())
 }
