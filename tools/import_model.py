@@ -103,8 +103,10 @@ class Session:
             roll = self.random.random()
             if roll < 0.2:
                 nodes.append(self.draw_definition(at))
-            elif roll < 0.25:
+            elif roll < 0.23:
                 nodes.append(self.draw_enum(at))
+            elif roll < 0.25:
+                nodes.append(self.draw_impl(at))
             elif roll < 0.45:
                 nodes.append(self.draw_macro(at))
             elif roll < 0.6:
@@ -159,6 +161,8 @@ class Session:
             roll = self.random.random()
             if self.calls and self.chance(0.3):
                 nodes.append(self.draw_call(at) if self.chance(0.8) or not at.dependencies else self.draw_extern_crate(at))
+            if self.calls and self.chance(0.15):
+                nodes.append(self.draw_impl(at))
             if kind == "module":
                 nodes.append(self.draw_module(at, path, name))
             elif self.macros and self.random.random() < 0.4:
@@ -220,10 +224,28 @@ class Session:
         if kind == "Fn":
             return self.node("Fn", node_id, vis, name=name, body="")
         if kind == "Trait":
-            return self.node("Trait", node_id, vis, name=name, items=[])
+            return self.node("Trait", node_id, vis, name=name, items=self.draw_held(at) if self.calls else [])
         if kind == "Record":
             return self.node("Struct", node_id, vis, name=name, shape="record", fields=[])
         return self.node("Struct", node_id, vis, name=name)
+
+    def draw_held(self, at):
+        """What a trait or an impl holds."""
+        nodes = []
+        for _ in range(self.random.randint(0, 3)):
+            kind, node_id = self.choose(["Fn", "Const", "TypeAlias", "MacroCall", "MacroCall"]), self.id()
+            more = {"attrs": [{"path": "cfg", "cfg": False}]} if self.chance(0.1) else {}
+            if kind == "MacroCall":
+                more["path"] = self.choose(ITEMS + ["m"]) if self.chance(0.7) else self.path(at, True)[0]
+                more["input"] = self.choose(INPUTS)
+            elif kind != "Const" or self.chance(0.8):
+                more["name"] = self.choose(ITEMS)
+            nodes.append(self.node(kind, node_id, None, **more, **({"body": ""} if kind in ("Fn", "Const") else {})))
+        return nodes
+
+    def draw_impl(self, at):
+        node_id = self.id()
+        return self.node("Impl", node_id, None, trait=self.chance(0.5), items=self.draw_held(at))
 
     def draw_enum(self, at):
         node_id, name, vis = self.id(), self.choose(ITEMS + ["b"]), self.vis(at)
@@ -296,7 +318,17 @@ class Session:
                     if self.macros:
                         say({"do": "resolve", "at": place, "path": name})
             if self.calls:
+                for place in places[:4]:
+                    self.ask_held(say, place)
                 say({"do": "diagnostics", "crate": number})
+
+    @staticmethod
+    def ask_held(say, place):
+        """What traits and impls hold."""
+        for path in ITEMS + ["crate::" + ITEMS[0], "super::" + ITEMS[0]]:
+            say({"do": "trait items", "at": place, "path": path})
+        for number in range(3):
+            say({"do": "impl items", "at": place, "impl": number})
 
     def edit(self, workspace, say):
         """Edits of expansions and files, each followed by what is stale, and by the diagnostics of a refresh."""
@@ -320,6 +352,7 @@ class Session:
             for number in range(len(self.crates)):
                 say({"do": "diagnostics", "crate": number})
                 say({"do": "resolve", "at": [number], "path": drawn.choice(NAMES)})
+                self.ask_held(say, [number])
 
     def places(self, module, place):
         """The modules that a place names: those that their parent's name leads to."""
@@ -497,6 +530,7 @@ class Blocks(Session):
                     more = drawn.choice([{}, {}, {"sub": "bang"}, {"sub": "attr"}, {"shadow": "module"}])
                     say({"do": "resolve", "at": inner, "path": drawn.choice(self.ROOTS) + name, **more})
                     say({"do": "resolve", "at": inner, "path": drawn.choice(NAMES) + "::" + name})
+                self.ask_held(say, inner)
 
     def edit(self, workspace, say):
         super().edit(workspace, say)

@@ -6,9 +6,9 @@ Without --program it takes crates/hir_session_main/out/hir_session_main, which `
 With --print it runs nothing, and writes the commands of the sessions as they stand in crates/hir_session_rows/stdin.
 
 A session has one to four crates, each with a root file, and module files that any of them may name, blocks in modules and in one
-another, also where nothing holds them, all with imports, globs, macros and calls, and a table of expansions. Files, blocks and
+another, also where nothing holds them, all with imports, globs, macros, calls, traits and impls, and a table of expansions. Files, blocks and
 expansions are set, changed, removed and refreshed some times. At its end all is refreshed, and a list of paths is asked at each
-crate and each block, with its status and its dump, and the diagnostics of each crate. A second session is handed the sources and
+crate and each block, with its status, its dump and the items of traits and impls, and the diagnostics of each crate. A second session is handed the sources and
 expansions of that moment at once, and asked the same. It ends with 1 at the first session whose answers differ, which it writes
 to standard error.
 """
@@ -66,7 +66,7 @@ class Crates:
         return tree
 
     def item(self, depth):
-        kinds = ["Module", "Module", "Use", "Use", "Use", "Struct", "Fn", "Enum", "Const", "Trait", "ExternCrate", "Macro", "Macro"]
+        kinds = ["Module", "Module", "Use", "Use", "Use", "Struct", "Fn", "Enum", "Const", "Trait", "Trait", "Impl", "Impl", "ExternCrate", "Macro", "Macro"]
         kind = self.choose(kinds + 6 * ["MacroCall"] if self.calls else kinds)
         name = self.choose(NAMES)
         if kind == "Module" and not self.leaf and self.random.random() < (0.1 if self.expansion else 0.3):
@@ -97,13 +97,32 @@ class Crates:
         if kind == "Const":
             return self.node("Const", name=name)
         if kind == "Trait":
-            return self.node("Trait", name=name, items=[])
+            return self.node("Trait", name=name, items=self.held())
+        if kind == "Impl":
+            return self.node("Impl", trait=self.random.random() < 0.5, items=self.held())
         extern_crate = self.node("ExternCrate", name=self.choose(["d0", "d1", "self"]))
         if self.random.random() < 0.5 or extern_crate["name"] == "self":
             extern_crate["as"] = self.choose([name, name, "_"])
         if self.random.random() < 0.4:
             extern_crate["attrs"] = [{"path": "macro_use"}]
         return extern_crate
+
+    def held(self):
+        """What a trait or an impl holds."""
+        found = []
+        for _ in range(self.random.randint(0, 4)):
+            kind = self.choose(["Fn", "Const", "TypeAlias", "MacroCall", "MacroCall"])
+            fields = {"name": self.choose(NAMES)}
+            if kind == "MacroCall":
+                fields = {"path": self.choose(MACROS) if self.random.random() < 0.8 else self.path(), "input": self.choose(INPUTS)}
+            elif kind == "Const" and self.random.random() < 0.2:
+                fields = {}
+            if kind in ("Fn", "Const"):
+                fields["body"] = self.choose(["", "1"])
+            if self.random.random() < 0.1:
+                fields["attrs"] = [{"path": "cfg", "cfg": False}] if self.random.random() < 0.7 else [{"path": "nope"}]
+            found.append(self.node(kind, **fields))
+        return found
 
     def makro(self):
         fields = {"name": self.choose(MACROS), "text": self.choose(TEXTS)}
@@ -215,11 +234,19 @@ def edit_of_blocks(blocks, count, drawn):
     return {"do": "set block", "at": json.loads(place), "unit": blocks[place]}
 
 
+def asks_of_items(at, drawn):
+    """What is asked of traits and impls at a place."""
+    paths = [drawn.choose(NAMES) for _ in range(4)] + [drawn.path()]
+    asks = [{"do": "trait items", "at": at, "path": path} for path in paths]
+    return asks + [{"do": "impl items", "at": at, "impl": number} for number in range(2)]
+
+
 def asks_of_block(place, drawn):
     """What is asked at the place of a block and at what may be a module in it."""
     at, inner = json.loads(place), json.loads(place) + [drawn.choose(["a", "b", "m"])]
     paths = [drawn.choose(NAMES + MACROS + ["u8"]) for _ in range(6)] + [drawn.path() for _ in range(6)]
     asks = [{"do": "resolve", "at": drawn.choose(4 * [at] + [inner]), "path": path} for path in paths]
+    asks += asks_of_items(drawn.choose([at, at, inner]), drawn)
     return asks + [{"do": "status", "at": at}, {"do": "status", "at": inner}, {"do": "dump", "at": drawn.choose([at, at, inner])}]
 
 
@@ -239,6 +266,8 @@ def session(seed):
             commands.append(edit_of_files(files, crates, drawn))
         if blocks and drawn.random.random() < 0.2:
             commands += asks_of_block(drawn.choose(list(blocks)), drawn)[-4:]
+        if drawn.random.random() < 0.2:
+            commands += asks_of_items([drawn.random.randrange(len(crates))], drawn)
         if drawn.random.random() < 0.5:
             commands.append({"do": "refresh"})
     asks = []
@@ -247,6 +276,8 @@ def session(seed):
         places = 6 * [[number]] + [[number, name] for name in NAMES[:3]]
         asks += [{"do": "resolve", "at": drawn.choose(places), "path": path} for path in paths]
         asks += [{"do": "diagnostics", "crate": number}, {"do": "dump", "at": drawn.choose(places)}]
+        for at in [[number], drawn.choose(places)]:
+            asks += asks_of_items(at, drawn)
     for place in list(blocks) + [drawn.block_place(len(crates), blocks)]:
         asks += asks_of_block(place, drawn)
     fresh = [begin] + [{"do": "set file", "file": file, "unit": unit} for file, unit in files.items()]

@@ -110,6 +110,12 @@ impl Condition {
 }
 
 impl Options {
+    /// Whether a text is an option as `rustc --cfg` takes it.
+    pub fn can_set(text: &str) -> bool {
+        let key = text.split_once('=').map_or(text, |it| it.0).trim();
+        !key.is_empty() && key.chars().all(|it| it.is_alphanumeric() || it == '_')
+    }
+
     /// Sets an option as `rustc --cfg` takes it: `name` or `key="value"`.
     pub fn set(&mut self, text: &str) {
         match text.split_once('=') {

@@ -3,6 +3,7 @@
 //! Edits go to the resolver's program as they are typed; a text that doesn't parse leaves the items of its file as they
 //! were. [`text`] counts as editors do, [`message`] frames messages.
 
+mod actions;
 mod answers;
 mod declaration;
 mod edits;
@@ -301,6 +302,7 @@ impl<W: Write> Server<W> {
             "textDocument/hover" => self.flushed()?.hover(params)?,
             "textDocument/references" => self.flushed()?.references(params)?,
             "textDocument/documentSymbol" => self.flushed()?.symbols(params),
+            "textDocument/codeAction" => self.flushed()?.code_actions(params)?,
             _ => Err(Failure(message::METHOD_NOT_FOUND, format!("`{method}` isn't known"))),
         })
     }
@@ -328,6 +330,7 @@ impl<W: Write> Server<W> {
                 "hoverProvider": true,
                 "referencesProvider": true,
                 "documentSymbolProvider": true,
+                "codeActionProvider": {"codeActionKinds": ["quickfix"]},
             },
             "serverInfo": {"name": "cargo-nogsimat", "version": env!("CARGO_PKG_VERSION")},
         })

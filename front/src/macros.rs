@@ -10,12 +10,14 @@ use std::collections::HashMap;
 use std::sync::Arc;
 
 use crate::syntax::MacroDefinition;
-use crate::token::{count, of_macro, opened, text_of, Delimiter, Kind, Span, Token, Tokens};
+use crate::token::{count, nesting, of_macro, opened, text_of, Delimiter, Kind, Span, Token, Tokens};
 pub use fragments::reads_as_rust;
 use fragments::{take_fragment, Fragment};
 
 /// An expansion has at most so many tokens.
 pub const MOST_TOKENS: usize = 1_000_000;
+/// In an expansion at most so many groups stand in one another, those of fragments among them.
+const MOST_NESTED: usize = 1_000;
 /// Matching one call takes at most so many steps.
 const MOST_STEPS: usize = 20_000_000;
 
@@ -91,6 +93,9 @@ impl Rules {
             if end {
                 let mut made = Writer { made: Vec::new(), left: MOST_TOKENS, krate };
                 made.write(templates, &bindings, &mut Vec::new())?;
+                if nesting(&made.made) > MOST_NESTED {
+                    return Err(format!("in the expansion more than {MOST_NESTED} brackets stand in one another"));
+                }
                 return Ok(made.made);
             }
         }

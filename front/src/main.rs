@@ -9,7 +9,7 @@ use cargo_nogsimat::package::{Crates, Wanted};
 use cargo_nogsimat::program::{self, VARIABLE};
 use cargo_nogsimat::question::{Context, Question};
 use cargo_nogsimat::report::{Answer, Diagnostic, Report, Texts};
-use cargo_nogsimat::token::Position;
+use cargo_nogsimat::token::{on_a_thread, Position};
 use cargo_nogsimat::unit::Step;
 use cargo_nogsimat::workspace::Workspace;
 use clap::{Args, Parser, Subcommand};
@@ -269,6 +269,7 @@ fn check(path: &Path, options: &Options) -> Result<ExitCode> {
     let mut space = options.open(path)?;
     let report = space.report()?;
     tell(&space, &report, start.elapsed(), options.json)?;
+    space.abandon();
     Ok(match (report.diagnostics.is_empty(), report.is_partial()) {
         (true, _) => ExitCode::SUCCESS,
         (false, false) => ExitCode::from(1),
@@ -300,7 +301,9 @@ fn where_(place: &str, options: &Options) -> Result<ExitCode> {
     };
     let file = Path::new(file);
     let mut space = options.open(&package_of(file)?)?;
-    say(&space.answer_at(file, Position { line, column })?, options.json)
+    let answer = space.answer_at(file, Position { line, column });
+    space.abandon();
+    say(&answer?, options.json)
 }
 
 fn resolve(path: &str, at: &str, options: &Options) -> Result<ExitCode> {
@@ -318,7 +321,9 @@ fn resolve(path: &str, at: &str, options: &Options) -> Result<ExitCode> {
     let context = if path.ends_with('!') { Context::Call } else { Context::Plain };
     let path = path.trim_end_matches('!').to_owned();
     let question = Question { krate: krate as u32, place: module, whole: path.clone(), path, context };
-    say(&space.answer(question)?, options.json)
+    let answer = space.answer(question);
+    space.abandon();
+    say(&answer?, options.json)
 }
 
 fn watch(path: &Path, options: &Options) -> Result<ExitCode> {
@@ -403,6 +408,7 @@ fn session(path: &Path, options: &Options) -> Result<ExitCode> {
     for line in space.session() {
         print(&format!("{line}\n"))?;
     }
+    space.abandon();
     Ok(ExitCode::SUCCESS)
 }
 
@@ -417,6 +423,10 @@ fn lsp(options: &Options) -> Result<ExitCode> {
 }
 
 fn main() -> ExitCode {
+    on_a_thread(run)
+}
+
+fn run() -> ExitCode {
     // `cargo nogsimat` gives its own name as the first argument.
     let mut words: Vec<_> = std::env::args_os().collect();
     if words.get(1).is_some_and(|it| it == "nogsimat") {

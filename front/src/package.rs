@@ -123,6 +123,9 @@ impl Crates {
         if !manifest.is_file() {
             bail!("{} isn't there; give a folder with a Cargo.toml", manifest.display());
         }
+        if let Some(it) = wanted.cfg.iter().find(|it| !Options::can_set(it)) {
+            bail!("`{it}` is no condition; give --cfg NAME or --cfg 'NAME=\"VALUE\"'");
+        }
         let mut command = MetadataCommand::new();
         command.manifest_path(&manifest);
         if wanted.all_features {

@@ -70,11 +70,17 @@ impl Program {
         matches!(self.child.try_wait(), Ok(None))
     }
 
+    /// Ends the process.
+    pub fn end(&mut self) {
+        let _ = self.child.kill();
+        let _ = self.child.wait();
+    }
+
     /// The replies to the commands, in order.
     pub fn ask_all(&mut self, lines: &[String]) -> Result<Vec<Value>> {
         let Program { input, output, .. } = self;
         let mut replies = Vec::with_capacity(lines.len());
-        let read = std::thread::scope(|scope| {
+        let fault = std::thread::scope(|scope| {
             scope.spawn(move || {
                 for line in lines {
                     if input.write_all(line.as_bytes()).and_then(|()| input.write_all(b"\n")).is_err() {
@@ -87,26 +93,39 @@ impl Program {
             for _ in lines {
                 text.clear();
                 match output.read_line(&mut text) {
-                    Ok(0) | Err(_) => return false,
-                    Ok(_) => match serde_json::from_str(&text) {
-                        Ok(it) => replies.push(it),
-                        Err(_) => return false,
+                    Ok(0) | Err(_) => return Some(None),
+                    Ok(_) => match serde_json::from_str::<Value>(&text) {
+                        Ok(it) if it.get("ok").is_some() || it.get("error").is_some() => replies.push(it),
+                        _ => return Some(Some(std::mem::take(&mut text))),
                     },
                 }
             }
-            true
+            None
         });
         self.answered += replies.len();
-        if !read {
-            return Err(self.ended());
+        match fault {
+            None => Ok(replies),
+            Some(None) => Err(self.ended()),
+            Some(Some(text)) => Err(self.astray(&text)),
         }
-        Ok(replies)
     }
 
     /// The reply to one command.
     pub fn ask(&mut self, line: String) -> Result<Value> {
         let mut replies = self.ask_all(&[line])?;
         replies.pop().context("one reply for one command")
+    }
+
+    /// What is told of a reply that is none.
+    fn astray(&mut self, text: &str) -> anyhow::Error {
+        self.end();
+        let shown: String = text.trim_end().chars().take(60).collect();
+        anyhow!(
+            "the program {} isn't Nogsimat's, or is at fault: its reply {} is `{shown}`; name another by --program or by \
+             the variable {VARIABLE}",
+            self.path.display(),
+            self.answered + 1
+        )
     }
 
     /// Why no reply came.
@@ -127,7 +146,6 @@ impl Program {
 
 impl Drop for Program {
     fn drop(&mut self) {
-        let _ = self.child.kill();
-        let _ = self.child.wait();
+        self.end();
     }
 }

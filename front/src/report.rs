@@ -1,6 +1,7 @@
 //! Diagnostics and answers at places in files.
 
 mod answers;
+mod associated;
 mod imports;
 
 use std::collections::HashMap;
@@ -13,7 +14,7 @@ use serde_json::Value;
 use crate::question::names_of;
 use crate::token::Span;
 use crate::unit::{place_json, quoted, steps_of};
-use crate::workspace::{path_of_key, Located, NotRun, Workspace};
+use crate::workspace::{bytes_of, path_of_key, Located, NotRun, Workspace};
 pub use answers::{Answer, Meaning};
 use imports::{prefixes, Bound};
 
@@ -404,7 +405,7 @@ impl Texts {
     /// A diagnostic with the line of its file.
     pub fn show(&mut self, it: &Diagnostic, colored: bool) -> String {
         let text = self.0.entry(it.place.file.clone()).or_insert_with(|| {
-            String::from_utf8_lossy(&std::fs::read(&it.place.file).unwrap_or_default()).into_owned()
+            String::from_utf8_lossy(&bytes_of(Path::new(&it.place.file)).unwrap_or_default()).into_owned()
         });
         it.text(&text.lines().collect::<Vec<_>>(), colored)
     }

@@ -5,10 +5,12 @@
 
 mod blocks;
 mod items;
+mod paths;
 
 use std::sync::Arc;
 
 pub use blocks::{statements_of, Block};
+pub use paths::{path_of_type, ImplHead};
 
 use crate::token::{opened, Delimiter, Hash, Kind, Position, Span, SyntaxError, Token, Tokens};
 
@@ -40,7 +42,7 @@ pub enum Visibility {
     Own,
     Crate,
     Public,
-    In(Path),
+    In(Box<Path>),
 }
 
 /// A name where it is declared.
@@ -162,10 +164,11 @@ pub enum ItemKind {
     Enum(Vec<Variant>),
     Trait(Vec<Item>),
     Impl {
-        of_trait: bool,
+        head: ImplHead,
         items: Vec<Item>,
     },
-    TypeAlias,
+    /// The path of what it stands for, where that is one.
+    TypeAlias(Option<Path>),
     /// None where the items are in a file of its own.
     Module(Option<Vec<Item>>),
     Call(Arc<Call>),
@@ -239,11 +242,7 @@ fn identify(items: &mut [Item], around: Hash, seen: &mut std::collections::HashM
             }
             ItemKind::ExternBlock(items) => identify(items, around.with("extern"), seen),
             ItemKind::Trait(items) | ItemKind::Impl { items, .. } => {
-                let around = around.with(item.name.as_ref().map_or(&item.text.text(), |it| &it.text));
-                for it in items {
-                    let name = it.name.as_ref().map_or("", |it| &it.text);
-                    identify_in(&mut it.blocks, around.with(name), seen);
-                }
+                identify(items, around.with(item.name.as_ref().map_or(&item.text.text(), |it| &it.text)), seen);
             }
             _ => {}
         }
@@ -469,8 +468,8 @@ impl<'a> Cursor<'a> {
         let made = match &*path.text {
             "crate" => Visibility::Crate,
             "self" => Visibility::Own,
-            "super" => Visibility::In(path),
-            _ if is_in => Visibility::In(path),
+            "super" => Visibility::In(path.into()),
+            _ if is_in => Visibility::In(path.into()),
             // The type of a tuple's field.
             _ => return Visibility::Public,
         };

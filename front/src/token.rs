@@ -161,10 +161,18 @@ pub fn tokens_of(text: &str) -> Result<Vec<Token>, SyntaxError> {
 /// a long session would otherwise grow with each text that is read.
 pub fn on_a_thread<T: Send>(work: impl FnOnce() -> T + Send) -> T {
     std::thread::scope(|scope| {
-        let builder = std::thread::Builder::new().stack_size(256 << 20);
-        let thread = builder.spawn_scoped(scope, work).expect("the system starts a thread");
+        let thread = spawn(scope, work);
         thread.join().unwrap_or_else(|panic| std::panic::resume_unwind(panic))
     })
+}
+
+/// A thread with room for deep syntax.
+pub fn spawn<'scope, T: Send + 'scope>(
+    scope: &'scope std::thread::Scope<'scope, '_>,
+    work: impl FnOnce() -> T + Send + 'scope,
+) -> std::thread::ScopedJoinHandle<'scope, T> {
+    let builder = std::thread::Builder::new().stack_size(256 << 20);
+    builder.spawn_scoped(scope, work).expect("the system starts a thread")
 }
 
 /// Each word once.
@@ -351,6 +359,15 @@ pub fn pieces_given(tokens: &[Token]) -> Vec<Span> {
         made.clear();
     }
     made
+}
+
+/// How many groups stand in one another at most.
+pub fn nesting(tokens: &[Token]) -> usize {
+    let inner = |it: &Token| match &it.kind {
+        Kind::Group(_, inner) => 1 + nesting(inner),
+        _ => 0,
+    };
+    tokens.iter().map(inner).max().unwrap_or(0)
 }
 
 /// How many tokens there are, those within groups included.

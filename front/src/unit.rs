@@ -9,7 +9,9 @@ use std::fmt::Write as _;
 use std::sync::Arc;
 
 use crate::cfg::Options;
-use crate::syntax::{plain, Attribute, Call, Field, Item, ItemKind, MacroDefinition, Shape, Unit, UseTree, Visibility};
+use crate::syntax::{
+    plain, Attribute, Call, Field, ImplHead, Item, ItemKind, MacroDefinition, Path, Shape, Unit, UseTree, Visibility,
+};
 use crate::token::{opened, Delimiter, Hash, Kind, Span, Token};
 use attributes::{builtin_name, expander_of, is_kept, names_json, write_attributes};
 
@@ -42,6 +44,10 @@ pub enum Detail {
     Builtin(String),
     /// A function that exports a derive macro, by that name.
     Derive(String),
+    /// An impl, by what it is of.
+    Impl(ImplHead),
+    /// A type alias, by the path of what it stands for.
+    Alias(Path),
     None,
 }
 
@@ -60,14 +66,16 @@ pub struct Node {
     pub span: Span,
     /// From its first word to its last.
     pub whole: Span,
+    /// As it is written.
+    pub visibility: Visibility,
     /// What it has besides by its kind.
     pub detail: Detail,
     /// The item, where its attributes may be macros.
     pub item: Option<Arc<Item>>,
-    /// Of a variant its enum, by its place among the nodes.
+    /// Of a variant its enum, of an item of a trait or an impl that, by its place among the nodes.
     pub of: Option<usize>,
-    /// Whether it is an item of a trait or an impl.
-    pub is_associated: bool,
+    /// Whether a condition leaves it out, or what it is in.
+    pub is_left_out: bool,
 }
 
 impl Node {
@@ -77,6 +85,17 @@ impl Node {
             Detail::Use(leaves) => leaves,
             _ => &[],
         }
+    }
+
+    /// The place in which it is declared, of a unit with this place.
+    pub fn place_in(&self, unit: &[Step]) -> Vec<Step> {
+        let modules = self.modules.iter().map(|it| Step::Module(it.to_string()));
+        unit.iter().cloned().chain(modules).collect()
+    }
+
+    /// Whether it is an item of a trait or an impl.
+    pub fn is_associated(&self) -> bool {
+        self.of.is_some() && self.kind != "Variant"
     }
 }
 
@@ -165,7 +184,9 @@ struct Builder<'a> {
     call: Option<Span>,
     modules: Vec<Arc<str>>,
     around: Hash,
-    is_associated: bool,
+    /// The trait or the impl whose items are gone through.
+    holder: Option<usize>,
+    is_left_out: bool,
 }
 
 /// The unit of a file or of an expansion. Calls for which `replaced` has items are those items.
@@ -190,7 +211,8 @@ fn build_at(unit: &Unit, options: &Options, replaced: Replaced, left_out: Derive
         call,
         modules: Vec::new(),
         around: Hash::default(),
-        is_associated: false,
+        holder: None,
+        is_left_out: !is_enabled(&unit.attributes, options),
     };
     builder.made.json.push_str("{\"attrs\":");
     write_attributes(&unit.attributes, left_out, &mut builder.made.json);
@@ -221,10 +243,10 @@ impl Builder<'_> {
     }
 
     /// The items of a trait or an impl.
-    fn associated(&mut self, items: &[Item]) {
-        self.is_associated = true;
+    fn associated(&mut self, items: &[Item], holder: usize) {
+        self.holder = Some(holder);
         self.list(items);
-        self.is_associated = false;
+        self.holder = None;
     }
 
     fn nodes(&mut self, items: &[Item]) {
@@ -263,7 +285,7 @@ impl Builder<'_> {
             ItemKind::Enum(_) => ("Enum", name.into()),
             ItemKind::Trait(_) => ("Trait", name.into()),
             ItemKind::Impl { .. } => ("Impl", item.text.text().into()),
-            ItemKind::TypeAlias => ("TypeAlias", name.into()),
+            ItemKind::TypeAlias(_) => ("TypeAlias", name.into()),
             ItemKind::Module(_) => ("Module", name.into()),
             ItemKind::Call(call) => ("MacroCall", known_call(call).into()),
             ItemKind::Macro(it) if it.is_rules => ("MacroRules", name.into()),
@@ -296,6 +318,8 @@ impl Builder<'_> {
         }
         let at = self.made.nodes.len();
         let detail = self.detail(item);
+        let was_left_out = self.is_left_out;
+        self.is_left_out |= !is_enabled(&item.attributes, self.options);
         self.made.by_id.insert((kind, id), at);
         self.made.nodes.push(Node {
             kind,
@@ -304,10 +328,11 @@ impl Builder<'_> {
             modules: modules.clone(),
             span,
             whole: self.place_of(item.span),
+            visibility: item.visibility.clone(),
             detail,
             item: item.input.map(|_| Arc::new(item.clone())),
-            of: None,
-            is_associated: self.is_associated,
+            of: self.holder,
+            is_left_out: self.is_left_out,
         });
         match (&item.kind, item.input) {
             (ItemKind::Call(call), _) => {
@@ -322,7 +347,7 @@ impl Builder<'_> {
         let around = self.around;
         self.around = around.with(kind).with(&known_by);
         self.rest(item, at, modules);
-        self.around = around;
+        (self.around, self.is_left_out) = (around, was_left_out);
         self.made.json.push('}');
     }
 
@@ -340,6 +365,8 @@ impl Builder<'_> {
                 Detail::Use(leaves)
             }
             ItemKind::Call(call) => Detail::Call(call.clone()),
+            ItemKind::Impl { head, .. } => Detail::Impl(head.clone()),
+            ItemKind::TypeAlias(target) => target.clone().map_or(Detail::None, Detail::Alias),
             ItemKind::Macro(definition) => match builtin_name(item) {
                 Some((name, _)) => Detail::Builtin(name),
                 None => Detail::Macro(definition.clone()),
@@ -405,21 +432,22 @@ impl Builder<'_> {
                         modules: modules.clone(),
                         span: self.place_of(it.name.span),
                         whole: self.place_of(it.name.span),
+                        visibility: Visibility::Private,
                         detail: Detail::None,
                         item: None,
                         of: Some(at),
-                        is_associated: false,
+                        is_left_out: self.is_left_out || !is_enabled(&it.attributes, self.options),
                     });
                 }
                 self.made.json.push(']');
             }
             ItemKind::Trait(items) => {
                 self.made.json.push_str(",\"items\":");
-                self.associated(items);
+                self.associated(items, at);
             }
-            ItemKind::Impl { of_trait, items } => {
-                let _ = write!(self.made.json, ",\"trait\":{of_trait},\"items\":");
-                self.associated(items);
+            ItemKind::Impl { head, items } => {
+                let _ = write!(self.made.json, ",\"trait\":{},\"items\":", head.is_of_trait);
+                self.associated(items, at);
             }
             ItemKind::Module(Some(items)) => {
                 self.made.json.push_str(",\"nodes\":");
@@ -511,7 +539,8 @@ fn shape_text(shape: Shape) -> &'static str {
     }
 }
 
-fn joined(prefix: &str, path: &str) -> String {
+/// A path of a `use` tree with the prefix of the lists around it.
+pub(crate) fn joined(prefix: &str, path: &str) -> String {
     match (prefix, path) {
         ("", it) | (it, "") => it.to_owned(),
         ("::", it) => format!("::{it}"),

@@ -1,6 +1,7 @@
 //! A session over the crates of a package: reads files, expands macros, hands all of it to the program, and keeps what
 //! was handed in the same as what the files say.
 
+mod associated;
 mod expanded;
 mod expansions;
 mod files;
@@ -8,6 +9,7 @@ mod hand_in;
 mod left_out;
 mod places;
 mod type_names;
+mod updates;
 mod walk;
 
 use std::collections::{BTreeMap, HashMap, HashSet};
@@ -22,12 +24,12 @@ use crate::package::Crates;
 use crate::program::Program;
 use crate::syntax::{Call, MacroDefinition, Unit};
 use crate::token::{on_a_thread, Hash, Span, SyntaxError};
-use crate::unit::{quoted, Built, BuiltBlock, Derives, Given, Node};
+use crate::unit::{Built, BuiltBlock, Derives, Given, Node};
+pub(crate) use associated::{Associated, Impl};
 use expanded::{Expanded, Moved, Source};
-use files::parse;
+pub(crate) use files::bytes_of;
 pub use files::{key_of, parse_text, path_of_key};
-use hand_in::{built_of, set_block, set_file};
-use left_out::left_out_of;
+use hand_in::{set_block, set_file};
 use type_names::TypeNames;
 
 /// The text that the program knows a file by: its absolute path without the first `/`.
@@ -37,6 +39,8 @@ pub type Key = Arc<str>;
 pub struct Parsed {
     /// Where the file lies.
     pub path: PathBuf,
+    /// The same without links.
+    real: Arc<Path>,
     /// Without items where the file can't be read.
     pub unit: Arc<Unit>,
     /// Why it can't be read.
@@ -221,6 +225,8 @@ pub struct Workspace {
     type_names: TypeNames,
     crates_line: String,
     refused: Vec<(Key, String)>,
+    /// What stands in the files that count as broken, since their modules lead back to them or are too many.
+    circular: HashMap<Key, Arc<Parsed>>,
     /// Whether the program takes the blocks of bodies.
     takes_blocks: bool,
     /// The blocks that were handed in, by their places as JSON.
@@ -281,6 +287,7 @@ impl Workspace {
             type_names: TypeNames::default(),
             crates_line: String::new(),
             refused: Vec::new(),
+            circular: HashMap::new(),
             takes_blocks: false,
             blocks: BTreeMap::new(),
             told: HashMap::new(),
@@ -402,109 +409,6 @@ impl Workspace {
         self.program.ask_all(lines)
     }
 
-    /// Whether a change of this file may change something.
-    pub fn reads(&self, path: &Path) -> bool {
-        let is_included = |key: &Key| self.states.iter().any(|it| it.included.contains(key));
-        path.extension().is_some_and(|it| it == "rs") || key_of(path).is_ok_and(|it| is_included(&it))
-    }
-
-    /// Reads these files again where they changed. Answers which crates were resolved again, or none where nothing
-    /// that resolution reads changed.
-    pub fn update(&mut self, paths: &[PathBuf]) -> Result<Vec<u32>> {
-        let mut crates = HashSet::new();
-        for path in paths {
-            let key = key_of(path)?;
-            let is_there = path.is_file();
-            let including = (0..self.states.len()).filter(|it| self.states[*it].included.contains(&key));
-            let including: Vec<u32> = including.map(|it| it as u32).collect();
-            if !including.is_empty() {
-                self.cache.retain(|_, it| it.1.file.as_ref() != Some(&key));
-                let is_include = |it: &&String| it.contains("\"text\":\"builtin include\"");
-                let all: Vec<String> = self.expansions.keys().filter(is_include).cloned().collect();
-                all.iter().for_each(|it| self.remove_expansion(it));
-                crates.extend(including);
-            }
-            if is_there {
-                let parsed = parse(path, &key)?;
-                if self.parsed.get(&key).is_some_and(|it| it.text == parsed.text && it.error == parsed.error) {
-                    continue;
-                }
-                if self.take_same(&key, &parsed) {
-                    continue;
-                }
-                self.parsed.insert(key.clone(), Arc::new(parsed));
-            } else if self.parsed.remove(&key).is_none() {
-                continue;
-            }
-            for (number, state) in self.states.iter().enumerate() {
-                if state.places.contains_key(&key) || state.missing.contains(&key) {
-                    crates.insert(number as u32);
-                }
-            }
-            if !is_there {
-                if let Some(it) = self.sent.remove(&key) {
-                    self.type_names.remove(&it.built);
-                }
-                self.program.ask(format!("{{\"do\":\"remove file\",\"file\":{}}}", quoted(&key)))?;
-            }
-        }
-        let mut crates: Vec<u32> = crates.into_iter().collect();
-        crates.sort_unstable();
-        if crates.is_empty() {
-            return Ok(crates);
-        }
-        self.settle(&crates)
-    }
-
-    /// Takes what stands in a file now where its unit is the one that was handed in: only places are others then.
-    fn take_same(&mut self, key: &Key, parsed: &Parsed) -> bool {
-        let Some(krate) = self.crates_of(key).first().copied().filter(|_| parsed.error.is_none()) else {
-            return false;
-        };
-        let Some(sent) = self.sent.get(key).filter(|_| self.refused.iter().all(|it| it.0 != *key)) else {
-            return false;
-        };
-        self.moved.get_mut().unwrap_or_else(std::sync::PoisonError::into_inner).clear();
-        let (options, expanded) = (&self.crates.all[krate as usize].options, self.expanded(krate));
-        let left_out = left_out_of(key, &self.states);
-        let (built, blocks) = built_of(&parsed.unit, options, left_out, &self.replaced, expanded, self.takes_blocks);
-        let is_same = |it: (&BuiltBlock, &BuiltBlock)| it.0.is_same(it.1);
-        let are_same = blocks.len() == sent.blocks.len() && blocks.iter().zip(&sent.blocks).all(is_same);
-        if built.json != sent.built.json || left_out != sent.left_out || !are_same {
-            return false;
-        }
-        let (path, unit, text, given) = (parsed.path.clone(), parsed.unit.clone(), parsed.text, parsed.given);
-        let is_plain = parsed.is_plain;
-        let (replaced, with_blocks) = (sent.replaced.clone(), sent.with_blocks.clone());
-        let krate = sent.krate;
-        let sent = Sent { krate, unit: unit.clone(), replaced, with_blocks, left_out, built: Arc::new(built), blocks };
-        self.sent.insert(key.clone(), sent);
-        self.parsed.insert(key.clone(), Arc::new(Parsed { path, unit, error: None, text, given, is_plain }));
-        true
-    }
-
-    /// Takes a text in place of what the file holds, as an editor has it.
-    pub fn update_text(&mut self, path: &Path, text: &str) -> Result<Vec<u32>> {
-        let key = key_of(path)?;
-        let parsed = parse_text(path, &key, text);
-        self.update_parsed(key, parsed)
-    }
-
-    /// Takes what [`parse_text`] made in place of what the file holds.
-    pub fn update_parsed(&mut self, key: Key, parsed: Parsed) -> Result<Vec<u32>> {
-        if self.parsed.get(&key).is_some_and(|it| it.text == parsed.text) || self.take_same(&key, &parsed) {
-            return Ok(Vec::new());
-        }
-        self.parsed.insert(key.clone(), Arc::new(parsed));
-        let crates: Vec<u32> = (0..self.states.len() as u32)
-            .filter(|it| {
-                let state = &self.states[*it as usize];
-                state.places.contains_key(&key) || state.missing.contains(&key)
-            })
-            .collect();
-        self.settle(&crates)
-    }
-
     /// The commands by which a new process of the program comes to where this one is.
     pub fn session(&self) -> Vec<String> {
         let mut lines = vec![self.crates_line.clone()];
@@ -519,6 +423,12 @@ impl Workspace {
         lines.extend(self.expansions.values().map(|it| it.line.clone()));
         lines.push("{\"do\":\"refresh\"}".to_owned());
         lines
+    }
+
+    /// Ends the program and keeps the memory, which takes a process that ends no time to give back.
+    pub fn abandon(mut self) {
+        self.program.end();
+        std::mem::forget(self);
     }
 
     /// The number of the program's process.

@@ -2,15 +2,17 @@
 //! `blocks/program.sh`.
 #![cfg(unix)]
 
-use std::os::unix::fs::PermissionsExt;
+mod common;
+
 use std::path::{Path, PathBuf};
 
 use cargo_nogsimat::lsp::{self, message};
-use cargo_nogsimat::package::{Crates, Wanted};
+use cargo_nogsimat::package::Wanted;
 use cargo_nogsimat::program;
 use cargo_nogsimat::token::Position;
 use cargo_nogsimat::unit::place_json;
 use cargo_nogsimat::workspace::{key_of, Workspace};
+use common::{own, package, write_script, Dice};
 use serde_json::{json, Value};
 use tempfile::TempDir;
 
@@ -22,12 +24,8 @@ struct Package {
 
 impl Package {
     fn new(text: &str) -> Package {
-        let folder = TempDir::new().unwrap();
+        let folder = package(&[("src/lib.rs", text)]);
         let root = folder.path().canonicalize().unwrap();
-        std::fs::create_dir(root.join("src")).unwrap();
-        let manifest = "[package]\nname = \"one\"\nversion = \"0.1.0\"\nedition = \"2021\"\n[workspace]\n";
-        std::fs::write(root.join("Cargo.toml"), manifest).unwrap();
-        std::fs::write(root.join("src/lib.rs"), text).unwrap();
         Package { folder, root }
     }
 
@@ -37,20 +35,18 @@ impl Package {
 
     fn script(&self, text: &str) -> PathBuf {
         let path = self.folder.path().join("program");
-        std::fs::write(&path, format!("#!/bin/sh\nfolder={}\n{text}\n", self.root.display())).unwrap();
-        std::fs::set_permissions(&path, std::fs::Permissions::from_mode(0o755)).unwrap();
+        write_script(&path, &format!("#!/bin/sh\nfolder={}\n{text}\n", self.root.display()));
         path
     }
 
     /// A session with a program that takes blocks.
     fn open(&self) -> Workspace {
-        let fake = Path::new(env!("CARGO_MANIFEST_DIR")).join("tests/blocks/program.sh");
+        let fake = own("tests/blocks/program.sh");
         self.open_with(&self.script(&format!(". {}", fake.display())))
     }
 
     fn open_with(&self, program: &Path) -> Workspace {
-        let wanted = Wanted { path: self.root.clone(), no_std: true, ..Wanted::default() };
-        Workspace::open(Crates::read(&wanted).unwrap(), program, None, |_, _, _| {}).unwrap()
+        common::open_with(&self.root, program)
     }
 
     /// The commands of these words that were given since the last call.
@@ -430,16 +426,6 @@ fn an_editor_in_blocks() {
     for id in [2, 5] {
         let text = results[&id]["contents"]["value"].as_str().unwrap();
         assert_eq!(text, "struct `one::f::Inner`\n\nvisible: pub\n\nas: type, value\n\n```rust\nstruct Inner\n```");
-    }
-}
-
-/// Numbers that look random, the same each time.
-struct Dice(u64);
-
-impl Dice {
-    fn below(&mut self, most: usize) -> usize {
-        self.0 = self.0.wrapping_mul(6_364_136_223_846_793_005).wrapping_add(1_442_695_040_888_963_407);
-        (self.0 >> 33) as usize % most
     }
 }
 

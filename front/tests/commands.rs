@@ -1,51 +1,18 @@
 //! Each command as one would call it, its output compared to the files in `expected/`. With the variable `UPDATE` set
 //! these files are written anew.
 
+mod common;
+
 use std::io::{BufRead, BufReader, Lines};
 use std::path::{Path, PathBuf};
 use std::process::{Child, ChildStdout, Command, Output, Stdio};
 
+#[cfg(unix)]
+use common::write_script;
+use common::{copy, market, own, package};
 use tempfile::TempDir;
 
 const REGISTRY: &str = "/usr/share/cargo/registry";
-
-fn own(path: &str) -> PathBuf {
-    Path::new(env!("CARGO_MANIFEST_DIR")).join(path)
-}
-
-fn copy(from: &Path, to: &Path) {
-    std::fs::create_dir_all(to).unwrap();
-    for it in std::fs::read_dir(from).unwrap() {
-        let it = it.unwrap();
-        let (name, target) = (it.file_name(), to.join(it.file_name()));
-        if it.file_type().unwrap().is_dir() {
-            if name != "target" {
-                copy(&it.path(), &target);
-            }
-        } else {
-            std::fs::copy(it.path(), target).unwrap();
-        }
-    }
-}
-
-/// The example in a folder of its own.
-fn market() -> TempDir {
-    let folder = TempDir::new().unwrap();
-    copy(&own("examples/market"), folder.path());
-    folder
-}
-
-/// A package with these files.
-fn package(files: &[(&str, &str)]) -> TempDir {
-    let folder = TempDir::new().unwrap();
-    let manifest = ("Cargo.toml", "[package]\nname = \"one\"\nversion = \"0.1.0\"\nedition = \"2021\"\n[workspace]\n");
-    for (name, text) in std::iter::once(&manifest).chain(files) {
-        let path = folder.path().join(name);
-        std::fs::create_dir_all(path.parent().unwrap()).unwrap();
-        std::fs::write(path, text).unwrap();
-    }
-    folder
-}
 
 fn command(folder: &Path, words: &[&str]) -> Command {
     let mut command = Command::new(env!("CARGO_BIN_EXE_cargo-nogsimat"));
@@ -150,7 +117,8 @@ fn resolve_tells_what_a_path_names() {
         ("module", &["resolve", "Price", "--at", "shop::all"]),
         ("macro", &["resolve", "codecs!", "--at", "codec::prelude"]),
         ("builtin", &["resolve", "u8"]),
-        ("stops", &["resolve", "Order::new", "--at", "shop"]),
+        ("associated", &["resolve", "Order::new", "--at", "shop"]),
+        ("stops", &["resolve", "Order::nothing", "--at", "shop"]),
         ("dependency", &["resolve", "codec::Codec", "--json"]),
         ("nothing", &["resolve", "no::such"]),
         ("no-module", &["resolve", "a", "--at", "crate::no"]),
@@ -286,6 +254,35 @@ fn bad_input() {
     compare_run("bad-program", folder.path(), &["check", "--program", "no/such"]);
     compare_run("bad-std", folder.path(), &["check", "--std-sources", "."]);
     compare_run("bad-package", folder.path(), &["check", "-p", "two"]);
+    compare_run("bad-cfg", folder.path(), &["check", "--cfg", "a b"]);
+    std::fs::write(folder.path().join("src/bytes.rs"), b"\xff").unwrap();
+    std::fs::write(folder.path().join("src/lib.rs"), "mod bytes;").unwrap();
+    compare_run("bad-bytes", folder.path(), &["where", "src/bytes.rs:1:1", "--no-std"]);
+    compare_run("bad-folder", folder.path(), &["where", "src:1:1", "--no-std"]);
+    for place in
+        ["src/lib.rs:0:1", "src/lib.rs:4294967295:4294967295", "src/lib.rs:4294967296:1", "src/lib.rs:-1:1", ":"]
+    {
+        let made = run(folder.path(), &["where", place, "--no-std"]);
+        assert_eq!(made.status.code(), Some(2), "{place}");
+        assert!(text(&made.stderr).starts_with("error: "), "{place}: {}", text(&made.stderr));
+    }
+    let long = "a::".repeat(20_000);
+    let paths = ["", "::", "a::", ":::a", "a b", "$crate::a", "r#a", "🦀", "a!!", "<u8 as T>::x", &long]
+        .map(|it| (it, "crate"));
+    let modules = ["", "::", "crate::", "$0", &long].map(|it| ("a", it));
+    for (path, at) in paths.into_iter().chain(modules) {
+        let made = run(folder.path(), &["resolve", path, "--at", at, "--no-std"]);
+        assert!(matches!(made.status.code(), Some(1 | 2)), "{path} at {at}: {}", text(&made.stderr));
+    }
+    // A workspace whose member isn't there, and one without members.
+    std::fs::write(folder.path().join("Cargo.toml"), "[workspace]\nmembers = [\"no\"]\n").unwrap();
+    let made = run(folder.path(), &["check"]);
+    assert_eq!(made.status.code(), Some(2));
+    assert!(text(&made.stderr).starts_with("error: Cargo can't resolve"), "{}", text(&made.stderr));
+    std::fs::write(folder.path().join("Cargo.toml"), "[workspace]\nmembers = []\n").unwrap();
+    let made = run(folder.path(), &["check"]);
+    assert_eq!(made.status.code(), Some(2));
+    assert!(text(&made.stderr).contains("has no members"), "{}", text(&made.stderr));
     let folder = package(&[("src/lib.rs", "")]);
     std::fs::write(folder.path().join("Cargo.toml"), "[package\n").unwrap();
     let made = run(folder.path(), &["check"]);
@@ -324,6 +321,90 @@ fn bad_files() {
         macro_rules! bad { ($x:nothing) => {} } bad!(1); none!();";
     std::fs::write(folder.path().join("src/macros.rs"), macros).unwrap();
     compare_run("bad-files", folder.path(), &["check", "--no-std"]);
+}
+
+/// Modules that lead back to a file around them, or that are too many: one knows files by what links lead to.
+#[cfg(unix)]
+#[test]
+fn circular_modules() {
+    let folder =
+        package(&[("src/lib.rs", "#[path = \"lib.rs\"] mod a;\n#[path = \"lib.rs\"] mod b;\npub use a::S;\n")]);
+    compare_run("circular", folder.path(), &["check", "--no-std"]);
+    let folder = package(&[("src/lib.rs", "mod x;\nmod y;\n"), ("src/mod.rs", "mod x;\nmod y;\n")]);
+    for name in ["x", "y"] {
+        std::os::unix::fs::symlink(".", folder.path().join("src").join(name)).unwrap();
+    }
+    compare_run("circular-links", folder.path(), &["check", "--no-std"]);
+    let folder = package(&[("src/f31.rs", "pub struct S;")]);
+    for number in 0..31 {
+        let next = format!("f{}.rs", number + 1);
+        let name = if number == 0 { "lib.rs".to_owned() } else { format!("f{number}.rs") };
+        let text = format!("#[path = \"{next}\"] mod a;\n#[path = \"{next}\"] mod b;\n");
+        std::fs::write(folder.path().join("src").join(name), text).unwrap();
+    }
+    let made = run(folder.path(), &["check", "--no-std"]);
+    assert_eq!(made.status.code(), Some(2));
+    assert!(
+        text(&made.stdout).contains("more than 64 modules have their items in this file"),
+        "{}",
+        text(&made.stdout)
+    );
+}
+
+/// What is no file, or too large for one, isn't read.
+#[cfg(unix)]
+#[test]
+fn files_that_are_none() {
+    let root =
+        "#[path = \"/dev/zero\"] mod zero;\nmod folder;\nmod large;\ninclude!(\"/dev/zero\");\ninclude!(\"pipe\");\n\
+                include!(\"bytes\");\ninclude!(\"none\");\n";
+    let folder = package(&[("src/lib.rs", root), ("src/folder.rs/x", "")]);
+    let source = folder.path().join("src");
+    assert!(Command::new("mkfifo").arg(source.join("pipe")).status().unwrap().success());
+    std::fs::write(source.join("bytes"), b"\xff").unwrap();
+    std::fs::File::create(source.join("large.rs")).unwrap().set_len(3 << 30).unwrap();
+    compare_run("no-files", folder.path(), &["check", "--no-std"]);
+}
+
+/// Syntax that goes deep without a bracket, and expansions that go deeper at each step.
+#[test]
+fn deep_syntax() {
+    let (many, items) = (10_000, 300);
+    let macros = format!(
+        "macro_rules! expression {{ ($x:expr) => {{ const A: bool = $x; }} }} expression!({}true);
+         macro_rules! statement {{ ($x:stmt) => {{}} }} statement!({});
+         macro_rules! pattern {{ ($x:pat) => {{}} }} pattern!({}x);
+         macro_rules! kind {{ ($x:ty) => {{ type B = $x; }} }} kind!({}u8);
+         macro_rules! arrows {{ ($x:ty) => {{ type C = $x; }} }} arrows!({}u8);
+         fn f() {{ vec![{}{{ use a::b; b }}]; }}",
+        "!".repeat(many),
+        "return ".repeat(many),
+        "& ".repeat(many),
+        "& ".repeat(many),
+        "fn() -> ".repeat(many),
+        "!".repeat(many),
+    );
+    let wrap = "#![recursion_limit = \"4096\"]\nmod macros; mod items;
+        macro_rules! wrap {
+            ($e:expr; x $($x:tt)*) => { wrap!((((((((((($e)))))))))); $($x)*); };
+            ($e:expr;) => { const C: u8 = $e; };
+        }\n";
+    let wrap = format!("{wrap}wrap!(1; {});\n", "x ".repeat(200));
+    let items = format!("{}use x::y;{}", "mod a { ".repeat(items), "}".repeat(items));
+    let folder = package(&[("src/lib.rs", &wrap), ("src/macros.rs", &macros), ("src/items.rs", &items)]);
+    let made = run(folder.path(), &["check", "--no-std", "--json"]);
+    assert_eq!(made.status.code(), Some(2), "{}", text(&made.stderr));
+    let told = text(&made.stdout);
+    for message in [
+        "no rule of the macro takes `! ! ",
+        "no rule of the macro takes `return ",
+        "no rule of the macro takes `& ",
+        "no rule of the macro takes `fn () -> ",
+        "more than 1000 brackets stand in one another",
+        "its items stand deeper in one another than the program takes them",
+    ] {
+        assert!(told.contains(message), "{message}: {}", &told[..told.len().min(4000)]);
+    }
 }
 
 /// Attributes of procedural macros that a condition brings are as others are.
@@ -419,24 +500,32 @@ fn macros_in_textual_scope() {
 #[cfg(unix)]
 #[test]
 fn a_program_that_stops() {
-    use std::os::unix::fs::PermissionsExt;
     let folder = package(&[("src/lib.rs", "mod a;"), ("src/a.rs", "pub struct S;")]);
     let program = folder.path().join("program");
     for (name, script) in [
         ("at-once", "#!/bin/sh\nexit 3\n"),
         ("after-three", "#!/bin/sh\nfor i in 1 2 3; do read -r line; echo '{\"ok\":null}'; done\nexit 1\n"),
-        ("no-json", "#!/bin/sh\nread -r line; echo hello\ncat > /dev/null\n"),
     ] {
-        std::fs::write(&program, script).unwrap();
-        std::fs::set_permissions(&program, std::fs::Permissions::from_mode(0o755)).unwrap();
+        write_script(&program, script);
         let made = run(folder.path(), &["check", "--no-std", "--program", "./program"]);
         assert_eq!(made.status.code(), Some(2), "{name}");
         let told = text(&made.stderr);
         assert!(told.starts_with("error: the program ./program stopped after"), "{name}: {told}");
         assert!(told.contains("cargo nogsimat session > FILE"), "{name}: {told}");
     }
+    // Replies that are none.
+    for (name, reply) in [("no-json", "hello"), ("no-object", "[1]"), ("no-reply", "{}")] {
+        write_script(&program, &format!("#!/bin/sh\nread -r line; echo '{reply}'\ncat > /dev/null\n"));
+        let made = run(folder.path(), &["check", "--no-std", "--program", "./program"]);
+        assert_eq!(made.status.code(), Some(2), "{name}");
+        let told = text(&made.stderr);
+        assert!(
+            told.contains(&format!("isn't Nogsimat's, or is at fault: its reply 1 is `{reply}`")),
+            "{name}: {told}"
+        );
+    }
+    std::fs::remove_file(&program).unwrap();
     std::fs::write(&program, "no program").unwrap();
-    std::fs::set_permissions(&program, std::fs::Permissions::from_mode(0o644)).unwrap();
     let made = run(folder.path(), &["check", "--no-std", "--program", "./program"]);
     assert_eq!(made.status.code(), Some(2));
     assert!(text(&made.stderr).contains("doesn't start"), "{}", text(&made.stderr));

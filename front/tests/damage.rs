@@ -1,5 +1,7 @@
 //! Damaged text: nothing panics, whatever a file holds.
 
+mod common;
+
 use std::path::Path;
 use std::sync::Arc;
 
@@ -10,16 +12,7 @@ use cargo_nogsimat::syntax::{unit_of, ItemKind};
 use cargo_nogsimat::token::{Hash, Position};
 use cargo_nogsimat::unit::build;
 use cargo_nogsimat::workspace::parse_text;
-
-/// Numbers that look random, the same each time.
-struct Dice(u64);
-
-impl Dice {
-    fn below(&mut self, most: usize) -> usize {
-        self.0 = self.0.wrapping_mul(6_364_136_223_846_793_005).wrapping_add(1_442_695_040_888_963_407);
-        (self.0 >> 33) as usize % most.max(1)
-    }
-}
+use common::{own, Dice};
 
 /// The text with some pieces taken out, doubled, or replaced.
 fn damaged(text: &str, dice: &mut Dice) -> String {
@@ -43,9 +36,8 @@ fn damaged(text: &str, dice: &mut Dice) -> String {
 
 #[test]
 fn damaged_files_are_read_or_refused() {
-    let own = Path::new(env!("CARGO_MANIFEST_DIR"));
     let names = ["src/unit.rs", "src/macros/tests.rs", "stub/core/src/lib.rs", "examples/market/shop/src/lib.rs"];
-    let texts = names.map(|it| std::fs::read_to_string(own.join(it)).unwrap());
+    let texts = names.map(|it| std::fs::read_to_string(own(it)).unwrap());
     let key: Arc<str> = "file.rs".into();
     let mut dice = Dice(11);
     let mut read = 0;

@@ -1,10 +1,11 @@
 //! Derives of builtin macros, which are left out of what the program is handed where their names can mean nothing else.
 
+mod common;
+
 use std::path::{Path, PathBuf};
 
-use cargo_nogsimat::package::{Crates, Wanted};
-use cargo_nogsimat::program;
 use cargo_nogsimat::workspace::Workspace;
+use common::{open, package};
 use serde_json::Value;
 use tempfile::TempDir;
 
@@ -17,17 +18,9 @@ struct Package {
 
 impl Package {
     fn open(files: &[(&str, &str)]) -> Package {
-        let folder = TempDir::new().unwrap();
+        let folder = package(files);
         let root = folder.path().canonicalize().unwrap();
-        let manifest = "[package]\nname = \"one\"\nversion = \"0.1.0\"\nedition = \"2021\"\n[workspace]\n";
-        std::fs::create_dir(root.join("src")).unwrap();
-        std::fs::write(root.join("Cargo.toml"), manifest).unwrap();
-        for (name, text) in files {
-            std::fs::write(root.join(name), text).unwrap();
-        }
-        let wanted = Wanted { path: root.clone(), no_std: true, ..Wanted::default() };
-        let program = program::find(None).unwrap();
-        let space = Workspace::open(Crates::read(&wanted).unwrap(), &program, None, |_, _, _| {}).unwrap();
+        let space = open(&root);
         Package { _folder: folder, root, space }
     }
 
@@ -189,9 +182,7 @@ fn derives_of_other_crates() {
         "[package]\nname = \"b\"\nversion = \"0.1.0\"\nedition = \"2021\"\n[dependencies]\na = { path = \"../a\" }\n",
     );
     write("b/src/lib.rs", "use a::*;\n#[derive(Clone, Debug)] struct S;\n");
-    let wanted = Wanted { path: root.join("b"), no_std: true, ..Wanted::default() };
-    let program = program::find(None).unwrap();
-    let mut space = Workspace::open(Crates::read(&wanted).unwrap(), &program, None, |_, _, _| {}).unwrap();
+    let mut space = open(&root.join("b"));
     let report = space.report().unwrap();
     assert!(report.diagnostics.is_empty(), "{:?}", report.diagnostics);
     let not_run: Vec<_> = report.not_run.into_iter().collect();

@@ -1,19 +1,15 @@
 //! A session that takes edits tells what one tells that begins with the edited files.
 
-use std::path::{Path, PathBuf};
+mod common;
 
-use cargo_nogsimat::package::{Crates, Wanted};
+use std::path::PathBuf;
+
 use cargo_nogsimat::program;
 use cargo_nogsimat::question::{Context, Question};
 use cargo_nogsimat::unit::steps_of;
 use cargo_nogsimat::workspace::Workspace;
+use common::{open, package};
 use tempfile::TempDir;
-
-fn open(folder: &Path) -> Workspace {
-    let wanted = Wanted { path: folder.to_owned(), no_std: true, ..Wanted::default() };
-    let crates = Crates::read(&wanted).unwrap();
-    Workspace::open(crates, &program::find(None).unwrap(), None, |_, _, _| {}).unwrap()
-}
 
 /// All that a session tells of the package.
 fn told(space: &mut Workspace) -> Vec<String> {
@@ -36,7 +32,6 @@ fn told(space: &mut Workspace) -> Vec<String> {
 #[cfg(unix)]
 #[test]
 fn what_is_asked_after_an_edit() {
-    use std::os::unix::fs::PermissionsExt;
     let folder = TempDir::new().unwrap();
     let root = folder.path().canonicalize().unwrap();
     let write = |name: &str, text: &str| {
@@ -59,11 +54,8 @@ fn what_is_asked_after_an_edit() {
     let edited = write("above/src/lib.rs", text);
     let script = root.join("program");
     let begin = program::find(None).unwrap();
-    std::fs::write(&script, format!("#!/bin/sh\ntee -a {} | {}\n", root.join("log").display(), begin.display()))
-        .unwrap();
-    std::fs::set_permissions(&script, std::fs::Permissions::from_mode(0o755)).unwrap();
-    let wanted = Wanted { path: root.clone(), no_std: true, ..Wanted::default() };
-    let mut space = Workspace::open(Crates::read(&wanted).unwrap(), &script, None, |_, _, _| {}).unwrap();
+    common::write_script(&script, &format!("#!/bin/sh\ntee -a {} | {}\n", root.join("log").display(), begin.display()));
+    let mut space = common::open_with(&root, &script);
     let before = space.report().unwrap().diagnostics;
     std::fs::write(root.join("log"), "").unwrap();
     space.update_text(&edited, &format!("{text}pub fn added() {{}}\n")).unwrap();
@@ -86,6 +78,35 @@ fn what_is_asked_after_an_edit() {
     paths.sort_unstable();
     // How far the two imports that the program doesn't resolve are reached, where the glob leads, and what an enum may lack.
     assert_eq!(paths, ["E::A", "E::B", "below", "below::m", "std"]);
+}
+
+/// Modules that lead back to a file around them, and no longer.
+#[test]
+fn circular_modules_come_and_go() {
+    let first = ["mod a;\npub use a::b::S;\n", "#[path = \"b.rs\"] pub mod b;\n", "pub struct S;\n"];
+    let folder = package(&[("src/lib.rs", first[0]), ("src/a.rs", first[1]), ("src/b.rs", first[2])]);
+    let root = folder.path().canonicalize().unwrap();
+    let mut space = open(&root);
+    let messages = |space: &mut Workspace| -> Vec<String> {
+        space.report().unwrap().diagnostics.into_iter().map(|it| it.message).collect()
+    };
+    assert_eq!(messages(&mut space), [""; 0]);
+    for (name, text, has_errors) in [
+        ("b", "pub struct S;\n#[path = \"a.rs\"] mod a;\n", true),
+        ("a", "pub mod b { pub struct S; }\n", false),
+        ("a", first[1], true),
+        ("b", first[2], false),
+        ("a", "#[path = \"a.rs\"] pub mod b;\n", true),
+        ("a", first[1], false),
+    ] {
+        let path = root.join(format!("src/{name}.rs"));
+        std::fs::write(&path, text).unwrap();
+        space.update(&[path]).unwrap();
+        let told = messages(&mut space);
+        assert_eq!(told, messages(&mut open(&root)), "{text}");
+        assert_eq!(told.iter().any(|it| it.starts_with("circular modules: ")), has_errors, "{text}: {told:?}");
+        assert_eq!(told.is_empty(), !has_errors, "{text}: {told:?}");
+    }
 }
 
 #[test]

@@ -1,5 +1,7 @@
 //! Ids that stay: an edit of one item changes the id of no other.
 
+mod common;
+
 use std::path::Path;
 use std::sync::Arc;
 
@@ -8,6 +10,7 @@ use cargo_nogsimat::syntax::Item;
 use cargo_nogsimat::token::{Position, Span};
 use cargo_nogsimat::unit::{build, build_blocks, place_json, Built, BuiltBlock, Known};
 use cargo_nogsimat::workspace::parse_text;
+use common::Dice;
 
 fn built(text: &str) -> (Vec<Item>, Built, Vec<BuiltBlock>) {
     let key: Arc<str> = "file.rs".into();
@@ -44,16 +47,6 @@ fn behind(start: Position, text: &str) -> Position {
     let lines = text.matches('\n').count() as u32;
     let last = text.rsplit('\n').next().unwrap_or("").chars().count() as u32;
     Position { line: start.line + lines, column: if lines == 0 { start.column + last } else { last + 1 } }
-}
-
-/// Numbers that look random, the same each time.
-struct Dice(u64);
-
-impl Dice {
-    fn below(&mut self, most: usize) -> usize {
-        self.0 = self.0.wrapping_mul(6_364_136_223_846_793_005).wrapping_add(1_442_695_040_888_963_407);
-        (self.0 >> 33) as usize % most
-    }
 }
 
 #[test]

@@ -1,11 +1,12 @@
 //! What paths name at places of files: those that begin as a builtin type is called, and those in macro calls.
 
+mod common;
+
 use std::path::PathBuf;
 
-use cargo_nogsimat::package::{Crates, Wanted};
-use cargo_nogsimat::program;
 use cargo_nogsimat::token::Position;
 use cargo_nogsimat::workspace::Workspace;
+use common::{open, package};
 use tempfile::TempDir;
 
 /// A session over a package of one file, in which words that are asked stand in `«»`.
@@ -32,17 +33,10 @@ fn unmarked(text: &str) -> (String, Vec<Position>) {
 
 impl Asked {
     fn open(text: &str) -> Asked {
-        let folder = TempDir::new().unwrap();
-        let root = folder.path().canonicalize().unwrap();
         let (plain, marks) = unmarked(text);
-        std::fs::create_dir(root.join("src")).unwrap();
-        let manifest = "[package]\nname = \"one\"\nversion = \"0.1.0\"\nedition = \"2021\"\n[workspace]\n";
-        std::fs::write(root.join("Cargo.toml"), manifest).unwrap();
-        let file = root.join("src/lib.rs");
-        std::fs::write(&file, plain).unwrap();
-        let wanted = Wanted { path: root, no_std: true, ..Wanted::default() };
-        let program = program::find(None).unwrap();
-        let space = Workspace::open(Crates::read(&wanted).unwrap(), &program, None, |_, _, _| {}).unwrap();
+        let folder = package(&[("src/lib.rs", &plain)]);
+        let root = folder.path().canonicalize().unwrap();
+        let (file, space) = (root.join("src/lib.rs"), open(&root));
         Asked { _folder: folder, file, space, marks }
     }
 
@@ -178,4 +172,113 @@ fn k() { use m::In as Other; struct Third; vec![«Other»]; each!(«Third»::«x
     assert_eq!(asked.answers(), changed);
     asked.edit(&text);
     assert_eq!(asked.answers(), wanted);
+}
+
+const MEMBERS: &str = "\
+macro_rules! make { ($n:ident) => { pub fn $n() {} more! { $n } } }
+macro_rules! more { ($n:ident) => { const MORE: u8 = 1; } }
+macro_rules! flags { ($n:ident) => { pub struct $n; impl $n { pub const ALL: u8 = 1; } } }
+pub mod shapes {
+    pub struct Circle;
+    pub struct Boxed<T>(T);
+    pub enum Kind { Round }
+    pub type Alias = Circle;
+    pub type Kinds<T> = Other<T>;
+    pub use self::Kind as Other;
+    pub trait Area { const UNIT: u8; type Number; fn area(&self); fn twice(&self) {} make! { brought } }
+    impl Circle { pub const SIDES: u8 = 0; pub fn new() -> Circle { Circle } make! { made } }
+    #[cfg(none)] impl Circle { fn gone() {} }
+    impl Circle { #[cfg(none)] fn gone() {} pub(super) fn seen() {} }
+    impl Area for Circle { const UNIT: u8 = 1; type Number = u8; fn area(&self) {} }
+    impl Area for &Kind { const UNIT: u8 = 1; type Number = u8; fn area(&self) {} }
+    impl Other { fn first() {} }
+    impl<T> Boxed<T> where T: Area { pub fn of(it: T) {} }
+    flags! { Flags }
+}
+use shapes::*;
+";
+
+/// Items of traits and impls, behind a path that names a trait or a type.
+#[test]
+fn items_behind_types_and_traits() {
+    let calls = "\
+fn f() { Circle::«new»; shapes::Circle::«SIDES»; Alias::«new»; Circle::«made»; Circle::«MORE»; Circle::«seen»; }
+fn g() { Area::«area»; Area::«twice»; Area::«brought»; Area::«MORE»; Circle::«area»; Circle::«twice»; Circle::«brought»; }
+fn h() { Kind::«first»; Other::«Round»; Kinds::<u8>::«Round»; Kinds::«first»; Boxed::<u8>::«of»; Flags::«ALL»; }
+fn i() { <Circle as Area>::«area»; <Circle>::«new»; <Boxed<u8>>::«of»; return <Circle as shapes::Area>::«UNIT»; }
+fn j() { struct Local; type L = Local; impl Local { fn inner() {} } Local::«inner»; L::«inner»; }
+fn k() { Circle::«gone»; Kind::«area»; Area::«gone»; Kind::Round::«first»; Circle::new::«x»; u8::«MAX»; Kind::«Round»; }
+fn l() -> <Circle as Area>::«Number» { let x: Circle::«Number» = 1; x }
+";
+    let mut asked = Asked::open(&format!("{MEMBERS}{calls}"));
+    let wanted = [
+        "one: associated function one::shapes::Circle::new",
+        "one: associated constant one::shapes::Circle::SIDES",
+        "one: associated function one::shapes::Circle::new",
+        "one: associated function one::shapes::Circle::made",
+        "one: associated constant one::shapes::Circle::MORE",
+        "one: associated function one::shapes::Circle::seen",
+        "one: associated function one::shapes::Area::area",
+        "one: associated function one::shapes::Area::twice",
+        "one: associated function one::shapes::Area::brought",
+        "one: associated constant one::shapes::Area::MORE",
+        "one: associated function one::shapes::Circle::area",
+        "one: associated function one::shapes::Area::twice",
+        "one: associated function one::shapes::Area::brought",
+        "one: associated function one::shapes::Kind::first",
+        "one: variant one::shapes::Kind::Round",
+        "one: variant one::shapes::Kind::Round",
+        "one: associated function one::shapes::Kind::first",
+        "one: associated function one::shapes::Boxed::of",
+        "one: associated constant one::shapes::Flags::ALL",
+        "one: associated function one::shapes::Area::area",
+        "one: associated function one::shapes::Circle::new",
+        "one: associated function one::shapes::Boxed::of",
+        "one: associated constant one::shapes::Area::UNIT",
+        "one::j: associated function one::j::Local::inner",
+        "one::j: associated function one::j::Local::inner",
+        "one: struct one::shapes::Circle up to gone",
+        "one: enum one::shapes::Kind up to area",
+        "one: trait one::shapes::Area up to gone",
+        "one: nothing",
+        "one: struct one::shapes::Circle up to new",
+        "one: builtin type u8 up to MAX",
+        "one: variant one::shapes::Kind::Round",
+        "one: associated type one::shapes::Area::Number",
+        "one: associated type one::shapes::Circle::Number",
+    ];
+    assert_eq!(asked.answers(), wanted);
+    // What a macro brings into an impl changes.
+    let text = format!("{MEMBERS}{calls}").replace("pub fn $n() {} more!", "pub const $n: u8 = 1; more!");
+    asked.edit(&text);
+    let mut changed = wanted.map(str::to_owned);
+    for it in [3, 8, 12] {
+        changed[it] = changed[it].replace("function", "constant");
+    }
+    assert_eq!(asked.answers(), changed);
+}
+
+/// Where such an item stands, in which impl, and who sees it.
+#[test]
+fn how_items_behind_types_are_told() {
+    let calls = "fn f() { Circle::«seen»; Circle::«area»; Area::«UNIT»; Circle::«made»; }";
+    let mut asked = Asked::open(&format!("{MEMBERS}{calls}"));
+    let (file, marks) = (asked.file.clone(), asked.marks.clone());
+    let mut told = |at: &Position| {
+        let answer = asked.space.answer_at(&file, *at).unwrap();
+        let it = &answer.meanings[0];
+        let within = it.within.as_ref().map(|it| format!("{} at line {}", it.0, it.1.line));
+        (it.place.as_ref().unwrap().line, within, it.visibility.clone())
+    };
+    let within = |it: &str| Some(it.to_owned());
+    let made: Vec<_> = marks.iter().map(&mut told).collect();
+    assert_eq!(
+        made,
+        [
+            (14, within("impl at line 14"), "in super".to_owned()),
+            (15, within("impl of one::shapes::Area at line 15"), "pub".to_owned()),
+            (11, None, "pub".to_owned()),
+            (12, within("impl at line 12"), "pub".to_owned()),
+        ]
+    );
 }

@@ -8,6 +8,7 @@ KINDS = ("types", "values", "macros")
 BUILTINS = "char bool str isize i8 i16 i32 i64 i128 usize u8 u16 u32 u64 u128 f16 f32 f64 f128".split()
 STYLES = {"builtin": ["bang"], "builtin_eager": ["bang"], "builtin_attr": ["attr"], "builtin_derive": ["derive"], "unimplemented": ["bang", "attr", "derive"]}
 FOREIGN = ("Fn", "Static", "TypeAlias", "MacroCall")
+ASSOCIATED = ("Fn", "Const", "TypeAlias", "MacroCall")
 ADTS = ("Struct", "Union", "Enum")
 INERT = set(
     "allow automatically_derived bench cold crate_name crate_type debugger_visualizer deny deprecated doc expect export_name feature"
@@ -79,6 +80,7 @@ class Module:
         self.scope = {kind: {} for kind in KINDS}
         # names that were pushed with nothing; traits without a name, each with its visibility and whether an import brought it
         self.unresolved, self.unnamed = set(), {}
+        self.impls = []
         # the macros in textual scope, of each name all in their order
         self.textual = dict(parent.textual) if parent is not None else {}
 
@@ -372,7 +374,7 @@ class Crate:
 
     def item(self, node, attrs, at, source, depth):
         kind, name = node["kind"], node.get("name")
-        item = Item(self, kind, node["id"], source)
+        item = Item(self, kind, node["id"], source, at=at)
         if kind == "Use":
             for place, path, how, alias in leaves(node["tree"]):
                 given = None if how == "glob" or alias == "_" else alias or (path[1] or [None])[-1]
@@ -397,6 +399,8 @@ class Crate:
                 at.textual[name] = at.textual.get(name, ()) + (item,)
                 if any(attr["path"] == "macro_export" for attr in attrs):
                     self.push(self.root, name, {"macros": Binding(item, "pub")}, None)
+        elif kind == "Impl":
+            at.impls.append(item)
         elif name is not None:
             self.definition(node, attrs, at, item)
 
@@ -456,6 +460,55 @@ class Crate:
             for macro, binding in sorted(target.scope["macros"].items()):
                 if binding.vis == "pub" and (named is None or macro in named):
                     self.macro_use[macro] = (binding.definition, item)
+
+    # ---- items of traits and impls
+
+    def held(self, item):
+        """What a trait or an impl of this map holds, by the present sources."""
+        found = {"calls": [], "diagnostics": [], "items": []}
+        depth, at = 1, item.source
+        while at.outer is not None:
+            depth, at = depth + 1, at.outer
+        self.flatten(self.workspace.associated(item), item.at, item.source, depth, found)
+        return found
+
+    def flatten(self, nodes, at, source, depth, found):
+        """Lists items, those that a call expands to in its place. `depth` is that of the calls among them."""
+        for node in nodes:
+            where = {"id": node["id"], "in": source.text(), "kind": node["kind"]}
+            _, false = collect(node.get("attrs", []), self.options)
+            if node["kind"] not in ASSOCIATED:
+                continue
+            if false:
+                told = {"kind": "unconfigured code", "item": where, "cfg": print_condition(false[0])}
+                found["diagnostics"].append({**told, "module": at.text()})
+            elif node["kind"] != "MacroCall":
+                if node.get("name") is not None:
+                    found["items"].append({"def": where, "name": node["name"]})
+            elif depth <= self.limit:
+                self.flatten_call(node, where, at, source, depth, found)
+
+    def flatten_call(self, node, where, at, source, depth, found):
+        path, look = parse_path(node["path"]), self.workspace.look
+        reached, _, _ = self.resolve(at, path, style="bang")
+        if "macros" not in reached:
+            told = {"kind": "unresolved macro call", "call": where, "path": print_path(path)}
+            found["diagnostics"].append({**told, "module": at.text()})
+            return
+        macro = reached["macros"].definition
+        text = macro.exported
+        if text is None:
+            text = look(("text", macro.krate.number) + macro.source.key() + (macro.kind, tuple(macro.id)))
+        given = look(("input", self.number) + source.key() + ("MacroCall", tuple(node["id"])))
+        key = (self.number, macro.krate.number, text, dump("bang"), given)
+        there, error = look(("entry", key))
+        found["calls"].append(where)
+        if not there or error is not None:
+            told = {"kind": "macro error", "item": where, "path": print_path(path), "error": error if there else "absent"}
+            found["diagnostics"].append({**told, "module": at.text()})
+        unit = self.workspace.unit(("entry", key))
+        inside = Source(outer=source, call={"id": node["id"], "kind": "MacroCall"}, entry=key)
+        self.flatten(unit.get("nodes", []) if isinstance(unit, dict) else [], at, inside, depth + 1, found)
 
     # ---- modules
 

@@ -1,7 +1,7 @@
 """What a session is handed in, and what it replies."""
 import posixpath
 
-from model.crate import KINDS, Block, Crate, place_text
+from model.crate import KINDS, Block, Crate, Item, place_text
 from model.syntax import collect, dump, parse_path
 
 
@@ -28,6 +28,11 @@ class Workspace:
 
         unit = self.unit(source)
         return inside(unit.get("nodes", []) if isinstance(unit, dict) else [])
+
+    def associated(self, item):
+        """The items that the present source writes in a trait or an impl; none where it is gone."""
+        nodes = (node for node in self.nodes(item.source.key()) if node["kind"] == item.kind and node["id"] == item.id)
+        return next((node["items"] for node in nodes), [])
 
     def look(self, key):
         """What a run finds under a key: a text, a number or a tuple of them."""
@@ -126,6 +131,15 @@ class Workspace:
             return {"error": status + " place"}
         if command["do"] == "dump":
             return {"ok": at.map.dump()}
+        if command["do"] == "impl items":
+            number = command["impl"]
+            return {"ok": at.map.held(at.impls[number])} if number < len(at.impls) else {"error": "no such impl"}
+        if command["do"] == "trait items":
+            found, stop, _ = at.map.resolve(at, parse_path(command["path"]), shadow="other")
+            trait = found["types"].definition if "types" in found and stop is None else None
+            if not (isinstance(trait, Item) and trait.kind == "Trait"):
+                return {"error": "not a trait"}
+            return {"ok": trait.krate.held(trait)}
         found, stop, _ = at.map.resolve(at, parse_path(command["path"]), shadow=command.get("shadow", "other"), style=command.get("sub"))
         return {"ok": {"stop": stop, **{ns: self.answer(found.get(ns)) for ns in KINDS}}}
 
@@ -180,7 +194,7 @@ class Workspace:
             return {"ok": self.refresh()}
         if do == "status":
             return {"ok": self.status(read_place(command["at"]))[0]}
-        if do in ("resolve", "dump"):
+        if do in ("resolve", "dump", "trait items", "impl items"):
             return self.ask(command)
         if do == "diagnostics":
             if command["crate"] >= len(self.crates):

@@ -3,14 +3,14 @@ use Rattle.std.proofs.Common.{◌≡◌, ◌∙◌, ℕ, List, Option, Some, Res
 use Rattle.std.specs.Prelude.{IsSome, option_map}
 use Rattle.std.specs.Option.{option_and_then}
 use Rattle.hir_base.specs.declared.ast_id.AstId.{AstId}
-use Rattle.hir_base.specs.declared.ast_id.EntryId.{EntryId}
-use Rattle.hir_base.specs.declared.ast_id.MacroCallId.{MacroCallId}
 use Rattle.hir_base.specs.declared.ids.Crate.{Crate}
+use Rattle.hir_base.specs.declared.ast_id.EntryId.{EntryId}
 use Rattle.hir_base.specs.declared.locations.LocationsError.{LocationsError}
-use Rattle.hir_base.specs.declared.locations.LocationsError.TheVariants as numbers
-use Rattle.hir_base.specs.declared.macro_kind.CallStyle.TheVariants as styles
+use Rattle.hir_base.specs.declared.ast_id.MacroCallId.{MacroCallId}
 use Rattle.hir_base.specs.declared.macro_kind.MacroCallLoc.{MacroCallLoc}
 use Rattle.hir_base.specs.declared.macro_kind.MacroId.{MacroId}
+use Rattle.hir_base.specs.declared.locations.LocationsError.TheVariants as numbers
+use Rattle.hir_base.specs.declared.macro_kind.CallStyle.TheVariants as styles
 use Rattle.hir_item_tree.specs.SourceTree.{SourceTreeValue}
 use Rattle.hir_tables.specs.Interning.{IsFull}
 use Rattle.hir_tables.specs.SourcePlaces.{ExpansionValue, SourcePlaceValue, expansion}
@@ -28,8 +28,10 @@ use Rattle.hir_assoc_items.specs.declared.error.AssocItemsError.TheVariants as e
 use Rattle.hir_assoc_items.proofs.Growth.{expansion_stays, source_in_stays}
 
 -- it is put together out of what was looked up
-pub key_of_call : (tables : TablesValue) (w : Workspace) (c : ContainerValue) (node : AstId) (makro : MacroId) (krate : Crate) (text input : Option (List ℕ)) (key : ExpansionValue)
-    → key ≡ expansion_of_call krate styles.Bang makro text input → krate ≡ crate_of c → text ≡ macro_text (environment tables w) c.maps makro → input ≡ input_at tables w krate node
+pub key_of_call : (tables : TablesValue) (w : Workspace) (c : ContainerValue) (node : AstId) (makro : MacroId) (krate : Crate) (text input : Option (List ℕ))
+    (key : ExpansionValue)
+    → key ≡ expansion_of_call krate styles.Bang makro text input → krate ≡ crate_of c → text ≡ macro_text (environment tables w) c.maps makro → input
+    ≡ input_at tables w krate node
     → key ≡ expansion_by (environment tables w) c node makro
 key_of_call tables w c node makro krate text input key is own of_macro of_node =
     is ∙ ap (λ (t : Option (List ℕ)). expansion_of_call krate styles.Bang makro t input) of_macro
@@ -37,18 +39,22 @@ key_of_call tables w c node makro krate text input key is own of_macro of_node =
     ∙ ap (λ (k : Crate). expansion_of_call k styles.Bang makro (macro_text (environment tables w) c.maps makro) (input_at tables w k node)) own
 
 -- a call whose expansion has a number expands to that source
-source_of_call : (tables : TablesValue) (id : MacroCallId) (loc : MacroCallLoc) (key : ExpansionValue) → call_at tables id ≡ Some loc → entry_at tables loc.entry ≡ Some key
+source_of_call : (tables : TablesValue) (id : MacroCallId) (loc : MacroCallLoc) (key : ExpansionValue) → call_at tables id ≡ Some loc
+    → entry_at tables loc.entry ≡ Some key
     → source_of tables (call_tree id) ≡ Some (expansion key)
 source_of_call tables id loc key call entry =
-    ap (λ (o : Option MacroCallLoc). option_map expansion (option_and_then (λ (l : MacroCallLoc). entry_at tables l.entry) o)) call ∙ ap (λ (o : Option ExpansionValue). option_map expansion o) entry
+    ap (λ (o : Option MacroCallLoc). option_map expansion (option_and_then (λ (l : MacroCallLoc). entry_at tables l.entry) o)) call ∙ ap
+    (λ (o : Option ExpansionValue). option_map expansion o) entry
 
 module _ (first : TablesValue) (w : Workspace) (c : ContainerValue) (node : AstId) (makro : MacroId) (meant : IsSome (source_of first (node_tree node))) (of_macro : IsMeant first makro)
     (key : ExpansionValue) (is : key ≡ expansion_by (environment first w) c node makro) where
   key_stays : (grown : TablesValue) → KeepsTables first grown → key ≡ expansion_by (environment grown w) c node makro
   key_stays grown kept = is ∙ sym (expansion_stays first grown kept w c node makro meant of_macro)
 
-  pub sees_call : (second tables : TablesValue) (entry : EntryId) (id : MacroCallId) (error : Option (List ℕ)) (source : SourceTreeValue) → KeepsTables first second → KeepsTables second tables
-      → entry_at second entry ≡ Some key → call_at tables id ≡ Some (call_loc node entry) → error ≡ error_of (w.entry key) → source ≡ source_in tables w (call_key (crate_of c) id)
+  pub sees_call : (second tables : TablesValue) (entry : EntryId) (id : MacroCallId) (error : Option (List ℕ)) (source : SourceTreeValue)
+      → KeepsTables first second → KeepsTables second tables
+      → entry_at second entry ≡ Some key → call_at tables id ≡ Some (call_loc node entry) → error ≡ error_of (w.entry key) → source
+      ≡ source_in tables w (call_key (crate_of c) id)
       → SeesCall tables w c node makro id error source
   sees_call second tables entry id error source before after at call told found =
       let kept : KeepsTables first tables = KeepsTables-trans first second tables before after in
@@ -67,31 +73,37 @@ module _ (first : TablesValue) (w : Workspace) (c : ContainerValue) (node : AstI
 
   -- the expansion gets no number
   pub no_expansion : (tables : TablesValue) → KeepsTables first tables → IsFull tables.entries key → HasNoNumber (environment tables w) c node makro
-  no_expansion tables kept full = expansion_out (subst (λ (e : ExpansionValue). IsNumberedOut tables.entries e) (key_stays tables kept) (full_out tables.entries key full))
+  no_expansion tables kept full =
+      expansion_out (subst (λ (e : ExpansionValue). IsNumberedOut tables.entries e) (key_stays tables kept) (full_out tables.entries key full))
 
   -- it has one, and the call gets none
-  pub no_call : (tables : TablesValue) (entry : EntryId) → KeepsTables first tables → entry_at tables entry ≡ Some key → IsFull tables.calls (call_loc node entry)
+  pub no_call : (tables : TablesValue) (entry : EntryId) → KeepsTables first tables → entry_at tables entry ≡ Some key
+      → IsFull tables.calls (call_loc node entry)
       → HasNoNumber (environment tables w) c node makro
   no_call tables entry kept at full = call_out entry (at ∙ ap Some (key_stays tables kept)) (full_out tables.calls (call_loc node entry) full)
 
 -- ---- refusals of tables
 
 -- too many is told only where no number is left
-pub refused_full : {T U : Type 0} (given : Result T LocationsError) (told : Result U AssocItemsError) (e : LocationsError) → given ≡ Err e → IsErrAnd told (λ x. x ≡ refusal_of_number e)
+pub refused_full : {T U : Type 0} (given : Result T LocationsError) (told : Result U AssocItemsError) (e : LocationsError) → given ≡ Err e
+    → IsErrAnd told (λ x. x ≡ refusal_of_number e)
     → told ≡ Err errors.TooMany → given ≡ Err numbers.TooMany
 refused_full given (Ok x) e was refused many = absurd refused
 refused_full given (Err x) numbers.TooMany was refused many = was
 refused_full given (Err x) numbers.Memory was refused many = let no : ⊥ = cc in absurd no
 
-pub refused_known : {U : Type 0} (told : Result U AssocItemsError) (e : LocationsError) → IsErrAnd told (λ x. x ≡ refusal_of_number e) → told ≡ Err errors.UnknownSource → ⊥
+pub refused_known : {U : Type 0} (told : Result U AssocItemsError) (e : LocationsError) → IsErrAnd told (λ x. x ≡ refusal_of_number e) → told
+    ≡ Err errors.UnknownSource → ⊥
 refused_known (Ok x) e refused unknown = refused
 refused_known (Err x) numbers.TooMany refused unknown = cc
 refused_known (Err x) numbers.Memory refused unknown = cc
 
 -- ---- what else the tables have
 
-pub others_first : (first middle : TablesValue) → middle ≡ record first { entries = middle.entries } → middle ≡ record first { entries = middle.entries; calls = middle.calls }
-others_first first middle e = e ∙ ap (λ (ls : List MacroCallLoc). record first { entries = middle.entries; calls = ls }) (sym (ap (λ (t : TablesValue). t.calls) e))
+pub others_first : (first middle : TablesValue) → middle ≡ record first { entries = middle.entries } → middle
+    ≡ record first { entries = middle.entries; calls = middle.calls }
+others_first first middle e =
+    e ∙ ap (λ (ls : List MacroCallLoc). record first { entries = middle.entries; calls = ls }) (sym (ap (λ (t : TablesValue). t.calls) e))
 
 pub others_both : (first middle tables : TablesValue) → middle ≡ record first { entries = middle.entries } → tables ≡ record middle { calls = tables.calls }
     → tables ≡ record first { entries = tables.entries; calls = tables.calls }
@@ -99,6 +111,7 @@ others_both first middle tables e f =
     f ∙ ap (λ (t : TablesValue). record t { calls = tables.calls }) e
     ∙ ap (λ (es : List ExpansionValue). record first { entries = es; calls = tables.calls }) (sym (ap (λ (t : TablesValue). t.entries) f))
 
-pub others_later : (first middle tables : TablesValue) → middle ≡ record first { entries = middle.entries; calls = middle.calls } → tables ≡ record middle { entries = tables.entries; calls = tables.calls }
+pub others_later : (first middle tables : TablesValue) → middle ≡ record first { entries = middle.entries; calls = middle.calls } → tables
+    ≡ record middle { entries = tables.entries; calls = tables.calls }
     → tables ≡ record first { entries = tables.entries; calls = tables.calls }
 others_later first middle tables e f = f ∙ ap (λ (t : TablesValue). record t { entries = tables.entries; calls = tables.calls }) e

@@ -34,9 +34,11 @@ module _ (tables grown : TablesValue) (kept : KeepsTables tables grown) where
   pub source_in_stays : (w : Workspace) (key : TreeKey) → IsSome (source_of tables key.id) → source_in grown w key ≡ source_in tables w key
   source_in_stays w key there = ap (λ (o : Option SourcePlaceValue). source_under w key.krate o) (source_stays key.id there)
 
-  text_stays : (w : Workspace) (maps : Maps) (makro : MacroId) → IsMeant tables makro → macro_text (environment grown w) maps makro ≡ macro_text (environment tables w) maps makro
+  text_stays : (w : Workspace) (maps : Maps) (makro : MacroId) → IsMeant tables makro → macro_text (environment grown w) maps makro
+      ≡ macro_text (environment tables w) maps makro
   text_stays w maps (macros.Macro2Id id) there =
-      let seen : of_text (text_at grown w (macros.Macro2Id id)) ≡ of_text (text_at tables w (macros.Macro2Id id)) = looks_stand tables grown w no_maps (keys.Text (macros.Macro2Id id)) kept there in
+      let seen : of_text (text_at grown w (macros.Macro2Id id)) ≡ of_text (text_at tables w (macros.Macro2Id id)) = looks_stand tables grown w no_maps
+      (keys.Text (macros.Macro2Id id)) kept there in
       let same : text_at grown w (macros.Macro2Id id) ≡ text_at tables w (macros.Macro2Id id) = cc in
       same
   text_stays w maps (macros.MacroRulesId id) there =
@@ -46,15 +48,19 @@ module _ (tables grown : TablesValue) (kept : KeepsTables tables grown) where
       same
   text_stays w maps (macros.ProcMacroId id) there = refl
 
-  input_stays : (w : Workspace) (krate : Crate) (node : AstId) → IsSome (source_of tables (node_tree node)) → input_at grown w krate node ≡ input_at tables w krate node
+  input_stays : (w : Workspace) (krate : Crate) (node : AstId) → IsSome (source_of tables (node_tree node)) → input_at grown w krate node
+      ≡ input_at tables w krate node
   input_stays w krate node there =
-      let seen : of_input (input_at grown w krate node) ≡ of_input (input_at tables w krate node) = looks_stand tables grown w no_maps (keys.Input krate node) kept there in
+      let seen : of_input (input_at grown w krate node) ≡ of_input (input_at tables w krate node) = looks_stand tables grown w no_maps (keys.Input krate node)
+      kept there in
       let same : input_at grown w krate node ≡ input_at tables w krate node = cc in
       same
 
   -- what the expansion of a call depends on
-  pub expansion_stays : (w : Workspace) (c : ContainerValue) (node : AstId) (makro : MacroId) → IsSome (source_of tables (node_tree node)) → IsMeant tables makro
+  pub expansion_stays : (w : Workspace) (c : ContainerValue) (node : AstId) (makro : MacroId) → IsSome (source_of tables (node_tree node))
+      → IsMeant tables makro
       → expansion_by (environment grown w) c node makro ≡ expansion_by (environment tables w) c node makro
   expansion_stays w c node makro there of_macro =
       ap (λ (t : Option (List ℕ)). expansion_of_call (crate_of c) styles.Bang makro t (input_at grown w (crate_of c) node)) (text_stays w c.maps makro of_macro)
-      ∙ ap (λ (i : Option (List ℕ)). expansion_of_call (crate_of c) styles.Bang makro (macro_text (environment tables w) c.maps makro) i) (input_stays w (crate_of c) node there)
+      ∙ ap (λ (i : Option (List ℕ)). expansion_of_call (crate_of c) styles.Bang makro (macro_text (environment tables w) c.maps makro) i)
+      (input_stays w (crate_of c) node there)

@@ -12,7 +12,8 @@ use Rattle.hir_tables.specs.Tables.{TablesValue, source_of}
 use Rattle.hir_collector_rules.specs.Keys.{source_in, source_under}
 use Rattle.hir_collector_rules.specs.Workspace.{Workspace}
 
-pub there_where_kept : (tables : TablesValue) (w : Workspace) (key : TreeKey) (node : NodeId) (is : List KeptItem) → option_and_then entry_associated (side_of (source_in tables w key) node) ≡ Some is
+pub there_where_kept : (tables : TablesValue) (w : Workspace) (key : TreeKey) (node : NodeId) (is : List KeptItem) → option_and_then entry_associated
+    (side_of (source_in tables w key) node) ≡ Some is
     → IsSome (source_of tables key.id)
 there_where_kept tables w key node is kept = go (source_of tables key.id) kept
   where

@@ -1,5 +1,6 @@
 -- Items are read one after another.
-use Rattle.std.proofs.Common.{◌≡◌, ◌∙◌, ℕ, ◌+◌, ◌<◌, ◌≤◌, inl, inr, List, ◌∷◌, ◌++◌, length, Option, None, Some, drop, get_or, refl, sym, ap, subst, slice_get, append_assoc, add-one, arith}
+use Rattle.std.proofs.Common.{◌≡◌, ◌∙◌, ℕ, ◌+◌, ◌<◌, ◌≤◌, inl, inr, List, ◌∷◌, ◌++◌, length, Option, None, Some, drop, get_or, refl, sym, ap, subst, slice_get}
+use Rattle.std.proofs.Common.{append_assoc, add-one, arith}
 use Rattle.std.proofs.Math.Seq.{drop-cons}
 use Rattle.std.proofs.lemmas.Option.{slice_get_cases}
 use Rattle.std.specs.Prelude.{IfSome}
@@ -14,7 +15,8 @@ use Rattle.hir_item_tree.specs.declared.tree_id.TreeId.{TreeId}
 use Rattle.hir_assoc_items.specs.Written.{WrittenValue, top_items, written, written_content, written_found, written_item}
 
 -- an item that is put together of its head and what it is
-pub item_written : (tree : TreeId) (level : ℕ) (all : List KeptItem) (i : KeptItem) (content : Content) (id : SyntaxId) (disabled : Option Cfg) → item_of all (item_head i) content ≡ i
+pub item_written : (tree : TreeId) (level : ℕ) (all : List KeptItem) (i : KeptItem) (content : Content) (id : SyntaxId) (disabled : Option Cfg)
+    → item_of all (item_head i) content ≡ i
     → id ≡ (item_head i).id → disabled ≡ (item_head i).attributes.disabled → written_content tree level id disabled content ≡ written_item tree level i
 item_written tree level all i (alone l) id disabled is node cfg =
     ap (λ (n : SyntaxId). written_content tree level n disabled (alone l)) node
@@ -30,7 +32,8 @@ pub found_written : (tree : TreeId) (level : ℕ) (all : List KeptItem) (n : ℕ
 found_written tree level all n content id attributes there is node has = elim (slice_get_cases all n).1 [
   | inl p ↦ (
       let e : slice_get all n ≡ Some p.0 = p.2 in
-      item_written tree level all p.0 content id attributes.disabled (subst (λ (o : Option KeptItem). IfSome o (λ i. item_of all (item_head i) content ≡ i)) e is)
+      item_written tree level all p.0 content id attributes.disabled (subst (λ (o : Option KeptItem). IfSome o (λ i. item_of all (item_head i) content ≡ i)) e
+      is)
       (subst (λ (o : Option KeptItem). IfSome o (λ i. id ≡ (item_head i).id)) e node)
       (ap (λ (a : Collected). a.disabled) (subst (λ (o : Option KeptItem). IfSome o (λ i. attributes ≡ (item_head i).attributes)) e has))
       ∙ ap (λ (o : Option KeptItem). written_found tree level o) (sym e))

@@ -3,9 +3,9 @@ use Rattle.std.proofs.Common.{◌≡◌, ℕ, ◌+◌, List, [], ◌∷◌, ◌+
 use Rattle.std.specs.Prelude.{IfOk, IsSome}
 use Rattle.hir_base.specs.ModPath.{Path}
 use Rattle.hir_base.specs.Cfg.{Cfg}
-use Rattle.hir_base.specs.declared.ast_id.SyntaxId.{SyntaxId}
 use Rattle.hir_base.specs.declared.ast_id.MacroCallId.{MacroCallId}
 use Rattle.hir_base.specs.declared.macro_kind.MacroId.{MacroId}
+use Rattle.hir_base.specs.declared.ast_id.SyntaxId.{SyntaxId}
 use Rattle.hir_item_tree.specs.KeptForest.{KeptItem, leaf, holder}
 use Rattle.hir_item_tree.specs.SourceTree.{SourceTreeValue}
 use Rattle.hir_item_tree.specs.declared.tree_id.TreeId.{TreeId}
@@ -43,24 +43,30 @@ module _ (tables : TablesValue) (tree : TreeId) (there : IsSome (source_of table
   written_meant (i ∷ is) = meant_both tables (written_item tree level i) (written tree level is) (item_meant i) (written_meant is)
 
 -- the items of its expansion do
-pub taken_expanded : (tables : TablesValue) (w : Workspace) (c : ContainerValue) (i : WrittenValue) (path : Path) (makro : MacroId) (id : MacroCallId) (error : Option (List ℕ)) (source : SourceTreeValue)
+pub taken_expanded : (tables : TablesValue) (w : Workspace) (c : ContainerValue) (i : WrittenValue) (path : Path) (makro : MacroId) (id : MacroCallId)
+    (error : Option (List ℕ)) (source : SourceTreeValue)
     (before after : List WrittenValue) (old new : ListingValue) → Reaches c i path makro → SeesCall tables w c (item_node i) makro id error source
-    → after ≡ written (call_tree id) (i.level + 1) (top_items source.tree.items) ++ before → new ≡ followed_by old (one_call c (item_node i) id path error) → Takes tables w c i before after old new
+    → after ≡ written (call_tree id) (i.level + 1) (top_items source.tree.items) ++ before → new ≡ followed_by old (one_call c (item_node i) id path error)
+    → Takes tables w c i before after old new
 taken_expanded tables w c i path makro id error source before after old new reaches sees left found = record {
   ahead = one_call c (item_node i) id path error;
   inside = written (call_tree id) (i.level + 1) (top_items source.tree.items);
   becomes = λ grown k.
       let env = environment grown w in
-      subst (λ (e : Option (List ℕ)). Becomes env c i (one_call c (item_node i) id path e) (written (call_tree id) (i.level + 1) (top_items source.tree.items))) (sym (sees.told grown k))
-      (subst (λ (s : SourceTreeValue). Becomes env c i (one_call c (item_node i) id path (call_error env c (item_node i) makro)) (written (call_tree id) (i.level + 1) (top_items s.tree.items)))
-      (sym (sees.brought grown k)) (call path (one_call c (item_node i) id path (call_error env c (item_node i) makro)) (written (call_tree id) (i.level + 1) (top_items (call_source env c id).tree.items)) reaches.is
+      subst (λ (e : Option (List ℕ)). Becomes env c i (one_call c (item_node i) id path e) (written (call_tree id) (i.level + 1) (top_items source.tree.items)))
+      (sym (sees.told grown k))
+      (subst (λ (s : SourceTreeValue). Becomes env c i (one_call c (item_node i) id path (call_error env c (item_node i) makro))
+      (written (call_tree id) (i.level + 1) (top_items s.tree.items)))
+      (sym (sees.brought grown k)) (call path (one_call c (item_node i) id path (call_error env c (item_node i) makro))
+      (written (call_tree id) (i.level + 1) (top_items (call_source env c id).tree.items)) reaches.is
       (expanded makro id reaches.shallow reaches.reached (sees.numbered grown k))));
   left = left;
   found = found;
   meant = written_meant tables (call_tree id) sees.meant (i.level + 1) (top_items source.tree.items);
 }
 
-pub meant_once : {T E : Type 0} (tables : TablesValue) (items : List WrittenValue) (r : Result T E) (view : T → List WrittenValue) → IfOk r (λ t. view t ≡ items) → AreMeant tables items
+pub meant_once : {T E : Type 0} (tables : TablesValue) (items : List WrittenValue) (r : Result T E) (view : T → List WrittenValue)
+    → IfOk r (λ t. view t ≡ items) → AreMeant tables items
     → IfOk r (λ t. AreMeant tables (view t))
 meant_once tables items (Ok t) view same meant = subst (λ (is : List WrittenValue). AreMeant tables is) (sym same) meant
 meant_once tables items (Err e) view same meant = tt

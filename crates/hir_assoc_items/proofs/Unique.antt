@@ -8,7 +8,8 @@ use Rattle.hir_base.specs.declared.macro_kind.MacroId.{MacroId}
 use Rattle.hir_tables.specs.Tables.{HasEachOnce}
 use Rattle.hir_collector_rules.specs.Calls.{call_tree}
 use Rattle.hir_collector_rules.specs.Keys.{Environment}
-use Rattle.hir_assoc_items.specs.AssocItems.{Becomes, CallBecomes, ContainerValue, FlattensTo, IsNumberOfCall, ListingValue, call, call_loc, call_error, call_source, expanded, followed_by, left_out, listed, next, none, one_call, too_deep, unconfigured, unreached}
+use Rattle.hir_assoc_items.specs.AssocItems.{Becomes, CallBecomes, ContainerValue, FlattensTo, IsNumberOfCall, ListingValue, call, call_loc, call_error}
+use Rattle.hir_assoc_items.specs.AssocItems.{call_source, expanded, followed_by, left_out, listed, next, none, one_call, too_deep, unconfigured, unreached}
 use Rattle.hir_assoc_items.specs.Laws.{ListingIsUnique}
 use Rattle.hir_assoc_items.specs.Written.{WrittenValue, item_node, path_called, top_items, written}
 

@@ -7,20 +7,20 @@ use Rattle.std.specs.Option.{option_and_then}
 use Rattle.hir_base.specs.Cfg.{Cfg}
 use Rattle.hir_base.specs.Ids.{container_module, macro_module}
 use Rattle.hir_base.specs.ModPath.{Path}
+use Rattle.hir_base.specs.declared.ids.AssocItemId.{AssocItemId}
 use Rattle.hir_base.specs.declared.ast_id.AstId.{AstId}
 use Rattle.hir_base.specs.declared.ast_id.AstKind.{AstKind}
-use Rattle.hir_base.specs.declared.ast_id.EntryId.{EntryId}
-use Rattle.hir_base.specs.declared.ast_id.MacroCallId.{MacroCallId}
-use Rattle.hir_base.specs.declared.ids.AssocItemId.{AssocItemId}
-use Rattle.hir_base.specs.declared.ids.AssocItemId.TheVariants as definitions
 use Rattle.hir_base.specs.declared.ids.Crate.{Crate}
+use Rattle.hir_base.specs.declared.ast_id.EntryId.{EntryId}
 use Rattle.hir_base.specs.declared.ids.ItemContainerId.{ItemContainerId}
 use Rattle.hir_base.specs.declared.ids.ItemLoc.{ItemLoc}
-use Rattle.hir_base.specs.declared.ids.ModuleId.{ModuleId}
-use Rattle.hir_base.specs.declared.macro_kind.CallStyle.TheVariants as styles
-use Rattle.hir_base.specs.declared.macro_kind.MacroCallKind.TheVariants as calls
+use Rattle.hir_base.specs.declared.ast_id.MacroCallId.{MacroCallId}
 use Rattle.hir_base.specs.declared.macro_kind.MacroCallLoc.{MacroCallLoc}
 use Rattle.hir_base.specs.declared.macro_kind.MacroId.{MacroId}
+use Rattle.hir_base.specs.declared.ids.ModuleId.{ModuleId}
+use Rattle.hir_base.specs.declared.ids.AssocItemId.TheVariants as definitions
+use Rattle.hir_base.specs.declared.macro_kind.CallStyle.TheVariants as styles
+use Rattle.hir_base.specs.declared.macro_kind.MacroCallKind.TheVariants as calls
 use Rattle.hir_base.specs.declared.macro_kind.MacroId.TheVariants.{Macro2Id, MacroRulesId, ProcMacroId}
 use Rattle.hir_base.specs.declared.resolve_mode.MacroSubNs.TheVariants as sub_namespaces
 use Rattle.hir_item_tree.specs.KeptForest.{KeptItem}
@@ -94,7 +94,8 @@ macro_called c path = macro_among (resolution_of c.maps (by_style sub_namespaces
 
 -- the name under which a procedural macro is exported
 abbrev pub exported_name : Maps → MacroId → Option (List ℕ)
-exported_name maps makro = option_map (λ (what : MacroDataValue). what.name) (option_and_then (λ (m : Map). macro_data_at m makro) (map_in maps (macro_module makro).map))
+exported_name maps makro =
+    option_map (λ (what : MacroDataValue). what.name) (option_and_then (λ (m : Map). macro_data_at m makro) (map_in maps (macro_module makro).map))
 
 -- the text of a macro, of a procedural one its name
 abbrev pub macro_text : Environment → Maps → MacroId → Option (List ℕ)
@@ -104,7 +105,8 @@ macro_text env maps (ProcMacroId id) = exported_name maps (ProcMacroId id)
 
 -- what the expansion of a call depends on that is written at a node and reaches a macro
 abbrev pub expansion_by : Environment → ContainerValue → AstId → MacroId → ExpansionValue
-expansion_by env c node makro = expansion_of_call (crate_of c) styles.Bang makro (macro_text env c.maps makro) (input_at env.tables env.workspace (crate_of c) node)
+expansion_by env c node makro =
+    expansion_of_call (crate_of c) styles.Bang makro (macro_text env c.maps makro) (input_at env.tables env.workspace (crate_of c) node)
 
 abbrev pub call_loc : AstId → EntryId → MacroCallLoc
 call_loc node entry = record { kind = calls.FnLike node; entry = entry }
@@ -201,12 +203,14 @@ pub data Becomes (env : Environment) (c : ContainerValue) (i : WrittenValue) : L
   left_out : (condition : Cfg) → i.disabled ≡ Some condition → Becomes env c i (unconfigured env c i condition) []
   -- a function, a type alias or a constant is listed under its name, if it has one
   listed : i.disabled ≡ None → path_called i.kind ≡ None → Becomes env c i (listed_by (definition_of c i)) []
-  call : (path : Path) (ahead : ListingValue) (inside : List WrittenValue) → IsCall i path → CallBecomes env c i path ahead inside → Becomes env c i ahead inside
+  call : (path : Path) (ahead : ListingValue) (inside : List WrittenValue) → IsCall i path → CallBecomes env c i path ahead inside
+      → Becomes env c i ahead inside
 
 -- what items come to, one after another
 pub data FlattensTo (env : Environment) (c : ContainerValue) : List WrittenValue → ListingValue → Type 0 where
   none : FlattensTo env c [] nothing
-  next : (i : WrittenValue) (rest : List WrittenValue) (ahead : ListingValue) (inside : List WrittenValue) (behind : ListingValue) → Becomes env c i ahead inside
+  next : (i : WrittenValue) (rest : List WrittenValue) (ahead : ListingValue) (inside : List WrittenValue) (behind : ListingValue)
+      → Becomes env c i ahead inside
       → FlattensTo env c (inside ++ rest) behind → FlattensTo env c (i ∷ rest) (followed_by ahead behind)
 
 -- ---- why it is given up
@@ -214,7 +218,8 @@ pub data FlattensTo (env : Environment) (c : ContainerValue) : List WrittenValue
 -- the item that comes up after so many others
 pub data ComesUp (env : Environment) (c : ContainerValue) : List WrittenValue → ℕ → WrittenValue → Type 0 where
   first : (i : WrittenValue) (rest : List WrittenValue) → ComesUp env c (i ∷ rest) 0 i
-  later : (i : WrittenValue) (rest : List WrittenValue) (ahead : ListingValue) (inside : List WrittenValue) (n : ℕ) (j : WrittenValue) → Becomes env c i ahead inside
+  later : (i : WrittenValue) (rest : List WrittenValue) (ahead : ListingValue) (inside : List WrittenValue) (n : ℕ) (j : WrittenValue)
+      → Becomes env c i ahead inside
       → ComesUp env c (inside ++ rest) n j → ComesUp env c (i ∷ rest) (suc n) j
 
 -- a call isn't too deep, and reaches this macro

@@ -7,5 +7,7 @@ use Rattle.hir_assoc_items.specs.Written.{WrittenValue}
 
 -- items come to one listing, where no two numbers mean the same
 abbrev pub ListingIsUnique : Type 0
-ListingIsUnique = (env : Environment) (c : ContainerValue) (items : List WrittenValue) (a b : ListingValue) → HasEachOnce env.tables → FlattensTo env c items a → FlattensTo env c items b
+ListingIsUnique =
+    (env : Environment) (c : ContainerValue) (items : List WrittenValue) (a b : ListingValue) → HasEachOnce env.tables → FlattensTo env c items a
+    → FlattensTo env c items b
     → a ≡ b

@@ -2,10 +2,10 @@
 use Rattle.std.specs.Prelude.{◌≡◌, ℕ, ◌+◌, List, [], ◌∷◌, ◌++◌, IsSome, map, reverse, Option}
 use Rattle.hir_base.specs.ModPath.{Path}
 use Rattle.hir_base.specs.declared.ast_id.AstId.{AstId}
-use Rattle.hir_base.specs.declared.ast_id.MacroCallId.{MacroCallId}
 use Rattle.hir_base.specs.declared.locations.LocationsError.{LocationsError}
-use Rattle.hir_base.specs.declared.locations.LocationsError.TheVariants as numbers
+use Rattle.hir_base.specs.declared.ast_id.MacroCallId.{MacroCallId}
 use Rattle.hir_base.specs.declared.macro_kind.MacroId.{MacroId}
+use Rattle.hir_base.specs.declared.locations.LocationsError.TheVariants as numbers
 use Rattle.hir_item_tree.specs.SourceTree.{SourceTreeValue}
 use Rattle.hir_tables.specs.Tables.{TablesValue, source_of}
 use Rattle.hir_def_map.specs.DefMaps.{maps_of}
@@ -13,7 +13,8 @@ use Rattle.hir_collector_rules.specs.Calls.{call_tree}
 use Rattle.hir_collector_rules.specs.Keys.{Environment, IsMeant}
 use Rattle.hir_collector_rules.specs.Moves.{OnceGrown}
 use Rattle.hir_collector_rules.specs.Workspace.{Workspace}
-use Rattle.hir_assoc_items.specs.AssocItems.{Becomes, ComesUp, ContainerValue, FlattensTo, HasNoNumber, IsNumberOfCall, ListingValue, Reaches, call_error, call_source, container_of, followed_by, listing_of}
+use Rattle.hir_assoc_items.specs.AssocItems.{Becomes, ComesUp, ContainerValue, FlattensTo, HasNoNumber, IsNumberOfCall, ListingValue, Reaches, call_error}
+use Rattle.hir_assoc_items.specs.AssocItems.{call_source, container_of, followed_by, listing_of}
 use Rattle.hir_assoc_items.specs.Written.{WrittenValue, item_node, written_view}
 use Rattle.hir_assoc_items.specs.declared.container.Container.{Container}
 use Rattle.hir_assoc_items.specs.declared.error.AssocItemsError.{AssocItemsError}
@@ -43,14 +44,16 @@ abbrev pub listing_view : Listing → ListingValue
 listing_view l = listing_of l.items.items l.macro_calls.items l.diagnostics.items
 
 -- what is seen of a call that reaches a macro
-pub record SeesCall (tables : TablesValue) (w : Workspace) (c : ContainerValue) (node : AstId) (makro : MacroId) (id : MacroCallId) (error : Option (List ℕ)) (source : SourceTreeValue) : Type 0 where
+pub record SeesCall (tables : TablesValue) (w : Workspace) (c : ContainerValue) (node : AstId) (makro : MacroId) (id : MacroCallId) (error : Option (List ℕ))
+    (source : SourceTreeValue) : Type 0 where
   pub numbered : OnceGrown tables w (λ env. IsNumberOfCall env c node makro id)
   pub told : OnceGrown tables w (λ env. error ≡ call_error env c node makro)
   pub brought : OnceGrown tables w (λ env. source ≡ call_source env c id)
   pub meant : IsSome (source_of tables (call_tree id))
 
 -- an item was taken: it adds this, and these stand in its place
-pub record Takes (tables : TablesValue) (w : Workspace) (c : ContainerValue) (i : WrittenValue) (before after : List WrittenValue) (old new : ListingValue) : Type 0 where
+pub record Takes (tables : TablesValue) (w : Workspace) (c : ContainerValue) (i : WrittenValue) (before after : List WrittenValue)
+    (old new : ListingValue) : Type 0 where
   pub ahead : ListingValue
   pub inside : List WrittenValue
   pub becomes : OnceGrown tables w (λ env. Becomes env c i ahead inside)
@@ -59,7 +62,8 @@ pub record Takes (tables : TablesValue) (w : Workspace) (c : ContainerValue) (i 
   pub meant : AreMeant tables inside
 
 -- once these are left of all items, and this was found
-pub record IsOnItsWay (tables : TablesValue) (w : Workspace) (c : ContainerValue) (all left : List WrittenValue) (found : ListingValue) (count : ℕ) : Type 0 where
+pub record IsOnItsWay (tables : TablesValue) (w : Workspace) (c : ContainerValue) (all left : List WrittenValue) (found : ListingValue) (count : ℕ) : Type
+    0 where
   pub flattens : OnceGrown tables w (λ env. (behind : ListingValue) → FlattensTo env c left behind → FlattensTo env c all (followed_by found behind))
   pub comes : OnceGrown tables w (λ env. (n : ℕ) (i : WrittenValue) → ComesUp env c left n i → ComesUp env c all (count + n) i)
   pub meant : AreMeant tables left

@@ -1,7 +1,8 @@
 -- What is idle once slots are woken, and what it watches.
-use Rattle.std.proofs.Common.{◌≡◌, ◌∙◌, ap, sym, subst, ℕ, ◌==◌, Bool, true, false, ◌||◌, List, None, refl, arith}
+use Rattle.std.proofs.Common.{◌≡◌, ◌∙◌, ap, sym, subst, ℕ, ◌==◌, Bool, true, false, ◌||◌, List, Option, None, Some, refl, arith}
 use Rattle.std.proofs.lemmas.Bool.Decides.{nat_tests}
 use Rattle.std.specs.List.{All}
+use Rattle.hir_base.specs.declared.ast_id.AstId.{AstId}
 use Rattle.hir_def_map.specs.contracts.nameres.path_resolution.slots.SlotOrd.TheImpl.Laws.{total-law as slot_total}
 use Rattle.hir_def_map.specs.declared.nameres.path_resolution.slots.Slot.{Slot as PathSlot}
 use Rattle.hir_worklist.proofs.Idle.{idle-woken}
@@ -13,7 +14,9 @@ use Rattle.hir_worklist.specs.declared.watchers.Watchers.{Watchers}
 use Rattle.hir_import_resolution.specs.Inner.Queue.{IsSamePass, KeepsWatched, WakesEach, more, none, slot_cmp}
 use Rattle.hir_import_resolution.proofs.Waking.{pass_woken, same_pass, woken_settled}
 use Rattle.hir_call_queue.specs.Changes.{ChangedValue, IsThere}
-use Rattle.hir_call_queue.specs.Waking.{AreWatching, GoesOn, IsWatching, IsWoken, KeepsQueued, is_apart, watchers_of, worklist_of}
+use Rattle.hir_call_queue.proofs.Items.{idle_items, items_apart, items_still}
+use Rattle.hir_call_queue.specs.Waking.{AreWatching, GoesOn, IsWatching, IsWoken, KeepsItems, KeepsQueued, WakesItems, attributes_of, is_apart, watchers_of}
+use Rattle.hir_call_queue.specs.Waking.{watches_item, worklist_of}
 use Rattle.hir_call_queue.specs.declared.queue.CallQueue.{CallQueue}
 
 either_true : (a b : Bool) → a ≡ true → (a || b) ≡ true
@@ -36,29 +39,41 @@ goes_on_itself q = record { apart = refl; pass = same_pass (worklist_of q); queu
 -- ---- what is idle
 
 -- what is idle once slots are woken, one after another, was idle
-idle_each : (r : Queue) (after : Watchers PathSlot) (q : Queue) (watchers : Watchers PathSlot) (slots : List PathSlot) → WakesEach r after q watchers slots → (p : ℕ) → IsIdle r p → IsIdle q p
+idle_each : (r : Queue) (after : Watchers PathSlot) (q : Queue) (watchers : Watchers PathSlot) (slots : List PathSlot) → WakesEach r after q watchers slots
+    → (p : ℕ) → IsIdle r p → IsIdle q p
 idle_each r after _ _ _ none p idle = idle
-idle_each r after _ _ _ (more q b watchers forgot slot slots wakes forgets rest) p idle = (idle-woken q b _ p wakes (idle_each r after b forgot slots rest p idle)).0
+idle_each r after _ _ _ (more q b watchers forgot slot slots wakes forgets rest) p idle =
+    (idle-woken q b _ p wakes (idle_each r after b forgot slots rest p idle)).0
 
 module _ (changed : ChangedValue) (old new : CallQueue) (on : GoesOn old new) where
-  -- those that watch one of the slots are queued
-  pub woken_some : changed.all ≡ false → is_apart old ≡ true → WakesEach (worklist_of new) (watchers_of new) (worklist_of old) (watchers_of old) changed.slots → IsWoken changed old new
-  woken_some some apart each = record {
+  -- those that watch one of the slots are queued, and then those that watch one of the items
+  pub woken_some : changed.all ≡ false → is_apart old ≡ true → (between : Queue) → WakesEach between (watchers_of new) (worklist_of old) (watchers_of old)
+      changed.slots
+      → WakesItems (worklist_of new) (attributes_of new) between (attributes_of old) changed.items → IsWoken changed old new
+  woken_some some apart between each items = record {
     on = on;
-    idle = λ p idle. idle_each (worklist_of new) (watchers_of new) (worklist_of old) (watchers_of old) changed.slots each p idle;
-    watching = λ a seen watched. (settled seen watched).watched;
+    idle = λ p idle. idle_each between (watchers_of new) (worklist_of old) (watchers_of old) changed.slots each p (before p idle);
+    watching = λ a seen watched. record { each = λ p idle other. (settled seen watched).watched.each p (before p idle) other };
     some = λ a p idle. some;
     untouched = λ a seen watched p idle slot has. record {
       some = some;
-      other = λ among. ((settled seen watched).settled p idle (λ e. absurd cc)).unread slot among has;
+      other = λ among. ((settled seen watched).settled p (before p idle) (λ e. absurd cc)).unread slot among has;
+    };
+    items = λ a p idle item e. record {
+      still = items_still (worklist_of new) (attributes_of new) between (attributes_of old) changed.items items p idle item e;
+      unhelped =
+          record { some = some; other = items_apart (worklist_of new) (attributes_of new) between (attributes_of old) changed.items items p idle item e };
     };
     alone = λ a p idle. absurd (let no : ⊥ = cc in no);
   }
     where
+      before : (p : ℕ) → IsIdle (worklist_of new) p → IsIdle between p
+      before p idle = idle_items (worklist_of new) (attributes_of new) between (attributes_of old) changed.items items p idle
+
       settled : (seen : ℕ → List PathSlot) → AreWatching seen old
-          → AreSettled slot_cmp seen (IsUnread slot_cmp slot_total seen (λ (p : ℕ). Unit {0}) changed.slots) None (worklist_of new) (watchers_of new)
+          → AreSettled slot_cmp seen (IsUnread slot_cmp slot_total seen (λ (p : ℕ). Unit {0}) changed.slots) None between (watchers_of new)
       settled seen watched =
-          woken_settled seen (λ (p : ℕ). Unit {0}) None (worklist_of new) (watchers_of new) (worklist_of old) (watchers_of old) changed.slots each
+          woken_settled seen (λ (p : ℕ). Unit {0}) None between (watchers_of new) (worklist_of old) (watchers_of old) changed.slots each
           (record { watched = watched; settled = λ p idle other. tt })
 
   -- all are
@@ -69,6 +84,7 @@ module _ (changed : ChangedValue) (old new : CallQueue) (on : GoesOn old new) wh
     watching = λ a seen watched. record { each = λ p idle other. absurd (no_idle p idle) };
     some = λ a p idle. absurd (no_idle p idle);
     untouched = λ a seen watched p idle slot has. absurd (no_idle p idle);
+    items = λ a p idle item e. absurd (no_idle p idle);
     alone = λ a p idle. no_idle p idle;
   }
 
@@ -77,20 +93,24 @@ module _ (changed : ChangedValue) (old new : CallQueue) (on : GoesOn old new) wh
 pub itself : (n : ℕ) → (n == n) ≡ true
 itself n = grind (arith, nat_tests)
 
-module _ (modules : ℕ) (slots : List PathSlot) (i : ℕ) where
+module _ (modules : ℕ) (slots : List PathSlot) (on_item : Option AstId) (i : ℕ) where
   -- where nothing is watched
-  pub watching_nothing : (q : CallQueue) → is_apart q ≡ false → IsWatching modules slots i q q
+  pub watching_nothing : (q : CallQueue) → is_apart q ≡ false → IsWatching modules slots on_item i q q
   watching_nothing q alone = record {
     on = goes_on_itself q;
     idle = λ p idle. idle;
     others = λ slot p e. e;
     each = λ a idle. absurd (let no : ⊥ = cc in no);
     there = λ a idle. absurd (let no : ⊥ = cc in no);
+    other_items = λ item p e. e;
+    on_its_item = λ a item e. absurd (let no : ⊥ = cc in no);
   }
 
-  module _ (old new : CallQueue) (same : is_apart new ≡ is_apart old) (others : KeepsWatched (watchers_of old) (watchers_of new)) where
+  module _ (old new : CallQueue) (same : is_apart new ≡ is_apart old) (others : KeepsWatched (watchers_of old) (watchers_of new)) (other_items : KeepsItems (attributes_of old) (attributes_of new))
+      (on_its_item : (item : AstId) → on_item ≡ Some item → watches_item (attributes_of new) item i ≡ true) where
     -- where all are there
-    pub watching_each : worklist_of new ≡ worklist_of old → WatchesEach slot_cmp (watchers_of new) i slots → All (IsThere modules) slots → IsWatching modules slots i old new
+    pub watching_each : worklist_of new ≡ worklist_of old → WatchesEach slot_cmp (watchers_of new) i slots → All (IsThere modules) slots
+        → IsWatching modules slots on_item i old new
     watching_each stays each there = record {
       on = record {
         apart = same;
@@ -101,16 +121,26 @@ module _ (modules : ℕ) (slots : List PathSlot) (i : ℕ) where
       others = others;
       each = λ a idle. each;
       there = λ a idle. there;
+      other_items = other_items;
+      on_its_item = λ a. on_its_item;
     }
 
     -- where one isn't, the call is queued
-    pub watching_queued : Wakes (worklist_of old) (worklist_of new) (λ (p : ℕ). i == p) → IsWatching modules slots i old new
+    pub watching_queued : Wakes (worklist_of old) (worklist_of new) (λ (p : ℕ). i == p) → IsWatching modules slots on_item i old new
     watching_queued wakes = record {
-      on = record { apart = same; pass = pass_woken (worklist_of old) (worklist_of new) _ wakes; queued = queued_woken (worklist_of old) (worklist_of new) _ wakes };
+      on =
+          record {
+            apart = same;
+            pass = pass_woken (worklist_of old) (worklist_of new) _ wakes;
+            queued = queued_woken (worklist_of old) (worklist_of new) _
+                wakes;
+          };
       idle = λ p idle. (idle-woken (worklist_of old) (worklist_of new) _ p wakes idle).0;
       others = others;
       each = λ a idle. absurd (not_idle idle);
       there = λ a idle. absurd (not_idle idle);
+      other_items = other_items;
+      on_its_item = λ a. on_its_item;
     }
       where
         not_idle : IsIdle (worklist_of new) i → ⊥

@@ -1,17 +1,20 @@
-//! Which slots may have changed.
+//! Which slots may have changed, and on which items helpers came into scope.
 ghost use Rattle.std.specs.Prelude.{◌≡◌, ◌∷◌, [], OnOk};
-ghost use Rattle.hir_call_queue.specs.Changes.{everything, joined, nothing, with_preludes, with_slot, with_slots};
+ghost use Rattle.hir_call_queue.specs.Changes.{everything, joined, nothing, with_item, with_preludes, with_slot, with_slots};
 
+use hir_base::ast_id::AstId;
 use hir_base::name::Name;
 use hir_def_map::nameres::path_resolution::slots::Slot;
 use std::alloc::{AllocError, Global};
 use std::marker::Model;
 
-/// The slots of paths that may stand for something else than they did.
+/// The slots of paths that may stand for something else than they did, and the items on which helpers of derives came into
+/// scope.
 #[derive(Drop)]
 pub struct Changed {
     all: bool,
     slots: Vec<Slot>,
+    items: Vec<AstId>,
 }
 
 impl Model for Changed {
@@ -19,7 +22,7 @@ impl Model for Changed {
 
     ghost Value = { ChangedValue };
 
-    ghost view = { λ c. record { all = c.all; slots = c.slots.items } };
+    ghost view = { λ c. record { all = c.all; slots = c.slots.items; items = c.items.items } };
 }
 
 impl Changed {
@@ -30,6 +33,7 @@ impl Changed {
         Changed {
             all: true,
             slots: Vec::new(alloc),
+            items: Vec::new(alloc),
         }
     }
 
@@ -45,6 +49,13 @@ impl Changed {
         ensures value { result.now ≡ self.now.slots }
     {
         self.slots.as_slice()
+    }
+
+    /// The items on which helpers came into scope, unless any slot may stand for something else.
+    pub fn items(&self) -> &[AstId]
+        ensures value { result.now ≡ self.now.items }
+    {
+        self.items.as_slice()
     }
 
     /// Adds the slot of a name in a module.
@@ -65,6 +76,17 @@ impl Changed {
         if !self.all {
             self.slots.push(Slot::Preludes(name.clone()?))?;
         }
+        Ok(())
+    }
+
+    /// Adds an item on which a helper came into scope.
+    pub fn add_item(&mut self, item: AstId) -> Result<(), AllocError>
+        ensures ok { OnOk result (self.new ≡ with_item item self.old) }
+    {
+        if self.is_everything() {
+            return Ok(());
+        }
+        self.items.push(item)?;
         Ok(())
     }
 
@@ -90,7 +112,7 @@ impl Changed {
         Ok(())
     }
 
-    /// Adds those of another, all where any may have changed there.
+    /// Adds the slots of another, all where any may have changed there.
     pub fn append(&mut self, other: &Changed) -> Result<(), AllocError>
         ensures ok { OnOk result (self.new ≡ joined self.old other.now) }
     {
@@ -107,6 +129,7 @@ impl Changed {
     {
         self.all = true;
         self.slots.clear();
+        self.items.clear();
     }
 
     /// Leaves none.
@@ -115,5 +138,6 @@ impl Changed {
     {
         self.all = false;
         self.slots.clear();
+        self.items.clear();
     }
 }

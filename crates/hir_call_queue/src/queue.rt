@@ -1,5 +1,5 @@
 //! Which calls are to be tried.
-ghost use Rattle.std.specs.Prelude.{◌≡◌, ◌≤◌, ℕ, true, false, [], IfNone, IfOk, IfSome, OnOk};
+ghost use Rattle.std.specs.Prelude.{◌≡◌, ◌≤◌, ℕ, true, false, [], IfNone, IfOk, IfSome, OnOk, Some};
 ghost use Rattle.std.specs.List.{All};
 ghost use Rattle.hir_def_map.specs.Scoping.Slots.{slot_of};
 ghost use Rattle.hir_worklist.specs.Moves.{Takes, closed, empty_queue, opened};
@@ -7,9 +7,10 @@ ghost use Rattle.hir_worklist.specs.Queue.{IsIdle, count_of};
 ghost use Rattle.hir_worklist.specs.Settling.{WatchesEach};
 ghost use Rattle.hir_import_resolution.specs.Inner.Queue.{IsLonger, IsSamePass, KeepsWatched, WakesEach, slot_cmp};
 ghost use Rattle.hir_call_queue.specs.Changes.{IsThere};
-ghost use Rattle.hir_call_queue.specs.Waking.{IsWatching, IsWoken, KeepsQueued, is_apart, with_worklist, worklist_of};
+ghost use Rattle.hir_call_queue.specs.Waking.{IsWatching, IsWoken, KeepsItems, KeepsQueued, WakesItems, is_apart, watches_item, with_worklist, worklist_of};
 
 use crate::changed::Changed;
+use hir_base::ast_id::AstId;
 use hir_def_map::nameres::path_resolution::slots::{PathSlots, Slot, SlotRef};
 use hir_worklist::{Watchers, Worklist};
 use std::alloc::{AllocError, Global};
@@ -24,6 +25,8 @@ pub struct CallQueue {
     worklist: Worklist,
     /// The calls by the slots that their last tries read.
     watchers: Watchers<Slot>,
+    /// The attributes that were tried, by the items that they stand on.
+    attributes: Watchers<AstId>,
 }
 
 /// Appends calls until there are so many.
@@ -49,6 +52,22 @@ fn wake_slots(
 {
     for slot in slots {
         watchers.wake_all(slot, worklist)?;
+    }
+    Ok(())
+}
+
+/// Queues the attributes that watch items.
+fn wake_items(
+    attributes: &mut Watchers<AstId>,
+    worklist: &mut Worklist,
+    items: &[AstId],
+) -> Result<(), AllocError>
+    ensures woken { OnOk result (WakesItems worklist.new attributes.new worklist.old attributes.old items.now) }
+    ensures pass { OnOk result (IsSamePass worklist.old worklist.new) }
+    ensures queued { OnOk result (KeepsQueued worklist.old worklist.new) }
+{
+    for item in items {
+        attributes.wake_all(item, worklist)?;
     }
     Ok(())
 }
@@ -94,6 +113,22 @@ fn watch_each(
     Ok(true)
 }
 
+/// Has an attribute watch the item that it stands on, if it is one.
+fn watch_item(
+    attributes: &mut Watchers<AstId>,
+    i: usize,
+    item: Option<AstId>,
+) -> Result<(), AllocError>
+    ensures watching { OnOk result ((on : AstId) → item ≡ Some on → watches_item attributes.new on i ≡ true) }
+    ensures others { OnOk result (KeepsItems attributes.old attributes.new) }
+{
+    let Some(on) = item else {
+        return Ok(());
+    };
+    attributes.watch(i, on)?;
+    Ok(())
+}
+
 impl CallQueue {
     /// No calls.
     pub fn new(alloc: Global, apart: bool) -> CallQueue
@@ -105,6 +140,7 @@ impl CallQueue {
             apart,
             worklist: Worklist::new(alloc),
             watchers: Watchers::new(alloc),
+            attributes: Watchers::new(alloc),
         }
     }
 
@@ -135,17 +171,20 @@ impl CallQueue {
         self.worklist.take()
     }
 
-    /// Queues the calls that have read what may have changed, where not all may have.
+    /// Queues the calls that have read what may have changed, where not all may have, and the attributes of items on which
+    /// helpers came into scope.
     fn wake_watching(&mut self, changed: &Changed) -> Result<(), AllocError>
         requires apart { is_apart self.old ≡ true }
         requires some { changed.now.all ≡ false }
         ensures woken { OnOk result (IsWoken changed.now self.old self.new) }
     {
         wake_slots(&mut self.watchers, &mut self.worklist, changed.slots())?;
+        wake_items(&mut self.attributes, &mut self.worklist, changed.items())?;
         Ok(())
     }
 
-    /// Queues the calls that have read what may have changed; all where they watch nothing.
+    /// Queues the calls that have read what may have changed, and the attributes of items on which helpers came into scope;
+    /// all where they watch nothing.
     pub fn wake(&mut self, changed: &Changed) -> Result<(), AllocError>
         ensures woken { OnOk result (IsWoken changed.now self.old self.new) }
     {
@@ -153,18 +192,26 @@ impl CallQueue {
             return self.wake_watching(changed);
         }
         self.watchers = Watchers::new(self.alloc);
+        self.attributes = Watchers::new(self.alloc);
         wake_all(&mut self.worklist)?;
         Ok(())
     }
 
     /// Has the call at the place, which was tried in vain, watch the slots that its path has read. Where one is of a module
-    /// that isn't there, the call is queued instead.
-    pub fn watch(&mut self, i: usize, slots: PathSlots<'_>, modules: u32) -> Result<(), AllocError>
-        ensures watching { OnOk result (IsWatching modules slots.entry i self.old self.new) }
+    /// that isn't there, the call is queued instead. An attribute watches besides the item that it stands on.
+    pub fn watch(
+        &mut self,
+        i: usize,
+        slots: PathSlots<'_>,
+        modules: u32,
+        item: Option<AstId>,
+    ) -> Result<(), AllocError>
+        ensures watching { OnOk result (IsWatching modules slots.entry item i self.old self.new) }
     {
         if !self.apart {
             return Ok(());
         }
+        watch_item(&mut self.attributes, i, item)?;
         let there = watch_each(&mut self.watchers, i, slots, modules)?;
         if there {
             return Ok(());

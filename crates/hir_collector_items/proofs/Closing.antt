@@ -12,13 +12,16 @@ use Rattle.hir_collector_state.proofs.Made.{Goes, made}
 use Rattle.hir_collector_items.proofs.Progress.{goes_closing}
 
 -- a module that is closed
-pub closed : {env : Environment} {finished : Maps} (parent child : ℕ) (old new : Core) → new ≡ counted (with_map old (with_textual_scope old.map parent (textual_at old.map child)))
+pub closed : {env : Environment} {finished : Maps} (parent child : ℕ) (old new : Core) → new
+    ≡ counted (with_map old (with_textual_scope old.map parent (textual_at old.map child)))
     → Walks env finished old new (closing true parent child)
 closed {env} {finished} parent child old new is = record { steps = λ rest. Steps-one (made (closes_module parent child rest) refl tt tt (rw is refl)) }
 
-pub closed_far : {env : Environment} {finished : Maps} (parent child : ℕ) (old : Core) → IsFull old.count old.map → WalksTooFar env finished old (closing true parent child)
+pub closed_far : {env : Environment} {finished : Maps} (parent child : ℕ) (old : Core) → IsFull old.count old.map → WalksTooFar env finished old
+    (closing true parent child)
 closed_far {env} {finished} parent child old full = record {
   spent = λ rest.
-      let goes : Goes env finished (joined old (closes parent child ∷ rest)) = goes_closing env finished (joined old (closes parent child ∷ rest)) rest parent child refl in
+      let goes : Goes env finished (joined old (closes parent child ∷ rest)) = goes_closing env finished (joined old (closes parent child ∷ rest)) rest parent
+      child refl in
       record { at = joined old (closes parent child ∷ rest); steps = none; stuck = counted_out goes.next goes.step full };
 }

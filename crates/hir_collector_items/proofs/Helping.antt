@@ -16,7 +16,8 @@ pub none_brought : (node : AstId) (all : List DeriveHelper) (c : Core) → Makes
 none_brought node all c = record { is = λ rest. refl }
 
 -- one more
-pub one_brought : (node : AstId) (helper : DeriveHelper) (left all : List DeriveHelper) (old now new : Core) → new ≡ with_map now (with_derive_helper now.map node helper)
+pub one_brought : (node : AstId) (helper : DeriveHelper) (left all : List DeriveHelper) (old now new : Core) → new
+    ≡ with_map now (with_derive_helper now.map node helper)
     → MakesWithLeft node (helper ∷ left) all old now → MakesWithLeft node left all old new
 one_brought node helper left all old now new is before = record {
   is = λ rest. ap (λ (n : Core). perform (joined n rest) (bringing node left)) is ∙ before.is rest;

@@ -21,7 +21,7 @@ use hir_base::ids::{
 use hir_base::name::Name;
 use hir_collector_rules::declaration::Declaration;
 use hir_collector_rules::site::{ItemHead, Site};
-use hir_collector_rules::start::{CollectError, STEP_LIMIT};
+use hir_collector_rules::start::{STEP_LIMIT, StepError};
 use hir_collector_state::def_collector::DefCollector;
 use hir_def_map::world::part::WorldPart;
 use hir_import_resolution::answers::lesser;
@@ -44,14 +44,10 @@ pub fn bind(run: &mut DefCollector, home: u32, declaration: Declaration) -> Resu
 }
 
 /// The same as the last part of a step.
-pub fn declare(
-    run: &mut DefCollector,
-    home: u32,
-    declaration: Declaration,
-) -> Result<(), CollectError>
+pub fn declare(run: &mut DefCollector, home: u32, declaration: Declaration) -> Result<(), StepError>
     ensures ok { OnOk result (core_in run.new ≡ counted (with_declaration (core_in run.old) home declaration)) }
     ensures noted { OnOk result (IsNoted run.old run.new) }
-    ensures many { result ≡ Err CollectError.TooMany → STEP_LIMIT ≤ (core_in run.old).count }
+    ensures many { result ≡ Err StepError.TooMany → STEP_LIMIT ≤ (core_in run.old).count }
 {
     bind(run, home, declaration)?;
     run.tick()?;
@@ -66,11 +62,11 @@ fn declare_type(
     head: ItemHead<'_>,
     name: &Name,
     def: ModuleDefId,
-) -> Result<(), CollectError>
+) -> Result<(), StepError>
     ensures ok { OnOk result (core_in run.new ≡ counted (with_declaration (core_in run.old) site.now.home
         (type_declaration name.now def (own_visibility (part_of world.entry) (core_in run.old).local (core_in run.old).map site.now (head_of head.entry))))) }
     ensures noted { OnOk result (IsNoted run.old run.new) }
-    ensures many { result ≡ Err CollectError.TooMany → STEP_LIMIT ≤ (core_in run.old).count }
+    ensures many { result ≡ Err StepError.TooMany → STEP_LIMIT ≤ (core_in run.old).count }
 {
     let vis = run.visibility(world, site, head);
     let declaration = Declaration {
@@ -90,11 +86,11 @@ fn declare_value(
     head: ItemHead<'_>,
     name: &Name,
     def: ModuleDefId,
-) -> Result<(), CollectError>
+) -> Result<(), StepError>
     ensures ok { OnOk result (core_in run.new ≡ counted (with_declaration (core_in run.old) site.now.home
         (value_declaration name.now def (own_visibility (part_of world.entry) (core_in run.old).local (core_in run.old).map site.now (head_of head.entry))))) }
     ensures noted { OnOk result (IsNoted run.old run.new) }
-    ensures many { result ≡ Err CollectError.TooMany → STEP_LIMIT ≤ (core_in run.old).count }
+    ensures many { result ≡ Err StepError.TooMany → STEP_LIMIT ≤ (core_in run.old).count }
 {
     let vis = run.visibility(world, site, head);
     let declaration = Declaration {
@@ -113,11 +109,11 @@ pub fn declare_function(
     site: &Site,
     head: ItemHead<'_>,
     name: &Name,
-) -> Result<(), CollectError>
+) -> Result<(), StepError>
     requires enabled { is_enabled (head_of head).attributes ≡ true }
     ensures ok { OnOk result ((env : Environment) → Handles env (part_of world.entry) (core_in run.old) (core_in run.new) (visit site.now (leaf (head_of head.entry) (function name.now))) []) }
     ensures noted { OnOk result (IsNoted run.old run.new) }
-    ensures many { result ≡ Err CollectError.TooMany → STEP_LIMIT ≤ (core_in run.old).count }
+    ensures many { result ≡ Err StepError.TooMany → STEP_LIMIT ≤ (core_in run.old).count }
 {
     let id = FunctionId {
         loc: ItemLoc {
@@ -144,11 +140,11 @@ pub fn declare_const(
     site: &Site,
     head: ItemHead<'_>,
     name: &Name,
-) -> Result<(), CollectError>
+) -> Result<(), StepError>
     requires enabled { is_enabled (head_of head).attributes ≡ true }
     ensures ok { OnOk result ((env : Environment) → Handles env (part_of world.entry) (core_in run.old) (core_in run.new) (visit site.now (leaf (head_of head.entry) (constant (Some name.now)))) []) }
     ensures noted { OnOk result (IsNoted run.old run.new) }
-    ensures many { result ≡ Err CollectError.TooMany → STEP_LIMIT ≤ (core_in run.old).count }
+    ensures many { result ≡ Err StepError.TooMany → STEP_LIMIT ≤ (core_in run.old).count }
 {
     let def = ModuleDefId::ConstId(ConstId {
         loc: ItemLoc {
@@ -169,11 +165,11 @@ pub fn declare_static(
     site: &Site,
     head: ItemHead<'_>,
     name: &Name,
-) -> Result<(), CollectError>
+) -> Result<(), StepError>
     requires enabled { is_enabled (head_of head).attributes ≡ true }
     ensures ok { OnOk result ((env : Environment) → Handles env (part_of world.entry) (core_in run.old) (core_in run.new) (visit site.now (leaf (head_of head.entry) (static_item name.now))) []) }
     ensures noted { OnOk result (IsNoted run.old run.new) }
-    ensures many { result ≡ Err CollectError.TooMany → STEP_LIMIT ≤ (core_in run.old).count }
+    ensures many { result ≡ Err StepError.TooMany → STEP_LIMIT ≤ (core_in run.old).count }
 {
     let def = ModuleDefId::StaticId(StaticId {
         loc: ItemLoc {
@@ -194,11 +190,11 @@ pub fn declare_type_alias(
     site: &Site,
     head: ItemHead<'_>,
     name: &Name,
-) -> Result<(), CollectError>
+) -> Result<(), StepError>
     requires enabled { is_enabled (head_of head).attributes ≡ true }
     ensures ok { OnOk result ((env : Environment) → Handles env (part_of world.entry) (core_in run.old) (core_in run.new) (visit site.now (leaf (head_of head.entry) (type_alias name.now))) []) }
     ensures noted { OnOk result (IsNoted run.old run.new) }
-    ensures many { result ≡ Err CollectError.TooMany → STEP_LIMIT ≤ (core_in run.old).count }
+    ensures many { result ≡ Err StepError.TooMany → STEP_LIMIT ≤ (core_in run.old).count }
 {
     let def = ModuleDefId::TypeAliasId(TypeAliasId {
         loc: ItemLoc {
@@ -219,11 +215,11 @@ pub fn declare_trait(
     site: &Site,
     head: ItemHead<'_>,
     name: &Name,
-) -> Result<(), CollectError>
+) -> Result<(), StepError>
     requires enabled { is_enabled (head_of head).attributes ≡ true }
     ensures ok { OnOk result ((env : Environment) → Handles env (part_of world.entry) (core_in run.old) (core_in run.new) (visit site.now (leaf (head_of head.entry) (trait_item name.now))) []) }
     ensures noted { OnOk result (IsNoted run.old run.new) }
-    ensures many { result ≡ Err CollectError.TooMany → STEP_LIMIT ≤ (core_in run.old).count }
+    ensures many { result ≡ Err StepError.TooMany → STEP_LIMIT ≤ (core_in run.old).count }
 {
     let def = ModuleDefId::TraitId(TraitId {
         loc: ItemLoc {
@@ -244,11 +240,11 @@ pub fn declare_union(
     site: &Site,
     head: ItemHead<'_>,
     name: &Name,
-) -> Result<(), CollectError>
+) -> Result<(), StepError>
     requires enabled { is_enabled (head_of head).attributes ≡ true }
     ensures ok { OnOk result ((env : Environment) (fields : _) → Handles env (part_of world.entry) (core_in run.old) (core_in run.new) (visit site.now (leaf (head_of head.entry) (union_structure name.now fields))) []) }
     ensures noted { OnOk result (IsNoted run.old run.new) }
-    ensures many { result ≡ Err CollectError.TooMany → STEP_LIMIT ≤ (core_in run.old).count }
+    ensures many { result ≡ Err StepError.TooMany → STEP_LIMIT ≤ (core_in run.old).count }
 {
     let def = ModuleDefId::AdtId(AdtId::UnionId(UnionId {
         loc: ItemLoc {
@@ -333,11 +329,11 @@ pub fn declare_struct(
     site: &Site,
     head: ItemHead<'_>,
     item: Struct<'_>,
-) -> Result<(), CollectError>
+) -> Result<(), StepError>
     requires enabled { is_enabled (head_of head).attributes ≡ true }
     ensures ok { OnOk result ((env : Environment) → Handles env (part_of world.entry) (core_in run.old) (core_in run.new) (visit site.now (leaf (head_of head.entry) (structure item.entry.name.now item.entry.shape item.entry.fields.now))) []) }
     ensures noted { OnOk result (IsNoted run.old run.new) }
-    ensures many { result ≡ Err CollectError.TooMany → STEP_LIMIT ≤ (core_in run.old).count }
+    ensures many { result ≡ Err StepError.TooMany → STEP_LIMIT ≤ (core_in run.old).count }
 {
     let at = run.module_id(site.home);
     let def = ModuleDefId::AdtId(AdtId::StructId(StructId {

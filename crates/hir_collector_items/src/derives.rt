@@ -15,7 +15,7 @@ use hir_base::ast_id::{AstId, MacroCallId};
 use hir_base::macro_kind::{BuiltinDeriveImplId, MacroId};
 use hir_base::name::Name;
 use hir_collector_rules::macro_directive::{Fate, MacroDirective, MacroDirectiveKind};
-use hir_collector_rules::start::{CollectError, STEP_LIMIT};
+use hir_collector_rules::start::{STEP_LIMIT, StepError};
 use hir_collector_state::def_collector::DefCollector;
 use hir_def_map::nameres::derive_helpers::DeriveHelper;
 use hir_def_map::world::part::WorldPart;
@@ -80,10 +80,10 @@ pub fn bring_helpers(
 }
 
 /// Drops what waits at the place: a call that is too deep.
-pub fn drop_call(run: &mut DefCollector, i: usize) -> Result<(), CollectError>
+pub fn drop_call(run: &mut DefCollector, i: usize) -> Result<(), StepError>
     ensures ok { OnOk result (core_in run.new ≡ counted (with_fate (core_in run.old) i Fate.Handled)) }
     ensures noted { OnOk result (IsNoted run.old run.new) }
-    ensures many { result ≡ Err CollectError.TooMany → STEP_LIMIT ≤ (core_in run.old).count }
+    ensures many { result ≡ Err StepError.TooMany → STEP_LIMIT ≤ (core_in run.old).count }
 {
     run.end_call(i, Fate::Handled);
     run.tick()?;
@@ -98,12 +98,12 @@ pub fn drop_reached(
     i: usize,
     call: &MacroDirective,
     makro: MacroId,
-) -> Result<(), CollectError>
+) -> Result<(), StepError>
     requires deep { IsReachedDeep (part_of world) (at_rest (core_in run.old)) i call.now makro }
     ensures ok { OnOk result ((env : Environment) → Steps env (part_of world.entry) (at_rest (core_in run.old)) (at_rest (core_in run.new))) }
     ensures handled { OnOk result (slice_get (core_in run.new).fates i ≡ Some Fate.Handled) }
     ensures noted { OnOk result (IsNoted run.old run.new) }
-    ensures many { result ≡ Err CollectError.TooMany → (env : Environment) → IsSpent env (part_of world.entry) (at_rest (core_in run.old)) }
+    ensures many { result ≡ Err StepError.TooMany → (env : Environment) → IsSpent env (part_of world.entry) (at_rest (core_in run.old)) }
 {
     run.end_call(i, Fate::Handled);
     bring_helpers(run, world, call, makro, None)?;
@@ -131,7 +131,8 @@ pub fn builtin_impl(call: &MacroDirective, makro: MacroId) -> Option<BuiltinDeri
     }
 }
 
-/// Lists the impl for which the path of a derive at the place stands, which reaches a builtin macro.
+/// Lists the impl for which the path of a derive at the place stands, which reaches a builtin macro, and notes that the path
+/// became it.
 pub fn derive_builtin(
     run: &mut DefCollector,
     world: WorldPart<'_>,
@@ -139,17 +140,18 @@ pub fn derive_builtin(
     call: &MacroDirective,
     makro: MacroId,
     imp: BuiltinDeriveImplId,
-) -> Result<(), CollectError>
+) -> Result<(), StepError>
     requires in_range { call.now.site.home < length (core_in run.old).map.modules }
     requires builtin { DerivesBuiltin (part_of world) (at_rest (core_in run.old)) i call.now makro imp }
     ensures ok { OnOk result ((env : Environment) → Steps env (part_of world.entry) (at_rest (core_in run.old)) (at_rest (core_in run.new))) }
     ensures handled { OnOk result (slice_get (core_in run.new).fates i ≡ Some Fate.Handled) }
     ensures noted { OnOk result (IsNoted run.old run.new) }
-    ensures many { result ≡ Err CollectError.TooMany → (env : Environment) → IsSpent env (part_of world.entry) (at_rest (core_in run.old)) }
+    ensures many { result ≡ Err StepError.TooMany → (env : Environment) → IsSpent env (part_of world.entry) (at_rest (core_in run.old)) }
 {
     let names = helper_names(run, world, call, makro)?;
     run.end_call(i, Fate::Handled);
     run.list_derived(call.site.home, imp)?;
+    run.note_impl(call.site.home, call.ast_id, imp);
     help_all(
         run,
         call.ast_id,

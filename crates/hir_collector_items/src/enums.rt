@@ -18,7 +18,7 @@ use hir_base::name::Name;
 use hir_collector_rules::declaration::Declaration;
 use hir_collector_rules::site::{ItemHead, Site};
 use hir_collector_rules::source_database::SourceDatabase;
-use hir_collector_rules::start::{CollectError, STEP_LIMIT};
+use hir_collector_rules::start::{STEP_LIMIT, StepError};
 use hir_collector_state::def_collector::DefCollector;
 use hir_def_map::nameres::enum_variants::{EnumVariant, EnumVariants};
 use hir_def_map::world::part::WorldPart;
@@ -77,14 +77,14 @@ pub fn declare_enum<D: SourceDatabase>(
     site: &Site,
     head: ItemHead<'_>,
     name: &Name,
-) -> Result<(), CollectError>
+) -> Result<(), StepError>
     requires enabled { is_enabled (head_of head).attributes ≡ true }
     requires meant { IsMeantAt locations.now site.now }
     ensures same { D.workspace db.new ≡ D.workspace db.old }
     ensures ok { OnOk result (OnceGrown locations.now (D.workspace db.old)
         (λ env. Handles env (part_of world.entry) (core_in run.old) (core_in run.new) (visit site.now (leaf (head_of head.entry) (enumeration name.now))) [])) }
     ensures noted { OnOk result (IsNoted run.old run.new) }
-    ensures many { result ≡ Err CollectError.TooMany → STEP_LIMIT ≤ (core_in run.old).count }
+    ensures many { result ≡ Err StepError.TooMany → STEP_LIMIT ≤ (core_in run.old).count }
 {
     let id = EnumId {
         loc: ItemLoc {

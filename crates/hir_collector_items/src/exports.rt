@@ -19,7 +19,7 @@ use hir_collector_rules::crate_attrs::{is_keyed, says};
 use hir_collector_rules::declaration::Declaration;
 use hir_collector_rules::exported::{Export, ExportedFunction};
 use hir_collector_rules::site::{ItemHead, Site};
-use hir_collector_rules::start::{CollectError, STEP_LIMIT};
+use hir_collector_rules::start::{STEP_LIMIT, StepError};
 use hir_collector_state::def_collector::DefCollector;
 use hir_def_map::nameres::macro_data::MacroData;
 use hir_item_tree::attrs::Attr;
@@ -129,12 +129,12 @@ pub fn declare_exporting(
     id: FunctionId,
     vis: Visibility,
     export: Export,
-) -> Result<(), CollectError>
+) -> Result<(), StepError>
     requires is_function { id ≡ function_id (core_in run.old).map site.now head.id }
     ensures ok { OnOk result (core_in run.new ≡ counted (with_export (core_in run.old) site.now (head_of head.entry) name.now
         (value_declaration name.now (ModuleDefId.FunctionId id) vis) export)) }
     ensures noted { OnOk result (IsNoted run.old run.new) }
-    ensures many { result ≡ Err CollectError.TooMany → STEP_LIMIT ≤ (core_in run.old).count }
+    ensures many { result ≡ Err StepError.TooMany → STEP_LIMIT ≤ (core_in run.old).count }
 {
     let exported = ProcMacroId {
         loc: ProcMacroLoc {

@@ -18,7 +18,7 @@ ghost use Rattle.hir_collector_rules.specs.Waiting.{IsNoted};
 use hir_base::ids::{ExternCrateId, ItemLoc, UseId};
 use hir_base::mod_path::{ModPath, PathKind};
 use hir_collector_rules::site::{ItemHead, Site};
-use hir_collector_rules::start::{CollectError, STEP_LIMIT};
+use hir_collector_rules::start::{STEP_LIMIT, StepError};
 use hir_collector_state::def_collector::DefCollector;
 use hir_def_map::world::part::WorldPart;
 use hir_import_resolution::{ImportDirective, ImportSource};
@@ -95,11 +95,11 @@ pub fn reach_use(
     site: &Site,
     head: ItemHead<'_>,
     tree: &UseTree,
-) -> Result<(), CollectError>
+) -> Result<(), StepError>
     requires enabled { is_enabled (head_of head).attributes ≡ true }
     ensures ok { OnOk result ((env : Environment) (finished : Maps) → Handles env finished (core_in run.old) (core_in run.new) (visit site.now (leaf (head_of head.entry) (import (use_tree_view tree.now)))) []) }
     ensures noted { OnOk result (IsNoted run.old run.new) }
-    ensures many { result ≡ Err CollectError.TooMany → STEP_LIMIT ≤ (core_in run.old).count }
+    ensures many { result ≡ Err StepError.TooMany → STEP_LIMIT ≤ (core_in run.old).count }
 {
     let use_ = UseId {
         loc: ItemLoc {
@@ -176,11 +176,11 @@ pub fn reach_extern_crate(
     head: ItemHead<'_>,
     name: &ExternCrateName,
     alias: &Option<ImportAlias>,
-) -> Result<(), CollectError>
+) -> Result<(), StepError>
     requires enabled { is_enabled (head_of head).attributes ≡ true }
     ensures ok { OnOk result ((env : Environment) → Handles env (part_of world.entry) (core_in run.old) (core_in run.new) (visit site.now (leaf (head_of head.entry) (extern_crate name.now alias.now))) []) }
     ensures noted { OnOk result (IsNoted run.old run.new) }
-    ensures many { result ≡ Err CollectError.TooMany → STEP_LIMIT ≤ (core_in run.old).count }
+    ensures many { result ≡ Err StepError.TooMany → STEP_LIMIT ≤ (core_in run.old).count }
 {
     let id = ExternCrateId {
         loc: ItemLoc {

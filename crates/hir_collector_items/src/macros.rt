@@ -24,7 +24,7 @@ use hir_base::name::Name;
 use hir_collector_rules::crate_attrs::says;
 use hir_collector_rules::declaration::Declaration;
 use hir_collector_rules::site::{ItemHead, Site};
-use hir_collector_rules::start::{CollectError, STEP_LIMIT};
+use hir_collector_rules::start::{STEP_LIMIT, StepError};
 use hir_collector_state::def_collector::DefCollector;
 use hir_def_map::nameres::diagnostics::DefDiagnostic;
 use hir_def_map::nameres::macro_data::MacroData;
@@ -147,13 +147,13 @@ pub fn define_rules(
     site: &Site,
     head: ItemHead<'_>,
     item: MacroRules<'_>,
-) -> Result<(), CollectError>
+) -> Result<(), StepError>
     requires in_range { site.now.home < length (core_in run.old).map.modules }
     requires enabled { is_enabled (head_of head).attributes ≡ true }
     ensures ok { OnOk result ((env : Environment) (finished : Maps) → Handles env finished (core_in run.old) (core_in run.new)
         (visit site.now (leaf (head_of head.entry) (macro_rules item.entry.name.now item.entry.expander item.entry.helpers.now))) []) }
     ensures noted { OnOk result (IsNoted run.old run.new) }
-    ensures many { result ≡ Err CollectError.TooMany → STEP_LIMIT ≤ (core_in run.old).count }
+    ensures many { result ≡ Err StepError.TooMany → STEP_LIMIT ≤ (core_in run.old).count }
 {
     let loc = macro_loc(run, site, head.id, item.expander);
     let makro = MacroId::MacroRulesId(MacroRulesId { loc });
@@ -176,12 +176,12 @@ pub fn define_macro(
     site: &Site,
     head: ItemHead<'_>,
     item: Macro2<'_>,
-) -> Result<(), CollectError>
+) -> Result<(), StepError>
     requires enabled { is_enabled (head_of head).attributes ≡ true }
     ensures ok { OnOk result ((env : Environment) → Handles env (part_of world.entry) (core_in run.old) (core_in run.new)
         (visit site.now (leaf (head_of head.entry) (macro_def item.entry.name.now item.entry.expander item.entry.helpers.now))) []) }
     ensures noted { OnOk result (IsNoted run.old run.new) }
-    ensures many { result ≡ Err CollectError.TooMany → STEP_LIMIT ≤ (core_in run.old).count }
+    ensures many { result ≡ Err StepError.TooMany → STEP_LIMIT ≤ (core_in run.old).count }
 {
     let vis = run.visibility(world, site, head);
     let loc = macro_loc(run, site, head.id, item.expander);
@@ -209,11 +209,11 @@ pub fn close(
     macro_use: bool,
     parent: u32,
     child: u32,
-) -> Result<(), CollectError>
+) -> Result<(), StepError>
     requires in_range { parent < length (core_in run.old).map.modules }
     ensures ok { OnOk result ((env : Environment) (finished : Maps) → Walks env finished (core_in run.old) (core_in run.new) (closing macro_use parent child)) }
     ensures noted { OnOk result (IsNoted run.old run.new) }
-    ensures many { result ≡ Err CollectError.TooMany → (env : Environment) (finished : Maps) → WalksTooFar env finished (core_in run.old) (closing macro_use parent child) }
+    ensures many { result ≡ Err StepError.TooMany → (env : Environment) (finished : Maps) → WalksTooFar env finished (core_in run.old) (closing macro_use parent child) }
 {
     if !macro_use {
         return Ok(());

@@ -1,5 +1,6 @@
 -- What a run reads of finished maps is the same where what it asked for is.
-use Rattle.std.proofs.Common.{◌≡◌, ◌<◌, ◌∙◌, ◌⊎◌, inl, inr, suc, zero, List, [], ◌∷◌, map, Bool, Option, None, Some, true, false, ◌&&◌, ◌||◌, is_none, refl, sym, ap, subst, arith, Contains}
+use Rattle.std.proofs.Common.{◌≡◌, ◌<◌, ◌∙◌, ◌⊎◌, inl, inr, suc, zero, List, [], ◌∷◌, map, Bool, Option, None, Some, true, false, ◌&&◌, ◌||◌, is_none, refl}
+use Rattle.std.proofs.Common.{sym, ap, subst, arith, Contains}
 use Rattle.std.specs.List.{list_any}
 use Rattle.std.proofs.lemmas.Map.Views.{Contains-from_any}
 use Rattle.hir_base.specs.declared.ast_id.BlockId.{BlockId}
@@ -13,9 +14,8 @@ use Rattle.hir_def_map.specs.Inner.PartLaws.{among_agrees}
 use Rattle.hir_def_map_rules.specs.Inner.OverlayLaws.{exact_crate, exact_map}
 use Rattle.hir_def_map_rules.specs.References.{crate_map}
 use Rattle.hir_def_map_rules.specs.Overlay.{Maps, Placed, holders_of}
-use Rattle.hir_collector_rules.specs.declared.start.Start.{Start}
+use Rattle.hir_collector_rules.specs.Types.{Key, Start}
 use Rattle.hir_collector_rules.specs.declared.start.Start.TheVariants as starts
-use Rattle.hir_collector_rules.specs.declared.source_database.Key.{Key}
 use Rattle.hir_collector_rules.specs.declared.source_database.Key.TheVariants.{Map}
 use Rattle.hir_collector_rules.specs.Workspace.{ConfigValue, TreeLook, seen_of, transitive_by, transitive_dependencies_in}
 use Rattle.hir_collector_rules.specs.Keys.{Environment, Look, of_tree, of_map, of_variants, of_text, of_input, of_entry, absent_source, look, map_key}
@@ -51,7 +51,8 @@ of_some : (crates : List Crate) (holders : List ModuleId) (id : MapId) → is_of
     → ((list_any (same_crate id.krate) crates ≡ true) × (id ≡ crate_map id.krate)) ⊎ (lies_in holders id ≡ true)
 of_some crates holders id h = go id.block refl (list_any (same_crate id.krate) crates) refl (lies_in holders id) refl h
   where
-    go : (b : Option BlockId) → id.block ≡ b → (l : Bool) → list_any (same_crate id.krate) crates ≡ l → (r : Bool) → lies_in holders id ≡ r → ((is_none b && l) || r) ≡ true
+    go : (b : Option BlockId) → id.block ≡ b → (l : Bool) → list_any (same_crate id.krate) crates ≡ l → (r : Bool) → lies_in holders id ≡ r
+        → ((is_none b && l) || r) ≡ true
         → ((list_any (same_crate id.krate) crates ≡ true) × (id ≡ crate_map id.krate)) ⊎ (lies_in holders id ≡ true)
     go None e true l r s f = inl (l, λ i. record { krate = id.krate; block = e i })
     go None e false l true s f = inr s
@@ -73,7 +74,8 @@ key_of_holder (one ∷ others) id h = go (map_id.ghosts.eq one.map id) refl h (k
     go false e f among = let later = among f in (suc later.0, omega (arith, later.1), later.2)
 
 -- a run asks for each map in which one lies that holds it
-pub key_of_held : (start : Start) (finished : Maps) (id : MapId) → lies_in (holders_by finished start) id ≡ true → Contains (held_keys start (holders_by finished start)) (Map id)
+pub key_of_held : (start : Start) (finished : Maps) (id : MapId) → lies_in (holders_by finished start) id ≡ true
+    → Contains (held_keys start (holders_by finished start)) (Map id)
 key_of_held (starts.Crate krate root) finished id h = absurd (let no : ⊥ = cc in no)
 key_of_held (starts.Block krate block holder at) finished id h =
     let later = key_of_holder (holder ∷ holders_of (finished holder.map)) id h in (suc later.0, omega (arith, later.1), later.2)
@@ -87,19 +89,11 @@ held_is_map (starts.Block krate block holder at) holders key (suc n, below, is) 
 
 abbrev pub seen_tree : Look → TreeLook → TreeLook
 seen_tree (of_tree t) other = t
-seen_tree (of_variants vs) other = other
-seen_tree (of_text text) other = other
-seen_tree (of_input text) other = other
-seen_tree (of_entry e) other = other
-seen_tree (of_map m) other = other
+seen_tree otherwise other = other
 
 abbrev seen_map : Look → Option Placed → Option Placed
-seen_map (of_tree t) other = other
-seen_map (of_variants vs) other = other
-seen_map (of_text text) other = other
-seen_map (of_input text) other = other
-seen_map (of_entry e) other = other
 seen_map (of_map m) other = m
+seen_map otherwise other = other
 
 -- a workspace with its finished maps is like another, where the numbers that the one is spoken of by mean the same to the other
 pub record Alike (keys : List Key) (env : Environment) (before : Maps) (other : Environment) (finished : Maps) : Type 0 where
@@ -129,12 +123,14 @@ module _ (from : Beginning) {keys : List Key} {env other : Environment} {before 
   pub same_holders : holders_by finished from.start ≡ holders_by before from.start
   same_holders = go from.start held_asked
     where
-      go : (start : Start) → ((key : Key) → Contains (held_keys start (holders_by before start)) key → Contains keys key) → holders_by finished start ≡ holders_by before start
+      go : (start : Start) → ((key : Key) → Contains (held_keys start (holders_by before start)) key → Contains keys key) → holders_by finished start
+          ≡ holders_by before start
       go (starts.Crate krate root) asked = refl
       go (starts.Block krate block holder at) asked =
           ap (λ (o : Option Placed). holder ∷ holders_of o) (same_at holder.map (asked (Map holder.map) (1, omega arith, refl)))
 
-  same_map : (id : MapId) → is_of_some (transitive_dependencies_in env.workspace (krate_of from.start)) (holders_by before from.start) id ≡ true → finished id ≡ before id
+  same_map : (id : MapId) → is_of_some (transitive_dependencies_in env.workspace (krate_of from.start)) (holders_by before from.start) id ≡ true → finished id
+      ≡ before id
   same_map id h =
       let transitive : List Crate = transitive_dependencies_in env.workspace (krate_of from.start) in
       elim (of_some transitive (holders_by before from.start) id h) [

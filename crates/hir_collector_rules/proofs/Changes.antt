@@ -1,9 +1,10 @@
 -- What no change alters, and what changes keep that each of them keeps.
-use Rattle.std.proofs.Common.{◌<◌, ◌≡◌, ◌∙◌, ◌+◌, ◌++◌, ℕ, Bool, true, false, cond, Option, Some, None, List, [], ◌∷◌, map as list_map, refl, sym, ap, append-nil, append_assoc, ◌≤◌, arith}
+use Rattle.std.proofs.Common.{◌<◌, ◌≡◌, ◌∙◌, ◌+◌, ◌++◌, ℕ, Bool, true, false, cond, Option, Some, None, List, [], ◌∷◌, map as list_map, refl, sym, ap}
+use Rattle.std.proofs.Common.{append-nil, append_assoc, ◌≤◌, arith}
 use Rattle.hir_base.specs.declared.ast_id.AstId.{AstId}
-use Rattle.hir_base.specs.declared.ids.ModuleId.{ModuleId}
 use Rattle.hir_base.specs.declared.macro_kind.MacroExpander.{MacroExpander}
 use Rattle.hir_base.specs.declared.macro_kind.MacroId.{MacroId}
+use Rattle.hir_base.specs.declared.ids.ModuleId.{ModuleId}
 use Rattle.hir_item_tree.specs.KeptForest.{Head}
 use Rattle.hir_scope.specs.PerNs.{macros_only}
 use Rattle.hir_scope.specs.declared.visibility.Visibility.TheVariants as visibilities
@@ -12,11 +13,11 @@ use Rattle.hir_def_map_rules.specs.State.{Map}
 use Rattle.hir_def_map_rules.specs.declared.derive_helpers.DeriveHelper.{DeriveHelper}
 use Rattle.hir_import_resolution.specs.Changes.{Change as ImportChange, pushes}
 use Rattle.hir_import_resolution.specs.State.{ImportState}
-use Rattle.hir_collector_rules.specs.declared.macro_directive.MacroDirective.{MacroDirective}
-use Rattle.hir_collector_rules.specs.declared.source_database.Key.{Key}
+use Rattle.hir_collector_rules.specs.Types.{Key, MacroDirective}
 use Rattle.hir_collector_rules.specs.Keys.{Environment}
 use Rattle.hir_collector_rules.specs.State.{State, import_state}
-use Rattle.hir_collector_rules.specs.Changes.{Change, lists, makes, gives_variants, begins_paths, reaches, awaits, ends, settles, changes_imports, adds_textual, takes_textual, defines, describes, helps, lists_derive, exports, uses_macros, tells, goes_on, act, perform}
+use Rattle.hir_collector_rules.specs.Changes.{Change, lists, makes, gives_variants, begins_paths, reaches, awaits, ends, settles, changes_imports, adds_textual}
+use Rattle.hir_collector_rules.specs.Changes.{takes_textual, defines, describes, helps, lists_derive, notes, exports, uses_macros, tells, goes_on, act, perform}
 use Rattle.hir_collector_rules.specs.Calls.{path_of_call}
 use Rattle.hir_collector_rules.specs.Macros.{is_exported}
 use Rattle.hir_collector_rules.specs.Reports.{failed_call, is_unimplemented, unimplemented_macro}
@@ -42,14 +43,7 @@ Keeps-trans p q = record {
 }
 
 pub Keeps-act : (s : State) (c : Change) → Keeps s (act s c)
-Keeps-act s (lists home d) = record { count = refl; id = refl; crate_data = refl; dependencies = refl; asked = refl }
-Keeps-act s (makes home name origin visibility) = record { count = refl; id = refl; crate_data = refl; dependencies = refl; asked = refl }
 Keeps-act s (gives_variants id variants) = record { count = refl; id = refl; crate_data = refl; dependencies = refl; asked = refl }
-Keeps-act s (begins_paths r) = record { count = refl; id = refl; crate_data = refl; dependencies = refl; asked = refl }
-Keeps-act s (reaches rs) = record { count = refl; id = refl; crate_data = refl; dependencies = refl; asked = refl }
-Keeps-act s (awaits calls) = record { count = refl; id = refl; crate_data = refl; dependencies = refl; asked = refl }
-Keeps-act s (ends i fate) = record { count = refl; id = refl; crate_data = refl; dependencies = refl; asked = refl }
-Keeps-act s settles = record { count = refl; id = refl; crate_data = refl; dependencies = refl; asked = refl }
 Keeps-act s (changes_imports c) =
     let i : ImportState = import_state s in
     record {
@@ -59,16 +53,7 @@ Keeps-act s (changes_imports c) =
       dependencies = refl;
       asked = refl;
     }
-Keeps-act s (adds_textual home name makro) = record { count = refl; id = refl; crate_data = refl; dependencies = refl; asked = refl }
-Keeps-act s (takes_textual home from) = record { count = refl; id = refl; crate_data = refl; dependencies = refl; asked = refl }
-Keeps-act s (defines node makro) = record { count = refl; id = refl; crate_data = refl; dependencies = refl; asked = refl }
-Keeps-act s (describes makro what) = record { count = refl; id = refl; crate_data = refl; dependencies = refl; asked = refl }
-Keeps-act s (helps node helper) = record { count = refl; id = refl; crate_data = refl; dependencies = refl; asked = refl }
-Keeps-act s (lists_derive home imp) = record { count = refl; id = refl; crate_data = refl; dependencies = refl; asked = refl }
-Keeps-act s (exports f makro) = record { count = refl; id = refl; crate_data = refl; dependencies = refl; asked = refl }
-Keeps-act s (uses_macros macros by) = record { count = refl; id = refl; crate_data = refl; dependencies = refl; asked = refl }
-Keeps-act s (tells d) = record { count = refl; id = refl; crate_data = refl; dependencies = refl; asked = refl }
-Keeps-act s (goes_on tasks) = record { count = refl; id = refl; crate_data = refl; dependencies = refl; asked = refl }
+Keeps-act s other = record { count = refl; id = refl; crate_data = refl; dependencies = refl; asked = refl }
 
 pub Keeps-perform : (cs : List Change) (s : State) → Keeps s (perform s cs)
 Keeps-perform [] s = record { count = refl; id = refl; crate_data = refl; dependencies = refl; asked = refl }
@@ -97,7 +82,8 @@ pub perform-append : (cs ds : List Change) (s : State) → perform s (cs ++ ds) 
 perform-append [] ds s = refl
 perform-append (c ∷ cs) ds s = perform-append cs ds (act s c)
 
-pub fine-append : (Fine : State → Change → Type 0) (cs ds : List Change) (s : State) → AllFine Fine s cs → AllFine Fine (perform s cs) ds → AllFine Fine s (cs ++ ds)
+pub fine-append : (Fine : State → Change → Type 0) (cs ds : List Change) (s : State) → AllFine Fine s cs → AllFine Fine (perform s cs) ds
+    → AllFine Fine s (cs ++ ds)
 fine-append Fine [] ds s f g = g
 fine-append Fine (c ∷ cs) ds s f g = (f.0, fine-append Fine cs ds (act s c) f.1 g)
 
@@ -108,17 +94,21 @@ fine_failing Fine at d None told s = tt
 fine_failing Fine at d (Some error) told s = (told s error, tt)
 
 -- helpers that a derive brings
-pub fine_bringing : (Fine : State → Change → Type 0) (node : AstId) → ((s : State) (helper : DeriveHelper) → Fine s (helps node helper)) → (helpers : List DeriveHelper) (s : State)
+pub fine_bringing : (Fine : State → Change → Type 0) (node : AstId) → ((s : State) (helper : DeriveHelper) → Fine s (helps node helper))
+    → (helpers : List DeriveHelper) (s : State)
     → AllFine Fine s (bringing node helpers)
 fine_bringing Fine node helped [] s = tt
 fine_bringing Fine node helped (helper ∷ helpers) s = (helped s helper, fine_bringing Fine node helped helpers (act s (helps node helper)))
 
 -- and what is reported behind them of a call
-pub fine_expanding : (Fine : State → Change → Type 0) (node : AstId) → ((s : State) (helper : DeriveHelper) → Fine s (helps node helper)) → (helpers : List DeriveHelper)
-    → (at : ModuleId) (d : MacroDirective) (error : Option (List ℕ)) → ((s : State) (text : List ℕ) → Fine s (tells (failed_call at d.ast_id (path_of_call d) text))) → (s : State)
+pub fine_expanding : (Fine : State → Change → Type 0) (node : AstId) → ((s : State) (helper : DeriveHelper) → Fine s (helps node helper))
+    → (helpers : List DeriveHelper)
+    → (at : ModuleId) (d : MacroDirective) (error : Option (List ℕ))
+    → ((s : State) (text : List ℕ) → Fine s (tells (failed_call at d.ast_id (path_of_call d) text))) → (s : State)
     → AllFine Fine s (bringing node helpers ++ failing at d error)
 fine_expanding Fine node helped helpers at d error told s =
-    fine-append Fine (bringing node helpers) (failing at d error) s (fine_bringing Fine node helped helpers s) (fine_failing Fine at d error told (perform s (bringing node helpers)))
+    fine-append Fine (bringing node helpers) (failing at d error) s (fine_bringing Fine node helped helpers s)
+    (fine_failing Fine at d error told (perform s (bringing node helpers)))
 
 -- what is reported of a macro, and where it is bound besides
 module _ (Fine : State → Change → Type 0) (at : ModuleId) (node : AstId) (expander : MacroExpander) (told : (s : State) → Fine s (tells (unimplemented_macro at node))) where
@@ -129,10 +119,12 @@ module _ (Fine : State → Change → Type 0) (at : ModuleId) (node : AstId) (ex
       go true = (told s, tt)
       go false = tt
 
-  pub fine_macro : (head : Head) (name : List ℕ) (makro : MacroId) → ((s : State) → Fine s (changes_imports (pushes 0 (Some name) (macros_only makro visibilities.Public None) None))) → (s : State)
+  pub fine_macro : (head : Head) (name : List ℕ) (makro : MacroId)
+      → ((s : State) → Fine s (changes_imports (pushes 0 (Some name) (macros_only makro visibilities.Public None) None))) → (s : State)
       → AllFine Fine s (exporting head name makro ++ reporting at node expander)
   fine_macro head name makro pushed s =
-      fine-append Fine (exporting head name makro) (reporting at node expander) s (go (is_exported head.attributes)) (fine_reporting (perform s (exporting head name makro)))
+      fine-append Fine (exporting head name makro) (reporting at node expander) s (go (is_exported head.attributes))
+      (fine_reporting (perform s (exporting head name makro)))
     where
       go : (b : Bool) → AllFine Fine s (cond b (changes_imports (pushes 0 (Some name) (macros_only makro visibilities.Public None) None) ∷ []) [])
       go true = (pushed s, tt)

@@ -31,11 +31,7 @@ module _ (def : ModuleDefId) where
   -- one more declaration
   pub Lists-listed : (d : Declaration) (m : ModuleValue) → Lists (Some m) → Lists (Some (with_module_scope (listed d) m))
   Lists-listed (declaration.Def other) m h = Contains-append_left m.scope.declarations (other ∷ []) def h
-  Lists-listed (declaration.Use use_) m h = h
-  Lists-listed (declaration.Impl imp is_trait_impl) m h = h
-  Lists-listed (declaration.ExternBlock extern_block) m h = h
-  Lists-listed (declaration.UnnamedConst konst) m h = h
-  Lists-listed (declaration.ExternCrate extern_crate) m h = h
+  Lists-listed other m h = h
 
   -- what was declared just now
   pub Lists-now : (ms : List ModuleValue) (at : ℕ) → at < length ms → Lists (slice_get (changed_at ms at (with_module_scope (listed (declaration.Def def)))) at)

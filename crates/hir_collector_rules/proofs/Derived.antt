@@ -1,5 +1,6 @@
 -- What a derivation comes to, over each workspace and beside finished maps that agree on what was asked for.
-use Rattle.std.proofs.Common.{◌≡◌, ◌∙◌, ◌==◌, ◌||◌, ℕ, zero, suc, ◌<◌, length, Bool, false, true, List, [], ◌∷◌, ◌++◌, map as list_map, Option, None, Some, inl, inr, refl, sym, ap, subst, arith, Contains, if◌then◌else◌, cond, slice_get}
+use Rattle.std.proofs.Common.{◌≡◌, ◌∙◌, ◌==◌, ◌||◌, ℕ, zero, suc, ◌<◌, length, Bool, false, true, List, [], ◌∷◌, ◌++◌, map as list_map, Option, None, Some, inl}
+use Rattle.std.proofs.Common.{inr, refl, sym, ap, subst, arith, Contains, if◌then◌else◌, cond, slice_get}
 use Rattle.std.specs.List.{list_any}
 use Rattle.std.specs.Prelude.{option_map, unwrap_or}
 use Rattle.hir_crate_graph.specs.CrateSet.{crate_of, crates_from}
@@ -11,12 +12,8 @@ use Rattle.hir_item_tree.specs.ItemTree.{Tree}
 use Rattle.hir_tables.specs.Tables.{KeepsTables, TablesValue}
 use Rattle.hir_def_map.specs.WorldParts.{among}
 use Rattle.hir_def_map_rules.specs.Overlay.{Maps, map_in}
-use Rattle.hir_collector_rules.specs.declared.macro_directive.MacroDirective.{MacroDirective}
-use Rattle.hir_collector_rules.specs.declared.macro_directive.WaitingItem.{WaitingItem}
-use Rattle.hir_collector_rules.specs.declared.start.Start.{Start}
+use Rattle.hir_collector_rules.specs.Types.{CrateRoot, Dependency, Key, MacroDirective, Start, WaitingItem}
 use Rattle.hir_collector_rules.specs.declared.start.Start.TheVariants as starts
-use Rattle.hir_collector_rules.specs.declared.source_database.Dependency.{Dependency}
-use Rattle.hir_collector_rules.specs.declared.source_database.Key.{Key}
 use Rattle.hir_collector_rules.specs.declared.source_database.Key.TheVariants as keys
 use Rattle.hir_collector_rules.specs.Workspace.{ConfigValue, Workspace, dependencies_of, direct_in, transitive_dependencies_in}
 use Rattle.hir_collector_rules.specs.Keys.{AgreeOn, Environment, environment, look, map_key, map_keys}
@@ -30,8 +27,8 @@ use Rattle.hir_import_resolution.specs.Rest.{BroughtStands, IsClosed, IsRecorded
 use Rattle.hir_collector_rules.specs.ModuleFiles.{Reading}
 use Rattle.hir_collector_rules.specs.Ended.{ended, exporting_scope}
 use Rattle.hir_def_map_rules.specs.State.{Map, crate_map, with_scope}
-use Rattle.hir_collector_rules.specs.declared.source_database.CrateRoot.{CrateRoot}
-use Rattle.hir_collector_rules.specs.Start.{Beginning, began, begin_of, data_beside, exports_macros, held_keys, holders_by, krate_of, read_by, root_key, root_tree, start_by, start_data}
+use Rattle.hir_collector_rules.specs.Start.{Beginning, began, begin_of, data_beside, exports_macros, held_keys, holders_by, krate_of, read_by, root_key}
+use Rattle.hir_collector_rules.specs.Start.{root_tree, start_by, start_data}
 use Rattle.hir_collector_rules.specs.Steps.{Sees, Step, Steps, none, more, keys_read, reads}
 use Rattle.hir_collector_rules.specs.Causes as causes
 use Rattle.hir_collector_rules.specs.Derivation.{BindsWhatItReaches, CollectedValue, Ends, IsLinked, finished_run}
@@ -53,18 +50,18 @@ Sees-transfer : (env other : Environment) (finished : Maps) (readings : List Rea
     → ((key : Key) → Contains (keys_read readings) key → look other.tables other.workspace finished key ≡ look env.tables env.workspace finished key)
     → Sees env finished readings → Sees other finished readings
 Sees-transfer env other finished [] same sees = tt
-Sees-transfer env other finished (r ∷ rs) same sees =
-    (same r.key (0, omega arith, refl) ∙ sees.0, Sees-transfer env other finished rs (λ key h. same key (Contains-append_right (r.key ∷ []) (keys_read rs) key h)) sees.1)
+Sees-transfer env other finished (r ∷ rs) same sees = (
+  same r.key (0, omega arith, refl) ∙ sees.0,
+  Sees-transfer env other finished rs
+      (λ key h. same key (Contains-append_right (r.key ∷ []) (keys_read rs) key h)) sees.1,
+)
 
 -- what two workspaces have at a key they have beside the same finished maps
 same_look : (env other : Environment) (before finished maps : Maps) (key : Key)
-    → look other.tables other.workspace finished key ≡ look env.tables env.workspace before key → look other.tables other.workspace maps key ≡ look env.tables env.workspace maps key
-same_look env other before finished maps (keys.Tree tree) e = e
-same_look env other before finished maps (keys.Variants id) e = e
-same_look env other before finished maps (keys.Text id) e = e
-same_look env other before finished maps (keys.Input krate ast) e = e
-same_look env other before finished maps (keys.Expansion id) e = e
+    → look other.tables other.workspace finished key ≡ look env.tables env.workspace before key → look other.tables other.workspace maps key
+    ≡ look env.tables env.workspace maps key
 same_look env other before finished maps (keys.Map id) e = refl
+same_look env other before finished maps otherwise e = e
 
 -- so a step is one over each that has the same at what was asked for, where its numbers mean the same
 Step-transfer : {env other : Environment} {finished : Maps} {old new : State} → KeepsTables env.tables other.tables
@@ -73,7 +70,10 @@ Step-transfer : {env other : Environment} {finished : Maps} {old new : State} �
 Step-transfer {env = env} {other = other} {finished = finished} {old = old} kept same step = record {
   rule = step.rule;
   may = step.may;
-  sees = Sees-transfer env other finished (reads old step.rule) (λ key h. same key (subst (λ (ks : List Key). Contains ks key) (sym (asked-Step step)) (Contains-append_right old.core.asked (keys_read (reads old step.rule)) key h))) step.sees;
+  sees =
+      Sees-transfer env other finished (reads old step.rule)
+      (λ key h. same key (subst (λ (ks : List Key). Contains ks key) (sym (asked-Step step))
+      (Contains-append_right old.core.asked (keys_read (reads old step.rule)) key h))) step.sees;
   numbered = Numbered-kept env.tables other.tables kept old step.rule step.numbered;
   is = step.is;
 }
@@ -140,7 +140,8 @@ unwaiting_where c without i d waits = go (waiting_item d) refl
     go (Some k) e = absurd (without i (record { call = d; waits = waits; item = k; is_item = e }))
 
 -- so it is where a part of a run comes to rest
-pub rests_at : (env : Environment) (finished : Maps) (from : State) (old new : Core) (limited : Bool) → Holds (at_rest new) → Steps env finished from (at_rest old)
+pub rests_at : (env : Environment) (finished : Maps) (from : State) (old new : Core) (limited : Bool) → Holds (at_rest new)
+    → Steps env finished from (at_rest old)
     → ComesToRest env finished old new limited → Rests env finished from (at_rest new) limited
 rests_at env finished from old new limited h before (rested rest nowhere without) = record {
   closed = rest.closed;
@@ -176,7 +177,8 @@ data_dependencies : (o : Option Map) (transitive : List Crate) → (data_beside 
 data_dependencies None transitive = refl
 data_dependencies (Some m) transitive = refl
 
-pub start_dependencies : (finished : Maps) (tree : Tree) (transitive : List Crate) (start : Start) → (start_data finished tree transitive start).dependencies ≡ transitive
+pub start_dependencies : (finished : Maps) (tree : Tree) (transitive : List Crate) (start : Start) → (start_data finished tree transitive start).dependencies
+    ≡ transitive
 start_dependencies finished tree transitive (starts.Crate krate root) = refl
 start_dependencies finished tree transitive (starts.Block krate block holder at) = data_dependencies (map_in finished (crate_map krate)) transitive
 
@@ -242,7 +244,8 @@ module _ (tables : TablesValue) (v : Workspace) (before : Maps) (from : Beginnin
 
   map_among : (krate : Crate) → Contains transitive krate → Contains answer.asked (map_key krate)
   map_among krate h =
-      subst (λ (ks : List Key). Contains ks (map_key krate)) (sym keys_are) (Contains-append_right c.asked (map_keys transitive) (map_key krate) (mapped map_key transitive krate h))
+      subst (λ (ks : List Key). Contains ks (map_key krate)) (sym keys_are) (Contains-append_right c.asked (map_keys transitive) (map_key krate)
+      (mapped map_key transitive krate h))
 
   module _ {grown : TablesValue} {w : Workspace} {finished : Maps} (alike : Alike answer.asked (environment tables v) before (environment grown w) finished) where
     transitive_same : transitive_dependencies_in w (krate_of from.start) ≡ transitive
@@ -262,10 +265,12 @@ module _ (tables : TablesValue) (v : Workspace) (before : Maps) (from : Beginnin
 
     -- what the steps asked for the other workspace has too
     looks_same : (key : Key) → Contains c.asked key → look grown w (read_by v before from.start) key ≡ look tables v (read_by v before from.start) key
-    looks_same key h = same_look (environment tables v) (environment grown w) before finished (read_by v before from.start) key (alike.same key (asked_among key h))
+    looks_same key h =
+        same_look (environment tables v) (environment grown w) before finished (read_by v before from.start) key (alike.same key (asked_among key h))
 
     -- so what holds of the steps from the start holds over it
-    over : (P : Maps → State → Type 0) → P (read_by v before from.start) (begin_of tables v before from) → P (read_by w finished from.start) (begin_of grown w finished from)
+    over : (P : Maps → State → Type 0) → P (read_by v before from.start) (begin_of tables v before from) → P (read_by w finished from.start)
+        (begin_of grown w finished from)
     over P h =
         subst (λ (maps : Maps). P maps (begin_of grown w finished from)) (sym reads_same)
         (subst (λ (s : State). P (read_by v before from.start) s) (sym begins_same) h)
@@ -285,7 +290,8 @@ module _ (tables : TablesValue) (v : Workspace) (before : Maps) (from : Beginnin
           after = Steps-transfer alike.kept looks_same m.after;
         })
 
-    caused_by : (key : Key) → IsAskedFor grown w (read_by w finished from.start) (begin_of grown w finished from) last key → causes.HasCause grown w finished from last key
+    caused_by : (key : Key) → IsAskedFor grown w (read_by w finished from.start) (begin_of grown w finished from) last key → causes.HasCause grown w finished
+        from last key
     caused_by key (of_enum_listed p) = causes.declared_enum p.home p.id p.listed p.is
     caused_by key (of_candidate at before after p) = causes.candidate at (record { before = before; after = after }) p
     caused_by key (of_call at before after p) = causes.of_call at (record { before = before; after = after }) p
@@ -309,9 +315,11 @@ module _ (tables : TablesValue) (v : Workspace) (before : Maps) (from : Beginnin
         ]
 
     -- where a derivation over one workspace ends, one ends over each that is like it at what was asked for
-    pub ends_alike : last.agenda ≡ [] → Rests (environment tables v) (read_by v before from.start) (begin_of tables v before from) last limited → Ends grown w finished from answer
+    pub ends_alike : last.agenda ≡ [] → Rests (environment tables v) (read_by v before from.start) (begin_of tables v before from) last limited
+        → Ends grown w finished from answer
     ends_alike visited rests =
-        let holds : Holds last = Holds-Steps steps (begun_in_range tables v before) (Holds-start tables v (read_by v before from.start) (holders_by before from.start) from) in
+        let holds : Holds last = Holds-Steps steps (begun_in_range tables v before)
+        (Holds-start tables v (read_by v before from.start) (holders_by before from.start) from) in
         let settles : answer.round_limit_met ≡ false → (i : ℕ) → IsSettled (read_by w finished from.start) (import_state last) i =
         λ whole i. subst (λ (maps : Maps). IsSettled maps (import_state last) i) (sym reads_same) (rests.settled (sym limited_is ∙ whole) i) in
         record {
@@ -338,25 +346,31 @@ module _ (tables : TablesValue) (v : Workspace) (before : Maps) (from : Beginnin
   -- so it does over each that agrees on it
   pub ends_over : {w : Workspace} {finished : Maps} → AgreeOn tables answer.asked v before w finished → last.agenda ≡ []
       → Rests (environment tables v) (read_by v before from.start) (begin_of tables v before from) last limited → Ends tables w finished from answer
-  ends_over agrees visited rests = ends_alike (record { kept = tables_stay tables; config = agrees.config; crates = agrees.crates; same = agrees.same }) visited rests
+  ends_over agrees visited rests =
+      ends_alike (record { kept = tables_stay tables; config = agrees.config; crates = agrees.crates; same = agrees.same }) visited rests
 
 -- a run beside the maps that it may read is one beside all finished maps
 module _ (tables : TablesValue) (w : Workspace) (finished : Maps) (from : Beginning) (part : Maps) (transitive : List Crate) (holders : List ModuleId)
-    (reads : part ≡ among transitive holders finished) (depends : transitive ≡ transitive_dependencies_in w (krate_of from.start)) (held : holders ≡ holders_by finished from.start) where
+    (reads : part ≡ among transitive holders finished) (depends : transitive ≡ transitive_dependencies_in w (krate_of from.start))
+    (held : holders ≡ holders_by finished from.start) where
   pub read_whole : part ≡ read_by w finished from.start
   read_whole =
       reads ∙ ap (λ (crates : List Crate). among crates holders finished) depends
       ∙ ap (λ (hs : List ModuleId). among (transitive_dependencies_in w (krate_of from.start)) hs finished) held
 
-  pub begun : (P : Maps → State → Type 0) → P part (began tables w part transitive holders from.start from.tree) → P (read_by w finished from.start) (begin_of tables w finished from)
+  pub begun : (P : Maps → State → Type 0) → P part (began tables w part transitive holders from.start from.tree) → P (read_by w finished from.start)
+      (begin_of tables w finished from)
   begun P h =
-      subst (λ (maps : Maps). P maps (began tables w maps (transitive_dependencies_in w (krate_of from.start)) (holders_by finished from.start) from.start from.tree)) read_whole
+      subst (λ (maps : Maps). P maps (began tables w maps (transitive_dependencies_in w (krate_of from.start)) (holders_by finished from.start) from.start
+      from.tree)) read_whole
       (subst (λ (hs : List ModuleId). P part (began tables w part (transitive_dependencies_in w (krate_of from.start)) hs from.start from.tree)) held
       (subst (λ (crates : List Crate). P part (began tables w part crates holders from.start from.tree)) depends h))
 
   -- where a run that began so comes to rest, its answer is the end of a derivation over each workspace that agrees on what was asked for
-  pub ends_from : (run last : Core) (limited : Bool) (answer : CollectedValue) → Steps (environment tables w) part (began tables w part transitive holders from.start from.tree) (at_rest run)
-      → Steps (environment tables w) part (at_rest run) (at_rest last) → ComesToRest (environment tables w) part run last limited → answer ≡ finished_run last limited transitive
+  pub ends_from : (run last : Core) (limited : Bool) (answer : CollectedValue) → Steps (environment tables w) part
+      (began tables w part transitive holders from.start from.tree) (at_rest run)
+      → Steps (environment tables w) part (at_rest run) (at_rest last) → ComesToRest (environment tables w) part run last limited → answer
+      ≡ finished_run last limited transitive
       → (v : Workspace) (maps : Maps) → AgreeOn tables answer.asked w finished v maps → Ends tables v maps from answer
   ends_from run last limited answer before after comes is v maps agrees =
       let whole : Steps (environment tables w) (read_by w finished from.start) (begin_of tables w finished from) (at_rest run) =
@@ -379,13 +393,15 @@ none_reached direct k (suc steps) j e = ap (λ (crates : List Crate). list_any (
 none_from : (test : ℕ → Bool) → ((j : ℕ) → test j ≡ false) → (start count : ℕ) → crates_from test start count ≡ []
 none_from test never start zero = refl
 none_from test never start (suc count) =
-    ap (λ (b : Bool). if b then crate_of start ∷ crates_from test (suc start) count else crates_from test (suc start) count) (never start) ∙ none_from test never (suc start) count
+    ap (λ (b : Bool). if b then crate_of start ∷ crates_from test (suc start) count else crates_from test (suc start) count) (never start) ∙ none_from test
+    never (suc start) count
 
 pub depends_on : (w : Workspace) (krate : Crate) (o : Option (List Crate)) → o ≡ option_map (λ _. transitive_dependencies_in w krate) (w.config krate)
     → unwrap_or o [] ≡ transitive_dependencies_in w krate
 depends_on w krate o e = ap (λ (p : Option (List Crate)). unwrap_or p []) e ∙ go (w.config krate) refl
   where
-    go : (config : Option ConfigValue) → w.config krate ≡ config → unwrap_or (option_map (λ _. transitive_dependencies_in w krate) config) [] ≡ transitive_dependencies_in w krate
+    go : (config : Option ConfigValue) → w.config krate ≡ config → unwrap_or (option_map (λ _. transitive_dependencies_in w krate) config) []
+        ≡ transitive_dependencies_in w krate
     go None f =
         let nothing : direct_in w krate.0 ≡ [] = ap (λ (c : Option ConfigValue). list_map (λ (d : Dependency). d.krate) (dependencies_of c)) f in
         sym (none_from (is_reached (direct_in w) krate.0 krate.0) (λ j. none_reached (direct_in w) krate.0 krate.0 j nothing) 0 krate.0)

@@ -21,13 +21,15 @@ module _ {V : Type 0} where
   there_with true v w o h = refl
   there_with false v w o h = h
 
-  there_later : (b : Bool) (v : V) (o p : Option V) → (is_some o ≡ true → is_some p ≡ true) → is_some (cond b (Some v) o) ≡ true → is_some (cond b (Some v) p) ≡ true
+  there_later : (b : Bool) (v : V) (o p : Option V) → (is_some o ≡ true → is_some p ≡ true) → is_some (cond b (Some v) o) ≡ true → is_some (cond b (Some v) p)
+      ≡ true
   there_later true v o p f h = refl
   there_later false v o p f h = f h
 
 module _ {K V : Type 0} (test : K → Bool) where
   -- with one more value, or another at a key
-  pub still_inserted : (cmp : K → K → Ordering) (es : List (K × V)) (k : K) (v : V) → is_some (lookup test es) ≡ true → is_some (lookup test (insert_entry cmp es k v)) ≡ true
+  pub still_inserted : (cmp : K → K → Ordering) (es : List (K × V)) (k : K) (v : V) → is_some (lookup test es) ≡ true
+      → is_some (lookup test (insert_entry cmp es k v)) ≡ true
   still_inserted cmp [] k v h = absurd (true≢false (sym h))
   still_inserted cmp (e ∷ es) k v h = go (cmp k e.0) (still_inserted cmp es k v)
     where
@@ -48,7 +50,8 @@ module _ {K V : Type 0} (test : K → Bool) where
       go false below = there_later (test e.0) e.1 (lookup test es) (lookup test (set_value at es v)) below h
 
   -- with one of the two
-  pub still_with_entry : (cmp : K → K → Ordering) (es : List (K × V)) (k : K) (v : V) → is_some (lookup test es) ≡ true → is_some (lookup test (with_entry cmp es k v)) ≡ true
+  pub still_with_entry : (cmp : K → K → Ordering) (es : List (K × V)) (k : K) (v : V) → is_some (lookup test es) ≡ true
+      → is_some (lookup test (with_entry cmp es k v)) ≡ true
   still_with_entry cmp es k v h = go (has_key cmp es k)
     where
       go : (b : Bool) → is_some (lookup test (cond b (set_value (is_at (cmp k)) es v) (insert_entry cmp es k v))) ≡ true
@@ -58,11 +61,13 @@ module _ {K V : Type 0} (test : K → Bool) where
 -- ---- a test that holds of no value holds of none still
 
 module _ {K V : Type 0} (p : V → Bool) where
-  pub none_set : (test : K → Bool) (es : List (K × V)) (v : V) → list_any (λ (e : K × V). p e.1) es ≡ false → p v ≡ false → list_any (λ (e : K × V). p e.1) (set_value test es v) ≡ false
+  pub none_set : (test : K → Bool) (es : List (K × V)) (v : V) → list_any (λ (e : K × V). p e.1) es ≡ false → p v ≡ false → list_any (λ (e : K × V). p e.1)
+      (set_value test es v) ≡ false
   none_set test [] v f g = refl
   none_set test (e ∷ es) v f g = go (test e.0) (none_set test es v (not_second (p e.1) (list_any (λ (x : K × V). p x.1) es) f) g)
     where
-      go : (b : Bool) → list_any (λ (x : K × V). p x.1) (set_value test es v) ≡ false → list_any (λ (x : K × V). p x.1) (cond b ((e.0, v) ∷ es) (e ∷ set_value test es v)) ≡ false
+      go : (b : Bool) → list_any (λ (x : K × V). p x.1) (set_value test es v) ≡ false → list_any (λ (x : K × V). p x.1)
+          (cond b ((e.0, v) ∷ es) (e ∷ set_value test es v)) ≡ false
       go true below = neither (p v) (list_any (λ (x : K × V). p x.1) es) g (not_second (p e.1) (list_any (λ (x : K × V). p x.1) es) f)
       go false below = neither (p e.1) (list_any (λ (x : K × V). p x.1) (set_value test es v)) (not_first (p e.1) (list_any (λ (x : K × V). p x.1) es) f) below
 
@@ -72,7 +77,8 @@ abbrev pub rewritten_at : {X : Type 0} → (X → X) → List (List ℕ × X) �
 rewritten_at new items name None = items
 rewritten_at new items name (Some item) = set_value (is_at (slice_cmp nat_cmp name)) items (new item)
 
-pub none_rewritten : {X : Type 0} (p : X → Bool) (new : X → X) (es : List (List ℕ × X)) (name : List ℕ) → ((x : X) → item_at es name ≡ Some x → p x ≡ false → p (new x) ≡ false)
+pub none_rewritten : {X : Type 0} (p : X → Bool) (new : X → X) (es : List (List ℕ × X)) (name : List ℕ)
+    → ((x : X) → item_at es name ≡ Some x → p x ≡ false → p (new x) ≡ false)
     → list_any (λ (e : List ℕ × X). p e.1) es ≡ false → list_any (λ (e : List ℕ × X). p e.1) (rewritten_at new es name (item_at es name)) ≡ false
 none_rewritten {X} p new es name keeps f = go (item_at es name) refl
   where

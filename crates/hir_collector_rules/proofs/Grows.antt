@@ -1,14 +1,14 @@
 -- No step takes a module, a binding or a declaration away.
 use Rattle.std.proofs.Common.{◌≡◌, ℕ, ◌+◌, ◌<◌, ◌≤◌, List, [], ◌∷◌, length, Option, None, Some, refl, sym, ap, subst, arith, Contains}
 use Rattle.hir_base.specs.declared.ast_id.AstId.{AstId}
+use Rattle.hir_base.specs.declared.macro_kind.BuiltinDeriveImplId.{BuiltinDeriveImplId}
 use Rattle.hir_base.specs.declared.ids.EnumId.{EnumId}
 use Rattle.hir_base.specs.declared.ids.ExternBlockId.{ExternBlockId}
 use Rattle.hir_base.specs.declared.ids.ExternCrateId.{ExternCrateId}
+use Rattle.hir_base.specs.declared.ids.FunctionId.{FunctionId}
+use Rattle.hir_base.specs.declared.macro_kind.MacroId.{MacroId}
 use Rattle.hir_base.specs.declared.ids.ModuleDefId.{ModuleDefId}
 use Rattle.hir_base.specs.declared.ids.ModuleId.{ModuleId}
-use Rattle.hir_base.specs.declared.ids.FunctionId.{FunctionId}
-use Rattle.hir_base.specs.declared.macro_kind.BuiltinDeriveImplId.{BuiltinDeriveImplId}
-use Rattle.hir_base.specs.declared.macro_kind.MacroId.{MacroId}
 use Rattle.hir_base.specs.declared.macro_kind.ProcMacroId.{ProcMacroId}
 use Rattle.hir_textual_scope.specs.Macros.{with_macro}
 use Rattle.hir_textual_scope.specs.declared.textual_scope.TextualMacro.{TextualMacro}
@@ -16,7 +16,8 @@ use Rattle.hir_scope.specs.Globs.{GlobNames}
 use Rattle.hir_scope.specs.Scope.{ScopeValue, binding_of}
 use Rattle.hir_scope.specs.declared.per_ns.PerNs.{PerNs}
 use Rattle.hir_scope.specs.declared.visibility.Visibility.{Visibility}
-use Rattle.hir_def_map_rules.specs.State.{MacroDataValue, Map, Variants, changed_at, entry_at, module_at, new_id, new_module, numbered, pushed, with_child, with_declared, with_enum, with_extern_block, with_module, with_module_scope, with_scope}
+use Rattle.hir_def_map_rules.specs.State.{MacroDataValue, Map, Variants, changed_at, entry_at, module_at, new_id, new_module, numbered, pushed, with_child}
+use Rattle.hir_def_map_rules.specs.State.{with_declared, with_enum, with_extern_block, with_module, with_module_scope, with_scope}
 use Rattle.hir_def_map_rules.specs.Overlay.{Maps}
 use Rattle.hir_def_map_rules.specs.Declaration.{listed}
 use Rattle.hir_def_map_rules.proofs.Grown.{entry_at-with_module, length-changed}
@@ -26,17 +27,20 @@ use Rattle.hir_def_map_rules.proofs.StaysWellFormed.{length-made}
 use Rattle.hir_def_map_rules.specs.declared.declaration.Declaration.{Declaration as Listing}
 use Rattle.hir_def_map_rules.specs.declared.declaration.Declaration.TheVariants as declaration
 use Rattle.hir_def_map_rules.specs.Macros.{with_derive_helper, with_diagnostic, with_exported, with_macro_data, with_macro_def}
-use Rattle.hir_def_map_rules.specs.declared.derive_helpers.DeriveHelper.{DeriveHelper}
 use Rattle.hir_def_map_rules.specs.declared.diagnostics.DefDiagnostic.{DefDiagnostic}
+use Rattle.hir_def_map_rules.specs.declared.derive_helpers.DeriveHelper.{DeriveHelper}
 use Rattle.hir_def_map_rules.specs.declared.origin.ModuleOrigin.{ModuleOrigin}
-use Rattle.hir_collector_rules.specs.declared.declaration.Declaration.{Declaration}
+use Rattle.hir_collector_rules.specs.Types.{Declaration}
 use Rattle.hir_collector_rules.specs.Keys.{Environment}
 use Rattle.hir_collector_rules.specs.State.{Core, State, counted, import_state, with_map}
 use Rattle.hir_collector_rules.specs.ItemIds.{module_id}
 use Rattle.hir_import_resolution.specs.Directives.{AreAmong, namespaces_of}
 use Rattle.hir_collector_rules.specs.Macros.{textual_at, with_macros_used}
 use Rattle.hir_collector_rules.specs.Moves.{begun}
-use Rattle.hir_collector_rules.specs.Changes.{Change, lists, makes, gives_variants, begins_paths, reaches, awaits, ends, settles, changes_imports, adds_textual, takes_textual, defines, describes, helps, lists_derive, exports, uses_macros, tells, goes_on, act, perform, with_builtin_derive, with_derived}
+use Rattle.hir_collector_rules.specs.Changes.{Change, lists, makes, gives_variants, begins_paths, reaches, awaits, ends, settles, changes_imports, adds_textual}
+use Rattle.hir_collector_rules.specs.Changes.{takes_textual, defines, describes, helps, lists_derive, notes, exports, uses_macros, tells, goes_on, act, perform}
+use Rattle.hir_collector_rules.specs.Changes.{with_builtin_derive, with_derived}
+use Rattle.hir_collector_rules.specs.Invocations.{Invocation, with_invocation, with_noted}
 use Rattle.hir_collector_rules.specs.Steps.{Step, Steps, none, more, acts, asking, with_declaration}
 use Rattle.hir_collector_rules.proofs.Declared.{Lists, Lists-changed, Lists-longer, Lists-listed}
 use Rattle.hir_collector_rules.proofs.Bound.{AreAmong-same, AreAmong-trans, AreAmong-by, KeepsBindings, among-changed, keeps-edit}
@@ -88,7 +92,9 @@ pub Grows-scope : (m : Map) (at : ℕ) (change : ScopeValue → ScopeValue) → 
 Grows-scope m at change keeps = record {
   longer = let same : length (with_scope m at change).modules ≡ length m.modules = length-changed m.modules at (with_module_scope change) in omega arith;
   kept = λ k name. among-changed m.modules at change keeps k name;
-  listed = λ k def h. Lists-changed def m.modules at (with_module_scope change) (λ v listed. subst (λ (defs : List ModuleDefId). Contains defs def) (sym (keeps.declared v.scope)) listed) k h;
+  listed =
+      λ k def h. Lists-changed def m.modules at (with_module_scope change) (λ v listed. subst (λ (defs : List ModuleDefId). Contains defs def)
+      (sym (keeps.declared v.scope)) listed) k h;
 }
 
 pub Grows-edited : (m : Map) (o : Option (ℕ × Edit)) → Grows m (edited m o)
@@ -98,10 +104,15 @@ Grows-edited m (Some e) = Grows-scope m e.0 (edit (numbered m.id e.0) e.1) (keep
 pub Grows-pushed : (m : Map) (globs : GlobNames) (home : ℕ) (name : List ℕ) (items : PerNs) → Grows m (pushed m globs home name items None)
 Grows-pushed m globs home name items = Grows-edited m (Some (home, pushes_to globs name items None))
 
-pub Grows-with_module : (m : Map) (home : ℕ) (name : List ℕ) (origin : ModuleOrigin) (vis : Visibility) (above : Option ModuleId) → Grows m (with_module m home name (new_module origin vis above))
+pub Grows-with_module : (m : Map) (home : ℕ) (name : List ℕ) (origin : ModuleOrigin) (vis : Visibility) (above : Option ModuleId)
+    → Grows m (with_module m home name (new_module origin vis above))
 Grows-with_module m home name origin vis above = record {
-  longer = let more : length (with_module m home name (new_module origin vis above)).modules ≡ length m.modules + 1 = length-made m home name (new_module origin vis above) in omega arith;
-  kept = λ at other. AreAmong-by (ap namespaces_of (sym (entry_at-with_module m home name origin vis above at other))) (AreAmong-same (namespaces_of (entry_at m at other)));
+  longer =
+      let more : length (with_module m home name (new_module origin vis above)).modules ≡ length m.modules + 1 = length-made m home name
+      (new_module origin vis above) in omega arith;
+  kept =
+      λ at other. AreAmong-by (ap namespaces_of (sym (entry_at-with_module m home name origin vis above at other)))
+      (AreAmong-same (namespaces_of (entry_at m at other)));
   listed = λ at def h.
       Lists-longer def (changed_at m.modules home (with_child name (new_id m))) (new_module origin vis above) at
       (Lists-changed def m.modules home (with_child name (new_id m)) (λ v listed. listed) at h);
@@ -115,7 +126,8 @@ Grows-told m d = let same : Grows m m = Grows-same m in record { longer = same.l
 keeps-textual : (change : List TextualMacro → List TextualMacro) → KeepsBindings (λ (s : ScopeValue). record s { legacy_macros = change s.legacy_macros })
 keeps-textual change = record { bound = λ scope name. AreAmong-same (namespaces_of (binding_of scope name)); declared = λ scope. refl }
 
-pub Grows-textual : (m : Map) (home : ℕ) (change : List TextualMacro → List TextualMacro) → Grows m (with_scope m home (λ (s : ScopeValue). record s { legacy_macros = change s.legacy_macros }))
+pub Grows-textual : (m : Map) (home : ℕ) (change : List TextualMacro → List TextualMacro)
+    → Grows m (with_scope m home (λ (s : ScopeValue). record s { legacy_macros = change s.legacy_macros }))
 Grows-textual m home change = Grows-scope m home _ (keeps-textual change)
 
 Grows-defined : (m : Map) (node : AstId) (makro : MacroId) → Grows m (with_macro_def m node makro)
@@ -140,17 +152,19 @@ keeps-derived imp = record { bound = λ scope name. AreAmong-same (namespaces_of
 Grows-derived : (m : Map) (home : ℕ) (imp : BuiltinDeriveImplId) → Grows m (with_derived m home imp)
 Grows-derived m home imp = Grows-scope m home (with_builtin_derive imp) (keeps-derived imp)
 
+-- and what a scope notes of calls, attributes and derives
+keeps-noted : (invocation : Invocation) → KeepsBindings (with_invocation invocation)
+keeps-noted invocation = record { bound = λ scope name. AreAmong-same (namespaces_of (binding_of scope name)); declared = λ scope. refl }
+
+Grows-noted : (m : Map) (home : ℕ) (invocation : Invocation) → Grows m (with_noted m home invocation)
+Grows-noted m home invocation = Grows-scope m home (with_invocation invocation) (keeps-noted invocation)
+
 -- ---- changes
 
 pub Grows-act : (s : State) (c : Change) → Grows s.core.map (act s c).core.map
 Grows-act s (lists home d) = Grows-listed s.core.map home d
 Grows-act s (makes home name origin visibility) = Grows-with_module s.core.map home name origin visibility (Some (module_id s.core.map home))
 Grows-act s (gives_variants id variants) = Grows-with_enum s.core.map id variants
-Grows-act s (begins_paths r) = Grows-same s.core.map
-Grows-act s (reaches rs) = Grows-same s.core.map
-Grows-act s (awaits calls) = Grows-same s.core.map
-Grows-act s (ends i fate) = Grows-same s.core.map
-Grows-act s settles = Grows-same s.core.map
 Grows-act s (changes_imports c) =
     subst (λ (m : Map). Grows s.core.map m) (sym (map_after (import_state s) c)) (Grows-edited s.core.map (edit_of (import_state s) c))
 Grows-act s (adds_textual home name makro) = Grows-textual s.core.map home (λ macros. with_macro macros name makro)
@@ -159,10 +173,11 @@ Grows-act s (defines node makro) = Grows-defined s.core.map node makro
 Grows-act s (describes makro what) = Grows-described s.core.map makro what
 Grows-act s (helps node helper) = Grows-helped s.core.map node helper
 Grows-act s (lists_derive home imp) = Grows-derived s.core.map home imp
+Grows-act s (notes home invocation) = Grows-noted s.core.map home invocation
 Grows-act s (exports f makro) = Grows-exported s.core.map f.id makro
 Grows-act s (uses_macros macros by) = Grows-used s.core.map macros by
 Grows-act s (tells d) = Grows-told s.core.map d
-Grows-act s (goes_on tasks) = Grows-same s.core.map
+Grows-act s other = Grows-same s.core.map
 
 pub Grows-perform : (cs : List Change) (s : State) → Grows s.core.map (perform s cs).core.map
 Grows-perform [] s = Grows-same s.core.map
@@ -181,7 +196,8 @@ Grows-Steps (more old new before step) = Grows-trans (Grows-Steps before) (Grows
 
 -- a module that is made, listed and bound adds one
 pub longer_by_module : (old new : Core) (home : ℕ) (name : List ℕ) (origin : ModuleOrigin) (vis : Visibility) (above : Option ModuleId) (d : Declaration)
-    → new ≡ counted (with_declaration (with_map old (begun old.map home name (new_module origin vis above))) home d) → length old.map.modules < length new.map.modules
+    → new ≡ counted (with_declaration (with_map old (begun old.map home name (new_module origin vis above))) home d) → length old.map.modules < length
+    new.map.modules
 longer_by_module old new home name origin vis above d is =
     let made : Map = with_module old.map home name (new_module origin vis above) in
     let started : Map = begun old.map home name (new_module origin vis above) in
@@ -189,7 +205,8 @@ longer_by_module old new home name origin vis above d is =
     let same : length made.modules ≤ length started.modules = (Grows-textual made (length old.map.modules) (λ _. textual_at made home)).longer in
     let declared : Core = with_declaration (with_map old started) home d in
     let kept : length started.modules ≤ length declared.map.modules =
-    (Grows-trans (Grows-listed started home (declaration.Def d.def)) (Grows-pushed (with_declared started home d.def) old.globs.names home d.name d.items)).longer in
+    (Grows-trans (Grows-listed started home (declaration.Def d.def)) (Grows-pushed (with_declared started home d.def) old.globs.names home d.name
+    d.items)).longer in
     let below : length old.map.modules < length declared.map.modules = omega arith in
     rw is below
 
@@ -197,5 +214,6 @@ longer_by_module old new home name origin vis above d is =
 pub longer_by_block : (old new : Core) (home : ℕ) (id : ExternBlockId) → new ≡ counted (with_map old (with_extern_block old.map home id))
     → home < length old.map.modules → home < length new.map.modules
 longer_by_block old new home id is h =
-    let same : length (with_extern_block old.map home id).modules ≡ length old.map.modules = (KeepsNames-listed old.map home (declaration.ExternBlock id)).count in
+    let same : length (with_extern_block old.map home id).modules ≡ length old.map.modules = (KeepsNames-listed old.map home (declaration.ExternBlock id)).count
+    in
     rw is (omega arith)

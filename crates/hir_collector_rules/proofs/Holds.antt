@@ -1,5 +1,6 @@
 -- The namespaces that an import keeps of those that its takings reached are bound under its name.
-use Rattle.std.proofs.Common.{◌≡◌, ◌∙◌, ℕ, ◌<◌, Bool, true, false, List, [], ◌∷◌, length, map as list_map, slice_get, slice_set, Option, None, Some, inl, inr, refl, sym, ap, subst, arith}
+use Rattle.std.proofs.Common.{◌≡◌, ◌∙◌, ℕ, ◌<◌, Bool, true, false, List, [], ◌∷◌, length, map as list_map, slice_get, slice_set, Option, None, Some, inl, inr}
+use Rattle.std.proofs.Common.{refl, sym, ap, subst, arith}
 use Rattle.std.proofs.lemmas.Bool.{cases_lt}
 use Rattle.hir_base.specs.declared.ids.Crate.{Crate}
 use Rattle.hir_base.specs.declared.ids.ModuleId.{ModuleId}
@@ -16,20 +17,25 @@ use Rattle.hir_def_map_rules.specs.Scoping.{Resolution}
 use Rattle.hir_import_resolution.specs.declared.directive.ImportDirective.{ImportDirective}
 use Rattle.hir_import_resolution.specs.declared.directive.ImportSource.{ImportSource}
 use Rattle.hir_import_resolution.specs.declared.namespaces.Namespaces.{Namespaces}
-use Rattle.hir_import_resolution.specs.Directives.{AreAmong, TakenValue, answer_to, kept_by, kept_trait, kind_of, leaf_of, name_of, namespaces_of, no_namespaces, not_taken, nothing_taken, offered_by, taken_after, taken_for, visibility_of}
+use Rattle.hir_import_resolution.specs.Directives.{AreAmong, TakenValue, answer_to, kept_by, kept_trait, kind_of, leaf_of, name_of, namespaces_of}
+use Rattle.hir_import_resolution.specs.Directives.{no_namespaces, not_taken, nothing_taken, offered_by, taken_after, taken_for, visibility_of}
 use Rattle.hir_import_resolution.specs.Changes.{Change as ImportChange, act as act_on_imports, along, keeps_trait, pushes, pushing, records, takes}
 use Rattle.hir_import_resolution.specs.Rules.{CanTake, Rule as ImportRule, May as MayImport, acts as import_acts, goes_along, takes_glob, takes_import}
 use Rattle.hir_import_resolution.specs.State.{ImportState}
-use Rattle.hir_collector_rules.specs.declared.start.Start.{Start}
-use Rattle.hir_collector_rules.specs.declared.site.Site.{Site}
+use Rattle.hir_collector_rules.specs.Types.{Site, Start}
 use Rattle.hir_tables.specs.Tables.{TablesValue}
 use Rattle.hir_collector_rules.specs.Workspace.{Workspace, transitive_dependencies_in}
 use Rattle.hir_collector_rules.specs.Calls.{error_of}
 use Rattle.hir_collector_rules.specs.Keys.{Environment, tree_at}
 use Rattle.hir_collector_rules.specs.State.{State, import_state, visits_over}
 use Rattle.hir_collector_rules.specs.Start.{Beginning, began, is_declared, krate_of, start_of, root_site, tree_key, tree_visits}
-use Rattle.hir_collector_rules.specs.Changes.{Change, lists, makes, gives_variants, begins_paths, reaches, awaits, ends, settles, changes_imports, adds_textual, takes_textual, defines, describes, helps, lists_derive, exports, uses_macros, tells, goes_on, act, on_map}
-use Rattle.hir_collector_rules.specs.Steps.{Rule, drops_item, awaits_attribute, lists_derives, faults_derive, exports_macro, reaches_call, rests, expands_call, drops_call, drops_reached, derives_builtin, skips_attribute, falls_back, defines_rules, defines_macro, closes_module, declares_item, declares_enum, lists_constant, lists_impl, opens_module, opens_file, drops_file, misses_file, enters_block, reaches_imports, reaches_crate, resolves_imports, May, acts, asking, Step, Steps, none, more}
+use Rattle.hir_collector_rules.specs.Changes.{Change, lists, makes, gives_variants, begins_paths, reaches, awaits, ends, settles, changes_imports, adds_textual}
+use Rattle.hir_collector_rules.specs.Changes.{takes_textual, defines, describes, helps, lists_derive, notes, exports, uses_macros, tells, goes_on, act, on_map}
+use Rattle.hir_collector_rules.specs.Steps.{Rule, drops_item, awaits_attribute, lists_derives, faults_derive, exports_macro, reaches_call, rests, expands_call}
+use Rattle.hir_collector_rules.specs.Steps.{drops_call, drops_reached, derives_builtin, skips_attribute, falls_back, defines_rules, defines_macro}
+use Rattle.hir_collector_rules.specs.Steps.{closes_module, declares_item, declares_enum, lists_constant, lists_impl, opens_module, opens_file, drops_file}
+use Rattle.hir_collector_rules.specs.Steps.{misses_file, enters_block, reaches_imports, reaches_crate, resolves_imports, May, acts, asking, Step, Steps, none}
+use Rattle.hir_collector_rules.specs.Steps.{more}
 use Rattle.hir_collector_rules.proofs.Lists.{get_left, get_right, get_inside, get_set_same, get_set_other, length_set, length_both, length_mapped, get_same}
 use Rattle.hir_collector_rules.proofs.Bound.{AreAmong-trans, AreAmong-both, AreAmong-nothing, among-pushed, namespaces_of-imported, number_same_or_not}
 use Rattle.hir_collector_rules.proofs.Kept.{kept_namespaces, kept_namespaces-both, kept_namespaces-none, kept_of-own, namespaces_of-kept}
@@ -52,37 +58,19 @@ pub record Holds (s : State) : Type 0 where
 
 -- what takings reached is bound
 abbrev TakesBound : State → ImportChange → Type 0
-TakesBound s (pushes home name items source) = Unit {0}
-TakesBound s (keeps_trait finished home id vis import) = Unit {0}
 TakesBound s (takes i t) = IsBoundAs s i t
-TakesBound s (records edges) = Unit {0}
-TakesBound s (along finished a) = Unit {0}
+TakesBound s other = Unit {0}
 
 abbrev TakesWhatIsBound : State → Change → Type 0
-TakesWhatIsBound s (lists home d) = Unit {0}
-TakesWhatIsBound s (makes home name origin visibility) = Unit {0}
-TakesWhatIsBound s (gives_variants id variants) = Unit {0}
-TakesWhatIsBound s (begins_paths r) = Unit {0}
-TakesWhatIsBound s (reaches rs) = Unit {0}
-TakesWhatIsBound s (awaits calls) = Unit {0}
-TakesWhatIsBound s (ends i fate) = Unit {0}
-TakesWhatIsBound s settles = Unit {0}
 TakesWhatIsBound s (changes_imports c) = TakesBound s c
-TakesWhatIsBound s (adds_textual home name makro) = Unit {0}
-TakesWhatIsBound s (takes_textual home from) = Unit {0}
-TakesWhatIsBound s (defines node makro) = Unit {0}
-TakesWhatIsBound s (describes makro what) = Unit {0}
-TakesWhatIsBound s (helps node helper) = Unit {0}
-TakesWhatIsBound s (lists_derive home imp) = Unit {0}
-TakesWhatIsBound s (exports f makro) = Unit {0}
-TakesWhatIsBound s (uses_macros macros by) = Unit {0}
-TakesWhatIsBound s (tells d) = Unit {0}
-TakesWhatIsBound s (goes_on vs) = Unit {0}
+TakesWhatIsBound s other = Unit {0}
 
 -- a map that has grown
 bound-grown : (s t : State) → t.core.reached ≡ s.core.reached → Grows s.core.map t.core.map → (i : ℕ) (u : TakenValue) → IsBoundAs s i u → IsBoundAs t i u
 bound-grown s t same grows i u p = record {
-  bound = λ r name at own gives. AreAmong-trans (p.bound r name (subst (λ (rs : List ImportDirective). slice_get rs i ≡ Some r) same at) own gives) (grows.kept r.home name);
+  bound =
+      λ r name at own gives. AreAmong-trans (p.bound r name (subst (λ (rs : List ImportDirective). slice_get rs i ≡ Some r) same at) own gives)
+      (grows.kept r.home name);
 }
 
 Holds-larger : (s t : State) → t.core.reached ≡ s.core.reached → t.core.taken ≡ s.core.taken → Grows s.core.map t.core.map → Holds s → Holds t
@@ -110,10 +98,12 @@ Holds-reaches s imports h =
       paired = length_both taken fresh ∙ (omega arith) ∙ sym (length_both reached imports);
       bound = λ i t before. record {
         bound = λ r name at own gives. elim (cases_lt i (length reached)) [
-          | inl inside ↦ (h.bound i t (sym (get_left taken fresh i (omega arith)) ∙ before)).bound r name (sym (get_left reached imports i inside) ∙ at) own gives
+          | inl inside ↦ (h.bound i t (sym (get_left taken fresh i (omega arith)) ∙ before)).bound r name (sym (get_left reached imports i inside) ∙ at) own
+              gives
           | inr past ↦
               let right = get_right taken fresh i (omega arith) in
-              AreAmong-none (kind_of r.source) t.namespaces (namespaces_of (entry_at s.core.map r.home name)) (ap (λ (x : TakenValue). x.namespaces) (get_same nothing_taken imports right.0 t (sym right.1 ∙ before)))
+              AreAmong-none (kind_of r.source) t.namespaces (namespaces_of (entry_at s.core.map r.home name))
+              (ap (λ (x : TakenValue). x.namespaces) (get_same nothing_taken imports right.0 t (sym right.1 ∙ before)))
         ];
       };
     }
@@ -140,15 +130,19 @@ Holds-takes s i t h fine =
 -- what is to be visited, what calls wait, and what paths may begin with, doesn't matter
 same_bound : (s t : State) → t.core.reached ≡ s.core.reached → t.core.map ≡ s.core.map → (i : ℕ) (u : TakenValue) → IsBoundAs s i u → IsBoundAs t i u
 same_bound s t reached map i u p = record {
-  bound = λ r name at own gives. subst (λ (m : Map). AreAmong (kept_namespaces (kind_of r.source) u.namespaces) (namespaces_of (entry_at m r.home name))) (sym map)
+  bound =
+      λ r name at own gives. subst (λ (m : Map). AreAmong (kept_namespaces (kind_of r.source) u.namespaces) (namespaces_of (entry_at m r.home name))) (sym map)
       (p.bound r name (subst (λ (rs : List ImportDirective). slice_get rs i ≡ Some r) reached at) own gives);
 }
 
 Holds-imports : (s : State) (c : ImportChange) → Holds s → TakesBound s c → Holds (act s (changes_imports c))
 Holds-imports s (pushes home None items source) h fine = Holds-larger s _ refl refl (Grows-act s (changes_imports (pushes home None items source))) h
-Holds-imports s (pushes home (Some name) items source) h fine = Holds-larger s _ refl refl (Grows-act s (changes_imports (pushes home (Some name) items source))) h
-Holds-imports s (keeps_trait finished home None vis import) h fine = Holds-larger s _ refl refl (Grows-act s (changes_imports (keeps_trait finished home None vis import))) h
-Holds-imports s (keeps_trait finished home (Some id) vis import) h fine = Holds-larger s _ refl refl (Grows-act s (changes_imports (keeps_trait finished home (Some id) vis import))) h
+Holds-imports s (pushes home (Some name) items source) h fine =
+    Holds-larger s _ refl refl (Grows-act s (changes_imports (pushes home (Some name) items source))) h
+Holds-imports s (keeps_trait finished home None vis import) h fine =
+    Holds-larger s _ refl refl (Grows-act s (changes_imports (keeps_trait finished home None vis import))) h
+Holds-imports s (keeps_trait finished home (Some id) vis import) h fine =
+    Holds-larger s _ refl refl (Grows-act s (changes_imports (keeps_trait finished home (Some id) vis import))) h
 Holds-imports s (takes i t) h fine = Holds-takes s i t h fine
 Holds-imports s (records edges) h fine = Holds-larger s _ refl refl (Grows-act s (changes_imports (records edges))) h
 Holds-imports s (along finished a) h fine = Holds-larger s _ refl refl (Grows-act s (changes_imports (along finished a))) h
@@ -169,6 +163,7 @@ Holds-act s (defines node makro) h fine = Holds-grown s _ (Grows-act s (defines 
 Holds-act s (describes makro what) h fine = Holds-grown s _ (Grows-act s (describes makro what)) h
 Holds-act s (helps node helper) h fine = Holds-grown s _ (Grows-act s (helps node helper)) h
 Holds-act s (lists_derive home imp) h fine = Holds-grown s _ (Grows-act s (lists_derive home imp)) h
+Holds-act s (notes home invocation) h fine = Holds-grown s _ (Grows-act s (notes home invocation)) h
 Holds-act s (exports f makro) h fine = Holds-larger s (act s (exports f makro)) refl refl (Grows-act s (exports f makro)) h
 Holds-act s (uses_macros macros by) h fine = Holds-grown s _ (Grows-act s (uses_macros macros by)) h
 Holds-act s (tells d) h fine = Holds-grown s _ (Grows-act s (tells d)) h
@@ -177,10 +172,12 @@ Holds-act s (goes_on vs) h fine = record { paired = h.paired; bound = λ i t at.
 -- ---- rules
 
 -- what is pushed under a name is bound
-pushed_bound : (s : ImportState) (home : ℕ) (o : Option (List ℕ)) (name : List ℕ) (items : PerNs) (source : Option ImportSource) → o ≡ Some name → home < length s.map.modules
+pushed_bound : (s : ImportState) (home : ℕ) (o : Option (List ℕ)) (name : List ℕ) (items : PerNs) (source : Option ImportSource) → o ≡ Some name
+    → home < length s.map.modules
     → AreAmong (namespaces_of items) (namespaces_of (entry_at (act_on_imports s (pushes home o items source)).map home name))
 pushed_bound s home o name items source gives inside =
-    subst (λ (p : Option (List ℕ)). AreAmong (namespaces_of items) (namespaces_of (entry_at (act_on_imports s (pushes home p items source)).map home name))) (sym gives)
+    subst (λ (p : Option (List ℕ)). AreAmong (namespaces_of items) (namespaces_of (entry_at (act_on_imports s (pushes home p items source)).map home name)))
+    (sym gives)
     (among-pushed s.map.modules home s.globs (place_at s.map.id home name) items (pushing source) inside)
 
 module _ (finished : Maps) (s : State) (i : ℕ) (r : ImportDirective) (t : TakenValue) (can : CanTake finished (import_state s) i r t) (inside : IsInRange s) (h : Holds s) where
@@ -214,7 +211,8 @@ module _ (finished : Maps) (s : State) (i : ℕ) (r : ImportDirective) (t : Take
   taken_bound = record {
     bound = λ q name at own gives.
         let r_at : slice_get s.core.reached i ≡ Some r = can.import in
-        let q_at : slice_get s.core.reached i ≡ Some q = subst (λ (rs : List ImportDirective). slice_get rs i ≡ Some q) (imports_after (import_state s) push) at in
+        let q_at : slice_get s.core.reached i ≡ Some q = subst (λ (rs : List ImportDirective). slice_get rs i ≡ Some q) (imports_after (import_state s) push) at
+        in
         let one : r ≡ q = cc in
         let kind = kind_of r.source in
         let gain : Namespaces = namespaces_of answer.resolved_def in
@@ -226,12 +224,14 @@ module _ (finished : Maps) (s : State) (i : ℕ) (r : ImportDirective) (t : Take
         let kept_is : namespaces_of (kept_by finished s.core.local s.core.map r) ≡ kept_namespaces kind gain =
         ap namespaces_of (kept_of-own kind answer within) ∙ namespaces_of-kept kind answer.resolved_def in
         let gained : AreAmong (kept_namespaces kind gain) entry =
-        subst (λ (x : Namespaces). AreAmong x entry) kept_is (bound_taken name named (import_at (length s.core.map.modules) s.core.reached i r inside.imports r_at)) in
+        subst (λ (x : Namespaces). AreAmong x entry) kept_is
+        (bound_taken name named (import_at (length s.core.map.modules) s.core.reached i r inside.imports r_at)) in
         let had : AreAmong (kept_namespaces kind t.namespaces) entry =
         AreAmong-trans ((h.bound i t can.before).bound r name r_at before named) ((Grows-act s (changes_imports push)).kept r.home name) in
         let both : AreAmong (kept_namespaces kind now.namespaces) entry =
         subst (λ (x : Namespaces). AreAmong x entry) (sym (kept_namespaces-both kind t.namespaces gain)) (AreAmong-both had gained) in
-        subst (λ (x : ImportDirective). AreAmong (kept_namespaces (kind_of x.source) now.namespaces) (namespaces_of (entry_at pushed.core.map x.home name))) one both;
+        subst (λ (x : ImportDirective). AreAmong (kept_namespaces (kind_of x.source) now.namespaces) (namespaces_of (entry_at pushed.core.map x.home name))) one
+        both;
   }
 
   kept_bound : IsBoundAs kept i (taken_after t answer)
@@ -251,35 +251,30 @@ imports_take finished s (takes_import i r t) may p h = (tt, (tt, (kept_bound fin
 imports_take finished s (takes_glob i r t by target edges) may p h = (linked_bound s i t target (h.bound i t may.before), (tt, tt))
 imports_take finished s (goes_along rule) may p h = along_bound finished _ s
 
-takes_what_is_bound : (finished : Maps) (s : State) (r : Rule) → May finished s r → IsInRange s → Holds s → AllFine TakesWhatIsBound (asking s r) (acts finished s r)
-takes_what_is_bound finished s (drops_item v report rest) may p h = (tt, (tt, tt))
+takes_what_is_bound : (finished : Maps) (s : State) (r : Rule) → May finished s r → IsInRange s → Holds s → AllFine TakesWhatIsBound (asking s r)
+    (acts finished s r)
 takes_what_is_bound finished s (declares_item v d rest) may p h = (tt, (tt, (tt, tt)))
 takes_what_is_bound finished s (declares_enum site head name found rest) may p h = (tt, (tt, (tt, (tt, tt))))
-takes_what_is_bound finished s (lists_constant site head rest) may p h = (tt, (tt, tt))
-takes_what_is_bound finished s (lists_impl site head of_trait rest) may p h = (tt, (tt, tt))
 takes_what_is_bound finished s (opens_module site head name items rest) may p h = (tt, (tt, (tt, (tt, (tt, tt)))))
 takes_what_is_bound finished s (opens_file site head name search file rest) may p h = (tt, (tt, (tt, (tt, (tt, tt)))))
-takes_what_is_bound finished s (drops_file site head name search report rest) may p h = (tt, (tt, tt))
 takes_what_is_bound finished s (misses_file site head name search report rest) may p h = (tt, (tt, (tt, (tt, (tt, (tt, tt))))))
-takes_what_is_bound finished s (enters_block site head items rest) may p h = (tt, (tt, tt))
 takes_what_is_bound finished s (reaches_imports site head tree rest) may p h = (tt, (tt, (tt, tt)))
 takes_what_is_bound finished s (reaches_crate site head name alias rest) may p h = (tt, (tt, (tt, (tt, (tt, tt)))))
-takes_what_is_bound finished s (defines_rules site head name expander helpers rest) may p h = (tt, (tt, (tt, (tt, fine_macro TakesWhatIsBound _ _ expander (λ t. tt) head name _ (λ t. tt) _))))
-takes_what_is_bound finished s (defines_macro site head name expander helpers rest) may p h = (tt, (tt, (tt, (tt, (tt, fine_reporting TakesWhatIsBound _ _ expander (λ t. tt) _)))))
-takes_what_is_bound finished s (closes_module parent child rest) may p h = (tt, (tt, tt))
-takes_what_is_bound finished s (awaits_attribute v a k rest) may p h = (tt, (tt, tt))
-takes_what_is_bound finished s (lists_derives v at a adt paths rest) may p h = (tt, (tt, tt))
-takes_what_is_bound finished s (faults_derive v at report rest) may p h = (tt, (tt, tt))
+takes_what_is_bound finished s (defines_rules site head name expander helpers rest) may p h =
+    (tt, (tt, (tt, (tt, fine_macro TakesWhatIsBound _ _ expander (λ t. tt) head name _ (λ t. tt) _))))
+takes_what_is_bound finished s (defines_macro site head name expander helpers rest) may p h =
+    (tt, (tt, (tt, (tt, (tt, fine_reporting TakesWhatIsBound _ _ expander (λ t. tt) _)))))
+takes_what_is_bound finished s (lists_derives v at a adt paths call rest) may p h = (tt, (tt, (tt, tt)))
 takes_what_is_bound finished s (exports_macro site head name d e rest) may p h = (tt, (tt, (tt, (tt, (tt, (tt, (tt, tt)))))))
-takes_what_is_bound finished s (reaches_call site head path rest) may p h = (tt, (tt, tt))
 takes_what_is_bound finished s rests may p h = (tt, tt)
-takes_what_is_bound finished s (expands_call i d makro x) may p h = (tt, (tt, fine_expanding TakesWhatIsBound _ (λ t helper. tt) _ _ d (error_of x.there) (λ t text. tt) _))
+takes_what_is_bound finished s (expands_call i d makro x) may p h =
+    (tt, (tt, (tt, fine_expanding TakesWhatIsBound _ (λ t helper. tt) _ _ d (error_of x.there) (λ t text. tt) _)))
 takes_what_is_bound finished s (drops_call i d) may p h = (tt, tt)
 takes_what_is_bound finished s (drops_reached i d makro) may p h = (tt, fine_bringing TakesWhatIsBound _ (λ t helper. tt) _ _)
-takes_what_is_bound finished s (derives_builtin i d makro imp) may p h = (tt, (tt, fine_bringing TakesWhatIsBound _ (λ t helper. tt) _ _))
-takes_what_is_bound finished s (skips_attribute i d k kept_item) may p h = (tt, (tt, tt))
+takes_what_is_bound finished s (derives_builtin i d makro imp) may p h = (tt, (tt, (tt, fine_bringing TakesWhatIsBound _ (λ t helper. tt) _ _)))
 takes_what_is_bound finished s (falls_back i d k kept_item) may p h = (tt, (tt, (tt, tt)))
 takes_what_is_bound finished s (resolves_imports rule) may p h = imports_take finished s rule may p h
+takes_what_is_bound finished s other may p h = (tt, (tt, tt))
 
 -- ---- steps
 
@@ -287,7 +282,8 @@ Holds-Step : {env : Environment} {finished : Maps} {old new : State} → Step en
 Holds-Step {finished = finished} {old = old} step p h =
     let begun : State = asking old step.rule in
     let first : Holds begun = record { paired = h.paired; bound = λ i t at. same_bound old begun refl refl i t (h.bound i t at) } in
-    let done = perform_keeps Holds TakesWhatIsBound Holds-act (acts finished old step.rule) begun first (takes_what_is_bound finished old step.rule step.may p h) in
+    let done = perform_keeps Holds TakesWhatIsBound Holds-act (acts finished old step.rule) begun first
+    (takes_what_is_bound finished old step.rule step.may p h) in
     subst Holds (sym step.is) (record { paired = done.paired; bound = λ i t at. same_bound _ _ refl refl i t (done.bound i t at) })
 
 pub Holds-Steps : {env : Environment} {finished : Maps} {from to : State} → Steps env finished from to → IsInRange from → Holds from → Holds to
@@ -315,8 +311,11 @@ in_range-begun tables w finished transitive holders start id = record {
   calls = tt;
 }
 
-pub in_range-start : (tables : TablesValue) (w : Workspace) (finished : Maps) (holders : List ModuleId) (from : Beginning) → IsInRange (start_of tables w finished holders from)
-in_range-start tables w finished holders from = in_range-begun tables w finished (transitive_dependencies_in w (krate_of from.start)) holders from.start from.tree
+pub in_range-start : (tables : TablesValue) (w : Workspace) (finished : Maps) (holders : List ModuleId) (from : Beginning)
+    → IsInRange (start_of tables w finished holders from)
+in_range-start tables w finished holders from =
+    in_range-begun tables w finished (transitive_dependencies_in w (krate_of from.start)) holders from.start from.tree
 
-pub Holds-start : (tables : TablesValue) (w : Workspace) (finished : Maps) (holders : List ModuleId) (from : Beginning) → Holds (start_of tables w finished holders from)
+pub Holds-start : (tables : TablesValue) (w : Workspace) (finished : Maps) (holders : List ModuleId) (from : Beginning)
+    → Holds (start_of tables w finished holders from)
 Holds-start tables w finished holders from = record { paired = refl; bound = λ i t at. absurd (let no : ⊥ = cc in no) }

@@ -8,17 +8,17 @@ use Rattle.hir_scope.specs.Scope.Push.{pushed_scope}
 use Rattle.hir_scope.specs.declared.imports.GlobId.{GlobId}
 use Rattle.hir_scope.specs.declared.imports.ImportId.{ImportId}
 use Rattle.hir_scope.specs.declared.imports.ImportOrExternCrate.{ImportOrExternCrate}
-use Rattle.hir_scope.specs.declared.imports.ImportOrExternCrate.TheVariants as ways
 use Rattle.hir_scope.specs.declared.item_in_ns.ItemInNs.{ItemInNs}
 use Rattle.hir_scope.specs.declared.per_ns.PerNs.{PerNs}
 use Rattle.hir_scope.specs.declared.visibility.Visibility.{Visibility}
+use Rattle.hir_scope.specs.declared.imports.ImportOrExternCrate.TheVariants as ways
 use Rattle.hir_def_map_rules.specs.State.{Map, module_at, numbered, with_scope}
 use Rattle.hir_def_map_rules.specs.Overlay.{Maps}
 use Rattle.hir_glob_imports.specs.Rules.{Act, copies, brings, follows, raises}
 use Rattle.hir_glob_imports.specs.declared.edge.Bound.{Bound}
 use Rattle.hir_glob_imports.specs.declared.edge.Key.{Key}
-use Rattle.hir_glob_imports.specs.declared.edge.Key.TheVariants.{Types, Values, Macros, Unnamed}
 use Rattle.hir_glob_imports.specs.declared.edge.Slot.{Slot}
+use Rattle.hir_glob_imports.specs.declared.edge.Key.TheVariants.{Types, Values, Macros, Unnamed}
 use Rattle.hir_import_resolution.specs.Changes.{Change as ImportChange, act as act_on_imports, along, kept_vis, keeps_trait, pushes, pushing, records, takes}
 use Rattle.hir_import_resolution.specs.Names.{bound_of, copied_where, followed_where, items_by, redefined, revised, trait_vis, with_trait}
 use Rattle.hir_import_resolution.specs.State.{ImportState, scopes_of}
@@ -80,7 +80,8 @@ module _ (s : ImportState) where
   edit_of (pushes home None items source) = None
   edit_of (pushes home (Some name) items source) = Some (home, pushes_to s.globs name items (pushing source))
   edit_of (keeps_trait finished home None vis import) = None
-  edit_of (keeps_trait finished home (Some id) vis import) = Some (home, keeps_unnamed id (kept_vis finished s.map vis (trait_vis (module_at s.map home) id)) import)
+  edit_of (keeps_trait finished home (Some id) vis import) =
+      Some (home, keeps_unnamed id (kept_vis finished s.map vis (trait_vis (module_at s.map home) id)) import)
   edit_of (takes i t) = None
   edit_of (records edges) = None
   edit_of (along finished a) = edit_along finished a
@@ -88,25 +89,25 @@ module _ (s : ImportState) where
 -- ---- that is what it makes of the map
 
 module _ (s : ImportState) where
-  copied_map : (finished : Maps) (slot : Slot) (vis : Visibility) (by : GlobId) (o : Option Bound) → (copied_where (scopes_of finished s) slot vis by o).map ≡ edited s.map (copy_where s slot vis by o)
+  copied_map : (finished : Maps) (slot : Slot) (vis : Visibility) (by : GlobId) (o : Option Bound) → (copied_where (scopes_of finished s) slot vis by o).map
+      ≡ edited s.map (copy_where s slot vis by o)
   copied_map finished slot vis by None = refl
   copied_map finished slot vis by (Some b) = go slot.key
     where
-      go : (key : Key) → (copied_where (scopes_of finished s) (record { at = slot.at; key = key }) vis by (Some b)).map ≡ edited s.map (copy_where s (record { at = slot.at; key = key }) vis by (Some b))
+      go : (key : Key) → (copied_where (scopes_of finished s) (record { at = slot.at; key = key }) vis by (Some b)).map
+          ≡ edited s.map (copy_where s (record { at = slot.at; key = key }) vis by (Some b))
       go (Types name) = refl
-      go (Values name) = refl
-      go (Macros name) = refl
-      go (Unnamed id) = refl
+      go other = refl
 
-  followed_map : (finished : Maps) (slot : Slot) (vis : Visibility) (o : Option Bound) → (followed_where (scopes_of finished s) slot vis o).map ≡ edited s.map (follow_where s slot vis o)
+  followed_map : (finished : Maps) (slot : Slot) (vis : Visibility) (o : Option Bound) → (followed_where (scopes_of finished s) slot vis o).map
+      ≡ edited s.map (follow_where s slot vis o)
   followed_map finished slot vis None = refl
   followed_map finished slot vis (Some b) = go slot.key
     where
-      go : (key : Key) → (followed_where (scopes_of finished s) (record { at = slot.at; key = key }) vis (Some b)).map ≡ edited s.map (follow_where s (record { at = slot.at; key = key }) vis (Some b))
+      go : (key : Key) → (followed_where (scopes_of finished s) (record { at = slot.at; key = key }) vis (Some b)).map
+          ≡ edited s.map (follow_where s (record { at = slot.at; key = key }) vis (Some b))
       go (Types name) = refl
-      go (Values name) = refl
-      go (Macros name) = refl
-      go (Unnamed id) = refl
+      go other = refl
 
   pub map_after : (c : ImportChange) → (act_on_imports s c).map ≡ edited s.map (edit_of s c)
   map_after (pushes home None items source) = refl

@@ -1,5 +1,9 @@
 -- What is to be visited, each import and each call is of a module that is there.
-use Rattle.std.proofs.Common.{◌≡◌, ℕ, zero, suc, ◌+◌, ◌<◌, ◌≤◌, Bool, true, false, ◌||◌, List, [], ◌∷◌, ◌++◌, length, map as list_map, slice_get, Option, None, Some, refl, sym, subst, arith, append_assoc}
+use Rattle.std.proofs.Common.{◌≡◌, ℕ, zero, suc, ◌+◌, ◌<◌, ◌≤◌, Bool, true, false, ◌||◌, List, [], ◌∷◌, ◌++◌, length, map as list_map, slice_get, Option, None}
+use Rattle.std.proofs.Common.{Some, refl, sym, subst, arith, append_assoc}
+use Rattle.hir_base.specs.declared.ids.AdtId.{AdtId}
+use Rattle.hir_base.specs.declared.ast_id.AstId.{AstId}
+use Rattle.hir_base.specs.declared.ast_id.AttrId.{AttrId}
 use Rattle.hir_base.specs.declared.ids.UseId.{UseId}
 use Rattle.hir_item_tree.specs.KeptForest.{Head, KeptForest, no_items, item}
 use Rattle.hir_item_tree.specs.Imports.{imports_of}
@@ -13,15 +17,11 @@ use Rattle.hir_def_map_rules.proofs.Grown.{length-changed}
 use Rattle.hir_def_map_rules.proofs.StaysWellFormed.{length-made}
 use Rattle.hir_import_resolution.specs.declared.directive.ImportDirective.{ImportDirective}
 use Rattle.hir_import_resolution.specs.Rules.{acts as import_acts}
-use Rattle.hir_collector_rules.specs.declared.macro_directive.MacroDirective.{MacroDirective}
-use Rattle.hir_collector_rules.specs.declared.site.Site.{Site}
+use Rattle.hir_collector_rules.specs.Types.{MacroDirective, Site}
 use Rattle.hir_collector_rules.specs.Calls.{call_site, error_of}
 use Rattle.hir_collector_rules.specs.Keys.{Environment}
 use Rattle.hir_collector_rules.specs.State.{State, Task, Visit, visits, closes, import_state, visits_over}
 use Rattle.hir_base.specs.ModPath.{Path}
-use Rattle.hir_base.specs.declared.ast_id.AstId.{AstId}
-use Rattle.hir_base.specs.declared.ast_id.AttrId.{AttrId}
-use Rattle.hir_base.specs.declared.ids.AdtId.{AdtId}
 use Rattle.hir_use_tree.specs.UseTree.{count_of}
 use Rattle.hir_collector_rules.specs.Attributes.{attr_id, item_node}
 use Rattle.hir_collector_rules.specs.ItemIds.{macro_rules_id, module_id, use_id}
@@ -29,8 +29,14 @@ use Rattle.hir_collector_rules.specs.Items.{file_origin, inline_origin, own_visi
 use Rattle.hir_collector_rules.specs.Imports.{reached_import}
 use Rattle.hir_collector_rules.specs.Macros.{is_macro_use}
 use Rattle.hir_collector_rules.specs.Moves.{begun}
-use Rattle.hir_collector_rules.specs.Changes.{Change, lists, makes, gives_variants, begins_paths, reaches, awaits, ends, settles, changes_imports, adds_textual, takes_textual, defines, describes, helps, lists_derive, exports, uses_macros, tells, goes_on, act, on_map}
-use Rattle.hir_collector_rules.specs.Steps.{Rule, drops_item, awaits_attribute, lists_derives, faults_derive, exports_macro, reaches_call, rests, expands_call, drops_call, drops_reached, derives_builtin, skips_attribute, falls_back, defines_rules, defines_macro, closes_module, closing, declares_item, declares_enum, lists_constant, lists_impl, opens_module, opens_file, drops_file, misses_file, enters_block, reaches_imports, reaches_crate, resolves_imports, May, acts, asking, derives_from, inside_block, inside_file, inside_module, path_of, visits_in_file, visits_inside, Step, Steps, none, more}
+use Rattle.hir_collector_rules.specs.Changes.{Change, lists, makes, gives_variants, begins_paths, reaches, awaits, ends, settles, changes_imports, adds_textual}
+use Rattle.hir_collector_rules.specs.Changes.{takes_textual, defines, describes, helps, lists_derive, notes, exports, uses_macros, tells, goes_on, act, on_map}
+use Rattle.hir_collector_rules.specs.Steps.{Rule, drops_item, awaits_attribute, lists_derives, faults_derive, exports_macro, reaches_call, rests, expands_call}
+use Rattle.hir_collector_rules.specs.Steps.{drops_call, drops_reached, derives_builtin, skips_attribute, falls_back, defines_rules, defines_macro}
+use Rattle.hir_collector_rules.specs.Steps.{closes_module, closing, declares_item, declares_enum, lists_constant, lists_impl, opens_module, opens_file}
+use Rattle.hir_collector_rules.specs.Steps.{drops_file, misses_file, enters_block, reaches_imports, reaches_crate, resolves_imports, May, acts, asking}
+use Rattle.hir_collector_rules.specs.Steps.{derives_from, inside_block, inside_file, inside_module, path_of, visits_in_file, visits_inside, Step, Steps, none}
+use Rattle.hir_collector_rules.specs.Steps.{more}
 use Rattle.hir_collector_rules.proofs.Changes.{AllFine, all_fine, fine_bringing, fine_expanding, fine_macro, fine_reporting, perform_keeps}
 use Rattle.hir_collector_rules.proofs.Grows.{Grows, Grows-act}
 use Rattle.hir_collector_rules.proofs.ImportEdits.{imports_after}
@@ -122,25 +128,10 @@ imports_of_use n home low by vis (i ∷ is) = (low, imports_of_use n home low by
 
 -- where imports or calls are come upon, or what is to be visited changes, these are of modules that are there
 abbrev StaysInRange : State → Change → Type 0
-StaysInRange s (lists home d) = Unit {0}
-StaysInRange s (makes home name origin visibility) = Unit {0}
-StaysInRange s (gives_variants id variants) = Unit {0}
-StaysInRange s (begins_paths r) = Unit {0}
 StaysInRange s (reaches rs) = ImportsBelow (length s.core.map.modules) rs
 StaysInRange s (awaits calls) = CallsBelow (length s.core.map.modules) calls
-StaysInRange s (ends i fate) = Unit {0}
-StaysInRange s settles = Unit {0}
-StaysInRange s (changes_imports c) = Unit {0}
-StaysInRange s (adds_textual home name makro) = Unit {0}
-StaysInRange s (takes_textual home from) = Unit {0}
-StaysInRange s (defines node makro) = Unit {0}
-StaysInRange s (describes makro what) = Unit {0}
-StaysInRange s (helps node helper) = Unit {0}
-StaysInRange s (lists_derive home imp) = Unit {0}
-StaysInRange s (exports f makro) = Unit {0}
-StaysInRange s (uses_macros macros by) = Unit {0}
-StaysInRange s (tells d) = Unit {0}
 StaysInRange s (goes_on vs) = VisitsBelow (length s.core.map.modules) vs
+StaysInRange s other = Unit {0}
 
 in_larger : (s : State) (m : Map) → Grows s.core.map m → IsInRange s → IsInRange (on_map s m)
 in_larger s m grows p = record {
@@ -153,16 +144,17 @@ in_range-act : (s : State) (c : Change) → IsInRange s → StaysInRange s c →
 in_range-act s (lists home d) p fine = in_larger s _ (Grows-act s (lists home d)) p
 in_range-act s (makes home name origin visibility) p fine = in_larger s _ (Grows-act s (makes home name origin visibility)) p
 in_range-act s (gives_variants id variants) p fine = in_larger s _ (Grows-act s (gives_variants id variants)) p
-in_range-act s (begins_paths r) p fine = record { visits = p.visits; imports = p.imports; calls = p.calls }
-in_range-act s (reaches rs) p fine = record { visits = p.visits; imports = imports_joined (length s.core.map.modules) s.core.reached rs p.imports fine; calls = p.calls }
-in_range-act s (awaits calls) p fine = record { visits = p.visits; imports = p.imports; calls = calls_joined (length s.core.map.modules) s.core.calls calls p.calls fine }
-in_range-act s (ends i fate) p fine = record { visits = p.visits; imports = p.imports; calls = p.calls }
-in_range-act s settles p fine = record { visits = p.visits; imports = p.imports; calls = p.calls }
+in_range-act s (reaches rs) p fine =
+    record { visits = p.visits; imports = imports_joined (length s.core.map.modules) s.core.reached rs p.imports fine; calls = p.calls }
+in_range-act s (awaits calls) p fine =
+    record { visits = p.visits; imports = p.imports; calls = calls_joined (length s.core.map.modules) s.core.calls calls p.calls fine }
 in_range-act s (changes_imports c) p fine =
     let larger : IsInRange (on_map s (act s (changes_imports c)).core.map) = in_larger s _ (Grows-act s (changes_imports c)) p in
     record {
       visits = larger.visits;
-      imports = subst (λ (rs : List ImportDirective). ImportsBelow (length (act s (changes_imports c)).core.map.modules) rs) (sym (imports_after (import_state s) c)) larger.imports;
+      imports =
+          subst (λ (rs : List ImportDirective). ImportsBelow (length (act s (changes_imports c)).core.map.modules) rs) (sym (imports_after (import_state s) c))
+          larger.imports;
       calls = larger.calls;
     }
 in_range-act s (adds_textual home name makro) p fine = in_larger s _ (Grows-act s (adds_textual home name makro)) p
@@ -171,25 +163,29 @@ in_range-act s (defines node makro) p fine = in_larger s _ (Grows-act s (defines
 in_range-act s (describes makro what) p fine = in_larger s _ (Grows-act s (describes makro what)) p
 in_range-act s (helps node helper) p fine = in_larger s _ (Grows-act s (helps node helper)) p
 in_range-act s (lists_derive home imp) p fine = in_larger s _ (Grows-act s (lists_derive home imp)) p
-in_range-act s (exports f makro) p fine = record { visits = p.visits; imports = p.imports; calls = p.calls }
+in_range-act s (notes home invocation) p fine = in_larger s _ (Grows-act s (notes home invocation)) p
 in_range-act s (uses_macros macros by) p fine = in_larger s _ (Grows-act s (uses_macros macros by)) p
 in_range-act s (tells d) p fine = in_larger s _ (Grows-act s (tells d)) p
 in_range-act s (goes_on vs) p fine = record { visits = fine; imports = p.imports; calls = p.calls }
+in_range-act s other p fine = record { visits = p.visits; imports = p.imports; calls = p.calls }
 
 -- ---- modules that are made
 
 -- visits of the next module come before others
 made_before : (n : ℕ) (s : Site) → s.home ≡ n → (is : KeptForest) (marked : Bool) (parent child : ℕ) (rest : List Task) → VisitsBelow n rest
     → VisitsBelow (n + 1) ((visits_over s is ++ closing marked parent child) ++ rest)
-made_before n s here is marked parent child rest f = visits_closed (n + 1) s (omega arith) is marked parent child rest (visits_more n (n + 1) (omega arith) rest f)
+made_before n s here is marked parent child rest f =
+    visits_closed (n + 1) s (omega arith) is marked parent child rest (visits_more n (n + 1) (omega arith) rest f)
 
 inside_before : (m : Map) (s : Site) (head : Head) (dir : Option Directory) (is : KeptForest) (rest : List Task) → VisitsBelow (length m.modules) rest
     → VisitsBelow (length m.modules + 1) (visits_inside m s head dir is ++ rest)
 inside_before m s head None is rest f = visits_more (length m.modules) (length m.modules + 1) (omega arith) rest f
-inside_before m s head (Some dir) is rest f = made_before (length m.modules) (inside_module m s dir) refl is (is_macro_use head.attributes) s.home (length m.modules) rest f
+inside_before m s head (Some dir) is rest f =
+    made_before (length m.modules) (inside_module m s dir) refl is (is_macro_use head.attributes) s.home (length m.modules) rest f
 
 -- so is all of a module that is there once the next one is
-below_made : (m : Map) (home : ℕ) (name : List ℕ) (new : ModuleValue) (ts : List Task) → VisitsBelow (length m.modules + 1) ts → VisitsBelow (length (begun m home name new).modules) ts
+below_made : (m : Map) (home : ℕ) (name : List ℕ) (new : ModuleValue) (ts : List Task) → VisitsBelow (length m.modules + 1) ts
+    → VisitsBelow (length (begun m home name new).modules) ts
 below_made m home name new ts f =
     let made : Map = with_module m home name new in
     let longer : length made.modules ≡ length m.modules + 1 = length-made m home name new in
@@ -199,7 +195,8 @@ below_made m home name new ts f =
 -- ---- rules
 
 -- the paths of a derive are called where it is written
-derives_below : (n : ℕ) (site : Site) (node : AstId) (attr : AttrId) (adt : AdtId) → site.home < n → (index : ℕ) (paths : List Path) → CallsBelow n (derives_from site node attr adt index paths)
+derives_below : (n : ℕ) (site : Site) (node : AstId) (attr : AttrId) (adt : AdtId) → site.home < n → (index : ℕ) (paths : List Path)
+    → CallsBelow n (derives_from site node attr adt index paths)
 derives_below n site node attr adt low index [] = tt
 derives_below n site node attr adt low index (path ∷ paths) = (low, derives_below n site node attr adt low (count_of (index + 1)) paths)
 
@@ -220,51 +217,98 @@ stays_in_range finished s (lists_impl site head of_trait rest) may p = (left s p
 stays_in_range finished s (opens_module site head name items rest) may p =
     let m : Map = s.core.map in
     let inside : Option Directory = inline_directory site.dir name (path_of head) in
-    let new : ModuleValue = new_module (inline_origin site.tree head.id) (own_visibility finished s.core.local m site head) (Some (module_id m site.home)) in
-    (tt, (tt, (below_made m site.home name new (visits_inside m site head inside items ++ rest) (inside_before m site head inside items rest (left s p _ rest may.next)), (tt, (tt, tt)))))
+    let new : ModuleValue = new_module (inline_origin site.tree head.id) (own_visibility finished s.core.local m site head) (Some (module_id m site.home)) in (
+      tt,
+      (
+        tt,
+        (
+          below_made m site.home name new (visits_inside m site head inside items ++ rest)
+              (inside_before m site head inside items rest (left s p _ rest may.next)),
+          (tt, (tt, tt)),
+        ),
+      ),
+    )
 stays_in_range finished s (opens_file site head name search file rest) may p =
     let m : Map = s.core.map in
-    let new : ModuleValue = new_module (file_origin site.tree head.id m.crate_data.edition file) (own_visibility finished s.core.local m site head) (Some (module_id m site.home)) in
-    let below = made_before (length m.modules) (inside_file m file) refl file.tree.items (is_macro_use head.attributes || is_macro_use file.tree.attributes) site.home (length m.modules) rest
+    let new : ModuleValue = new_module (file_origin site.tree head.id m.crate_data.edition file) (own_visibility finished s.core.local m site head)
+    (Some (module_id m site.home)) in
+    let below = made_before (length m.modules) (inside_file m file) refl file.tree.items (is_macro_use head.attributes || is_macro_use file.tree.attributes)
+    site.home (length m.modules) rest
     (left s p _ rest may.looks.here.next) in
     (tt, (tt, (below_made m site.home name new (visits_in_file m site head file ++ rest) below, (tt, (tt, tt)))))
 stays_in_range finished s (drops_file site head name search report rest) may p = (left s p _ rest may.looks.here.next, (tt, tt))
 stays_in_range finished s (misses_file site head name search report rest) may p =
-    let n : ℕ = length s.core.map.modules in
-    (tt, (tt, (below_made s.core.map site.home name _ rest (visits_more n (n + 1) (omega arith) rest (left s p _ rest may.looks.here.next)), (tt, (tt, (tt, tt))))))
-stays_in_range finished s (enters_block site head items rest) may p =
-    (visits_before (length s.core.map.modules) (inside_block s.core.map site head) (next_home s p _ rest may.next) items rest (left s p _ rest may.next), (tt, tt))
+    let n : ℕ = length s.core.map.modules in (
+      tt,
+      (
+        tt,
+        (
+          below_made s.core.map site.home name _ rest (visits_more n (n + 1) (omega arith) rest (left s p _ rest may.looks.here.next)),
+          (tt, (tt, (tt, tt))),
+        ),
+      ),
+    )
+stays_in_range finished s (enters_block site head items rest) may p = (
+  visits_before (length s.core.map.modules) (inside_block s.core.map site head) (next_home s p _ rest may.next) items rest (left s p _ rest may.next),
+  (tt, tt),
+)
 stays_in_range finished s (reaches_imports site head tree rest) may p =
-    let below = imports_of_use (length s.core.map.modules) site.home (next_home s p _ rest may.next) (use_id s.core.map site head.id) head.visibility (imports_of tree) in
+    let below = imports_of_use (length s.core.map.modules) site.home (next_home s p _ rest may.next) (use_id s.core.map site head.id) head.visibility
+    (imports_of tree) in
     (left s p _ rest may.next, (below, (tt, tt)))
 stays_in_range finished s (reaches_crate site head name alias rest) may p =
     (left s p _ rest may.next, (tt, (tt, ((next_home s p _ rest may.next, tt), (tt, tt)))))
-stays_in_range finished s (defines_rules site head name expander helpers rest) may p =
-    (left s p _ rest may.next, (tt, (tt, (tt, fine_macro StaysInRange _ _ expander (λ t. tt) head name (macro_rules_id s.core.map site head.id expander) (λ t. tt) _))))
+stays_in_range finished s (defines_rules site head name expander helpers rest) may p = (
+  left s p _ rest may.next,
+  (
+    tt,
+    (
+      tt,
+      (
+        tt,
+        fine_macro StaysInRange _ _ expander (λ t. tt) head name (macro_rules_id s.core.map site head.id expander)
+            (λ t. tt) _,
+      ),
+    ),
+  ),
+)
 stays_in_range finished s (defines_macro site head name expander helpers rest) may p =
     (left s p _ rest may.next, (tt, (tt, (tt, (tt, fine_reporting StaysInRange _ _ expander (λ t. tt) _)))))
 stays_in_range finished s (closes_module parent child rest) may p = (subst (VisitsBelow (length s.core.map.modules)) may p.visits, (tt, tt))
 stays_in_range finished s (awaits_attribute v a k rest) may p = (left s p v rest may.has.on.next, ((next_home s p v rest may.has.on.next, tt), tt))
-stays_in_range finished s (lists_derives v at a adt paths rest) may p =
-    let here : v.site.home < length s.core.map.modules = next_home s p v rest may.has.on.next in
-    ((here, left s p v rest may.has.on.next), (derives_below (length s.core.map.modules) v.site (item_node v.site v.item) (attr_id a) adt here 0 paths, tt))
+stays_in_range finished s (lists_derives v at a adt paths call rest) may p =
+    let here : v.site.home < length s.core.map.modules = next_home s p v rest may.has.on.next in (
+      (here, left s p v rest may.has.on.next),
+      (
+        derives_below (length s.core.map.modules) v.site (item_node v.site v.item) (attr_id a) adt here 0 paths,
+        (tt, tt),
+      ),
+    )
 stays_in_range finished s (faults_derive v at report rest) may p = ((next_home s p v rest may.has.on.next, left s p v rest may.has.on.next), (tt, tt))
 stays_in_range finished s (exports_macro site head name d e rest) may p = (left s p _ rest may.here.next, (tt, (tt, (tt, (tt, (tt, (tt, tt)))))))
 stays_in_range finished s (reaches_call site head path rest) may p = (left s p _ rest may.next, ((next_home s p _ rest may.next, tt), tt))
 stays_in_range finished s rests may p = (tt, tt)
 stays_in_range finished s (expands_call i d makro x) may p =
-    let here : d.site.home < length s.core.map.modules = call_below (length s.core.map.modules) s.core.calls i d p.calls may.called.due.waiting.call in
-    (tt, (visits_of (length s.core.map.modules) (call_site d x.id) here x.tree.tree.items, fine_expanding StaysInRange _ (λ t helper. tt) _ _ d (error_of x.there) (λ t text. tt) _))
+    let here : d.site.home < length s.core.map.modules = call_below (length s.core.map.modules) s.core.calls i d p.calls may.called.due.waiting.call in (
+      tt,
+      (
+        visits_of (length s.core.map.modules) (call_site d x.id) here x.tree.tree.items,
+        (tt, fine_expanding StaysInRange _ (λ t helper. tt) _ _ d (error_of x.there) (λ t text. tt) _),
+      ),
+    )
 stays_in_range finished s (drops_call i d) may p = (tt, tt)
 stays_in_range finished s (drops_reached i d makro) may p = (tt, fine_bringing StaysInRange _ (λ t helper. tt) _ _)
-stays_in_range finished s (derives_builtin i d makro imp) may p = (tt, (tt, fine_bringing StaysInRange _ (λ t helper. tt) _ _))
-stays_in_range finished s (skips_attribute i d k kept_item) may p = (tt, ((call_below (length s.core.map.modules) s.core.calls i d p.calls may.due.waiting.call, tt), tt))
-stays_in_range finished s (falls_back i d k kept_item) may p = (tt, (tt, ((call_below (length s.core.map.modules) s.core.calls i d p.calls may.waiting.call, tt), tt)))
+stays_in_range finished s (derives_builtin i d makro imp) may p = (tt, (tt, (tt, fine_bringing StaysInRange _ (λ t helper. tt) _ _)))
+stays_in_range finished s (skips_attribute i d k kept_item) may p =
+    (tt, ((call_below (length s.core.map.modules) s.core.calls i d p.calls may.due.waiting.call, tt), tt))
+stays_in_range finished s (falls_back i d k kept_item) may p =
+    (tt, (tt, ((call_below (length s.core.map.modules) s.core.calls i d p.calls may.waiting.call, tt), tt)))
 stays_in_range finished s (resolves_imports rule) may p = all_fine StaysInRange (λ t c. tt) (import_acts finished (import_state s) rule) s
 
 pub in_range-Step : {env : Environment} {finished : Maps} {old new : State} → Step env finished old new → IsInRange old → IsInRange new
 in_range-Step {finished = finished} {old = old} step p =
-    let done = perform_keeps IsInRange StaysInRange in_range-act (acts finished old step.rule) (asking old step.rule) (record { visits = p.visits; imports = p.imports; calls = p.calls }) (stays_in_range finished old step.rule step.may p) in
+    let done = perform_keeps IsInRange StaysInRange in_range-act (acts finished old step.rule) (asking old step.rule)
+    (record { visits = p.visits; imports = p.imports; calls = p.calls }) (stays_in_range finished old step.rule step.may p) in
     subst IsInRange (sym step.is) (record { visits = done.visits; imports = done.imports; calls = done.calls })
 
 pub in_range-Steps : {env : Environment} {finished : Maps} {from to : State} → Steps env finished from to → IsInRange from → IsInRange to

@@ -34,7 +34,8 @@ kept_namespaces-none kinds.TypeOnly = refl
 kept_namespaces-none kinds.Glob = refl
 
 -- where the takings reached all that is reached, they kept all that is kept
-pub AreAmong-by_kind : (k : ImportKind) (items : PerNs) (t : Namespaces) → AreAmong (namespaces_of items) t → AreAmong (namespaces_of (kept_by_kind k items)) (kept_namespaces k t)
+pub AreAmong-by_kind : (k : ImportKind) (items : PerNs) (t : Namespaces) → AreAmong (namespaces_of items) t → AreAmong (namespaces_of (kept_by_kind k items))
+    (kept_namespaces k t)
 AreAmong-by_kind k items t p =
     subst (λ (a : Namespaces). AreAmong a (kept_namespaces k t)) (sym (namespaces_of-kept k items)) (AreAmong-kept k (namespaces_of items) t p)
 

@@ -1,6 +1,7 @@
 -- Lists: what is left from a place on, places, and tests.
 use Rattle.std.specs.List.{list_any}
-use Rattle.std.proofs.Common.{◌≡◌, ◌≢◌, ◌∙◌, ℕ, Bool, false, zero, suc, ◌+◌, ◌<◌, ◌≤◌, List, [], ◌∷◌, ◌++◌, length, map, drop, get_or, slice_get, slice_set, Some, None, refl, sym, ap, add-one, arith}
+use Rattle.std.proofs.Common.{◌≡◌, ◌≢◌, ◌∙◌, ℕ, Bool, false, zero, suc, ◌+◌, ◌<◌, ◌≤◌, List, [], ◌∷◌, ◌++◌, length, map, drop, get_or, slice_get, slice_set}
+use Rattle.std.proofs.Common.{Some, None, refl, sym, ap, add-one, arith}
 use Rattle.std.proofs.Math.Seq.{drop-cons}
 use Rattle.hir_def_map_rules.proofs.NoneOf.{neither, not_first, not_second}
 
@@ -80,4 +81,5 @@ module _ {A : Type 0} (p : A → Bool) where
   -- of the elements of two lists a test holds of none
   pub none_joined : (xs ys : List A) → list_any p xs ≡ false → list_any p ys ≡ false → list_any p (xs ++ ys) ≡ false
   none_joined [] ys f g = g
-  none_joined (x ∷ xs) ys f g = neither (p x) (list_any p (xs ++ ys)) (not_first (p x) (list_any p xs) f) (none_joined xs ys (not_second (p x) (list_any p xs) f) g)
+  none_joined (x ∷ xs) ys f g =
+      neither (p x) (list_any p (xs ++ ys)) (not_first (p x) (list_any p xs) f) (none_joined xs ys (not_second (p x) (list_any p xs) f) g)

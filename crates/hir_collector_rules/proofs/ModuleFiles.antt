@@ -1,10 +1,14 @@
 -- What a search for the file of a module comes to.
-use Rattle.std.proofs.Common.{◌≡◌, ◌∙◌, ℕ, zero, suc, ◌<◌, false, List, [], ◌∷◌, ◌++◌, map, Option, Some, None, slice_get, refl, sym, ap, subst, arith, Contains}
+use Rattle.std.proofs.Common.{◌≡◌, ◌∙◌, ℕ, zero, suc, ◌<◌, false, List, [], ◌∷◌, ◌++◌, map, Option, Some, None, slice_get, refl, sym, ap, subst, arith}
+use Rattle.std.proofs.Common.{Contains}
 use Rattle.std.specs.Prelude.{IsSome, option_map}
 use Rattle.std.specs.Option.{option_map_or, option_to_list}
-use Rattle.hir_base.specs.declared.ast_id.FileId.{FileId}
-use Rattle.hir_base.specs.declared.edition.Edition.{Edition}
+use Rattle.hir_base.specs.declared.ast_id.AstId.{AstId}
+use Rattle.hir_base.specs.declared.ast_id.AttrId.{AttrId}
 use Rattle.hir_base.specs.declared.ids.Crate.{Crate}
+use Rattle.hir_base.specs.declared.edition.Edition.{Edition}
+use Rattle.hir_base.specs.declared.ast_id.FileId.{FileId}
+use Rattle.hir_base.specs.declared.ast_id.MacroCallId.{MacroCallId}
 use Rattle.hir_base.specs.declared.macro_kind.MacroId.{MacroId}
 use Rattle.hir_base.specs.declared.macro_kind.MacroId.TheVariants as macros
 use Rattle.hir_item_tree.specs.declared.tree_id.TreeId.{TreeId}
@@ -14,15 +18,19 @@ use Rattle.hir_tables.specs.SourcePlaces.{SourcePlaceValue, file}
 use Rattle.hir_tables.specs.Tables.{KeepsTables, TablesValue, file_at, source_of}
 use Rattle.hir_tables.proofs.Growth.{source_of-kept}
 use Rattle.hir_def_map_rules.specs.Overlay.{Maps}
-use Rattle.hir_collector_rules.specs.declared.macro_directive.MacroDirective.{MacroDirective}
-use Rattle.hir_collector_rules.specs.declared.site.Site.{Site}
-use Rattle.hir_collector_rules.specs.declared.source_database.Key.{Key}
+use Rattle.hir_collector_rules.specs.Types.{Key, MacroDirective, Site}
 use Rattle.hir_collector_rules.specs.declared.source_database.Key.TheVariants as keys
 use Rattle.hir_collector_rules.specs.Workspace.{TreeLook, Workspace, seen_of}
 use Rattle.hir_collector_rules.specs.Keys.{HasMeaning, IsMeant, Look, absent_source, environment, look, macro_tree, of_tree, source_under}
-use Rattle.hir_collector_rules.specs.Calls.{Expanding, IsMeantAt, IsNumberedCall, call_loc, call_style, expansion_of_call}
-use Rattle.hir_collector_rules.specs.ModuleFiles.{AreAbsent, AreNumbered, AreTried, IsNumberOf, IsNumbered, LookedAt, ModuleFile, NoneIsThereBefore, Search, Tried, file_key, file_reading, file_readings, file_tree, is_there, module_file, named_by, taken_by, tried_in}
-use Rattle.hir_collector_rules.specs.Steps.{Numbered, Rule, Sees, drops_item, awaits_attribute, lists_derives, faults_derive, exports_macro, reaches_call, rests, expands_call, drops_call, drops_reached, derives_builtin, skips_attribute, falls_back, defines_rules, defines_macro, closes_module, declares_item, declares_enum, lists_constant, lists_impl, opens_module, opens_file, drops_file, misses_file, enters_block, reaches_imports, reaches_crate, resolves_imports, keys_read}
+use Rattle.hir_collector_rules.specs.Attributes.{attr_id, item_node}
+use Rattle.hir_collector_rules.specs.Calls.{Expanding, IsMeantAt, IsNumberedCall, IsNumberedDerive, call_loc, call_style, derive_expansion, derive_loc}
+use Rattle.hir_collector_rules.specs.Calls.{expansion_of_call}
+use Rattle.hir_collector_rules.specs.ModuleFiles.{AreAbsent, AreNumbered, AreTried, IsNumberOf, IsNumbered, LookedAt, ModuleFile, NoneIsThereBefore, Search}
+use Rattle.hir_collector_rules.specs.ModuleFiles.{Tried, file_key, file_reading, file_readings, file_tree, is_there, module_file, named_by, taken_by, tried_in}
+use Rattle.hir_collector_rules.specs.Steps.{Numbered, Rule, Sees, drops_item, awaits_attribute, lists_derives, faults_derive, exports_macro, reaches_call}
+use Rattle.hir_collector_rules.specs.Steps.{rests, expands_call, drops_call, drops_reached, derives_builtin, skips_attribute, falls_back, defines_rules}
+use Rattle.hir_collector_rules.specs.Steps.{defines_macro, closes_module, declares_item, declares_enum, lists_constant, lists_impl, opens_module, opens_file}
+use Rattle.hir_collector_rules.specs.Steps.{drops_file, misses_file, enters_block, reaches_imports, reaches_crate, resolves_imports, keys_read}
 use Rattle.hir_collector_rules.specs.State.{State}
 use Rattle.hir_collector_rules.proofs.Asked.{seen_tree}
 
@@ -37,7 +45,8 @@ module _ (tables grown : TablesValue) (kept : KeepsTables tables grown) where
 
   pub numbers_kept : (declaring : Option (List ℕ)) (ts : List Tried) → AreNumbered tables declaring ts → AreNumbered grown declaring ts
   numbers_kept declaring [] h = tt
-  numbers_kept declaring (t ∷ ts) h = (number_kept (option_map (λ (f : LookedAt). f.id) t.file) (named_by declaring t.candidate) h.0, numbers_kept declaring ts h.1)
+  numbers_kept declaring (t ∷ ts) h =
+      (number_kept (option_map (λ (f : LookedAt). f.id) t.file) (named_by declaring t.candidate) h.0, numbers_kept declaring ts h.1)
 
   pub numbered_kept : (f : Option FileId) (s : Search) → IsNumbered tables f s → IsNumbered grown f s
   numbered_kept f s h = record { declaring = number_kept f s.declaring h.declaring; tried = numbers_kept s.declaring (tried_in s) h.tried }
@@ -56,11 +65,20 @@ module _ (tables grown : TablesValue) (kept : KeepsTables tables grown) where
   macro_kept (macros.MacroRulesId id) h = source_kept (macro_tree id.loc) h
   macro_kept (macros.ProcMacroId id) h = h
 
-  pub call_kept : (own : Crate) (d : MacroDirective) (makro : MacroId) (x : Expanding) → IsNumberedCall tables own d makro x → IsNumberedCall grown own d makro x
+  pub call_kept : (own : Crate) (d : MacroDirective) (makro : MacroId) (x : Expanding) → IsNumberedCall tables own d makro x → IsNumberedCall grown own d makro
+      x
   call_kept own d makro x h = record {
     meant = macro_kept makro h.meant;
     entry = kept.entries x.entry.0 (expansion_of_call own (call_style d) makro x.text x.input) h.entry;
     call = kept.calls x.id.0 (call_loc d x.entry) h.call;
+  }
+
+  pub derive_kept : (own : Crate) (item : AstId) (attr : AttrId) (id : MacroCallId) → IsNumberedDerive tables own item attr id → IsNumberedDerive grown own item
+      attr id
+  derive_kept own item attr id h = record {
+    entry = h.entry;
+    expansion = kept.entries h.entry.0 (derive_expansion own attr) h.expansion;
+    call = kept.calls id.0 (derive_loc item attr h.entry) h.call;
   }
 
   -- and those of a site
@@ -78,42 +96,22 @@ module _ (tables grown : TablesValue) (kept : KeepsTables tables grown) where
   Numbered-kept s (opens_file site head name search f rest) h = numbered_kept site.file search h
   Numbered-kept s (drops_file site head name search report rest) h = numbered_kept site.file search h
   Numbered-kept s (misses_file site head name search report rest) h = numbered_kept site.file search h
-  Numbered-kept s (drops_item v report rest) h = tt
-  Numbered-kept s (defines_rules site head name expander helpers rest) h = tt
-  Numbered-kept s (defines_macro site head name expander helpers rest) h = tt
-  Numbered-kept s (closes_module parent child rest) h = tt
-  Numbered-kept s (awaits_attribute v a k rest) h = tt
-  Numbered-kept s (lists_derives v at a adt paths rest) h = tt
-  Numbered-kept s (faults_derive v at report rest) h = tt
-  Numbered-kept s (exports_macro site head name d e rest) h = tt
-  Numbered-kept s (reaches_call site head path rest) h = tt
-  Numbered-kept s rests h = tt
+  Numbered-kept s (lists_derives v at a adt paths call rest) h = derive_kept s.core.map.id.krate (item_node v.site v.item) (attr_id a) call h
   Numbered-kept s (expands_call i d makro x) h = call_kept s.core.map.id.krate d makro x h
-  Numbered-kept s (drops_call i d) h = tt
-  Numbered-kept s (drops_reached i d makro) h = tt
-  Numbered-kept s (derives_builtin i d makro imp) h = tt
-  Numbered-kept s (skips_attribute i d k item) h = tt
-  Numbered-kept s (falls_back i d k item) h = tt
-  Numbered-kept s (declares_item v d rest) h = tt
-  Numbered-kept s (declares_enum site head name found rest) h = tt
-  Numbered-kept s (lists_constant site head rest) h = tt
-  Numbered-kept s (lists_impl site head of_trait rest) h = tt
-  Numbered-kept s (opens_module site head name items rest) h = tt
-  Numbered-kept s (enters_block site head items rest) h = tt
-  Numbered-kept s (reaches_imports site head tree rest) h = tt
-  Numbered-kept s (reaches_crate site head name alias rest) h = tt
-  Numbered-kept s (resolves_imports rule) h = tt
+  Numbered-kept s other h = tt
 
 -- ---- files that have numbers mean something
 
-meant_file : (tables : TablesValue) (krate : Crate) (edition : Edition) (id : FileId) (path : Option (List ℕ)) → IsNumberOf tables (Some id) path → IsSome (source_of tables (file_tree edition id))
+meant_file : (tables : TablesValue) (krate : Crate) (edition : Edition) (id : FileId) (path : Option (List ℕ)) → IsNumberOf tables (Some id) path
+    → IsSome (source_of tables (file_tree edition id))
 meant_file tables krate edition id None h = absurd h
 meant_file tables krate edition id (Some path) h = rw h refl
 
 no_key : (key : Key) → Contains [] key → ⊥
 no_key key (n, below, is) = let past : n < 0 = below in omega arith
 
-pub readings_meant : (tables : TablesValue) (krate : Crate) (edition : Edition) (declaring : Option (List ℕ)) (ts : List Tried) → AreNumbered tables declaring ts
+pub readings_meant : (tables : TablesValue) (krate : Crate) (edition : Edition) (declaring : Option (List ℕ)) (ts : List Tried) → AreNumbered tables declaring
+    ts
     → (key : Key) → Contains (keys_read (file_readings krate edition ts)) key → HasMeaning tables key
 readings_meant tables krate edition declaring [] h key among = absurd (no_key key among)
 readings_meant tables krate edition declaring (t ∷ ts) h key among = go t.file h.0 (readings_meant tables krate edition declaring ts h.1 key) among
@@ -128,7 +126,8 @@ readings_meant tables krate edition declaring (t ∷ ts) h key among = go t.file
 -- ---- the file that is found
 
 -- the candidate that is found has a directory, and a file
-pub found_at : (t : Tried) (f : ModuleFile) → module_file (Some t) ≡ Some f → (g : LookedAt) × (t.file ≡ Some g) × (t.candidate.dir ≡ Some f.dir) × (g.id ≡ f.id) × (g.there.tree ≡ f.tree)
+pub found_at : (t : Tried) (f : ModuleFile) → module_file (Some t) ≡ Some f → (g : LookedAt) × (t.file ≡ Some g) × (t.candidate.dir ≡ Some f.dir)
+    × (g.id ≡ f.id) × (g.there.tree ≡ f.tree)
 found_at t f e = go t.candidate.dir refl t.file refl e
   where
     go : (d : Option Directory) → t.candidate.dir ≡ d → (o : Option LookedAt) → t.file ≡ o → taken_by d t.candidate.is_mod_rs o ≡ Some f
@@ -155,15 +154,18 @@ found_read krate edition (x ∷ xs) (Some t) f e = go x.file (found_read krate e
     go (Some g) (n, below, is) = (suc n, omega (arith, below), is)
 
 -- and its number means something
-pub found_meant : (tables : TablesValue) (edition : Edition) (krate : Crate) (declaring : Option (List ℕ)) (absent : List Tried) (found : Option Tried) (f : ModuleFile) → module_file found ≡ Some f
+pub found_meant : (tables : TablesValue) (edition : Edition) (krate : Crate) (declaring : Option (List ℕ)) (absent : List Tried) (found : Option Tried)
+    (f : ModuleFile) → module_file found ≡ Some f
     → AreNumbered tables declaring (absent ++ option_to_list found) → IsSome (source_of tables (file_tree edition f.id))
 found_meant tables edition krate declaring absent found f e h =
-    readings_meant tables krate edition declaring (absent ++ option_to_list found) h (keys.Tree (file_key krate edition f.id)) (found_read krate edition absent found f e)
+    readings_meant tables krate edition declaring (absent ++ option_to_list found) h (keys.Tree (file_key krate edition f.id))
+    (found_read krate edition absent found f e)
 
 -- ---- a key that is asked for is that of a candidate, and no earlier one is there
 
 -- what is seen at the number of a path
-there_at : (tables : TablesValue) (w : Workspace) (finished : Maps) (krate : Crate) (edition : Edition) (id : FileId) (path : List ℕ) (there : TreeLook) → file_at tables id ≡ Some path
+there_at : (tables : TablesValue) (w : Workspace) (finished : Maps) (krate : Crate) (edition : Edition) (id : FileId) (path : List ℕ) (there : TreeLook)
+    → file_at tables id ≡ Some path
     → look tables w finished (keys.Tree (file_key krate edition id)) ≡ of_tree there → (w.tree krate (file path)).present ≡ there.present
 there_at tables w finished krate edition id path there number sees =
     let at : of_tree (seen_of (source_under w krate (option_map file (file_at tables id)))) ≡ of_tree there = sees in
@@ -171,7 +173,8 @@ there_at tables w finished krate edition id path there number sees =
     subst (λ (o : Option (List ℕ)). of_tree (seen_of (source_under w krate (option_map file o))) ≡ of_tree there) number at in
     ap (λ (l : Look). (seen_tree l (seen_of absent_source)).present) here
 
-pub record IsAsked (tables : TablesValue) (w : Workspace) (krate : Crate) (edition : Edition) (declaring : Option (List ℕ)) (candidates : List Candidate) (key : Key) : Type 0 where
+pub record IsAsked (tables : TablesValue) (w : Workspace) (krate : Crate) (edition : Edition) (declaring : Option (List ℕ)) (candidates : List Candidate)
+    (key : Key) : Type 0 where
   pub place : ℕ
   pub candidate : Candidate
   pub is_candidate : slice_get candidates place ≡ Some candidate
@@ -196,10 +199,12 @@ none_there_behind w krate declaring c cs place gone before = λ m d below at. go
 module _ (tables : TablesValue) (w : Workspace) (finished : Maps) (krate : Crate) (edition : Edition) (declaring : Option (List ℕ)) where
   -- a candidate that was tried and isn't there
   pub absent_there : (t : Tried) → is_there t ≡ false → IsNumberOf tables (option_map (λ (f : LookedAt). f.id) t.file) (named_by declaring t.candidate)
-      → Sees (environment tables w) finished (file_reading krate edition t.file) → option_map_or (λ path. (w.tree krate (file path)).present) (named_by declaring t.candidate) false ≡ false
+      → Sees (environment tables w) finished (file_reading krate edition t.file) → option_map_or (λ path. (w.tree krate (file path)).present)
+      (named_by declaring t.candidate) false ≡ false
   absent_there t gone number sees = go t.file (named_by declaring t.candidate) gone number sees
     where
-      go : (f : Option LookedAt) (p : Option (List ℕ)) → option_map_or (λ (g : LookedAt). g.there.present) f false ≡ false → IsNumberOf tables (option_map (λ (g : LookedAt). g.id) f) p
+      go : (f : Option LookedAt) (p : Option (List ℕ)) → option_map_or (λ (g : LookedAt). g.there.present) f false ≡ false
+          → IsNumberOf tables (option_map (λ (g : LookedAt). g.id) f) p
           → Sees (environment tables w) finished (file_reading krate edition f) → option_map_or (λ path. (w.tree krate (file path)).present) p false ≡ false
       go None None g n s = refl
       go None (Some path) g n s = absurd n
@@ -216,7 +221,8 @@ module _ (tables : TablesValue) (w : Workspace) (finished : Maps) (krate : Crate
       go (Some f) s = ((s.0, tt), s.1)
 
   -- the first of the candidates
-  asked_first : (t : Tried) (cs : List Candidate) (key : Key) (f : LookedAt) → t.file ≡ Some f → IsNumberOf tables (option_map (λ (g : LookedAt). g.id) t.file) (named_by declaring t.candidate)
+  asked_first : (t : Tried) (cs : List Candidate) (key : Key) (f : LookedAt) → t.file ≡ Some f → IsNumberOf tables (option_map (λ (g : LookedAt). g.id) t.file)
+      (named_by declaring t.candidate)
       → keys.Tree (file_key krate edition f.id) ≡ key → IsAsked tables w krate edition declaring (t.candidate ∷ cs) key
   asked_first t cs key f e number is = record {
     place = 0;
@@ -229,7 +235,8 @@ module _ (tables : TablesValue) (w : Workspace) (finished : Maps) (krate : Crate
   }
 
   -- one behind a candidate that isn't there
-  asked_later : (t : Tried) (cs : List Candidate) (key : Key) → option_map_or (λ path. (w.tree krate (file path)).present) (named_by declaring t.candidate) false ≡ false
+  asked_later : (t : Tried) (cs : List Candidate) (key : Key) → option_map_or (λ path. (w.tree krate (file path)).present) (named_by declaring t.candidate)
+      false ≡ false
       → IsAsked tables w krate edition declaring cs key → IsAsked tables w krate edition declaring (t.candidate ∷ cs) key
   asked_later t cs key gone a = record {
     place = suc a.place;
@@ -242,7 +249,8 @@ module _ (tables : TablesValue) (w : Workspace) (finished : Maps) (krate : Crate
   }
 
   -- that of one that isn't there, or of one behind it
-  asked_of : (t : Tried) (ts : List Tried) (cs : List Candidate) (key : Key) → is_there t ≡ false → IsNumberOf tables (option_map (λ (f : LookedAt). f.id) t.file) (named_by declaring t.candidate)
+  asked_of : (t : Tried) (ts : List Tried) (cs : List Candidate) (key : Key) → is_there t ≡ false
+      → IsNumberOf tables (option_map (λ (f : LookedAt). f.id) t.file) (named_by declaring t.candidate)
       → Sees (environment tables w) finished (file_reading krate edition t.file)
       → (Contains (keys_read (file_readings krate edition ts)) key → IsAsked tables w krate edition declaring cs key)
       → Contains (keys_read (file_readings krate edition (t ∷ ts))) key → IsAsked tables w krate edition declaring (t.candidate ∷ cs) key
@@ -254,13 +262,16 @@ module _ (tables : TablesValue) (w : Workspace) (finished : Maps) (krate : Crate
       go (Some f) e (zero, below, is) = asked_first t cs key f e number is
       go (Some f) e (suc n, below, is) = asked_later t cs key (absent_there t gone number sees) (later (n, omega arith, is))
 
-  asked_among : (absent : List Tried) (found : Option Tried) (cs : List Candidate) → AreTried cs absent found → AreAbsent absent → AreNumbered tables declaring (absent ++ option_to_list found)
+  asked_among : (absent : List Tried) (found : Option Tried) (cs : List Candidate) → AreTried cs absent found → AreAbsent absent → AreNumbered tables declaring
+      (absent ++ option_to_list found)
       → Sees (environment tables w) finished (file_readings krate edition (absent ++ option_to_list found)) → (key : Key)
       → Contains (keys_read (file_readings krate edition (absent ++ option_to_list found))) key → IsAsked tables w krate edition declaring cs key
   asked_among [] None cs order gone numbers sees key among = absurd (no_key key among)
-  asked_among [] (Some t) cs order gone numbers sees key among = subst (λ (xs : List Candidate). IsAsked tables w krate edition declaring xs key) (sym order.1) (go t.file refl among)
+  asked_among [] (Some t) cs order gone numbers sees key among =
+      subst (λ (xs : List Candidate). IsAsked tables w krate edition declaring xs key) (sym order.1) (go t.file refl among)
     where
-      go : (f : Option LookedAt) → t.file ≡ f → Contains (keys_read (file_reading krate edition f ++ [])) key → IsAsked tables w krate edition declaring (t.candidate ∷ order.0) key
+      go : (f : Option LookedAt) → t.file ≡ f → Contains (keys_read (file_reading krate edition f ++ [])) key → IsAsked tables w krate edition declaring
+          (t.candidate ∷ order.0) key
       go None e c = absurd (no_key key c)
       go (Some f) e (zero, below, is) = asked_first t order.0 key f e numbers.0 is
       go (Some f) e (suc n, below, is) = absurd (omega arith)
@@ -274,7 +285,8 @@ module _ (tables : TablesValue) (w : Workspace) (finished : Maps) (krate : Crate
       (asked_of t (ts ++ u ∷ []) (map (λ (x : Tried). x.candidate) ts ++ u.candidate ∷ order.0) key gone.0 numbers.0 seen.0
       (asked_among ts (Some u) _ (order.0, refl) gone.1 numbers.1 seen.1 key) among)
 
-  pub asked_candidate : (search : Search) (cs : List Candidate) → AreTried cs search.absent search.found → AreAbsent search.absent → AreNumbered tables declaring (tried_in search)
+  pub asked_candidate : (search : Search) (cs : List Candidate) → AreTried cs search.absent search.found → AreAbsent search.absent
+      → AreNumbered tables declaring (tried_in search)
       → Sees (environment tables w) finished (file_readings krate edition (tried_in search)) → (key : Key)
       → Contains (keys_read (file_readings krate edition (tried_in search))) key → IsAsked tables w krate edition declaring cs key
   asked_candidate search cs order gone numbers sees key among = asked_among search.absent search.found cs order gone numbers sees key among

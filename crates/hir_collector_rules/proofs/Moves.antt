@@ -4,6 +4,7 @@ use Rattle.hir_collector_rules.specs.Keys.{Environment}
 use Rattle.hir_collector_rules.specs.State.{State}
 use Rattle.hir_collector_rules.specs.Steps.{Step, Steps, none, more}
 use Rattle.hir_collector_rules.specs.Derivation.{IsSpent}
+use Rattle.hir_collector_rules.specs.UnknownSources.{LeadsToUnknownSource}
 
 -- the steps to a state, and those from there on
 pub Steps-append : {env : Environment} {finished : Maps} {a b c : State} → Steps env finished a b → Steps env finished b c → Steps env finished a c
@@ -21,3 +22,8 @@ Steps-first step q = Steps-append (Steps-one step) q
 -- steps that lead to where as many as are counted lead on
 pub spent_after : {env : Environment} {finished : Maps} {a b : State} → Steps env finished a b → IsSpent env finished b → IsSpent env finished a
 spent_after steps spent = record { at = spent.at; steps = Steps-append steps spent.steps; stuck = spent.stuck }
+
+-- and those that lead to a source that has no number
+pub unknown_after : {env : Environment} {finished : Maps} {a b : State} → Steps env finished a b → LeadsToUnknownSource env finished b
+    → LeadsToUnknownSource env finished a
+unknown_after steps meets = record { at = meets.at; steps = Steps-append steps meets.steps; reaches = meets.reaches }

@@ -2,16 +2,20 @@
 use Rattle.std.proofs.Common.{◌≡◌, ◌∙◌, inl, inr, ℕ, ◌+◌, ◌<◌, ◌≤◌, List, ◌++◌, length, slice_get, slice_set, Some, refl, sym, ap, subst, arith}
 use Rattle.hir_def_map_rules.specs.Overlay.{Maps}
 use Rattle.hir_import_resolution.specs.Rules.{acts as import_acts}
-use Rattle.hir_collector_rules.specs.declared.macro_directive.Fate.{Fate}
+use Rattle.hir_collector_rules.specs.Types.{Fate, MacroDirective}
 use Rattle.hir_collector_rules.specs.declared.macro_directive.Fate.TheVariants.{GivenUp, Handled, Waits}
-use Rattle.hir_collector_rules.specs.declared.macro_directive.MacroDirective.{MacroDirective}
 use Rattle.hir_collector_rules.specs.Calls.{IsWaiting, error_of}
 use Rattle.hir_collector_rules.specs.Keys.{Environment}
 use Rattle.hir_collector_rules.specs.State.{State, all_wait, import_state}
-use Rattle.hir_collector_rules.specs.Changes.{Change, lists, makes, gives_variants, begins_paths, reaches, awaits, ends, settles, changes_imports, adds_textual, takes_textual, defines, describes, helps, lists_derive, exports, uses_macros, tells, goes_on, act, perform}
+use Rattle.hir_collector_rules.specs.Changes.{Change, lists, makes, gives_variants, begins_paths, reaches, awaits, ends, settles, changes_imports, adds_textual}
+use Rattle.hir_collector_rules.specs.Changes.{takes_textual, defines, describes, helps, lists_derive, notes, exports, uses_macros, tells, goes_on, act, perform}
 use Rattle.hir_collector_rules.specs.Rounds as rounds
 use Rattle.hir_collector_rules.specs.Rounds.{HasManyRounds, Rounds, WasTried, handled, met}
-use Rattle.hir_collector_rules.specs.Steps.{Rule, drops_item, awaits_attribute, lists_derives, faults_derive, exports_macro, reaches_call, rests, expands_call, drops_call, drops_reached, derives_builtin, skips_attribute, falls_back, defines_rules, defines_macro, closes_module, declares_item, declares_enum, lists_constant, lists_impl, opens_module, opens_file, drops_file, misses_file, enters_block, reaches_imports, reaches_crate, resolves_imports, May, acts, after, asking, Step, Steps, none, more}
+use Rattle.hir_collector_rules.specs.Steps.{Rule, drops_item, awaits_attribute, lists_derives, faults_derive, exports_macro, reaches_call, rests, expands_call}
+use Rattle.hir_collector_rules.specs.Steps.{drops_call, drops_reached, derives_builtin, skips_attribute, falls_back, defines_rules, defines_macro}
+use Rattle.hir_collector_rules.specs.Steps.{closes_module, declares_item, declares_enum, lists_constant, lists_impl, opens_module, opens_file, drops_file}
+use Rattle.hir_collector_rules.specs.Steps.{misses_file, enters_block, reaches_imports, reaches_crate, resolves_imports, May, acts, after, asking, Step, Steps}
+use Rattle.hir_collector_rules.specs.Steps.{none, more}
 use Rattle.hir_collector_rules.proofs.Bound.{number_same_or_not}
 use Rattle.hir_collector_rules.proofs.Changes.{AllFine, all_fine, fine_bringing, fine_expanding, fine_macro, fine_reporting, perform_keeps}
 use Rattle.hir_collector_rules.proofs.Lists.{get_inside, get_left, get_set_other, get_set_same, get_there, length_both, length_mapped, length_set}
@@ -113,7 +117,8 @@ KeepsCalls-ends s i fate ending = record {
     -- it has this fate, where there is one at its place
     set : (j : ℕ) → j ≡ i → j < length s.core.fates → slice_get (slice_set s.core.fates i fate) j ≡ Some fate
     set j here low =
-        subst (λ (k : ℕ). slice_get (slice_set s.core.fates i fate) k ≡ Some fate) (sym here) (get_set_same s.core.fates i fate (subst (λ (k : ℕ). k < length s.core.fates) here low))
+        subst (λ (k : ℕ). slice_get (slice_set s.core.fates i fate) k ≡ Some fate) (sym here)
+        (get_set_same s.core.fates i fate (subst (λ (k : ℕ). k < length s.core.fates) here low))
 
     handled_still : (j : ℕ) → slice_get s.core.fates j ≡ Some Handled → slice_get (slice_set s.core.fates i fate) j ≡ Some Handled
     handled_still j h = elim (number_same_or_not j i) [
@@ -148,25 +153,8 @@ KeepsCalls-settles s = record {
 
 -- what waits ends so
 abbrev EndsCalls : State → Change → Type 0
-EndsCalls s (lists home d) = Unit {0}
-EndsCalls s (makes home name origin visibility) = Unit {0}
-EndsCalls s (gives_variants id variants) = Unit {0}
-EndsCalls s (begins_paths r) = Unit {0}
-EndsCalls s (reaches rs) = Unit {0}
-EndsCalls s (awaits calls) = Unit {0}
 EndsCalls s (ends i fate) = IsEnding s i fate
-EndsCalls s settles = Unit {0}
-EndsCalls s (changes_imports c) = Unit {0}
-EndsCalls s (adds_textual home name makro) = Unit {0}
-EndsCalls s (takes_textual home from) = Unit {0}
-EndsCalls s (defines node makro) = Unit {0}
-EndsCalls s (describes makro what) = Unit {0}
-EndsCalls s (helps node helper) = Unit {0}
-EndsCalls s (lists_derive home imp) = Unit {0}
-EndsCalls s (exports f makro) = Unit {0}
-EndsCalls s (uses_macros macros by) = Unit {0}
-EndsCalls s (tells d) = Unit {0}
-EndsCalls s (goes_on tasks) = Unit {0}
+EndsCalls s other = Unit {0}
 
 KeepsCalls-act : (s : State) (c : Change) → EndsCalls s c → KeepsCalls s (act s c)
 KeepsCalls-act s (lists home d) fine = KeepsCalls-same s (act s (lists home d)) refl refl refl
@@ -184,6 +172,7 @@ KeepsCalls-act s (defines node makro) fine = KeepsCalls-same s (act s (defines n
 KeepsCalls-act s (describes makro what) fine = KeepsCalls-same s (act s (describes makro what)) refl refl refl
 KeepsCalls-act s (helps node helper) fine = KeepsCalls-same s (act s (helps node helper)) refl refl refl
 KeepsCalls-act s (lists_derive home imp) fine = KeepsCalls-same s (act s (lists_derive home imp)) refl refl refl
+KeepsCalls-act s (notes home invocation) fine = KeepsCalls-same s (act s (notes home invocation)) refl refl refl
 KeepsCalls-act s (exports f makro) fine = KeepsCalls-same s (act s (exports f makro)) refl refl refl
 KeepsCalls-act s (uses_macros macros by) fine = KeepsCalls-same s (act s (uses_macros macros by)) refl refl refl
 KeepsCalls-act s (tells d) fine = KeepsCalls-same s (act s (tells d)) refl refl refl
@@ -192,41 +181,37 @@ KeepsCalls-act s (goes_on tasks) fine = KeepsCalls-same s (act s (goes_on tasks)
 -- ---- rules
 
 ends_calls : (finished : Maps) (s : State) (r : Rule) → May finished s r → AllFine EndsCalls (asking s r) (acts finished s r)
-ends_calls finished s (drops_item v report rest) may = (tt, (tt, tt))
 ends_calls finished s (declares_item v d rest) may = (tt, (tt, (tt, tt)))
 ends_calls finished s (declares_enum site head name found rest) may = (tt, (tt, (tt, (tt, tt))))
-ends_calls finished s (lists_constant site head rest) may = (tt, (tt, tt))
-ends_calls finished s (lists_impl site head of_trait rest) may = (tt, (tt, tt))
 ends_calls finished s (opens_module site head name items rest) may = (tt, (tt, (tt, (tt, (tt, tt)))))
 ends_calls finished s (opens_file site head name search file rest) may = (tt, (tt, (tt, (tt, (tt, tt)))))
-ends_calls finished s (drops_file site head name search report rest) may = (tt, (tt, tt))
 ends_calls finished s (misses_file site head name search report rest) may = (tt, (tt, (tt, (tt, (tt, (tt, tt))))))
-ends_calls finished s (enters_block site head items rest) may = (tt, (tt, tt))
 ends_calls finished s (reaches_imports site head tree rest) may = (tt, (tt, (tt, tt)))
 ends_calls finished s (reaches_crate site head name alias rest) may = (tt, (tt, (tt, (tt, (tt, tt)))))
-ends_calls finished s (defines_rules site head name expander helpers rest) may = (tt, (tt, (tt, (tt, fine_macro EndsCalls _ _ expander (λ t. tt) head name _ (λ t. tt) _))))
+ends_calls finished s (defines_rules site head name expander helpers rest) may =
+    (tt, (tt, (tt, (tt, fine_macro EndsCalls _ _ expander (λ t. tt) head name _ (λ t. tt) _))))
 ends_calls finished s (defines_macro site head name expander helpers rest) may = (tt, (tt, (tt, (tt, (tt, fine_reporting EndsCalls _ _ expander (λ t. tt) _)))))
-ends_calls finished s (closes_module parent child rest) may = (tt, (tt, tt))
-ends_calls finished s (awaits_attribute v a k rest) may = (tt, (tt, tt))
-ends_calls finished s (lists_derives v at a adt paths rest) may = (tt, (tt, tt))
-ends_calls finished s (faults_derive v at report rest) may = (tt, (tt, tt))
+ends_calls finished s (lists_derives v at a adt paths call rest) may = (tt, (tt, (tt, tt)))
 ends_calls finished s (exports_macro site head name d e rest) may = (tt, (tt, (tt, (tt, (tt, (tt, (tt, tt)))))))
-ends_calls finished s (reaches_call site head path rest) may = (tt, (tt, tt))
 ends_calls finished s rests may = (tt, tt)
-ends_calls finished s (expands_call i d makro x) may = (ending_handled (asking s (expands_call i d makro x)) i, (tt, fine_expanding EndsCalls _ (λ t helper. tt) _ _ d (error_of x.there) (λ t text. tt) _))
+ends_calls finished s (expands_call i d makro x) may =
+    (ending_handled (asking s (expands_call i d makro x)) i, (tt, (tt, fine_expanding EndsCalls _ (λ t helper. tt) _ _ d (error_of x.there) (λ t text. tt) _)))
 ends_calls finished s (drops_call i d) may = (ending_handled (asking s (drops_call i d)) i, tt)
 ends_calls finished s (drops_reached i d makro) may = (ending_handled (asking s (drops_reached i d makro)) i, fine_bringing EndsCalls _ (λ t helper. tt) _ _)
-ends_calls finished s (derives_builtin i d makro imp) may = (ending_handled (asking s (derives_builtin i d makro imp)) i, (tt, fine_bringing EndsCalls _ (λ t helper. tt) _ _))
+ends_calls finished s (derives_builtin i d makro imp) may =
+    (ending_handled (asking s (derives_builtin i d makro imp)) i, (tt, (tt, fine_bringing EndsCalls _ (λ t helper. tt) _ _)))
 ends_calls finished s (skips_attribute i d k item) may = (ending_handled (asking s (skips_attribute i d k item)) i, (tt, tt))
 ends_calls finished s (falls_back i d k item) may = (ending_given_up (asking s (falls_back i d k item)) i may.waiting.waits, (tt, (tt, tt)))
 ends_calls finished s (resolves_imports rule) may = all_fine EndsCalls (λ t c. tt) (import_acts finished (import_state s) rule) s
+ends_calls finished s other may = (tt, (tt, tt))
 
 -- ---- steps
 
 KeepsCalls-Step : {env : Environment} {finished : Maps} {old new : State} → Step env finished old new → KeepsCalls old new
 KeepsCalls-Step {finished = finished} {old = old} step =
     let done : KeepsCalls old (perform (asking old step.rule) (acts finished old step.rule)) =
-    perform_keeps (KeepsCalls old) EndsCalls (λ s c kept fine. KeepsCalls-trans kept (KeepsCalls-act s c fine)) (acts finished old step.rule) (asking old step.rule)
+    perform_keeps (KeepsCalls old) EndsCalls (λ s c kept fine. KeepsCalls-trans kept (KeepsCalls-act s c fine)) (acts finished old step.rule)
+    (asking old step.rule)
     (KeepsCalls-same old (asking old step.rule) refl refl refl) (ends_calls finished old step.rule step.may) in
     subst (KeepsCalls old) (sym step.is) (KeepsCalls-trans done (KeepsCalls-same _ (after finished old step.rule) refl refl refl))
 
@@ -257,7 +242,8 @@ module _ {env : Environment} {finished : Maps} {from to : State} (steps : Steps 
   fates_paired = (keeps_calls steps).paired
 
   -- a call that waits waited already where it was there
-  pub waiting_before : {i : ℕ} {d : MacroDirective} → length from.core.fates ≡ length from.core.calls → IsWaiting to i d → i < length from.core.calls → IsWaiting from i d
+  pub waiting_before : {i : ℕ} {d : MacroDirective} → length from.core.fates ≡ length from.core.calls → IsWaiting to i d → i < length from.core.calls
+      → IsWaiting from i d
   waiting_before {i = i} {d = d} paired waiting low =
       let was = get_there from.core.calls i low in
       let still : slice_get to.core.calls i ≡ Some was.0 = call_stays i was.0 was.1 in
@@ -271,7 +257,8 @@ module _ {env : Environment} {finished : Maps} {from to : State} (steps : Steps 
 -- ---- rounds
 
 -- a call that was tried has been tried later too
-pub WasTried-extend : {env : Environment} {finished : Maps} {a b c : State} {i : ℕ} → Steps env finished b c → WasTried env finished a b i → WasTried env finished a c i
+pub WasTried-extend : {env : Environment} {finished : Maps} {a b c : State} {i : ℕ} → Steps env finished b c → WasTried env finished a b i
+    → WasTried env finished a c i
 WasTried-extend {i = i} steps (handled is) = handled (handled_stays steps i is)
 WasTried-extend steps (met between before after nowhere) = met between before (Steps-append after steps) nowhere
 
@@ -281,9 +268,11 @@ rounds_steps (rounds.none to steps) = steps
 rounds_steps (rounds.more a b to n before steps round) = Steps-append (rounds_steps before) (Steps-append steps round.steps)
 
 -- steps before rounds, and behind them
-pub rounds_after : {env : Environment} {finished : Maps} {from at to : State} {n : ℕ} → Steps env finished from at → Rounds env finished at to n → Rounds env finished from to n
+pub rounds_after : {env : Environment} {finished : Maps} {from at to : State} {n : ℕ} → Steps env finished from at → Rounds env finished at to n
+    → Rounds env finished from to n
 rounds_after first (rounds.none to steps) = rounds.none to (Steps-append first steps)
 rounds_after first (rounds.more a b to n before steps round) = rounds.more a b to n (rounds_after first before) steps round
 
-pub many_after : {env : Environment} {finished : Maps} {from at to : State} → Steps env finished from at → HasManyRounds env finished at to → HasManyRounds env finished from to
+pub many_after : {env : Environment} {finished : Maps} {from at to : State} → Steps env finished from at → HasManyRounds env finished at to
+    → HasManyRounds env finished from to
 many_after first m = record { count = m.count; last = m.last; rounds = rounds_after first m.rounds; many = m.many; after = m.after }

@@ -1,16 +1,17 @@
 -- Which attributes of an item are looked up, which of them lists derives, and what does a function export?
-use Rattle.std.specs.Prelude.{◌≡◌, ℕ, suc, ◌==◌, Contains, Bool, false, true, ◌||◌, ◌&&◌, is_none, List, [], ◌∷◌, drop, codes, Option, None, Some, cond, unwrap_or}
+use Rattle.std.specs.Prelude.{◌≡◌, ℕ, suc, ◌==◌, Contains, Bool, false, true, ◌||◌, ◌&&◌, is_none, List, [], ◌∷◌, drop, codes, Option, None, Some, cond}
+use Rattle.std.specs.Prelude.{unwrap_or}
 use Rattle.std.specs.Str.{bytes_eq}
 use Rattle.hir_base.specs.ModPath.{Path}
+use Rattle.hir_base.specs.declared.ids.AdtId.{AdtId}
 use Rattle.hir_base.specs.declared.ast_id.AstId.{AstId}
 use Rattle.hir_base.specs.declared.ast_id.AttrId.{AttrId}
-use Rattle.hir_base.specs.declared.ast_id.SyntaxId.{SyntaxId}
-use Rattle.hir_base.specs.declared.ids.AdtId.{AdtId}
-use Rattle.hir_base.specs.declared.ids.AdtId.TheVariants as adts
+use Rattle.hir_base.specs.declared.mod_path.PathKind.{PathKind}
 use Rattle.hir_base.specs.declared.macro_kind.ProcMacroId.{ProcMacroId}
 use Rattle.hir_base.specs.declared.macro_kind.ProcMacroStyle.{ProcMacroStyle}
+use Rattle.hir_base.specs.declared.ast_id.SyntaxId.{SyntaxId}
+use Rattle.hir_base.specs.declared.ids.AdtId.TheVariants as adts
 use Rattle.hir_base.specs.declared.macro_kind.ProcMacroStyle.TheVariants.{FnLike, Attr, Derive}
-use Rattle.hir_base.specs.declared.mod_path.PathKind.{PathKind}
 use Rattle.hir_base.specs.declared.mod_path.PathKind.TheVariants as roots
 use Rattle.hir_item_tree.specs.Attributes.{Input, literal, parentheses, derive, paths, tokens}
 use Rattle.hir_item_tree.specs.Collected.{Numbered}

@@ -10,7 +10,8 @@ use Rattle.hir_import_resolution.specs.declared.directive.ImportDirective.{Impor
 use Rattle.hir_collector_rules.specs.declared.macro_directive.Fate.TheVariants.{Handled}
 use Rattle.hir_collector_rules.specs.declared.macro_directive.MacroDirective.{MacroDirective}
 use Rattle.hir_collector_rules.specs.declared.macro_directive.WaitingItem.{WaitingItem}
-use Rattle.hir_collector_rules.specs.Calls.{Expanding, IsMeantAt, IsMeantCall, IsNumberedCall, IsTextOf, IsWaiting, LeadsNowhere, call_site, called_macro, expansion_readings, has_expansion, is_inert_now, text_readings, waiting_item}
+use Rattle.hir_collector_rules.specs.Calls.{Expanding, IsMeantAt, IsMeantCall, IsNumberedCall, IsTextOf, IsWaiting, LeadsNowhere, call_site, called_macro}
+use Rattle.hir_collector_rules.specs.Calls.{expansion_readings, has_expansion, is_inert_now, text_readings, waiting_item}
 use Rattle.hir_collector_rules.specs.Keys.{Environment}
 use Rattle.hir_collector_rules.specs.Moves.{OnceGrown}
 use Rattle.hir_collector_rules.specs.Rounds.{HasManyRounds, IsRound}
@@ -30,7 +31,8 @@ pub record IsReady (tables : TablesValue) (finished : Maps) (c : Core) : Type 0 
   pub in_order : IsInOrder c.map
 
 -- what there is of a call that reaches a macro was asked for: its number, why it didn't expand well, and what its expansion has
-pub record SeesCall (tables : TablesValue) (w : Workspace) (finished : Maps) (d : MacroDirective) (makro : MacroId) (old new : Core) (x : Expanding) (source : SourceTreeValue) : Type 0 where
+pub record SeesCall (tables : TablesValue) (w : Workspace) (finished : Maps) (d : MacroDirective) (makro : MacroId) (old new : Core) (x : Expanding)
+    (source : SourceTreeValue) : Type 0 where
   pub text : IsTextOf finished old.map makro x.text
   pub numbered : OnceGrown tables w (λ env. IsNumberedCall env.tables old.map.id.krate d makro x)
   pub sees : OnceGrown tables w (λ env. (finished : Maps) → Sees env finished (text_readings makro x.text ++ expansion_readings old.map.id.krate d x))
@@ -97,8 +99,10 @@ IsGivenUp old new (Some next) = (old.count < new.count) × NoneWaitsBefore new n
 
 -- imports rest, nothing that waits reaches a macro, and no attribute waits; or there were more rounds than may be, and no name is left to go along a glob
 pub data ComesToRest (env : Environment) (finished : Maps) (old new : Core) : Bool → Type 0 where
-  rested : IsAtRest finished (import_state (at_rest new)) → ((i : ℕ) → LeadsNowhere finished (at_rest new) i) → NoneWaits new → ComesToRest env finished old new false
-  cut_off : IsClosed finished (import_state (at_rest new)) → BroughtStands finished (import_state (at_rest new)) → HasManyRounds env finished (at_rest old) (at_rest new)
+  rested : IsAtRest finished (import_state (at_rest new)) → ((i : ℕ) → LeadsNowhere finished (at_rest new) i) → NoneWaits new → ComesToRest env finished old new
+      false
+  cut_off : IsClosed finished (import_state (at_rest new)) → BroughtStands finished (import_state (at_rest new)) → HasManyRounds env finished (at_rest old)
+      (at_rest new)
       → ComesToRest env finished old new true
 
 -- steps lead to where a round begins that ends here, and no attribute waits before this place

@@ -1,27 +1,29 @@
 -- Which macro does a call, a path of a derive or an attribute reach, and what does it expand to?
-use Rattle.std.specs.Prelude.{◌≡◌, ◌<◌, IsSome, ℕ, ◌+◌, Bool, true, false, List, [], ◌∷◌, codes, Option, None, Some, cond, map, not, option_map, unwrap_or, slice_get}
+use Rattle.std.specs.Prelude.{◌≡◌, ◌<◌, IsSome, ℕ, ◌+◌, Bool, true, false, List, [], ◌∷◌, codes, Option, None, Some, cond, map, not, option_map, unwrap_or}
+use Rattle.std.specs.Prelude.{slice_get}
 use Rattle.std.specs.Option.{option_and_then}
 use Rattle.either.specs.declared.Either.{Either}
 use Rattle.hir_base.specs.Ids.{macro_module}
 use Rattle.hir_base.specs.MacroKind.{contains_styles, derive_alone, styles_of}
 use Rattle.hir_base.specs.ModPath.{Path}
 use Rattle.hir_base.specs.declared.ast_id.AstId.{AstId}
-use Rattle.hir_base.specs.declared.ast_id.EntryId.{EntryId}
-use Rattle.hir_base.specs.declared.ast_id.HirFileId.TheVariants.{Macro}
-use Rattle.hir_base.specs.declared.ast_id.MacroCallId.{MacroCallId}
-use Rattle.hir_base.specs.declared.ids.Crate.{Crate}
+use Rattle.hir_base.specs.declared.ast_id.AttrId.{AttrId}
 use Rattle.hir_base.specs.declared.macro_kind.BuiltinDeriveImplId.{BuiltinDeriveImplId}
 use Rattle.hir_base.specs.declared.macro_kind.CallStyle.{CallStyle}
-use Rattle.hir_base.specs.declared.macro_kind.CallStyle.TheVariants as styles
-use Rattle.hir_base.specs.declared.macro_kind.MacroExpander.{MacroExpander}
-use Rattle.hir_base.specs.declared.macro_kind.MacroExpander.TheVariants as expanders
+use Rattle.hir_base.specs.declared.ids.Crate.{Crate}
+use Rattle.hir_base.specs.declared.ast_id.EntryId.{EntryId}
+use Rattle.hir_base.specs.declared.ast_id.MacroCallId.{MacroCallId}
 use Rattle.hir_base.specs.declared.macro_kind.MacroCallKind.{MacroCallKind}
-use Rattle.hir_base.specs.declared.macro_kind.MacroCallKind.TheVariants as call_kinds
 use Rattle.hir_base.specs.declared.macro_kind.MacroCallLoc.{MacroCallLoc}
+use Rattle.hir_base.specs.declared.macro_kind.MacroExpander.{MacroExpander}
 use Rattle.hir_base.specs.declared.macro_kind.MacroId.{MacroId}
+use Rattle.hir_base.specs.declared.resolve_mode.MacroSubNs.{MacroSubNs}
+use Rattle.hir_base.specs.declared.ast_id.HirFileId.TheVariants.{Macro}
+use Rattle.hir_base.specs.declared.macro_kind.CallStyle.TheVariants as styles
+use Rattle.hir_base.specs.declared.macro_kind.MacroExpander.TheVariants as expanders
+use Rattle.hir_base.specs.declared.macro_kind.MacroCallKind.TheVariants as call_kinds
 use Rattle.hir_base.specs.declared.macro_kind.MacroId.TheVariants.{Macro2Id, MacroRulesId, ProcMacroId}
 use Rattle.hir_base.specs.declared.resolve_mode.BuiltinShadowMode.TheVariants as shadow_modes
-use Rattle.hir_base.specs.declared.resolve_mode.MacroSubNs.{MacroSubNs}
 use Rattle.hir_base.specs.declared.resolve_mode.MacroSubNs.TheVariants as sub_namespaces
 use Rattle.hir_def_map_rules.specs.declared.path_result.ResolveMode.TheVariants as modes
 use Rattle.hir_item_tree.specs.declared.tree_id.TreeId.{TreeId}
@@ -88,7 +90,8 @@ suited kind found = option_and_then (λ makro. cond (suits kind makro) (Some mak
 -- the macro that a call, a path of a derive or an attribute reaches, if it reaches one
 abbrev pub called_macro : Maps → Local → Map → MacroDirective → Option MacroId
 called_macro finished local m d =
-    suited d.kind (macro_among (resolution_of (overlay finished m) (by_style (style_of d.kind) local) (numbered m.id d.site.home) (path_of_call d)).resolved_def)
+    suited d.kind (macro_among (resolution_of (overlay finished m) (by_style (style_of d.kind) local) (numbered m.id d.site.home)
+    (path_of_call d)).resolved_def)
 
 -- whether it is an attribute, and is inert by now: a derive brought a helper of its name into scope on its item
 abbrev pub is_inert_by : Map → AstId → MacroDirectiveKind → Bool
@@ -202,6 +205,19 @@ expansion_of_call own style makro text input = record {
   input = unwrap_or input [];
   reached = [];
 }
+
+-- the call of a `derive` attribute depends on neither a macro's text nor an input: nothing is looked up or asked for, and it isn't expanded
+abbrev pub derive_expansion : Crate → AttrId → ExpansionValue
+derive_expansion own attr = record { caller = own; called = record { krate = own; text = [] }; call = styles.Attribute attr; input = []; reached = [] }
+
+abbrev pub derive_loc : AstId → AttrId → EntryId → MacroCallLoc
+derive_loc item attr entry = record { kind = call_kinds.Attr item attr; entry = entry }
+
+-- the number of such a call means it
+pub record IsNumberedDerive (tables : TablesValue) (own : Crate) (item : AstId) (attr : AttrId) (id : MacroCallId) : Type 0 where
+  pub entry : EntryId
+  pub expansion : entry_at tables entry ≡ Some (derive_expansion own attr)
+  pub call : call_at tables id ≡ Some (derive_loc item attr entry)
 
 -- the call as the value of its number
 abbrev pub call_loc : MacroDirective → EntryId → MacroCallLoc

@@ -1,12 +1,12 @@
 -- Why a run asked for a key.
 use Rattle.std.specs.Prelude.{◌≡◌, true, ℕ, List, [], ◌∷◌, Option, None, Some, Contains, slice_get}
-use Rattle.hir_base.specs.declared.ast_id.FileId.{FileId}
-use Rattle.hir_base.specs.declared.ids.AdtId.TheVariants as adts
 use Rattle.hir_base.specs.declared.ids.Crate.{Crate}
 use Rattle.hir_base.specs.declared.ids.EnumId.{EnumId}
-use Rattle.hir_base.specs.declared.ids.ModuleDefId.{ModuleDefId}
-use Rattle.hir_base.specs.declared.ids.ModuleDefId.TheVariants as definitions
+use Rattle.hir_base.specs.declared.ast_id.FileId.{FileId}
 use Rattle.hir_base.specs.declared.macro_kind.MacroId.{MacroId}
+use Rattle.hir_base.specs.declared.ids.ModuleDefId.{ModuleDefId}
+use Rattle.hir_base.specs.declared.ids.AdtId.TheVariants as adts
+use Rattle.hir_base.specs.declared.ids.ModuleDefId.TheVariants as definitions
 use Rattle.hir_item_tree.specs.Collected.{is_enabled}
 use Rattle.hir_item_tree.specs.KeptForest.{Head, leaf, outline_module}
 use Rattle.hir_mod_dir.specs.ModuleFiles.{candidates_of}
@@ -84,6 +84,8 @@ pub data HasCause (tables : TablesValue) (w : Workspace) (finished : Maps) (from
   -- it is the tree of a candidate of a `mod` item, of which no earlier candidate is there
   candidate : (at : State) → IsPassed tables w finished from last at → IsCandidate tables w at key → HasCause tables w finished from last key
   -- it is one of the keys of a call that reaches a macro
-  of_call : (at : State) → IsPassed tables w finished from last at → IsOfCall tables w (read_by w finished from.start) at key → HasCause tables w finished from last key
+  of_call : (at : State) → IsPassed tables w finished from last at → IsOfCall tables w (read_by w finished from.start) at key → HasCause tables w finished from
+      last key
   -- it is the map of a crate on which the run's crate depends
-  dependency : (krate : Crate) → Contains (transitive_dependencies_in w (krate_of from.start)) krate → key ≡ map_key krate → HasCause tables w finished from last key
+  dependency : (krate : Crate) → Contains (transitive_dependencies_in w (krate_of from.start)) krate → key ≡ map_key krate → HasCause tables w finished from
+      last key

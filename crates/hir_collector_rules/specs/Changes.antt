@@ -1,9 +1,9 @@
 -- The changes that steps are made of.
 use Rattle.std.specs.Prelude.{ℕ, List, [], ◌∷◌, ◌++◌, Option, Some}
 use Rattle.hir_base.specs.declared.ast_id.AstId.{AstId}
+use Rattle.hir_base.specs.declared.macro_kind.BuiltinDeriveImplId.{BuiltinDeriveImplId}
 use Rattle.hir_base.specs.declared.ids.EnumId.{EnumId}
 use Rattle.hir_base.specs.declared.ids.ExternCrateId.{ExternCrateId}
-use Rattle.hir_base.specs.declared.macro_kind.BuiltinDeriveImplId.{BuiltinDeriveImplId}
 use Rattle.hir_base.specs.declared.macro_kind.MacroId.{MacroId}
 use Rattle.hir_base.specs.declared.macro_kind.ProcMacroId.{ProcMacroId}
 use Rattle.hir_scope.specs.Scope.{ScopeValue}
@@ -12,15 +12,17 @@ use Rattle.hir_def_map_rules.specs.Declaration.{listed}
 use Rattle.hir_def_map_rules.specs.Macros.{with_derive_helper, with_diagnostic, with_exported, with_macro_data, with_macro_def}
 use Rattle.hir_def_map_rules.specs.State.{MacroDataValue, Map, Variants, new_module, with_enum, with_module, with_scope}
 use Rattle.hir_def_map_rules.specs.declared.declaration.Declaration.{Declaration as Listing}
-use Rattle.hir_def_map_rules.specs.declared.derive_helpers.DeriveHelper.{DeriveHelper}
 use Rattle.hir_def_map_rules.specs.declared.diagnostics.DefDiagnostic.{DefDiagnostic}
+use Rattle.hir_def_map_rules.specs.declared.derive_helpers.DeriveHelper.{DeriveHelper}
 use Rattle.hir_def_map_rules.specs.declared.origin.ModuleOrigin.{ModuleOrigin}
 use Rattle.hir_import_resolution.specs.declared.directive.ImportDirective.{ImportDirective}
 use Rattle.hir_import_resolution.specs.Changes.{Change as ImportChange, act as act_on_imports}
 use Rattle.hir_collector_rules.specs.declared.exported.ExportedFunction.{ExportedFunction}
 use Rattle.hir_collector_rules.specs.declared.macro_directive.Fate.{Fate}
 use Rattle.hir_collector_rules.specs.declared.macro_directive.MacroDirective.{MacroDirective}
-use Rattle.hir_collector_rules.specs.State.{State, Task, import_state, with_calls, with_exported_function, with_fate, with_import_state, with_imports, with_local, with_map, with_settled}
+use Rattle.hir_collector_rules.specs.State.{State, Task, import_state, with_calls, with_exported_function, with_fate, with_import_state, with_imports}
+use Rattle.hir_collector_rules.specs.State.{with_local, with_map, with_settled}
+use Rattle.hir_collector_rules.specs.Invocations.{Invocation, with_noted}
 use Rattle.hir_collector_rules.specs.ItemIds.{module_id}
 use Rattle.hir_collector_rules.specs.Imports.{extern_after}
 use Rattle.hir_collector_rules.specs.Macros.{textual_at, with_macros_used, with_textual_macro, with_textual_scope}
@@ -57,6 +59,8 @@ pub data Change : Type 0 where
   helps : AstId → DeriveHelper → Change
   -- a module lists the impl that a builtin derive macro stands for
   lists_derive : (home : ℕ) → BuiltinDeriveImplId → Change
+  -- a scope notes what became of a macro call, an attribute or a path of a derive, or that there is a derive
+  notes : (home : ℕ) → Invocation → Change
   -- a function exports a macro
   exports : ExportedFunction → ProcMacroId → Change
   -- macros come into the macro-use prelude, brought by an `extern crate`, if by one
@@ -95,6 +99,7 @@ act s (defines node makro) = on_map s (with_macro_def s.core.map node makro)
 act s (describes makro what) = on_map s (with_macro_data s.core.map makro what)
 act s (helps node helper) = on_map s (with_derive_helper s.core.map node helper)
 act s (lists_derive home imp) = on_map s (with_derived s.core.map home imp)
+act s (notes home invocation) = on_map s (with_noted s.core.map home invocation)
 act s (exports f makro) = record s { core = with_exported_function (with_map s.core (with_exported s.core.map f.id makro)) f }
 act s (uses_macros macros by) = on_map s (with_macros_used s.core.map macros by)
 act s (tells d) = on_map s (with_diagnostic s.core.map d)

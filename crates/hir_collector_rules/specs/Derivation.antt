@@ -2,6 +2,7 @@
 use Rattle.std.specs.Prelude.{◌≡◌, ◌≤◌, ◌⊎◌, ℕ, Bool, false, true, List, [], ◌∷◌, ◌++◌, length, Option, None, Some, slice_get, Contains, cond}
 use Rattle.hir_scope.specs.declared.imports.GlobId.{GlobId}
 use Rattle.hir_scope.specs.declared.imports.ImportOrExternCrate.{ImportOrExternCrate}
+use Rattle.hir_scope.specs.declared.imports.ImportOrExternCrate.TheVariants as ways
 use Rattle.hir_def_map_rules.specs.State.{Local, Map, entry_at}
 use Rattle.hir_def_map_rules.specs.Overlay.{Maps}
 use Rattle.hir_def_map_rules.specs.declared.diagnostics.DefDiagnostic.{DefDiagnostic}
@@ -9,7 +10,9 @@ use Rattle.hir_base.specs.declared.ids.Crate.{Crate}
 use Rattle.hir_tables.specs.Tables.{TablesValue}
 use Rattle.hir_glob_imports.specs.declared.edge.Target.{Target}
 use Rattle.hir_import_resolution.specs.declared.directive.ImportDirective.{ImportDirective}
-use Rattle.hir_import_resolution.specs.Directives.{AreAmong, TakenValue, glob_of, is_untaken, kept_by_kind, kind_of, name_of, namespaces_of, reached_by, target_of, way_of}
+use Rattle.hir_import_resolution.specs.declared.directive.ImportSource.{ImportSource}
+use Rattle.hir_import_resolution.specs.Directives.{AreAmong, TakenValue, glob_of, is_untaken, kept_by_kind, kind_of, name_of, namespaces_of, reached_by}
+use Rattle.hir_import_resolution.specs.Directives.{target_of, way_of}
 use Rattle.hir_import_resolution.specs.Rest.{BroughtStands, IsClosed, IsSettled, IsSource}
 use Rattle.hir_collector_rules.specs.declared.collected.Collected.{Collected}
 use Rattle.hir_collector_rules.specs.declared.start.TheConstants.{STEP_LIMIT}
@@ -30,19 +33,29 @@ use Rattle.hir_collector_rules.specs.Causes.{HasCause}
 -- under the name that the import at the place gives, its module binds each namespace that its path reaches and that imports of
 -- its kind bring, unless a taking of it was answered through another crate
 pub record BindsWhatItReaches (finished : Maps) (s : State) (i : ℕ) : Type 0 where
-  pub binds : (r : ImportDirective) (t : TakenValue) (name : List ℕ) → slice_get s.core.reached i ≡ Some r → slice_get s.core.taken i ≡ Some t → t.crossed ≡ false
-      → name_of r ≡ Some name → AreAmong (namespaces_of (kept_by_kind (kind_of r.source) (reached_by finished s.core.local s.core.map r))) (namespaces_of (entry_at s.core.map r.home name))
+  pub binds : (r : ImportDirective) (t : TakenValue) (name : List ℕ) → slice_get s.core.reached i ≡ Some r → slice_get s.core.taken i ≡ Some t → t.crossed
+      ≡ false
+      → name_of r ≡ Some name → AreAmong (namespaces_of (kept_by_kind (kind_of r.source) (reached_by finished s.core.local s.core.map r)))
+      (namespaces_of (entry_at s.core.map r.home name))
 
 -- what the path of the glob at the place reaches, or where it stops, is the source of a recorded glob into its module
 pub record IsLinked (finished : Maps) (s : State) (i : ℕ) : Type 0 where
   pub linked : (r : ImportDirective) (by : GlobId) (target : Target) → slice_get s.core.reached i ≡ Some r → glob_of r.source ≡ Some by
       → target_of finished s.core.local s.core.map r ≡ Some target → IsSource (import_state s) target r.home
 
+-- an import as it is told where it is left over: a glob as the glob that it is
+abbrev pub told_as : ImportOrExternCrate → Option GlobId → ImportOrExternCrate
+told_as way (Some glob) = ways.Glob glob
+told_as way None = way
+
+abbrev pub told_of : ImportSource → ImportOrExternCrate
+told_of source = told_as (way_of source) (glob_of source)
+
 -- the imports that were never taken
 abbrev pub leftover_among : List ImportDirective → List TakenValue → List ImportOrExternCrate
 leftover_among [] ts = []
 leftover_among (r ∷ rs) [] = []
-leftover_among (r ∷ rs) (t ∷ ts) = cond (is_untaken t) (way_of r.source ∷ leftover_among rs ts) (leftover_among rs ts)
+leftover_among (r ∷ rs) (t ∷ ts) = cond (is_untaken t) (told_of r.source ∷ leftover_among rs ts) (leftover_among rs ts)
 
 -- no taking of the import at the place reached anything
 abbrev pub is_left_over : Option TakenValue → Bool

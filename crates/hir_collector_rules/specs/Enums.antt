@@ -28,7 +28,8 @@ last_named (item ∷ items) name = option_or (last_named items name) (cond (is_a
 
 -- so a name stands for the last variant that has it
 abbrev pub LastVariantPrevails : Type 0
-LastVariantPrevails = (id : EnumId) (items : List VariantItem) (name : List ℕ) → at_name (variants_by_name id items) name ≡ option_map (variant_of id) (last_named items name)
+LastVariantPrevails =
+    (id : EnumId) (items : List VariantItem) (name : List ℕ) → at_name (variants_by_name id items) name ≡ option_map (variant_of id) (last_named items name)
 
 -- the variants of an enum; none of one that isn't there
 abbrev pub variants_of : EnumId → Option (List VariantItem) → Variants

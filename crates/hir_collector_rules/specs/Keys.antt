@@ -2,21 +2,21 @@
 use Rattle.std.specs.Prelude.{◌≡◌, ℕ, ⊤, false, List, [], map, Option, None, Some, Contains, IsSome}
 use Rattle.std.specs.Option.{option_and_then}
 use Rattle.hir_base.specs.declared.ast_id.AstId.{AstId}
-use Rattle.hir_base.specs.declared.ast_id.AstKind.TheVariants.{MacroDef, MacroRules}
-use Rattle.hir_base.specs.declared.ast_id.EntryId.{EntryId}
 use Rattle.hir_base.specs.declared.ids.Crate.{Crate}
+use Rattle.hir_base.specs.declared.ast_id.EntryId.{EntryId}
 use Rattle.hir_base.specs.declared.ids.EnumId.{EnumId}
 use Rattle.hir_base.specs.declared.macro_kind.MacroId.{MacroId}
-use Rattle.hir_base.specs.declared.macro_kind.MacroId.TheVariants.{Macro2Id, MacroRulesId, ProcMacroId}
 use Rattle.hir_base.specs.declared.macro_kind.MacroLoc.{MacroLoc}
+use Rattle.hir_base.specs.declared.ast_id.AstKind.TheVariants.{MacroDef, MacroRules}
+use Rattle.hir_base.specs.declared.macro_kind.MacroId.TheVariants.{Macro2Id, MacroRulesId, ProcMacroId}
 use Rattle.hir_item_tree.specs.declared.check.NodeId.{NodeId}
+use Rattle.hir_item_tree.specs.declared.tree_id.TreeId.{TreeId}
+use Rattle.hir_item_tree.specs.declared.tree_id.TreeKey.{TreeKey}
+use Rattle.hir_item_tree.specs.declared.side_lists.VariantItem.{VariantItem}
 use Rattle.hir_item_tree.specs.SideLists.{entry_input, entry_text}
 use Rattle.hir_item_tree.specs.SyntaxIds.{node_id}
 use Rattle.hir_item_tree.specs.ItemTree.{empty_tree}
 use Rattle.hir_item_tree.specs.SourceTree.{SourceTreeValue, side_of, variants_of}
-use Rattle.hir_item_tree.specs.declared.side_lists.VariantItem.{VariantItem}
-use Rattle.hir_item_tree.specs.declared.tree_id.TreeId.{TreeId}
-use Rattle.hir_item_tree.specs.declared.tree_id.TreeKey.{TreeKey}
 use Rattle.hir_tables.specs.SourcePlaces.{ExpansionValue, SourcePlaceValue}
 use Rattle.hir_tables.specs.Tables.{TablesValue, entry_at, source_of}
 use Rattle.hir_def_map_rules.specs.References.{crate_map}

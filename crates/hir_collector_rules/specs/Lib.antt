@@ -14,6 +14,7 @@ pub mod Enums
 pub mod Imports
 pub mod Macros
 pub mod Calls
+pub mod Invocations
 -- ---- which files are those of modules, and what is reported
 pub mod ModuleFiles
 pub mod Reports
@@ -26,6 +27,7 @@ pub mod Steps
 pub mod Rounds
 pub mod Ended
 pub mod NumberedOut
+pub mod UnknownSources
 pub mod Derivation
 pub mod Causes
 pub mod Growth
@@ -36,3 +38,4 @@ pub mod Waiting
 pub mod TreeReads
 pub mod Codes
 pub mod CollectedCodes
+pub mod Types

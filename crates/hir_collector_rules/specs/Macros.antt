@@ -4,10 +4,10 @@ use Rattle.std.specs.List.{list_any}
 use Rattle.std.specs.Option.{option_and_then}
 use Rattle.hir_base.specs.declared.ids.Crate.{Crate}
 use Rattle.hir_base.specs.declared.ids.ExternCrateId.{ExternCrateId}
-use Rattle.hir_base.specs.declared.ids.ModuleDefId.TheVariants as definitions
+use Rattle.hir_base.specs.declared.macro_kind.MacroId.{MacroId}
 use Rattle.hir_base.specs.declared.ids.ModuleId.{ModuleId}
 use Rattle.hir_base.specs.declared.ids.UseId.{UseId}
-use Rattle.hir_base.specs.declared.macro_kind.MacroId.{MacroId}
+use Rattle.hir_base.specs.declared.ids.ModuleDefId.TheVariants as definitions
 use Rattle.hir_item_tree.specs.Attributes.{Input, literal, parentheses, derive, paths, tokens}
 use Rattle.hir_item_tree.specs.Collected.{Collected, Numbered}
 use Rattle.hir_item_tree.specs.KeptForest.{Head}
@@ -126,7 +126,8 @@ macros_beside finished own None = []
 macros_beside finished own (Some found) = cond (same_crate found.0.map.krate own) [] (public_in (root_scope finished found.0.map.krate))
 
 -- a macro-use prelude with more macros, each in place of an earlier one of its name
-abbrev pub with_used : List (List ℕ × (MacroId × Option ExternCrateId)) → List (List ℕ × MacroId) → Option ExternCrateId → List (List ℕ × (MacroId × Option ExternCrateId))
+abbrev pub with_used : List (List ℕ × (MacroId × Option ExternCrateId)) → List (List ℕ × MacroId) → Option ExternCrateId
+    → List (List ℕ × (MacroId × Option ExternCrateId))
 with_used prelude [] by = prelude
 with_used prelude (e ∷ es) by = with_used (with_name prelude e.0 (e.1, by)) es by
 

@@ -1,8 +1,16 @@
 -- Of what does the next step of a run speak that has no number, where none is left?
 use Rattle.std.specs.Prelude.{◌≡◌, ◌<◌, ℕ, List, Option, Some, slice_get}
 use Rattle.hir_base.specs.Locations.{max_locations}
+use Rattle.hir_base.specs.ModPath.{Path}
+use Rattle.hir_base.specs.declared.ids.AdtId.{AdtId}
+use Rattle.hir_base.specs.declared.ast_id.AstId.{AstId}
+use Rattle.hir_base.specs.declared.ast_id.AttrId.{AttrId}
+use Rattle.hir_base.specs.declared.ids.Crate.{Crate}
 use Rattle.hir_base.specs.declared.ast_id.EntryId.{EntryId}
+use Rattle.hir_base.specs.declared.macro_kind.MacroCallKind.{MacroCallKind}
 use Rattle.hir_base.specs.declared.macro_kind.MacroId.{MacroId}
+use Rattle.hir_base.specs.declared.macro_kind.MacroCallKind.TheVariants.{Attr}
+use Rattle.hir_item_tree.specs.Collected.{Numbered as Attribute}
 use Rattle.hir_item_tree.specs.KeptForest.{Head, leaf, outline_module}
 use Rattle.hir_mod_dir.specs.ModuleFiles.{candidates_of}
 use Rattle.hir_tables.specs.SourcePlaces.{ExpansionValue}
@@ -12,10 +20,11 @@ use Rattle.hir_def_map_rules.specs.State.{Map}
 use Rattle.hir_collector_rules.specs.declared.macro_directive.MacroDirective.{MacroDirective}
 use Rattle.hir_collector_rules.specs.declared.site.Site.{Site}
 use Rattle.hir_collector_rules.specs.Keys.{Environment, IsMeant, input_at, text_at}
-use Rattle.hir_collector_rules.specs.State.{State, Task}
-use Rattle.hir_collector_rules.specs.Calls.{call_loc, call_style, called_text, expansion_of_call}
+use Rattle.hir_collector_rules.specs.State.{State, Task, Visit}
+use Rattle.hir_collector_rules.specs.Attributes.{attr_id, item_node}
+use Rattle.hir_collector_rules.specs.Calls.{call_kind, call_style, called_text, derive_expansion, expansion_of_call}
 use Rattle.hir_collector_rules.specs.ModuleFiles.{IsNumberOf, IsTriedFile}
-use Rattle.hir_collector_rules.specs.Steps.{CallsMacro, IsNext, path_of, visit}
+use Rattle.hir_collector_rules.specs.Steps.{CallsMacro, IsNext, ListsDerives, path_of, visit}
 
 -- each number means something else
 abbrev pub IsNumberedOut : {V : Type 0} → List V → V → Type 0
@@ -42,14 +51,15 @@ expansion_by env finished m d makro =
     (input_at env.tables env.workspace m.id.krate d.ast_id)
 
 -- the expansion has no number; or it has one, and the call has none
-pub data IsCallNumberedOut (tables : TablesValue) (d : MacroDirective) (key : ExpansionValue) : Type 0 where
-  expansion_out : IsNumberedOut tables.entries key → IsCallNumberedOut tables d key
-  call_out : (entry : EntryId) → entry_at tables entry ≡ Some key → IsNumberedOut tables.calls (call_loc d entry) → IsCallNumberedOut tables d key
+pub data IsCallNumberedOut (tables : TablesValue) (kind : MacroCallKind) (key : ExpansionValue) : Type 0 where
+  expansion_out : IsNumberedOut tables.entries key → IsCallNumberedOut tables kind key
+  call_out : (entry : EntryId) → entry_at tables entry ≡ Some key → IsNumberedOut tables.calls (record { kind = kind; entry = entry })
+      → IsCallNumberedOut tables kind key
 
 pub record LacksExpansion (env : Environment) (finished : Maps) (m : Map) (d : MacroDirective) (makro : MacroId) : Type 0 where
   -- the source that writes the macro has a number
   pub meant : IsMeant env.tables makro
-  pub out : IsCallNumberedOut env.tables d (expansion_by env finished m d makro)
+  pub out : IsCallNumberedOut env.tables (call_kind d) (expansion_by env finished m d makro)
 
 -- a call, a path of a derive or an attribute reaches a macro that has an expansion, and isn't too deep
 pub record LacksCall (env : Environment) (finished : Maps) (s : State) : Type 0 where
@@ -60,6 +70,22 @@ pub record LacksCall (env : Environment) (finished : Maps) (s : State) : Type 0 
   pub shallow : call.site.level < s.core.map.crate_data.recursion_limit
   pub expansion : LacksExpansion env finished s.core.map call makro
 
+-- so it is of the call of a `derive` attribute
+abbrev pub IsDeriveNumberedOut : TablesValue → Crate → AstId → AttrId → Type 0
+IsDeriveNumberedOut tables own item attr = IsCallNumberedOut tables (Attr item attr) (derive_expansion own attr)
+
+-- the next item has a `derive` with paths, whose call has none
+pub record LacksDerive (env : Environment) (s : State) : Type 0 where
+  pub visited : Visit
+  pub place : ℕ
+  pub attribute : Attribute
+  pub adt : AdtId
+  pub paths : List Path
+  pub rest : List Task
+  pub lists : ListsDerives s visited place attribute adt paths rest
+  pub out : IsDeriveNumberedOut env.tables s.core.map.id.krate (item_node visited.site visited.item) (attr_id attribute)
+
 pub data LacksNumber (env : Environment) (finished : Maps) (s : State) : Type 0 where
   lacks_file : LacksFile env s → LacksNumber env finished s
   lacks_call : LacksCall env finished s → LacksNumber env finished s
+  lacks_derive : LacksDerive env s → LacksNumber env finished s

@@ -4,11 +4,11 @@ use Rattle.std.specs.Option.{option_and_then}
 use Rattle.std.specs.Str.{bytes_eq}
 use Rattle.hir_base.specs.ModPath.{Path}
 use Rattle.hir_base.specs.declared.edition.Edition.{Edition}
-use Rattle.hir_base.specs.declared.edition.Edition.TheVariants as editions
 use Rattle.hir_base.specs.declared.ids.ModuleDefId.{ModuleDefId}
-use Rattle.hir_base.specs.declared.ids.ModuleDefId.TheVariants as definitions
 use Rattle.hir_base.specs.declared.ids.ModuleId.{ModuleId}
 use Rattle.hir_base.specs.declared.ids.UseId.{UseId}
+use Rattle.hir_base.specs.declared.edition.Edition.TheVariants as editions
+use Rattle.hir_base.specs.declared.ids.ModuleDefId.TheVariants as definitions
 use Rattle.hir_base.specs.declared.mod_path.PathKind.TheVariants.{Abs}
 use Rattle.hir_scope.specs.Imports.{use_of}
 use Rattle.hir_scope.specs.declared.imports.ImportOrExternCrate.{ImportOrExternCrate}
@@ -27,7 +27,8 @@ use Rattle.hir_collector_rules.specs.Macros.{macros_beside, with_macros_used}
 
 -- whether a crate of this name is kept away: `std` from one without the standard library, `core` from one without that
 abbrev pub is_kept_away : CrateData → List ℕ → Bool
-is_kept_away crate_data name = ((crate_data.no_std || crate_data.no_core) && bytes_eq name (codes "std")) || (crate_data.no_core && bytes_eq name (codes "core"))
+is_kept_away crate_data name =
+    ((crate_data.no_std || crate_data.no_core) && bytes_eq name (codes "std")) || (crate_data.no_core && bytes_eq name (codes "core"))
 
 -- whether a dependency joins those that paths may begin with: of one name the first
 abbrev pub joins : CrateData → Local → Dependency → Bool

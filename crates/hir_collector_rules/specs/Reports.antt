@@ -9,22 +9,22 @@ use Rattle.std.specs.declared.vec.Vec.{Vec}
 use Rattle.hir_base.specs.Cfg.{Cfg, cfg_view}
 use Rattle.hir_base.specs.ModPath.{Path}
 use Rattle.hir_base.specs.declared.ast_id.AstId.{AstId}
-use Rattle.hir_base.specs.declared.ast_id.AstKind.TheVariants as nodes
 use Rattle.hir_base.specs.declared.ast_id.AttrId.{AttrId}
 use Rattle.hir_base.specs.declared.cfg.CfgAtom.{CfgAtom}
 use Rattle.hir_base.specs.declared.cfg.CfgExpr.{CfgExpr}
+use Rattle.hir_base.specs.declared.macro_kind.MacroExpander.{MacroExpander}
 use Rattle.hir_base.specs.declared.ids.MapId.{MapId}
 use Rattle.hir_base.specs.declared.ids.ModuleId.{ModuleId}
-use Rattle.hir_base.specs.declared.macro_kind.MacroExpander.{MacroExpander}
-use Rattle.hir_base.specs.declared.macro_kind.MacroExpander.TheVariants as expanders
 use Rattle.hir_base.specs.declared.mod_path.PathKind.{PathKind}
+use Rattle.hir_base.specs.declared.ast_id.AstKind.TheVariants as nodes
+use Rattle.hir_base.specs.declared.macro_kind.MacroExpander.TheVariants as expanders
 use Rattle.hir_base.specs.declared.mod_path.PathKind.TheVariants as roots
 use Rattle.hir_def_map_rules.specs.State.{Map, numbered}
 use Rattle.hir_def_map_rules.specs.declared.diagnostics.DefDiagnostic.{DefDiagnostic}
 use Rattle.hir_def_map_rules.specs.declared.diagnostics.DefDiagnosticKind.TheVariants as kinds
+use Rattle.hir_import_resolution.specs.declared.directive.ImportDirective.{ImportDirective}
 use Rattle.hir_import_resolution.specs.declared.directive.ImportSource.{ImportSource}
 use Rattle.hir_import_resolution.specs.declared.directive.ImportSource.TheVariants as sources
-use Rattle.hir_import_resolution.specs.declared.directive.ImportDirective.{ImportDirective}
 use Rattle.hir_import_resolution.specs.Directives.{TakenValue, is_untaken}
 use Rattle.hir_collector_rules.specs.declared.macro_directive.Fate.{Fate}
 use Rattle.hir_collector_rules.specs.declared.macro_directive.Fate.TheVariants as fates
@@ -118,7 +118,11 @@ begins_with names (roots.DollarCrate krate) segments = false
 -- the diagnostics of an import that is left over, where these crates are: none if its path begins with one of them
 abbrev pub report_by : ModuleId → List (List ℕ) → ImportSource → Path → List DefDiagnostic
 report_by at names (sources.ExternCrate id krate) path =
-    record { in_module = at; kind = kinds.UnresolvedExternCrate (record { file_id = id.loc.file_id; block = id.loc.block; kind = nodes.ExternCrate; id = id.loc.id }) } ∷ []
+    record {
+      in_module = at;
+      kind = kinds.UnresolvedExternCrate
+          (record { file_id = id.loc.file_id; block = id.loc.block; kind = nodes.ExternCrate; id = id.loc.id });
+    } ∷ []
 report_by at names (sources.Use id kind) path =
     cond (begins_with names path.kind path.segments) [] (record { in_module = at; kind = kinds.UnresolvedImport id.use_ id.idx } ∷ [])
 

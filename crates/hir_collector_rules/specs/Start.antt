@@ -2,11 +2,11 @@
 use Rattle.std.specs.Prelude.{Bool, false, ◌||◌, is_some, List, [], ◌∷◌, ◌++◌, map, Option, None, Some, option_map, if◌then◌else◌}
 use Rattle.hir_base.specs.declared.ast_id.BlockId.{BlockId}
 use Rattle.hir_base.specs.declared.cfg.CfgAtom.{CfgAtom}
-use Rattle.hir_base.specs.declared.edition.Edition.TheVariants.{Edition2024}
 use Rattle.hir_base.specs.declared.ids.Crate.{Crate}
 use Rattle.hir_base.specs.declared.ids.MapId.{MapId}
 use Rattle.hir_base.specs.declared.ids.ModuleId.{ModuleId}
 use Rattle.hir_base.specs.declared.ids.UseId.{UseId}
+use Rattle.hir_base.specs.declared.edition.Edition.TheVariants.{Edition2024}
 use Rattle.hir_item_tree.specs.Collected.{is_enabled}
 use Rattle.hir_item_tree.specs.ItemTree.{Tree}
 use Rattle.hir_item_tree.specs.declared.raw_visibility.VisibilityExplicitness.TheVariants.{Implicit}
@@ -166,7 +166,8 @@ core_by finished crate_data local dependencies options is_proc_macro holders sta
 abbrev pub core_of : Maps → Tree → Bool → Option ConfigValue → List Crate → List ModuleId → Start → TreeId → Core
 core_of finished tree is_proc_macro config transitive holders start id =
     let crate_data = start_data finished tree transitive start in
-    core_by finished crate_data (start_local finished crate_data (dependencies_of config) start) (dependencies_of config) (options_of config) is_proc_macro holders start id
+    core_by finished crate_data (start_local finished crate_data (dependencies_of config) start) (dependencies_of config) (options_of config) is_proc_macro
+    holders start id
 
 -- whether a crate is a procedural macro's; one that isn't there is none
 abbrev pub is_proc_macro_by : Option CrateRoot → Bool
@@ -194,7 +195,8 @@ start_by finished tree is_proc_macro config transitive holders start id =
 -- the start over a workspace, of a crate with these transitive dependencies, held by these modules, beside the maps that it may read
 abbrev pub began : TablesValue → Workspace → Maps → List Crate → List ModuleId → Start → TreeId → State
 began tables w finished transitive holders start id =
-    start_by finished (tree_at tables w (tree_key start id)).tree (exports_macros start (crate_in w (krate_of start))) (w.config (krate_of start)) transitive holders start id
+    start_by finished (tree_at tables w (tree_key start id)).tree (exports_macros start (crate_in w (krate_of start))) (w.config (krate_of start)) transitive
+    holders start id
 
 -- the start of a run that these modules hold
 abbrev pub start_of : TablesValue → Workspace → Maps → List ModuleId → Beginning → State

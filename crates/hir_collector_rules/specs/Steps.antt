@@ -3,32 +3,34 @@ use Rattle.std.specs.Prelude.{◌≡◌, ◌<◌, ◌≤◌, ℕ, suc, ◌+◌, 
 use Rattle.either.specs.declared.Either.TheVariants as either
 use Rattle.hir_base.specs.Cfg.{Cfg}
 use Rattle.hir_base.specs.ModPath.{Path}
-use Rattle.hir_base.specs.declared.ast_id.AstId.{AstId}
-use Rattle.hir_base.specs.declared.ast_id.AstKind.TheVariants as nodes
-use Rattle.hir_base.specs.declared.ast_id.AttrId.{AttrId}
 use Rattle.hir_base.specs.declared.ids.AdtId.{AdtId}
-use Rattle.hir_base.specs.declared.ids.AdtId.TheVariants as adts
+use Rattle.hir_base.specs.declared.ast_id.AstId.{AstId}
+use Rattle.hir_base.specs.declared.ast_id.AttrId.{AttrId}
+use Rattle.hir_base.specs.declared.macro_kind.BuiltinDeriveImplId.{BuiltinDeriveImplId}
 use Rattle.hir_base.specs.declared.ids.EnumId.{EnumId}
 use Rattle.hir_base.specs.declared.ids.ExternCrateId.{ExternCrateId}
-use Rattle.hir_base.specs.declared.ids.ModuleDefId.TheVariants as definitions
-use Rattle.hir_base.specs.declared.ids.ModuleId.{ModuleId}
-use Rattle.hir_base.specs.declared.macro_kind.BuiltinDeriveImplId.{BuiltinDeriveImplId}
+use Rattle.hir_base.specs.declared.ast_id.MacroCallId.{MacroCallId}
 use Rattle.hir_base.specs.declared.macro_kind.MacroExpander.{MacroExpander}
 use Rattle.hir_base.specs.declared.macro_kind.MacroId.{MacroId}
+use Rattle.hir_base.specs.declared.ids.ModuleId.{ModuleId}
+use Rattle.hir_base.specs.declared.ast_id.AstKind.TheVariants as nodes
+use Rattle.hir_base.specs.declared.ids.AdtId.TheVariants as adts
+use Rattle.hir_base.specs.declared.ids.ModuleDefId.TheVariants as definitions
 use Rattle.hir_base.specs.declared.macro_kind.MacroId.TheVariants.{ProcMacroId}
 use Rattle.hir_item_tree.specs.Collected.{Numbered as Attribute, is_enabled}
 use Rattle.hir_item_tree.specs.Kinds.{item_head, item_kind}
-use Rattle.hir_item_tree.specs.KeptForest.{Head, KeptItem, KeptForest, leaf, function, import, extern_crate, enumeration, constant, implementation, outline_module, macro_call, macro_rules, macro_def, holder, extern_block, inline_module}
+use Rattle.hir_item_tree.specs.KeptForest.{Head, KeptItem, KeptForest, leaf, function, import, extern_crate, enumeration, constant, implementation}
+use Rattle.hir_item_tree.specs.KeptForest.{outline_module, macro_call, macro_rules, macro_def, holder, extern_block, inline_module}
 use Rattle.hir_item_tree.specs.UseTree.{UseTree}
 use Rattle.hir_item_tree.specs.declared.shape.ExternCrateName.{ExternCrateName}
+use Rattle.hir_item_tree.specs.declared.side_lists.VariantItem.{VariantItem}
 use Rattle.hir_use_tree.specs.UseTree.{count_of}
 use Rattle.hir_use_tree.specs.declared.imports.ImportAlias.{ImportAlias}
-use Rattle.hir_item_tree.specs.declared.side_lists.VariantItem.{VariantItem}
 use Rattle.hir_def_map_rules.specs.State.{MacroDataValue, Map, new_id, with_declared}
 use Rattle.hir_def_map_rules.specs.Overlay.{Maps}
 use Rattle.hir_def_map_rules.specs.declared.declaration.Declaration.TheVariants as listings
-use Rattle.hir_def_map_rules.specs.declared.derive_helpers.DeriveHelper.{DeriveHelper}
 use Rattle.hir_def_map_rules.specs.declared.diagnostics.DefDiagnostic.{DefDiagnostic}
+use Rattle.hir_def_map_rules.specs.declared.derive_helpers.DeriveHelper.{DeriveHelper}
 use Rattle.hir_def_map_rules.specs.declared.origin.ModuleOrigin.{ModuleOrigin}
 use Rattle.hir_mod_dir.specs.Directory.{Directory}
 use Rattle.hir_mod_dir.specs.ModuleFiles.{candidates_of, inline_directory}
@@ -52,18 +54,25 @@ use Rattle.hir_collector_rules.specs.declared.site.Site.{Site}
 use Rattle.hir_collector_rules.specs.declared.source_database.Key.{Key}
 use Rattle.hir_collector_rules.specs.declared.source_database.Key.TheVariants as keys
 use Rattle.hir_collector_rules.specs.Keys.{Environment, of_variants, look}
-use Rattle.hir_collector_rules.specs.ModuleFiles.{IsNumbered, IsSearch, ModuleFile, Reading, Search, file_readings, file_tree, module_file, path_attribute, tried_in}
+use Rattle.hir_collector_rules.specs.ModuleFiles.{IsNumbered, IsSearch, ModuleFile, Reading, Search, file_readings, file_tree, module_file, path_attribute}
+use Rattle.hir_collector_rules.specs.ModuleFiles.{tried_in}
 use Rattle.hir_collector_rules.specs.Attributes.{adt_of, attr_id, export_at, is_derive, item_node, next_attribute, paths_in, proc_macro_id}
-use Rattle.hir_collector_rules.specs.Calls.{Expanding, IsNumberedCall, IsTextOf, IsWaiting, LeadsNowhere, builtin_impl, call_site, called_macro, error_of, expansion_readings, has_expansion, helpers_brought, is_call, is_inert_now, item_kept, path_of_call, text_readings, waiting_item}
-use Rattle.hir_collector_rules.specs.Reports.{IsUnconfigured, IsUnresolvedModule, call_report, failed_call, invalid_target, is_unimplemented, malformed_derive, unimplemented_macro}
+use Rattle.hir_collector_rules.specs.Calls.{Expanding, IsNumberedCall, IsNumberedDerive, IsTextOf, IsWaiting, LeadsNowhere, builtin_impl, call_site}
+use Rattle.hir_collector_rules.specs.Calls.{called_macro, error_of, expansion_readings, has_expansion, helpers_brought, is_call, is_inert_now, item_kept}
+use Rattle.hir_collector_rules.specs.Calls.{path_of_call, text_readings, waiting_item}
+use Rattle.hir_collector_rules.specs.Reports.{IsUnconfigured, IsUnresolvedModule, call_report, failed_call, invalid_target, is_unimplemented, malformed_derive}
+use Rattle.hir_collector_rules.specs.Reports.{unimplemented_macro}
 pub use Rattle.hir_collector_rules.specs.State.{behind, visit}
 use Rattle.hir_collector_rules.specs.State.{Core, Visit, Task, visits, closes, State, import_state, visits_over, ticked, with_bound, with_map}
-use Rattle.hir_collector_rules.specs.ItemIds.{const_id, enum_id, impl_id, extern_block_id, extern_crate_id, function_id, macro_def_id, macro_rules_id, module_id, node_of, use_id}
+use Rattle.hir_collector_rules.specs.Invocations.{derive_met, impl_noted, invocation_of}
+use Rattle.hir_collector_rules.specs.ItemIds.{const_id, enum_id, impl_id, extern_block_id, extern_crate_id, function_id, macro_def_id, macro_rules_id}
+use Rattle.hir_collector_rules.specs.ItemIds.{module_id, node_of, use_id}
 use Rattle.hir_collector_rules.specs.Items.{declaration_of, declared_module, file_origin, inline_origin, own_visibility, type_declaration}
 use Rattle.hir_collector_rules.specs.Enums.{variants_of}
 use Rattle.hir_collector_rules.specs.Imports.{crate_import, imports_by}
 use Rattle.hir_collector_rules.specs.Macros.{is_exported, is_macro_use, macro_declaration, macros_brought}
-use Rattle.hir_collector_rules.specs.Changes.{Change, lists, makes, gives_variants, begins_paths, reaches, awaits, ends, settles, changes_imports, adds_textual, takes_textual, defines, describes, helps, lists_derive, exports, uses_macros, tells, goes_on, perform}
+use Rattle.hir_collector_rules.specs.Changes.{Change, lists, makes, gives_variants, begins_paths, reaches, awaits, ends, settles, changes_imports, adds_textual}
+use Rattle.hir_collector_rules.specs.Changes.{takes_textual, defines, describes, helps, lists_derive, notes, exports, uses_macros, tells, goes_on, perform}
 
 -- ---- what the rules are about
 
@@ -110,7 +119,8 @@ visits_inside m s head (Some dir) items = visits_over (inside_module m s dir) it
 
 -- and if they are those of a file, which may be marked as well
 abbrev pub visits_in_file : Map → Site → Head → ModuleFile → List Task
-visits_in_file m s head f = visits_over (inside_file m f) f.tree.items ++ closing (is_macro_use head.attributes || is_macro_use f.tree.attributes) s.home (length m.modules)
+visits_in_file m s head f =
+    visits_over (inside_file m f) f.tree.items ++ closing (is_macro_use head.attributes || is_macro_use f.tree.attributes) s.home (length m.modules)
 
 -- ---- what waits
 
@@ -171,8 +181,8 @@ pub data Rule : Type 0 where
   closes_module : (parent child : ℕ) (rest : List Task) → Rule
   -- an attribute of the next item is looked up, and the item waits
   awaits_attribute : (v : Visit) (a : Attribute) (k : WaitingItem) (rest : List Task) → Rule
-  -- the next item has a `derive`, each of whose paths waits, and goes on behind it
-  lists_derives : (v : Visit) (at : ℕ) (a : Attribute) (adt : AdtId) (paths : List Path) (rest : List Task) → Rule
+  -- the next item has a `derive`, each of whose paths waits, and goes on behind it; the call of the `derive` itself has this number
+  lists_derives : (v : Visit) (at : ℕ) (a : Attribute) (adt : AdtId) (paths : List Path) (call : MacroCallId) (rest : List Task) → Rule
   -- the next item has a `derive` that is reported, and goes on behind it
   faults_derive : (v : Visit) (at : ℕ) (report : DefDiagnostic) (rest : List Task) → Rule
   -- the next item is a function that exports a macro
@@ -203,7 +213,8 @@ pub record IsOff (s : State) (v : Visit) (report : DefDiagnostic) (rest : List T
   pub next : s.agenda ≡ visits v ∷ rest
   pub condition : Cfg
   pub disabled : (item_head v.item).attributes.disabled ≡ Some condition
-  pub reported : IsUnconfigured (module_id s.core.map v.site.home) (node_of v.site.tree (item_kind v.item) (item_head v.item).id) condition s.core.options report
+  pub reported : IsUnconfigured (module_id s.core.map v.site.home) (node_of v.site.tree (item_kind v.item) (item_head v.item).id) condition s.core.options
+      report
 
 -- this is the next item, it isn't disabled, and so many of its attributes are done with
 pub record IsOn (s : State) (v : Visit) (rest : List Task) : Type 0 where
@@ -239,7 +250,8 @@ pub record ListsDerives (s : State) (v : Visit) (at : ℕ) (a : Attribute) (adt 
 
 -- it is one on something else, or one without paths, which is reported
 pub data IsFaulty (s : State) (v : Visit) (a : Attribute) (report : DefDiagnostic) : Type 0 where
-  no_target : adt_of s.core.map v.site v.item ≡ None → report ≡ invalid_target (module_id s.core.map v.site.home) (item_node v.site v.item) (attr_id a) → IsFaulty s v a report
+  no_target : adt_of s.core.map v.site v.item ≡ None → report ≡ invalid_target (module_id s.core.map v.site.home) (item_node v.site v.item) (attr_id a)
+      → IsFaulty s v a report
   no_paths : (adt : AdtId) → adt_of s.core.map v.site v.item ≡ Some adt → paths_in a.meta.input ≡ None
       → report ≡ malformed_derive (module_id s.core.map v.site.home) (item_node v.site v.item) (attr_id a) → IsFaulty s v a report
 
@@ -374,7 +386,7 @@ May finished s (defines_rules site head name expander helpers rest) = IsNext s (
 May finished s (defines_macro site head name expander helpers rest) = IsNext s (visit site (leaf head (macro_def name expander helpers))) rest
 May finished s (closes_module parent child rest) = s.agenda ≡ closes parent child ∷ rest
 May finished s (awaits_attribute v a k rest) = Awaits s v a k rest
-May finished s (lists_derives v at a adt paths rest) = ListsDerives s v at a adt paths rest
+May finished s (lists_derives v at a adt paths call rest) = ListsDerives s v at a adt paths rest
 May finished s (faults_derive v at report rest) = FaultsDerive s v at report rest
 May finished s (exports_macro site head name d e rest) = Exports finished s site head name d e rest
 May finished s (reaches_call site head path rest) = IsNext s (visit site (leaf head (macro_call path))) rest
@@ -410,7 +422,7 @@ reads s (defines_rules site head name expander helpers rest) = []
 reads s (defines_macro site head name expander helpers rest) = []
 reads s (closes_module parent child rest) = []
 reads s (awaits_attribute v a k rest) = []
-reads s (lists_derives v at a adt paths rest) = []
+reads s (lists_derives v at a adt paths call rest) = []
 reads s (faults_derive v at report rest) = []
 reads s (exports_macro site head name d e rest) = []
 reads s (reaches_call site head path rest) = []
@@ -441,7 +453,7 @@ Numbered tables s (defines_rules site head name expander helpers rest) = Unit {0
 Numbered tables s (defines_macro site head name expander helpers rest) = Unit {0}
 Numbered tables s (closes_module parent child rest) = Unit {0}
 Numbered tables s (awaits_attribute v a k rest) = Unit {0}
-Numbered tables s (lists_derives v at a adt paths rest) = Unit {0}
+Numbered tables s (lists_derives v at a adt paths call rest) = IsNumberedDerive tables s.core.map.id.krate (item_node v.site v.item) (attr_id a) call
 Numbered tables s (faults_derive v at report rest) = Unit {0}
 Numbered tables s (exports_macro site head name d e rest) = Unit {0}
 Numbered tables s (reaches_call site head path rest) = Unit {0}
@@ -460,11 +472,13 @@ Numbered tables s (resolves_imports rule) = Unit {0}
 abbrev pub making : Maps → State → Site → Head → List ℕ → ModuleOrigin → List Task → List Change
 making finished s site head name origin next =
     let vis : Visibility = own_visibility finished s.core.local s.core.map site head in
-    makes site.home name origin vis ∷ takes_textual (length s.core.map.modules) site.home ∷ goes_on next ∷ declaring site.home (module_declaration s.core.map name vis)
+    makes site.home name origin vis ∷ takes_textual (length s.core.map.modules) site.home ∷ goes_on next ∷ declaring site.home
+    (module_declaration s.core.map name vis)
 
 -- the changes that bind a macro at the root of the map too, if it is exported
 abbrev pub exporting : Head → List ℕ → MacroId → List Change
-exporting head name makro = cond (is_exported head.attributes) (changes_imports (pushes 0 (Some name) (macros_only makro visibilities.Public None) None) ∷ []) []
+exporting head name makro =
+    cond (is_exported head.attributes) (changes_imports (pushes 0 (Some name) (macros_only makro visibilities.Public None) None) ∷ []) []
 
 -- the changes that report a macro that a node in a module defines and nothing can expand
 abbrev pub reporting : ModuleId → AstId → MacroExpander → List Change
@@ -510,25 +524,32 @@ acts finished s (drops_file site head name search report rest) = goes_on rest �
 acts finished s (misses_file site head name search report rest) =
     making finished s site head name (inline_origin site.tree head.id) rest ++ tells report ∷ []
 acts finished s (enters_block site head items rest) =
-    goes_on (visits_over (inside_block s.core.map site head) items ++ rest) ∷ lists site.home (listings.ExternBlock (extern_block_id s.core.map site head.id)) ∷ []
+    goes_on (visits_over (inside_block s.core.map site head) items ++ rest) ∷ lists site.home (listings.ExternBlock (extern_block_id s.core.map site head.id)) ∷
+    []
 acts finished s (reaches_imports site head tree rest) =
     goes_on rest ∷ reaches (imports_by s.core.map site head tree) ∷ lists site.home (listings.Use (use_id s.core.map site head.id)) ∷ []
 acts finished s (reaches_crate site head name alias rest) =
     let r : ImportDirective = crate_import s.core.map s.core.dependencies site head name alias in
     let id : ExternCrateId = extern_crate_id s.core.map site head.id in
-    goes_on rest ∷ begins_paths r ∷ uses_macros (macros_brought finished s.core.map s.core.dependencies head name) (Some id) ∷ reaches (r ∷ []) ∷ lists site.home (listings.ExternCrate id) ∷ []
+    goes_on rest ∷ begins_paths r ∷ uses_macros (macros_brought finished s.core.map s.core.dependencies head name) (Some id) ∷ reaches (r ∷ []) ∷ lists
+    site.home (listings.ExternCrate id) ∷ []
 acts finished s (defines_rules site head name expander helpers rest) =
     let makro : MacroId = macro_rules_id s.core.map site head.id expander in
     let node : AstId = node_of site.tree nodes.MacroRules head.id in
-    goes_on rest ∷ defines node makro ∷ describes makro (macro_data_of name helpers) ∷ adds_textual site.home name makro ∷ exporting head name makro ++ reporting (module_id s.core.map site.home) node expander
+    goes_on rest ∷ defines node makro ∷ describes makro (macro_data_of name helpers) ∷ adds_textual site.home name makro ∷ exporting head name makro ++
+    reporting (module_id s.core.map site.home) node expander
 acts finished s (defines_macro site head name expander helpers rest) =
     let makro : MacroId = macro_def_id s.core.map site head.id expander in
     let node : AstId = node_of site.tree nodes.MacroDef head.id in
     goes_on rest ∷ defines node makro ∷ describes makro (macro_data_of name helpers)
-    ∷ declaring site.home (macro_declaration name makro (own_visibility finished s.core.local s.core.map site head)) ++ reporting (module_id s.core.map site.home) node expander
+    ∷ declaring site.home (macro_declaration name makro (own_visibility finished s.core.local s.core.map site head)) ++ reporting
+    (module_id s.core.map site.home) node expander
 acts finished s (closes_module parent child rest) = goes_on rest ∷ takes_textual parent child ∷ []
 acts finished s (awaits_attribute v a k rest) = goes_on rest ∷ awaits (attribute_at v.site (item_node v.site v.item) (attr_id a) a.meta.path k ∷ []) ∷ []
-acts finished s (lists_derives v at a adt paths rest) = goes_on (visits (behind v (suc at)) ∷ rest) ∷ awaits (derives_from v.site (item_node v.site v.item) (attr_id a) adt 0 paths) ∷ []
+acts finished s (lists_derives v at a adt paths call rest) =
+    let node : AstId = item_node v.site v.item in
+    goes_on (visits (behind v (suc at)) ∷ rest) ∷ awaits (derives_from v.site node (attr_id a) adt 0 paths) ∷ notes v.site.home
+    (derive_met node (attr_id a) call paths) ∷ []
 acts finished s (faults_derive v at report rest) = goes_on (visits (behind v (suc at)) ∷ rest) ∷ tells report ∷ []
 acts finished s (exports_macro site head name d e rest) =
     let makro = proc_macro_id s.core.map site head.id e.style in
@@ -537,12 +558,14 @@ acts finished s (exports_macro site head name d e rest) =
 acts finished s (reaches_call site head path rest) = goes_on rest ∷ awaits (call_at site head path ∷ []) ∷ []
 acts finished s rests = settles ∷ []
 acts finished s (expands_call i d makro x) =
-    ends i Handled ∷ goes_on (visits_over (call_site d x.id) x.tree.tree.items)
-    ∷ bringing d.ast_id (helpers_brought finished s.core.map d makro (Some (either.Left x.id))) ++ failing (module_id s.core.map d.site.home) d (error_of x.there)
+    ends i Handled ∷ goes_on (visits_over (call_site d x.id) x.tree.tree.items) ∷ notes d.site.home (invocation_of d x.id)
+    ∷ bringing d.ast_id (helpers_brought finished s.core.map d makro (Some (either.Left x.id))) ++ failing (module_id s.core.map d.site.home) d
+    (error_of x.there)
 acts finished s (drops_call i d) = ends i Handled ∷ []
 acts finished s (drops_reached i d makro) = ends i Handled ∷ bringing d.ast_id (helpers_brought finished s.core.map d makro None)
 acts finished s (derives_builtin i d makro imp) =
-    ends i Handled ∷ lists_derive d.site.home imp ∷ bringing d.ast_id (helpers_brought finished s.core.map d makro (Some (either.Right imp)))
+    ends i Handled ∷ lists_derive d.site.home imp ∷ notes d.site.home (impl_noted d.ast_id imp)
+    ∷ bringing d.ast_id (helpers_brought finished s.core.map d makro (Some (either.Right imp)))
 acts finished s (skips_attribute i d k item) = ends i Handled ∷ goes_on (visits (visit_behind d k item) ∷ []) ∷ []
 acts finished s (falls_back i d k item) =
     ends i GivenUp ∷ tells (call_report s.core.map.id d) ∷ goes_on (visits (visit_behind d k item) ∷ []) ∷ []

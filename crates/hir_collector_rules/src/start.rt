@@ -95,15 +95,76 @@ impl Start {
 /// How many steps a run may take, those along globs among them, and how many modules it may make.
 pub const STEP_LIMIT: u32 = MAX_STEPS;
 
+/// Why a step isn't taken.
+#[derive(Clone, Copy, Debug, PartialEq, Eq)]
+pub enum StepError {
+    /// As many steps or modules as are counted, and another was wanted; or no number is left.
+    TooMany,
+    Memory,
+}
+
 /// Why a run was given up.
 #[derive(Clone, Copy, Debug, PartialEq, Eq)]
 pub enum CollectError {
-    /// As many steps or modules as are counted, and another was wanted.
+    /// As many steps or modules as are counted, and another was wanted; or no number is left.
     TooMany,
     /// A source has no number: that of a macro of a finished map, which was made over other tables, or the file in which a
     /// block is written.
     UnknownSource,
     Memory,
+}
+
+impl From<AllocError> for StepError {
+    ghost use Rattle.std.specs.Prelude.{◌≡◌};
+    ghost use Rattle.hir_collector_rules.specs.declared.start.StepError.TheVariants as Errors;
+
+    ghost from_gives = { λ _ e. e ≡ Errors.Memory };
+
+    fn from(_error: AllocError) -> StepError {
+        StepError::Memory
+    }
+}
+
+impl From<AddModuleError> for StepError {
+    ghost use Rattle.std.specs.Prelude.{◌≡◌};
+    ghost use Rattle.hir_collector_rules.specs.Moves.{refusal_of};
+
+    ghost from_gives = { λ x e. e ≡ refusal_of x };
+
+    fn from(error: AddModuleError) -> StepError {
+        match error {
+            AddModuleError::TooMany => StepError::TooMany,
+            AddModuleError::Memory => StepError::Memory,
+        }
+    }
+}
+
+impl From<LocationsError> for StepError {
+    ghost use Rattle.std.specs.Prelude.{◌≡◌};
+    ghost use Rattle.hir_collector_rules.specs.Moves.{refusal_of_number};
+
+    ghost from_gives = { λ x e. e ≡ refusal_of_number x };
+
+    fn from(error: LocationsError) -> StepError {
+        match error {
+            LocationsError::TooMany => StepError::TooMany,
+            LocationsError::Memory => StepError::Memory,
+        }
+    }
+}
+
+impl From<ImportError> for StepError {
+    ghost use Rattle.std.specs.Prelude.{◌≡◌};
+    ghost use Rattle.hir_collector_rules.specs.Moves.{refusal_of_import};
+
+    ghost from_gives = { λ x e. e ≡ refusal_of_import x };
+
+    fn from(error: ImportError) -> StepError {
+        match error {
+            ImportError::TooMany => StepError::TooMany,
+            ImportError::Memory => StepError::Memory,
+        }
+    }
 }
 
 impl From<AllocError> for CollectError {
@@ -117,44 +178,16 @@ impl From<AllocError> for CollectError {
     }
 }
 
-impl From<AddModuleError> for CollectError {
+impl From<StepError> for CollectError {
     ghost use Rattle.std.specs.Prelude.{◌≡◌};
-    ghost use Rattle.hir_collector_rules.specs.Moves.{refusal_of};
+    ghost use Rattle.hir_collector_rules.specs.Moves.{refusal_of_step};
 
-    ghost from_gives = { λ x e. e ≡ refusal_of x };
+    ghost from_gives = { λ x e. e ≡ refusal_of_step x };
 
-    fn from(error: AddModuleError) -> CollectError {
+    fn from(error: StepError) -> CollectError {
         match error {
-            AddModuleError::TooMany => CollectError::TooMany,
-            AddModuleError::Memory => CollectError::Memory,
-        }
-    }
-}
-
-impl From<LocationsError> for CollectError {
-    ghost use Rattle.std.specs.Prelude.{◌≡◌};
-    ghost use Rattle.hir_collector_rules.specs.Moves.{refusal_of_number};
-
-    ghost from_gives = { λ x e. e ≡ refusal_of_number x };
-
-    fn from(error: LocationsError) -> CollectError {
-        match error {
-            LocationsError::TooMany => CollectError::TooMany,
-            LocationsError::Memory => CollectError::Memory,
-        }
-    }
-}
-
-impl From<ImportError> for CollectError {
-    ghost use Rattle.std.specs.Prelude.{◌≡◌};
-    ghost use Rattle.hir_collector_rules.specs.Moves.{refusal_of_import};
-
-    ghost from_gives = { λ x e. e ≡ refusal_of_import x };
-
-    fn from(error: ImportError) -> CollectError {
-        match error {
-            ImportError::TooMany => CollectError::TooMany,
-            ImportError::Memory => CollectError::Memory,
+            StepError::TooMany => CollectError::TooMany,
+            StepError::Memory => CollectError::Memory,
         }
     }
 }

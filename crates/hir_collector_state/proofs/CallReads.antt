@@ -1,26 +1,23 @@
 -- What waits and whose slots stand for what they stood for reaches the same macro, while the map grows.
-use Rattle.std.proofs.Common.{◌≡◌, ◌∙◌, ap, sym, subst, refl, ℕ, zero, ◌<◌, ◌&&◌, Bool, true, false, length, List, [], ◌∷◌, Contains, Option, None, Some, cond, unwrap_or, arith}
-use Rattle.std.proofs.lemmas.List.Elements.{Contains-append_right}
+use Rattle.std.proofs.Common.{◌≡◌, ◌∙◌, ap, sym, subst, refl, ℕ, ◌<◌, ◌&&◌, Bool, true, false, length, List, [], ◌∷◌, Option, None, Some, unwrap_or, arith}
 use Rattle.std.specs.List.{All}
 use Rattle.std.specs.Option.{option_map}
 use Rattle.hir_base.specs.ModPath.{Path}
 use Rattle.hir_base.specs.contracts.ids.MapIdPartialEq.TheImpl as map_id
 use Rattle.hir_base.specs.declared.ast_id.AstId.{AstId}
+use Rattle.hir_base.specs.declared.macro_kind.MacroId.{MacroId}
 use Rattle.hir_base.specs.declared.ids.MapId.{MapId}
 use Rattle.hir_base.specs.declared.ids.ModuleId.{ModuleId}
-use Rattle.hir_base.specs.declared.macro_kind.MacroId.{MacroId}
 use Rattle.hir_base.specs.declared.mod_path.PathKind.{PathKind}
 use Rattle.hir_base.specs.declared.mod_path.PathKind.TheVariants as roots
 use Rattle.hir_scope.specs.PerNs.{Item}
 use Rattle.hir_scope.specs.declared.imports.ImportOrExternCrate.{ImportOrExternCrate}
 use Rattle.hir_def_map_rules.proofs.Fails.{Fails-nowhere}
 use Rattle.hir_def_map_rules.specs.Macros.{helpers_at}
-use Rattle.hir_def_map_rules.specs.Overlay.{Maps, map_in, overlay}
+use Rattle.hir_def_map_rules.specs.Overlay.{Maps, overlay}
 use Rattle.hir_def_map_rules.specs.Scoping.{resolution_of}
 use Rattle.hir_def_map_rules.specs.Scoping.Asking.{Asking}
-use Rattle.hir_def_map.specs.Scoping.Slots.{is_in, prelude_module_of, reads, slots_from_module, slots_from_root, slots_of, with_prelude_slot, with_slot}
-use Rattle.hir_def_map_rules.specs.Scoping.Start.{is_import, is_in_edition_2015}
-use Rattle.hir_def_map_rules.specs.State.{IsBefore, IsInOrder, Local, Map, crate_root, entry_at, numbered, parent_at, parent_of}
+use Rattle.hir_def_map_rules.specs.State.{IsBefore, IsInOrder, Local, Map, entry_at, numbered, parent_at, parent_of}
 use Rattle.hir_def_map.specs.declared.nameres.path_resolution.slots.Slot.{Slot as PathSlot}
 use Rattle.hir_def_map.specs.declared.nameres.path_resolution.slots.Slot.TheVariants.{Module as of_module, Preludes as of_preludes}
 use Rattle.hir_def_map_rules.specs.declared.reference.Reference.{Reference}
@@ -31,9 +28,10 @@ use Rattle.hir_def_map_laws.proofs.SameAbove.{before_at, same_numbers_above, sam
 use Rattle.hir_def_map_laws.specs.ReadLaw.{AgreeAt, BeginsOutside, Grows, IsReadAlike, KeepApart}
 use Rattle.hir_collector_rules.specs.declared.macro_directive.MacroDirective.{MacroDirective}
 use Rattle.hir_collector_rules.specs.declared.macro_directive.MacroDirectiveKind.{MacroDirectiveKind}
+use Rattle.hir_collector_rules.specs.declared.macro_directive.WaitingItem.{WaitingItem}
 use Rattle.hir_collector_rules.specs.declared.macro_directive.MacroDirectiveKind.TheVariants.{Attr, Derive, FnLike}
 use Rattle.hir_collector_rules.specs.Attributes.{is_helper_among}
-use Rattle.hir_collector_rules.specs.Calls.{by_style, called_macro, is_inert_by, path_by, path_of_call, style_of, suited}
+use Rattle.hir_collector_rules.specs.Calls.{by_style, called_macro, is_inert_by, item_in, path_of_call, style_of, suited}
 use Rattle.hir_collector_rules.specs.Waiting.{KeepsModules, StandsStill, call_reads, is_helped}
 use Rattle.hir_collector_rules.specs.State.{Core}
 use Rattle.hir_collector_state.proofs.EnumMacros.{enums_bring_no_macro, macros_of}
@@ -48,49 +46,26 @@ pub agree_later : (a b c : Map) (k l m : Local) (slot : PathSlot) → AgreeAt a 
 agree_later a b c k l m (of_module at name) first then = record { entries = then.entries ∙ first.entries; legacy = then.legacy ∙ first.legacy }
 agree_later a b c k l m (of_preludes name) first then = record { crates = then.crates ∙ first.crates; macro_uses = then.macro_uses ∙ first.macro_uses }
 
--- ---- what a path reads
+-- ---- helpers
 
-with_slot_keeps : (own : MapId) (m : ModuleId) (name : List ℕ) (slots : List PathSlot) (slot : PathSlot) → Contains slots slot → Contains (with_slot own m name slots) slot
-with_slot_keeps own m name slots slot has = go (is_in own m)
-  where
-    go : (b : Bool) → Contains (cond b (of_module m.index name ∷ slots) slots) slot
-    go true = Contains-append_right (of_module m.index name ∷ []) slots slot has
-    go false = has
-
-with_prelude_slot_keeps : (own : MapId) (prelude : Option ModuleId) (name : List ℕ) (slots : List PathSlot) (slot : PathSlot) → Contains slots slot → Contains (with_prelude_slot own prelude name slots) slot
-with_prelude_slot_keeps own None name slots slot has = has
-with_prelude_slot_keeps own (Some m) name slots slot has = with_slot_keeps own m name slots slot has
-
--- a plain path reads its first segment in the preludes
-reads_prelude : (maps : Maps) (asking : Asking) (own : MapId) (from : ModuleId) (name : List ℕ) (others : List (List ℕ)) → Contains (slots_of maps asking own from roots.Plain (name ∷ others)) (of_preludes name)
-reads_prelude maps asking own from name others = go (is_in_edition_2015 (map_in maps from.map) && is_import asking.mode)
-  where
-    first : (slots : List PathSlot) → Contains (of_preludes name ∷ slots) (of_preludes name)
-    first slots = (zero, omega arith, refl)
-
-    go : (b : Bool) → Contains (cond b (slots_from_root maps asking own from name others) (slots_from_module maps asking own from name others)) (of_preludes name)
-    go true = with_slot_keeps own (crate_root from.map.krate) name _ (of_preludes name) (first _)
-    go false = with_slot_keeps own from name _ (of_preludes name) (with_prelude_slot_keeps own (prelude_module_of (map_in maps from.map)) name _ (of_preludes name) (first _))
-
--- what is inert is so where each name that is read in the preludes is a helper where it was one
-module _ (finished : Maps) (local : Local) (read old new : Map) (node : AstId) (home : ℕ) where
-  inert_by_path : (asking : Asking) (kind : PathKind) (segments : List (List ℕ))
-      → ((name : List ℕ) → Contains (slots_of (overlay finished read) asking read.id (numbered read.id home) kind segments) (of_preludes name) → is_helped new node name ≡ is_helped old node name)
+-- what waits is inert where it was, as long as the item that an attribute stands on has the helpers that it had
+module _ (old new : Map) (node : AstId) where
+  inert_by_path : (kind : PathKind) (segments : List (List ℕ)) → ((name : List ℕ) → is_helped new node name ≡ is_helped old node name)
       → is_helper_among (unwrap_or (helpers_at new node) []) kind segments ≡ is_helper_among (unwrap_or (helpers_at old node) []) kind segments
-  inert_by_path asking roots.Plain (name ∷ []) alike = alike name (reads_prelude (overlay finished read) asking read.id (numbered read.id home) name [])
-  inert_by_path asking roots.Plain [] alike = refl
-  inert_by_path asking roots.Plain (name ∷ (next ∷ rest)) alike = refl
-  inert_by_path asking (roots.Super levels) segments alike = refl
-  inert_by_path asking roots.Crate segments alike = refl
-  inert_by_path asking roots.Abs segments alike = refl
-  inert_by_path asking (roots.DollarCrate krate) segments alike = refl
+  inert_by_path roots.Plain (name ∷ []) alike = alike name
+  inert_by_path roots.Plain [] alike = refl
+  inert_by_path roots.Plain (name ∷ (next ∷ rest)) alike = refl
+  inert_by_path (roots.Super levels) segments alike = refl
+  inert_by_path roots.Crate segments alike = refl
+  inert_by_path roots.Abs segments alike = refl
+  inert_by_path (roots.DollarCrate krate) segments alike = refl
 
-  pub inert_by_kind : (kind : MacroDirectiveKind)
-      → ((name : List ℕ) → Contains (reads finished (by_style (style_of kind) local) read (numbered read.id home) (path_by kind)) (of_preludes name) → is_helped new node name ≡ is_helped old node name)
+  pub inert_by_kind : (kind : MacroDirectiveKind) → ((item : AstId) → option_map (λ (k : WaitingItem). node) (item_in kind) ≡ Some item → (name : List ℕ)
+      → is_helped new item name ≡ is_helped old item name)
       → is_inert_by new node kind ≡ is_inert_by old node kind
   inert_by_kind (FnLike path) alike = refl
   inert_by_kind (Derive path attr index adt) alike = refl
-  inert_by_kind (Attr path attr item) alike = inert_by_path (by_style (style_of (Attr path attr item)) local) path.kind path.segments alike
+  inert_by_kind (Attr path attr item) alike = inert_by_path path.kind path.segments (alike node refl)
 
 -- ---- maps that keep their modules
 
@@ -103,7 +78,15 @@ module _ (finished : Maps) (one other : Map) (apart : KeepApart finished one.id)
   bare = record other { enums = one.enums }
 
   grows : Grows one bare
-  grows = record { id = keeps.id; holder = keeps.holder; crate_data = keeps.crate_data; prelude = keeps.prelude; parents = keeps.parents; enums = λ id variants e. e }
+  grows =
+      record {
+        id = keeps.id;
+        holder = keeps.holder;
+        crate_data = keeps.crate_data;
+        prelude = keeps.prelude;
+        parents = keeps.parents;
+        enums = λ id variants e. e;
+      }
 
   parent_below : (at : ℕ) (p : ModuleId) → at < length one.modules → parent_at one at ≡ Some p → p.index < length one.modules
   parent_below at p low e = go (parent_at one at) (before_at one bare grows in_order at low) e
@@ -152,11 +135,13 @@ module _ (finished : Maps) (one other : Map) (apart : KeepApart finished one.id)
     agree_bare (of_module at name) a = record { entries = a.entries; legacy = a.legacy }
     agree_bare (of_preludes name) a = record { crates = a.crates; macro_uses = a.macro_uses }
 
-    alike : All (AgreeAt one local other other_local) (call_reads finished local one d) → IsReadAlike finished one (asked_by local) bare other_local (numbered one.id d.site.home) path
+    alike : All (AgreeAt one local other other_local) (call_reads finished local one d) → IsReadAlike finished one (asked_by local) bare other_local
+        (numbered one.id d.site.home) path
     alike agree = reads_alike change (asked_by local) other_local outside d.site.home low path (λ n x l. agree_bare _ (agree n x l))
 
     -- a call reaches the macro that it reached
-    pub same_macro : All (AgreeAt one local other other_local) (call_reads finished local one d) → called_macro finished other_local other d ≡ called_macro finished local one d
+    pub same_macro : All (AgreeAt one local other other_local) (call_reads finished local one d) → called_macro finished other_local other d
+        ≡ called_macro finished local one d
     same_macro agree =
         ap (λ (o : Option (Item MacroId ImportOrExternCrate)). suited d.kind (option_map (λ (i : Item MacroId ImportOrExternCrate). i.def) o))
         ((λ i. macros_of (resolution_of (overlay finished other) (asked_by other_local) (numbered (keeps.id i) d.site.home) path))
@@ -164,10 +149,9 @@ module _ (finished : Maps) (one other : Map) (apart : KeepApart finished one.id)
         ∙ ap macros_of (alike agree).answers)
 
 -- a call that stands still reaches no macro
-pub stands_nowhere : (finished : Maps) (c : Core) (d : MacroDirective) (seen : List PathSlot) (s : StandsStill finished c d seen) → KeepApart finished c.map.id → ((local : Local) → BeginsOutside c.map.id local)
+pub stands_nowhere : (finished : Maps) (c : Core) (d : MacroDirective) (seen : List PathSlot) (s : StandsStill finished c d seen) → KeepApart finished c.map.id
     → called_macro finished c.local c.map d ≡ None
-stands_nowhere finished c d seen s apart outside =
-    same_macro finished s.map c.map (subst (λ (id : MapId). KeepApart finished id) s.keeps.id apart) s.in_order s.keeps s.local c.local
-    (subst (λ (id : MapId). BeginsOutside id s.local) s.keeps.id (outside s.local)) d s.low
+stands_nowhere finished c d seen s apart =
+    same_macro finished s.map c.map (subst (λ (id : MapId). KeepApart finished id) s.keeps.id apart) s.in_order s.keeps s.local c.local s.outside d s.low
     (subst (All (AgreeAt s.map s.local c.map c.local)) s.read s.agree)
     ∙ s.nowhere

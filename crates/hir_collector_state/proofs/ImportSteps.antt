@@ -27,9 +27,11 @@ module _ {S I C D : Type 0} (act_s : S → D → S) (act_i : I → C → I) (wra
       ∙ ap (put s) (sym (more_i i c cs))
 
 -- changes of imports are those of the run
-pub perform-imports : (s : State) (i : ImportState) (cs : List ImportChange) → perform (with_import_state s i) (list_map changes_imports cs) ≡ with_import_state s (perform_on_imports i cs)
+pub perform-imports : (s : State) (i : ImportState) (cs : List ImportChange) → perform (with_import_state s i) (list_map changes_imports cs)
+    ≡ with_import_state s (perform_on_imports i cs)
 perform-imports s i cs =
-    performed act act_on_imports changes_imports with_import_state perform perform_on_imports (λ s. refl) (λ s d ds. refl) (λ i. refl) (λ i c cs. refl) (λ s i c. refl) cs s i
+    performed act act_on_imports changes_imports with_import_state perform perform_on_imports (λ s. refl) (λ s d ds. refl) (λ i. refl) (λ i c cs. refl)
+    (λ s i c. refl) cs s i
 
 module _ {env : Environment} {finished : Maps} where
   -- a step of imports is one of the run
@@ -40,7 +42,8 @@ module _ {env : Environment} {finished : Maps} where
 
   pub import_steps : (s : State) {i j : ImportState} → imports.Steps finished i j → Steps env finished (with_import_state s i) (with_import_state s j)
   import_steps s imports.none = steps.none
-  import_steps s (imports.more old new before step) = steps.more (with_import_state s old) (with_import_state s new) (import_steps s before) (import_step s step)
+  import_steps s (imports.more old new before step) =
+      steps.more (with_import_state s old) (with_import_state s new) (import_steps s before) (import_step s step)
 
   -- where imports lead on to as many as are counted, so does the run
   pub import_spent : (s : State) {i : ImportState} → rest.IsSpent finished i → IsSpent env finished (with_import_state s i)
@@ -51,8 +54,10 @@ module _ {env : Environment} {finished : Maps} where
   }
 
   -- the same from where imports stand
-  pub steps_from : (s : State) (i : ImportState) {j : ImportState} → i ≡ import_state s → imports.Steps finished i j → Steps env finished s (with_import_state s j)
-  steps_from s i {j = j} is steps = subst (λ (from : State). Steps env finished from (with_import_state s j)) (ap (with_import_state s) is) (import_steps s steps)
+  pub steps_from : (s : State) (i : ImportState) {j : ImportState} → i ≡ import_state s → imports.Steps finished i j
+      → Steps env finished s (with_import_state s j)
+  steps_from s i {j = j} is steps =
+      subst (λ (from : State). Steps env finished from (with_import_state s j)) (ap (with_import_state s) is) (import_steps s steps)
 
   pub spent_from : (s : State) (i : ImportState) → i ≡ import_state s → rest.IsSpent finished i → IsSpent env finished s
   spent_from s i is spent = subst (λ (from : State). IsSpent env finished from) (ap (with_import_state s) is) (import_spent s spent)

@@ -1,16 +1,22 @@
 -- The modules of a run's map come after what they are in.
-use Rattle.std.proofs.Common.{◌≡◌, ◌∙◌, ◌⊎◌, inl, inr, ℕ, zero, suc, ◌<◌, List, [], ◌∷◌, ◌++◌, length, slice_get, Option, None, Some, refl, sym, ap, subst, arith}
+use Rattle.std.proofs.Common.{◌≡◌, ◌∙◌, ◌⊎◌, inl, inr, ℕ, zero, suc, ◌<◌, List, [], ◌∷◌, ◌++◌, length, slice_get, Option, None, Some, refl, sym, ap, subst}
+use Rattle.std.proofs.Common.{arith}
 use Rattle.hir_base.specs.declared.ids.ModuleId.{ModuleId}
 use Rattle.hir_scope.specs.Scope.{ScopeValue}
 use Rattle.hir_def_map_rules.proofs.Grown.{kept, length-changed}
 use Rattle.hir_def_map_rules.specs.Overlay.{Maps}
-use Rattle.hir_def_map_rules.specs.State.{IsBefore, IsInOrder, Map, ModuleValue, changed_at, module_at, new_id, numbered, parent_of, with_child, with_module, with_module_scope, with_scope}
+use Rattle.hir_def_map_rules.specs.State.{IsBefore, IsInOrder, Map, ModuleValue, changed_at, module_at, new_id, numbered, parent_of, with_child, with_module}
+use Rattle.hir_def_map_rules.specs.State.{with_module_scope, with_scope}
 use Rattle.hir_import_resolution.specs.Rules.{acts as import_acts}
 use Rattle.hir_collector_rules.specs.Calls.{error_of}
 use Rattle.hir_collector_rules.specs.Keys.{Environment}
 use Rattle.hir_collector_rules.specs.State.{State, import_state}
-use Rattle.hir_collector_rules.specs.Changes.{Change, lists, makes, gives_variants, begins_paths, reaches, awaits, ends, settles, changes_imports, adds_textual, takes_textual, defines, describes, helps, lists_derive, exports, uses_macros, tells, goes_on, act}
-use Rattle.hir_collector_rules.specs.Steps.{Rule, drops_item, reaches_call, rests, expands_call, drops_call, defines_rules, defines_macro, closes_module, declares_item, declares_enum, lists_constant, lists_impl, opens_module, opens_file, drops_file, misses_file, enters_block, reaches_imports, reaches_crate, resolves_imports, May, acts, asking, Step, awaits_attribute, lists_derives, faults_derive, exports_macro, drops_reached, derives_builtin, skips_attribute, falls_back}
+use Rattle.hir_collector_rules.specs.Changes.{Change, lists, makes, gives_variants, begins_paths, reaches, awaits, ends, settles, changes_imports, adds_textual}
+use Rattle.hir_collector_rules.specs.Changes.{takes_textual, defines, describes, helps, lists_derive, notes, exports, uses_macros, tells, goes_on, act}
+use Rattle.hir_collector_rules.specs.Steps.{Rule, drops_item, reaches_call, rests, expands_call, drops_call, defines_rules, defines_macro, closes_module}
+use Rattle.hir_collector_rules.specs.Steps.{declares_item, declares_enum, lists_constant, lists_impl, opens_module, opens_file, drops_file, misses_file}
+use Rattle.hir_collector_rules.specs.Steps.{enters_block, reaches_imports, reaches_crate, resolves_imports, May, acts, asking, Step, awaits_attribute}
+use Rattle.hir_collector_rules.specs.Steps.{lists_derives, faults_derive, exports_macro, drops_reached, derives_builtin, skips_attribute, falls_back}
 use Rattle.hir_collector_rules.proofs.Changes.{AllFine, all_fine, fine_bringing, fine_expanding, fine_macro, fine_reporting, perform_keeps}
 use Rattle.hir_collector_rules.proofs.ImportEdits.{Edit, edit, edit_of, edited, map_after}
 use Rattle.hir_collector_rules.proofs.InRange.{IsInRange, next_home}
@@ -53,13 +59,15 @@ one_or_last (z ∷ zs) y (suc k) x e = go (one_or_last zs y k x e)
     go (inr f) = let same : k ≡ length zs = f.0 in inr (omega arith, f.1)
 
 -- a module that is made comes after the one in which it is
-pub in_order_made : (map : Map) (at : ℕ) (name : List ℕ) (made : ModuleValue) → made.parent ≡ Some (numbered map.id at) → at < length map.modules → IsInOrder map → IsInOrder (with_module map at name made)
+pub in_order_made : (map : Map) (at : ℕ) (name : List ℕ) (made : ModuleValue) → made.parent ≡ Some (numbered map.id at) → at < length map.modules
+    → IsInOrder map → IsInOrder (with_module map at name made)
 in_order_made map at name made is low in_order k m e = go (one_or_last (changed_at map.modules at (with_child name (new_id map))) made k m e)
   where
     long : length (changed_at map.modules at (with_child name (new_id map))) ≡ length map.modules
     long = length-changed map.modules at (with_child name (new_id map))
 
-    go : (slice_get (changed_at map.modules at (with_child name (new_id map))) k ≡ Some m) ⊎ ((k ≡ length (changed_at map.modules at (with_child name (new_id map)))) × (made ≡ m)) → IsBefore map.id k m.parent
+    go : (slice_get (changed_at map.modules at (with_child name (new_id map))) k ≡ Some m)
+        ⊎ ((k ≡ length (changed_at map.modules at (with_child name (new_id map)))) × (made ≡ m)) → IsBefore map.id k m.parent
     go (inl f) = still_in_order map in_order at (with_child name (new_id map)) (λ x. refl) k m f
     go (inr f) =
         let last : k ≡ length (changed_at map.modules at (with_child name (new_id map))) = f.0 in
@@ -70,25 +78,8 @@ in_order_made map at name made is low in_order k m e = go (one_or_last (changed_
 
 -- a module is made in one that is there
 abbrev MadeInside : State → Change → Type 0
-MadeInside s (lists home d) = Unit {0}
 MadeInside s (makes home name origin visibility) = home < length s.core.map.modules
-MadeInside s (gives_variants id variants) = Unit {0}
-MadeInside s (begins_paths r) = Unit {0}
-MadeInside s (reaches rs) = Unit {0}
-MadeInside s (awaits calls) = Unit {0}
-MadeInside s (ends i fate) = Unit {0}
-MadeInside s settles = Unit {0}
-MadeInside s (changes_imports c) = Unit {0}
-MadeInside s (adds_textual home name makro) = Unit {0}
-MadeInside s (takes_textual home from) = Unit {0}
-MadeInside s (defines node makro) = Unit {0}
-MadeInside s (describes makro what) = Unit {0}
-MadeInside s (helps item helper) = Unit {0}
-MadeInside s (lists_derive home imp) = Unit {0}
-MadeInside s (exports f makro) = Unit {0}
-MadeInside s (uses_macros macros by) = Unit {0}
-MadeInside s (tells d) = Unit {0}
-MadeInside s (goes_on tasks) = Unit {0}
+MadeInside s other = Unit {0}
 
 in_order_edited : (m : Map) (o : Option (ℕ × Edit)) → IsInOrder m → IsInOrder (edited m o)
 in_order_edited m None p = p
@@ -97,59 +88,44 @@ in_order_edited m (Some e) p = in_order_scope m p e.0 (edit (numbered m.id e.0) 
 in_order_act : (s : State) (c : Change) → IsInOrder s.core.map → MadeInside s c → IsInOrder (act s c).core.map
 in_order_act s (lists home d) p fine = in_order_scope s.core.map p home _
 in_order_act s (makes home name origin visibility) p fine = in_order_made s.core.map home name _ refl fine p
-in_order_act s (gives_variants id variants) p fine = p
-in_order_act s (begins_paths r) p fine = p
-in_order_act s (reaches rs) p fine = p
-in_order_act s (awaits calls) p fine = p
-in_order_act s (ends i fate) p fine = p
-in_order_act s settles p fine = p
 in_order_act s (changes_imports c) p fine = subst IsInOrder (sym (map_after (import_state s) c)) (in_order_edited s.core.map (edit_of (import_state s) c) p)
 in_order_act s (adds_textual home name makro) p fine = in_order_scope s.core.map p home _
 in_order_act s (takes_textual home from) p fine = in_order_scope s.core.map p home _
-in_order_act s (defines node makro) p fine = p
-in_order_act s (describes makro what) p fine = p
-in_order_act s (helps item helper) p fine = p
 in_order_act s (lists_derive home imp) p fine = in_order_scope s.core.map p home _
-in_order_act s (exports f makro) p fine = p
-in_order_act s (uses_macros macros by) p fine = p
-in_order_act s (tells d) p fine = p
-in_order_act s (goes_on tasks) p fine = p
+in_order_act s (notes home invocation) p fine = in_order_scope s.core.map p home _
+in_order_act s other p fine = p
 
 -- ---- rules
 
 made_inside : (finished : Maps) (s : State) (r : Rule) → May finished s r → IsInRange s → AllFine MadeInside (asking s r) (acts finished s r)
-made_inside finished s (drops_item v report rest) may p = (tt, (tt, tt))
 made_inside finished s (declares_item v d rest) may p = (tt, (tt, (tt, tt)))
 made_inside finished s (declares_enum site head name found rest) may p = (tt, (tt, (tt, (tt, tt))))
-made_inside finished s (lists_constant site head rest) may p = (tt, (tt, tt))
-made_inside finished s (lists_impl site head of_trait rest) may p = (tt, (tt, tt))
 made_inside finished s (opens_module site head name items rest) may p = (next_home s p _ rest may.next, (tt, (tt, (tt, (tt, tt)))))
 made_inside finished s (opens_file site head name search file rest) may p = (next_home s p _ rest may.looks.here.next, (tt, (tt, (tt, (tt, tt)))))
-made_inside finished s (drops_file site head name search report rest) may p = (tt, (tt, tt))
 made_inside finished s (misses_file site head name search report rest) may p = (next_home s p _ rest may.looks.here.next, (tt, (tt, (tt, (tt, (tt, tt))))))
-made_inside finished s (enters_block site head items rest) may p = (tt, (tt, tt))
 made_inside finished s (reaches_imports site head tree rest) may p = (tt, (tt, (tt, tt)))
 made_inside finished s (reaches_crate site head name alias rest) may p = (tt, (tt, (tt, (tt, (tt, tt)))))
-made_inside finished s (defines_rules site head name expander helpers rest) may p = (tt, (tt, (tt, (tt, fine_macro MadeInside _ _ expander (λ t. tt) head name _ (λ t. tt) _))))
-made_inside finished s (defines_macro site head name expander helpers rest) may p = (tt, (tt, (tt, (tt, (tt, fine_reporting MadeInside _ _ expander (λ t. tt) _)))))
-made_inside finished s (closes_module parent child rest) may p = (tt, (tt, tt))
-made_inside finished s (awaits_attribute v a k rest) may p = (tt, (tt, tt))
-made_inside finished s (lists_derives v at a adt paths rest) may p = (tt, (tt, tt))
-made_inside finished s (faults_derive v at report rest) may p = (tt, (tt, tt))
+made_inside finished s (defines_rules site head name expander helpers rest) may p =
+    (tt, (tt, (tt, (tt, fine_macro MadeInside _ _ expander (λ t. tt) head name _ (λ t. tt) _))))
+made_inside finished s (defines_macro site head name expander helpers rest) may p =
+    (tt, (tt, (tt, (tt, (tt, fine_reporting MadeInside _ _ expander (λ t. tt) _)))))
+made_inside finished s (lists_derives v at a adt paths call rest) may p = (tt, (tt, (tt, tt)))
 made_inside finished s (exports_macro site head name d e rest) may p = (tt, (tt, (tt, (tt, (tt, (tt, (tt, tt)))))))
-made_inside finished s (reaches_call site head path rest) may p = (tt, (tt, tt))
 made_inside finished s rests may p = (tt, tt)
-made_inside finished s (expands_call i d makro x) may p = (tt, (tt, fine_expanding MadeInside _ (λ t helper. tt) _ _ d (error_of x.there) (λ t text. tt) _))
+made_inside finished s (expands_call i d makro x) may p =
+    (tt, (tt, (tt, fine_expanding MadeInside _ (λ t helper. tt) _ _ d (error_of x.there) (λ t text. tt) _)))
 made_inside finished s (drops_call i d) may p = (tt, tt)
 made_inside finished s (drops_reached i d makro) may p = (tt, fine_bringing MadeInside _ (λ t helper. tt) _ _)
-made_inside finished s (derives_builtin i d makro imp) may p = (tt, (tt, fine_bringing MadeInside _ (λ t helper. tt) _ _))
-made_inside finished s (skips_attribute i d k kept_item) may p = (tt, (tt, tt))
+made_inside finished s (derives_builtin i d makro imp) may p = (tt, (tt, (tt, fine_bringing MadeInside _ (λ t helper. tt) _ _)))
 made_inside finished s (falls_back i d k kept_item) may p = (tt, (tt, (tt, tt)))
 made_inside finished s (resolves_imports rule) may p = all_fine MadeInside (λ t c. tt) (import_acts finished (import_state s) rule) s
+made_inside finished s other may p = (tt, (tt, tt))
 
 -- ---- steps
 
-pub in_order_Step : {env : Environment} {finished : Maps} {old new : State} → Step env finished old new → IsInRange old → IsInOrder old.core.map → IsInOrder new.core.map
+pub in_order_Step : {env : Environment} {finished : Maps} {old new : State} → Step env finished old new → IsInRange old → IsInOrder old.core.map
+    → IsInOrder new.core.map
 in_order_Step {finished = finished} {old = old} step inside p =
     subst (λ (s : State). IsInOrder s.core.map) (sym step.is)
-    (perform_keeps (λ (s : State). IsInOrder s.core.map) MadeInside in_order_act (acts finished old step.rule) (asking old step.rule) p (made_inside finished old step.rule step.may inside))
+    (perform_keeps (λ (s : State). IsInOrder s.core.map) MadeInside in_order_act (acts finished old step.rule) (asking old step.rule) p
+    (made_inside finished old step.rule step.may inside))

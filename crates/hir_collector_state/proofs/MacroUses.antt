@@ -18,8 +18,10 @@ none_listed : (attrs : List Numbered) → says (codes "macro_use") attrs ≡ fal
 none_listed [] none = (refl, refl)
 none_listed (a ∷ attrs) none = go (is_keyed (codes "macro_use") a) none (none_listed attrs)
   where
-    go : (b : Bool) → (b || says (codes "macro_use") attrs) ≡ false → (says (codes "macro_use") attrs ≡ false → (wants_all attrs ≡ false) × (listed_under (codes "macro_use") attrs ≡ []))
-        → (((b && not (lists_names a.meta.input)) || wants_all attrs) ≡ false) × ((if b then names_in a.meta.input else []) ++ listed_under (codes "macro_use") attrs ≡ [])
+    go : (b : Bool) → (b || says (codes "macro_use") attrs) ≡ false → (says (codes "macro_use") attrs ≡ false → (wants_all attrs ≡ false)
+        × (listed_under (codes "macro_use") attrs ≡ []))
+        → (((b && not (lists_names a.meta.input)) || wants_all attrs) ≡ false)
+        × ((if b then names_in a.meta.input else []) ++ listed_under (codes "macro_use") attrs ≡ [])
     go true wrong rest = absurd (let no : ⊥ = cc in no)
     go false none rest = rest none
 
@@ -29,7 +31,8 @@ none_wanted attrs (Some s) none =
     let both = none_listed attrs none in
     ap (λ (b : Bool). cond b (public_among s.macros) (public_at s.macros (listed_under (codes "macro_use") attrs))) both.0 ∙ ap (public_at s.macros) both.1
 
-pub none_brought : (finished : Maps) (m : Map) (dependencies : List Dependency) (head : Head) (name : ExternCrateName) → says (codes "macro_use") head.attributes.attributes ≡ false
+pub none_brought : (finished : Maps) (m : Map) (dependencies : List Dependency) (head : Head) (name : ExternCrateName)
+    → says (codes "macro_use") head.attributes.attributes ≡ false
     → macros_brought finished m dependencies head name ≡ []
 none_brought finished m dependencies head name none = go (is_none m.id.block)
   where

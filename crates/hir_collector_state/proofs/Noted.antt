@@ -1,24 +1,27 @@
 -- What each change of a run notes.
-use Rattle.std.proofs.Common.{◌≡◌, ◌≢◌, ◌∙◌, ap, sym, refl, subst, ℕ, zero, suc, ◌+◌, ◌<◌, ◌≤◌, slice_get, Bool, true, false, ◌||◌, List, [], ◌∷◌, ◌++◌, length, length-append, Option, None, Some, Contains, cond, unwrap_or, bytes_eq, arith}
+use Rattle.std.proofs.Common.{◌≡◌, ◌≢◌, ◌∙◌, ap, sym, refl, subst, ℕ, zero, suc, ◌+◌, ◌<◌, ◌≤◌, slice_get, Bool, true, false, ◌||◌, List, [], ◌∷◌, ◌++◌, length}
+use Rattle.std.proofs.Common.{length-append, Option, None, Some, Contains, cond, unwrap_or, arith}
 use Rattle.std.specs.Prelude.{IsSome}
 use Rattle.std.proofs.lemmas.List.Elements.{Contains-append_left, Contains-append_right}
-use Rattle.std.proofs.lemmas.Slice.Eq.{bytes_eq-Decides}
+use Rattle.std.proofs.lemmas.Cmp.{tied_itself}
 use Rattle.std.specs.BTreeMap.{insert_entry, is_at}
 use Rattle.std.specs.Cmp.{IsTotalOrder}
+use Rattle.std.specs.List.{list_any}
 use Rattle.std.specs.Map.{lookup, set_value}
 use Rattle.std.specs.Ordering.{is_eq, match_ordering}
 use Rattle.std.specs.declared.cmp.Ordering.{Ordering}
 use Rattle.std.specs.declared.cmp.Ordering.TheVariants.{Less, Equal, Greater}
-use Rattle.hir_base.specs.contracts.ast_id.AstIdOrd.TheImpl as ast_order
 use Rattle.hir_base.specs.contracts.ast_id.AstIdOrd.TheImpl.Laws.{total-law as ast_total}
 use Rattle.hir_base.specs.declared.ast_id.AstId.{AstId}
+use Rattle.hir_base.specs.declared.macro_kind.BuiltinDeriveImplId.{BuiltinDeriveImplId}
 use Rattle.hir_base.specs.declared.ids.EnumId.{EnumId}
 use Rattle.hir_base.specs.declared.ids.ExternCrateId.{ExternCrateId}
 use Rattle.hir_base.specs.declared.ids.FunctionId.{FunctionId}
-use Rattle.hir_base.specs.declared.ids.ModuleId.{ModuleId}
-use Rattle.hir_base.specs.declared.macro_kind.BuiltinDeriveImplId.{BuiltinDeriveImplId}
 use Rattle.hir_base.specs.declared.macro_kind.MacroId.{MacroId}
+use Rattle.hir_base.specs.declared.ids.ModuleId.{ModuleId}
 use Rattle.hir_base.specs.declared.macro_kind.ProcMacroId.{ProcMacroId}
+use Rattle.hir_scope.proofs.Pushes.{scope_stays}
+use Rattle.hir_scope.specs.Globs.{GlobNames, Place}
 use Rattle.hir_scope.specs.Scope.{ScopeValue}
 use Rattle.hir_scope.specs.declared.per_ns.PerNs.{PerNs}
 use Rattle.hir_scope.specs.declared.visibility.Visibility.{Visibility}
@@ -26,10 +29,12 @@ use Rattle.hir_def_map_rules.proofs.Grown.{kept, length-changed}
 use Rattle.hir_def_map_rules.specs.Declaration.{listed}
 use Rattle.hir_def_map_rules.specs.Overlay.{Maps}
 use Rattle.hir_def_map_rules.specs.Macros.{helpers_at, with_derive_helper, with_diagnostic, with_exported, with_helper, with_macro_data, with_macro_def}
-use Rattle.hir_def_map_rules.specs.State.{IsInOrder, Local, MacroDataValue, Map, ModuleValue, changed_at, entry_of, module_at, new_module, numbered, parent_at, parent_of, pushed, pushed_module, place_at, Variants, variants_at, with_enum, with_extern, with_module, with_module_scope, with_scope}
+use Rattle.hir_def_map_rules.specs.State.{IsInOrder, Local, MacroDataValue, Map, ModuleValue, changed_at, changes_module, entry_of, module_at, new_module}
+use Rattle.hir_def_map_rules.specs.State.{numbered, parent_at, parent_of, push_changes, pushed, pushed_module, place_at, Variants, variants_at, with_enum}
+use Rattle.hir_def_map_rules.specs.State.{with_extern, with_module, with_module_scope, with_scope}
 use Rattle.hir_def_map_rules.specs.declared.declaration.Declaration.{Declaration as Listing}
-use Rattle.hir_def_map_rules.specs.declared.derive_helpers.DeriveHelper.{DeriveHelper}
 use Rattle.hir_def_map_rules.specs.declared.diagnostics.DefDiagnostic.{DefDiagnostic}
+use Rattle.hir_def_map_rules.specs.declared.derive_helpers.DeriveHelper.{DeriveHelper}
 use Rattle.hir_def_map_rules.specs.declared.origin.ModuleOrigin.{ModuleOrigin}
 use Rattle.hir_def_map.specs.declared.nameres.path_resolution.slots.Slot.{Slot as PathSlot}
 use Rattle.hir_def_map.specs.declared.nameres.path_resolution.slots.Slot.TheVariants.{Module as of_module, Preludes as of_preludes}
@@ -49,9 +54,10 @@ use Rattle.hir_import_resolution.specs.Directives.{TakenValue}
 use Rattle.hir_import_resolution.specs.Inner.Steps.{IsBound}
 use Rattle.hir_import_resolution.specs.Rounds.{GlobsLast, GrowsAround, HaveGlobs}
 use Rattle.hir_import_resolution.specs.declared.directive.ImportDirective.{ImportDirective}
-use Rattle.hir_call_queue.specs.Changes.{ChangedValue, IsThere, IsUntouched, everything, with_preludes, with_slot}
+use Rattle.hir_call_queue.specs.Changes.{ChangedValue, IsThere, IsUnhelped, IsUntouched, everything, item_cmp, with_item, with_preludes, with_slot}
 use Rattle.hir_collector_rules.specs.Attributes.{is_named_by}
 use Rattle.hir_collector_rules.specs.Changes.{with_builtin_derive, with_derived}
+use Rattle.hir_collector_rules.specs.Invocations.{Invocation, with_invocation, with_noted}
 use Rattle.hir_collector_rules.specs.Macros.{textual_at, with_textual_macro}
 use Rattle.hir_collector_rules.specs.Moves.{begun}
 use Rattle.hir_collector_rules.specs.State.{Run, at_rest, core_in, import_state}
@@ -80,10 +86,12 @@ modules_kept_later a b c first then = record {
 
 -- maps that grow keep their modules
 pub grown_kept : (old new : Map) → Grows old new → length old.modules ≤ length new.modules → KeepsModules old new
-grown_kept old new grows longer = record { id = grows.id; holder = grows.holder; crate_data = grows.crate_data; prelude = grows.prelude; parents = grows.parents; count = longer }
+grown_kept old new grows longer =
+    record { id = grows.id; holder = grows.holder; crate_data = grows.crate_data; prelude = grows.prelude; parents = grows.parents; count = longer }
 
 -- where helpers stay, the same names are helpers
-pub helped_alike : (old new : Map) → new.derive_helpers ≡ old.derive_helpers → (node : AstId) (name : List ℕ) → is_helped new node name ≡ is_helped old node name
+pub helped_alike : (old new : Map) → new.derive_helpers ≡ old.derive_helpers → (node : AstId) (name : List ℕ) → is_helped new node name
+    ≡ is_helped old node name
 helped_alike old new same node name = ap (λ (helpers : List (AstId × List DeriveHelper)). is_helped (record old { derive_helpers = helpers }) node name) same
 
 -- ---- maps that grow around their names
@@ -123,7 +131,8 @@ slots_follow {a} {b} {c} first then = record {
       let before : IsUntouched b.changed slot = then.noted slot e in
       agree_later a.map b.map c.map a.local b.local c.local slot (first.others slot before there)
       (then.others slot e (there_later (length a.map.modules) (length b.map.modules) (first.keeps before.some).count slot there));
-  helpers = λ node name e. then.helpers node name e ∙ first.helpers node name (then.noted (of_preludes name) e);
+  items = λ node e. first.items node (then.items node e);
+  helpers = λ node name e. then.helpers node name e ∙ first.helpers node name (then.items node e);
 }
 
 imports_follow : (a b c : Run) → LeavesImports a b → LeavesImports b c → LeavesImports a c
@@ -202,12 +211,16 @@ slots_same a b map local changed = record {
   some = λ e. ap (λ (c : ChangedValue). c.all) (sym changed) ∙ e;
   noted = λ slot e. subst (λ (c : ChangedValue). IsUntouched c slot) changed e;
   keeps = λ e. subst (KeepsModules a.map) (sym map) (modules_kept_itself a.map);
-  others = λ slot e there. subst (λ (m : Map). AgreeAt a.map a.local m b.local slot) (sym map) (subst (λ (l : Local). AgreeAt a.map a.local a.map l slot) (sym local) (agree_itself a.map a.local slot));
+  others =
+      λ slot e there. subst (λ (m : Map). AgreeAt a.map a.local m b.local slot) (sym map) (subst (λ (l : Local). AgreeAt a.map a.local a.map l slot) (sym local)
+      (agree_itself a.map a.local slot));
+  items = λ node e. subst (λ (c : ChangedValue). IsUnhelped c node) changed e;
   helpers = λ node name e. ap (λ (m : Map). is_helped m node name) map;
 }
 
 pub noted_same : (a b : Run) → b.map ≡ a.map → b.local ≡ a.local → b.changed ≡ a.changed → KeepsImports a b → IsNoted a b
-noted_same a b map local changed stay = record { slots = slots_same a b map local changed; imports = λ e. imports_same a b stay map; globs = λ e. globs_same a b stay.0 map }
+noted_same a b map local changed stay =
+    record { slots = slots_same a b map local changed; imports = λ e. imports_same a b stay map; globs = λ e. globs_same a b stay.0 map }
 
 -- where nothing changes at all
 pub noted_itself : (a : Run) → IsNoted a a
@@ -217,17 +230,23 @@ pub noted_still : {a b : Run} → a ≡ b → IsNoted a b
 noted_still {a} same = subst (IsNoted a) same (noted_itself a)
 
 -- where one more import is come upon
-pub noted_reached : (a b : Run) (r : ImportDirective) (t : TakenValue) → b.map ≡ a.map → b.local ≡ a.local → b.changed ≡ a.changed → b.globs ≡ a.globs → b.reached ≡ a.reached ++ r ∷ [] → b.taken ≡ a.taken ++ t ∷ []
+pub noted_reached : (a b : Run) (r : ImportDirective) (t : TakenValue) → b.map ≡ a.map → b.local ≡ a.local → b.changed ≡ a.changed → b.globs ≡ a.globs
+    → b.reached ≡ a.reached ++ r ∷ [] → b.taken ≡ a.taken ++ t ∷ []
     → IsNoted a b
-noted_reached a b r t map local changed globs reached taken = record { slots = slots_same a b map local changed; imports = λ e. left; globs = λ e. globs_same a b globs map }
+noted_reached a b r t map local changed globs reached taken =
+    record { slots = slots_same a b map local changed; imports = λ e. left; globs = λ e. globs_same a b globs map }
   where
     left : LeavesImports a b
     left = record {
       enums = λ id variants e. ap (λ (x : Map). variants_at x id) map ∙ e;
       reached = λ i low. ap (λ (rs : List ImportDirective). slice_get rs i) reached ∙ get_left a.reached (r ∷ []) i low;
       taken = λ i low. ap (λ (ts : List TakenValue). slice_get ts i) taken ∙ get_left a.taken (t ∷ []) i low;
-      longer = let long : length b.reached ≡ length a.reached + 1 = ap (λ (rs : List ImportDirective). length rs) reached ∙ length-append a.reached (r ∷ []) in omega (arith, long);
-      taken_longer = let long : length b.taken ≡ length a.taken + 1 = ap (λ (ts : List TakenValue). length ts) taken ∙ length-append a.taken (t ∷ []) in omega (arith, long);
+      longer =
+          let long : length b.reached ≡ length a.reached + 1 = ap (λ (rs : List ImportDirective). length rs) reached ∙ length-append a.reached (r ∷ [])
+          in omega (arith, long);
+      taken_longer =
+          let long : length b.taken ≡ length a.taken + 1 = ap (λ (ts : List TakenValue). length ts) taken ∙ length-append a.taken (t ∷ [])
+          in omega (arith, long);
     }
 
 -- where all slots are noted
@@ -240,11 +259,13 @@ slots_everything a b all = record {
   noted = λ slot e. absurd (not_all b.changed all e.some);
   keeps = λ e. absurd (not_all b.changed all e);
   others = λ slot e there. absurd (not_all b.changed all e.some);
+  items = λ node e. absurd (not_all b.changed all e.some);
   helpers = λ node name e. absurd (not_all b.changed all e.some);
 }
 
 pub noted_everything : (a b : Run) → b.changed ≡ everything → IsNoted a b
-noted_everything a b all = record { slots = slots_everything a b all; imports = λ e. absurd (not_all b.changed all e); globs = λ e. absurd (not_all b.changed all e) }
+noted_everything a b all =
+    record { slots = slots_everything a b all; imports = λ e. absurd (not_all b.changed all e); globs = λ e. absurd (not_all b.changed all e) }
 
 -- where the map grows around its names, and no slot of a module that was there changes, nor helpers
 module _ (a b : Run) (local : b.local ≡ a.local) (changed : b.changed ≡ a.changed) (stay : KeepsImports a b) where
@@ -255,7 +276,10 @@ module _ (a b : Run) (local : b.local ≡ a.local) (changed : b.changed ≡ a.ch
       some = λ e. ap (λ (c : ChangedValue). c.all) (sym changed) ∙ e;
       noted = λ slot e. subst (λ (c : ChangedValue). IsUntouched c slot) changed e;
       keeps = λ e. subst (KeepsModules a.map) (sym map) (grown_kept a.map m around.grows around.modules);
-      others = λ slot e there. subst (λ (x : Map). AgreeAt a.map a.local x b.local slot) (sym map) (subst (λ (l : Local). AgreeAt a.map a.local m l slot) (sym local) (agree slot there));
+      others =
+          λ slot e there. subst (λ (x : Map). AgreeAt a.map a.local x b.local slot) (sym map) (subst (λ (l : Local). AgreeAt a.map a.local m l slot) (sym local)
+          (agree slot there));
+      items = λ node e. subst (λ (c : ChangedValue). IsUnhelped c node) changed e;
       helpers = λ node name e. helped_alike a.map b.map (ap (λ (x : Map). x.derive_helpers) map ∙ helpers) node name;
     };
     imports = λ e. imports_around a b stay m map around;
@@ -282,13 +306,23 @@ module _ (one : PathSlot) (c : ChangedValue) where
       go true is e = e
       go false is e = record { some = is; other = λ among. e.other (Contains-append_left c.slots (one ∷ []) slot among) }
 
+  -- and no helper came into scope before where none did
+  pub unhelped_before : (node : AstId) → IsUnhelped (with_one one c) node → IsUnhelped c node
+  unhelped_before node e = go c.all refl e
+    where
+      go : (all : Bool) → c.all ≡ all → IsUnhelped (cond all c (record c { slots = c.slots ++ one ∷ [] })) node → IsUnhelped c node
+      go true is e = e
+      go false is e = record { some = is; other = e.other }
+
   -- and it isn't the slot
   pub untouched_other : (slot : PathSlot) → IsUntouched (with_one one c) slot → slot ≢ one
   untouched_other slot e same = go c.all refl e
     where
       go : (all : Bool) → c.all ≡ all → IsUntouched (cond all c (record c { slots = c.slots ++ one ∷ [] })) slot → ⊥
       go true is e = let wrong : c.all ≡ false = e.some in absurd (let no : ⊥ = cc in no)
-      go false is e = e.other (subst (λ (x : PathSlot). Contains (c.slots ++ one ∷ []) x) (sym same) (Contains-append_right c.slots (one ∷ []) one (zero, omega arith, refl)))
+      go false is e =
+          e.other (subst (λ (x : PathSlot). Contains (c.slots ++ one ∷ []) x) (sym same)
+          (Contains-append_right c.slots (one ∷ []) one (zero, omega arith, refl)))
 
 -- where one slot may change, which is noted
 module _ (a b : Run) (one : PathSlot) (changed : b.changed ≡ with_one one a.changed) where
@@ -302,7 +336,8 @@ module _ (a b : Run) (one : PathSlot) (changed : b.changed ≡ with_one one a.ch
       apart : slot ≢ one → Some slot ≢ Some one
       apart other same = other (let here : slot ≡ one = cc in here)
 
-  noted_slot : b.map.derive_helpers ≡ a.map.derive_helpers → ChangesOnly a.map a.local b.map b.local (Some one) → length a.map.modules ≤ length b.map.modules → LeavesImports a b
+  noted_slot : b.map.derive_helpers ≡ a.map.derive_helpers → ChangesOnly a.map a.local b.map b.local (Some one) → length a.map.modules ≤ length b.map.modules
+      → LeavesImports a b
       → ((finished : Maps) → LeavesGlobs finished a b) → IsNoted a b
   noted_slot helpers changes count left globs = record {
     slots = record {
@@ -310,6 +345,7 @@ module _ (a b : Run) (one : PathSlot) (changed : b.changed ≡ with_one one a.ch
       noted = λ slot e. untouched_before one a.changed slot (subst (λ (c : ChangedValue). IsUntouched c slot) changed e);
       keeps = λ e. grown_kept a.map b.map changes.grows count;
       others = λ slot e there. others_agree changes slot e;
+      items = λ node e. unhelped_before one a.changed node (subst (λ (c : ChangedValue). IsUnhelped c node) changed e);
       helpers = λ node name e. helped_alike a.map b.map helpers node name;
     };
     imports = λ e. left;
@@ -318,86 +354,116 @@ module _ (a b : Run) (one : PathSlot) (changed : b.changed ≡ with_one one a.ch
 
 -- ---- helpers
 
--- what is seen of the values of keys stays where a value comes in that isn't seen
-module _ {K V : Type 0} (cmp : K → K → Ordering) (sees : Option V → Bool) (k q : K) where
-  seen_inserted : IsTotalOrder cmp → (v : V) → sees (Some v) ≡ sees None → (es : List (K × V)) → lookup (is_at (cmp k)) es ≡ None
-      → sees (lookup (is_at (cmp q)) (insert_entry cmp es k v)) ≡ sees (lookup (is_at (cmp q)) es)
-  seen_inserted total v alike [] none = go (is_at (cmp q) k)
+equal : (o : Ordering) → is_eq o ≡ true → o ≡ Equal
+equal Less e = absurd cc
+equal Equal e = refl
+equal Greater e = absurd cc
+
+-- a key that isn't equal to one isn't equal to what is equal to that
+module _ {K : Type 0} (cmp : K → K → Ordering) (total : IsTotalOrder cmp) (k q : K) (apart : is_at (cmp q) k ≡ false) where
+  apart_from : (other : K) → cmp k other ≡ Equal → is_at (cmp q) other ≡ false
+  apart_from other tied = go (is_at (cmp q) other) refl
     where
-      go : (b : Bool) → sees (cond b (Some v) None) ≡ sees None
-      go true = alike
-      go false = refl
-  seen_inserted total v alike (e ∷ es) none = go (cmp k e.0) refl (seen_inserted total v alike es)
+      go : (b : Bool) → is_at (cmp q) other ≡ b → is_at (cmp q) other ≡ false
+      go false e = e
+      go true e =
+          let same : cmp q k ≡ cmp other k = total.congr q other k (equal (cmp q other) e) in
+          let back : cmp other k ≡ Equal = sym (total.congr k other k tied) ∙ tied_itself total k in
+          let here : is_at (cmp q) k ≡ true = ap is_eq (same ∙ back) in
+          absurd (let no : ⊥ = cc in no)
+
+-- and keeps its value where that gets another
+module _ {K V : Type 0} (cmp : K → K → Ordering) (total : IsTotalOrder cmp) (k q : K) (apart : is_at (cmp q) k ≡ false) where
+  other_inserted : (v : V) (es : List (K × V)) → lookup (is_at (cmp q)) (insert_entry cmp es k v) ≡ lookup (is_at (cmp q)) es
+  other_inserted v [] = ap (λ (b : Bool). cond b (Some v) None) apart
+  other_inserted v (e ∷ es) = go (cmp k e.0) refl (other_inserted v es)
     where
-      -- a key that is tied with it had nothing
-      found : (o : Ordering) → cmp q k ≡ o → sees (cond (is_eq o) (Some v) (lookup (is_at (cmp q)) (e ∷ es))) ≡ sees (lookup (is_at (cmp q)) (e ∷ es))
-      found Less s = refl
-      found Equal s =
-          let same : lookup (is_at (cmp q)) (e ∷ es) ≡ lookup (is_at (cmp k)) (e ∷ es) = λ i. lookup (λ x. is_eq (total.congr q k x s i)) (e ∷ es) in
-          alike ∙ sym (ap sees (same ∙ none))
-      found Greater s = refl
+      go : (o : Ordering) → cmp k e.0 ≡ o → lookup (is_at (cmp q)) (insert_entry cmp es k v) ≡ lookup (is_at (cmp q)) es
+          → lookup (is_at (cmp q)) (match_ordering o ((k, v) ∷ e ∷ es) ((e.0, v) ∷ es) (e ∷ insert_entry cmp es k v)) ≡ lookup (is_at (cmp q)) (e ∷ es)
+      go Less s later = ap (λ (b : Bool). cond b (Some v) (lookup (is_at (cmp q)) (e ∷ es))) apart
+      go Equal s later =
+          ap (λ (b : Bool). cond b (Some v) (lookup (is_at (cmp q)) es)) (apart_from cmp total k q apart e.0 s)
+          ∙ sym (ap (λ (b : Bool). cond b (Some e.1) (lookup (is_at (cmp q)) es)) (apart_from cmp total k q apart e.0 s))
+      go Greater s later = ap (λ (o : Option V). cond (is_at (cmp q) e.0) (Some e.1) o) later
 
-      below : (b : Bool) → sees (lookup (is_at (cmp q)) (insert_entry cmp es k v)) ≡ sees (lookup (is_at (cmp q)) es)
-          → sees (cond b (Some e.1) (lookup (is_at (cmp q)) (insert_entry cmp es k v))) ≡ sees (cond b (Some e.1) (lookup (is_at (cmp q)) es))
-      below true same = refl
-      below false same = same
-
-      go : (o : Ordering) → cmp k e.0 ≡ o → (lookup (is_at (cmp k)) es ≡ None → sees (lookup (is_at (cmp q)) (insert_entry cmp es k v)) ≡ sees (lookup (is_at (cmp q)) es))
-          → sees (lookup (is_at (cmp q)) (match_ordering o ((k, v) ∷ e ∷ es) ((e.0, v) ∷ es) (e ∷ insert_entry cmp es k v))) ≡ sees (lookup (is_at (cmp q)) (e ∷ es))
-      go Less s later = found (cmp q k) refl
-      go Equal s later = let some : Some e.1 ≡ None = sym (ap (λ (o : Ordering). cond (is_eq o) (Some e.1) (lookup (is_at (cmp k)) es)) s) ∙ none in absurd (let no : ⊥ = cc in no)
-      go Greater s later = below (is_at (cmp q) e.0) (later (sym (ap (λ (o : Ordering). cond (is_eq o) (Some e.1) (lookup (is_at (cmp k)) es)) s) ∙ none))
-
-  -- and where a value is followed by one in which the same is seen
-  seen_set : (v w : V) → sees (Some w) ≡ sees (Some v) → (es : List (K × V)) → lookup (is_at (cmp k)) es ≡ Some v
-      → sees (lookup (is_at (cmp q)) (set_value (is_at (cmp k)) es w)) ≡ sees (lookup (is_at (cmp q)) es)
-  seen_set v w alike [] there = refl
-  seen_set v w alike (e ∷ es) there = go (is_at (cmp k) e.0) there (seen_set v w alike es)
+  other_set : (w : V) (es : List (K × V)) → lookup (is_at (cmp q)) (set_value (is_at (cmp k)) es w) ≡ lookup (is_at (cmp q)) es
+  other_set w [] = refl
+  other_set w (e ∷ es) = go (is_at (cmp k) e.0) refl (other_set w es)
     where
-      go : (b : Bool) → cond b (Some e.1) (lookup (is_at (cmp k)) es) ≡ Some v
-          → (lookup (is_at (cmp k)) es ≡ Some v → sees (lookup (is_at (cmp q)) (set_value (is_at (cmp k)) es w)) ≡ sees (lookup (is_at (cmp q)) es))
-          → sees (lookup (is_at (cmp q)) (cond b ((e.0, w) ∷ es) (e ∷ set_value (is_at (cmp k)) es w))) ≡ sees (lookup (is_at (cmp q)) (e ∷ es))
-      go true here later = now (is_at (cmp q) e.0)
-        where
-          now : (b : Bool) → sees (cond b (Some w) (lookup (is_at (cmp q)) es)) ≡ sees (cond b (Some e.1) (lookup (is_at (cmp q)) es))
-          now true = alike ∙ sym (ap sees here)
-          now false = refl
-      go false here later = below (is_at (cmp q) e.0)
-        where
-          below : (b : Bool) → sees (cond b (Some e.1) (lookup (is_at (cmp q)) (set_value (is_at (cmp k)) es w))) ≡ sees (cond b (Some e.1) (lookup (is_at (cmp q)) es))
-          below true = refl
-          below false = later here
+      go : (b : Bool) → is_at (cmp k) e.0 ≡ b → lookup (is_at (cmp q)) (set_value (is_at (cmp k)) es w) ≡ lookup (is_at (cmp q)) es
+          → lookup (is_at (cmp q)) (cond b ((e.0, w) ∷ es) (e ∷ set_value (is_at (cmp k)) es w)) ≡ lookup (is_at (cmp q)) (e ∷ es)
+      go true s later =
+          ap (λ (b : Bool). cond b (Some w) (lookup (is_at (cmp q)) es)) (apart_from cmp total k q apart e.0 (equal (cmp k e.0) s))
+          ∙ sym (ap (λ (b : Bool). cond b (Some e.1) (lookup (is_at (cmp q)) es)) (apart_from cmp total k q apart e.0 (equal (cmp k e.0) s)))
+      go false s later = ap (λ (o : Option V). cond (is_at (cmp q) e.0) (Some e.1) o) later
 
--- where one more helper comes into scope, other names are helpers where they were
-module _ (helper : DeriveHelper) (name : List ℕ) (other : bytes_eq helper.name name ≡ false) where
-  named_behind : (hs : List DeriveHelper) → is_named_by (hs ++ helper ∷ []) name ≡ is_named_by hs name
-  named_behind [] = ap (λ (b : Bool). b || false) other
-  named_behind (h ∷ hs) = ap (λ (b : Bool). bytes_eq h.name name || b) (named_behind hs)
+-- where one more helper comes into scope on an item, other items have those that they had
+helpers_elsewhere : (helpers : List (AstId × List DeriveHelper)) (node item : AstId) (helper : DeriveHelper) (of_item : Option (List DeriveHelper))
+    → is_at (item_cmp node) item ≡ false
+    → lookup (is_at (item_cmp node)) (with_helper helpers item helper of_item) ≡ lookup (is_at (item_cmp node)) helpers
+helpers_elsewhere helpers node item helper None apart = other_inserted item_cmp ast_total item node apart (helper ∷ []) helpers
+helpers_elsewhere helpers node item helper (Some hs) apart = other_set item_cmp ast_total item node apart (hs ++ helper ∷ []) helpers
 
-  abbrev is_named : Option (List DeriveHelper) → Bool
-  is_named of_item = is_named_by (unwrap_or of_item []) name
+neither : (a b : Bool) → (a || b) ≡ false → (a ≡ false) × (b ≡ false)
+neither false b e = (refl, e)
+neither true b e = absurd cc
 
-  named_with : (helpers : List (AstId × List DeriveHelper)) (node item : AstId) (of_item : Option (List DeriveHelper)) → lookup (is_at (ast_order.ghosts.cmp item)) helpers ≡ of_item
-      → is_named (lookup (is_at (ast_order.ghosts.cmp node)) (with_helper helpers item helper of_item)) ≡ is_named (lookup (is_at (ast_order.ghosts.cmp node)) helpers)
-  named_with helpers node item None e = seen_inserted ast_order.ghosts.cmp is_named item node ast_total (helper ∷ []) (named_behind []) helpers e
-  named_with helpers node item (Some hs) e = seen_set ast_order.ghosts.cmp is_named item node hs (hs ++ helper ∷ []) (named_behind hs) helpers e
+-- where an item is noted besides
+module _ (item : AstId) (c : ChangedValue) where
+  item_some : (with_item item c).all ≡ false → c.all ≡ false
+  item_some e = go c.all refl e
+    where
+      go : (all : Bool) → c.all ≡ all → (cond all c (record c { items = c.items ++ item ∷ [] })).all ≡ false → c.all ≡ false
+      go true is e = e
+      go false is e = is
 
--- a helper comes into scope on an item, and the slot of its name in the preludes is noted
-pub noted_helper : (a b : Run) (item : AstId) (helper : DeriveHelper) → b.map ≡ with_derive_helper a.map item helper → b.local ≡ a.local → b.changed ≡ with_preludes helper.name a.changed → KeepsImports a b → IsNoted a b
+  untouched_still : (slot : PathSlot) → IsUntouched (with_item item c) slot → IsUntouched c slot
+  untouched_still slot e = go c.all refl e
+    where
+      go : (all : Bool) → c.all ≡ all → IsUntouched (cond all c (record c { items = c.items ++ item ∷ [] })) slot → IsUntouched c slot
+      go true is e = e
+      go false is e = record { some = is; other = e.other }
+
+  -- what is none of several is none of the first, and not the last
+  none_before : (test : AstId → Bool) (items : List AstId) → list_any test (items ++ item ∷ []) ≡ false → (list_any test items ≡ false) × (test item ≡ false)
+  none_before test [] e = (refl, (neither (test item) false e).0)
+  none_before test (x ∷ xs) e =
+      let both = neither (test x) (list_any test (xs ++ item ∷ [])) e in
+      let before = none_before test xs both.1 in
+      ((λ i. both.0 i || before.0 i), before.1)
+
+  unhelped_both : (node : AstId) → IsUnhelped (with_item item c) node → IsUnhelped c node × (is_at (item_cmp node) item ≡ false)
+  unhelped_both node e = go c.all refl e
+    where
+      go : (all : Bool) → c.all ≡ all → IsUnhelped (cond all c (record c { items = c.items ++ item ∷ [] })) node → IsUnhelped c node
+          × (is_at (item_cmp node) item ≡ false)
+      go true is e = let wrong : c.all ≡ false = e.some in absurd (let no : ⊥ = cc in no)
+      go false is e = let both = none_before (is_at (item_cmp node)) c.items e.other in (record { some = is; other = both.0 }, both.1)
+
+-- a helper comes into scope on an item, which is noted
+pub noted_helper : (a b : Run) (item : AstId) (helper : DeriveHelper) → b.map ≡ with_derive_helper a.map item helper → b.local ≡ a.local → b.changed
+    ≡ with_item item a.changed → KeepsImports a b → IsNoted a b
 noted_helper a b item helper map local changed stay = record {
   slots = record {
-    some = λ e. some_before (of_preludes helper.name) a.changed (ap (λ (c : ChangedValue). c.all) (sym changed) ∙ e);
-    noted = λ slot e. untouched_before (of_preludes helper.name) a.changed slot (subst (λ (c : ChangedValue). IsUntouched c slot) changed e);
+    some = λ e. item_some item a.changed (ap (λ (c : ChangedValue). c.all) (sym changed) ∙ e);
+    noted = λ slot e. untouched_still item a.changed slot (subst (λ (c : ChangedValue). IsUntouched c slot) changed e);
     keeps = λ e. subst (KeepsModules a.map) (sym map) (grown_kept a.map (with_derive_helper a.map item helper) around.grows around.modules);
-    others = λ slot e there. subst (λ (m : Map). AgreeAt a.map a.local m b.local slot) (sym map) (subst (λ (l : Local). AgreeAt a.map a.local (with_derive_helper a.map item helper) l slot) (sym local) (same slot));
+    others =
+        λ slot e there. subst (λ (m : Map). AgreeAt a.map a.local m b.local slot) (sym map)
+        (subst (λ (l : Local). AgreeAt a.map a.local (with_derive_helper a.map item helper) l slot) (sym local) (same slot));
+    items = λ node e. (unhelped node e).0;
     helpers = λ node name e.
         ap (λ (m : Map). is_helped m node name) map
-        ∙ named_with helper name (other name (noted_other a b (of_preludes helper.name) changed (of_preludes name) e)) a.map.derive_helpers node item (helpers_at a.map item) refl;
+        ∙ ap (λ (o : Option (List DeriveHelper)). is_named_by (unwrap_or o []) name)
+        (helpers_elsewhere a.map.derive_helpers node item helper (helpers_at a.map item) (unhelped node e).1);
   };
   imports = λ e. imports_around a b stay (with_derive_helper a.map item helper) map around;
   globs = λ e. globs_around a b stay.0 (with_derive_helper a.map item helper) map around (λ h. h);
 }
   where
+    unhelped : (node : AstId) → IsUnhelped b.changed node → IsUnhelped a.changed node × (is_at (item_cmp node) item ≡ false)
+    unhelped node e = unhelped_both item a.changed node (subst (λ (c : ChangedValue). IsUnhelped c node) changed e)
+
     around : GrowsAround a.map (with_derive_helper a.map item helper)
     around = record {
       grows = record { id = refl; holder = refl; crate_data = refl; prelude = refl; parents = λ at m e. ap parent_of e; enums = λ id variants e. e };
@@ -410,13 +476,6 @@ noted_helper a b item helper map local changed stay = record {
     same (of_module at name) = record { entries = refl; legacy = refl }
     same (of_preludes name) = record { crates = refl; macro_uses = refl }
 
-    other : (name : List ℕ) → of_preludes name ≢ of_preludes helper.name → bytes_eq helper.name name ≡ false
-    other name apart = go (bytes_eq helper.name name) refl
-      where
-        go : (b : Bool) → bytes_eq helper.name name ≡ b → bytes_eq helper.name name ≡ false
-        go true e = absurd (apart (sym (ap (λ (x : List ℕ). of_preludes x) ((bytes_eq-Decides helper.name name).0 e))))
-        go false e = e
-
 -- ---- lists
 
 elsewhere : {A : Type 0} (xs : List A) (at : ℕ) (change : A → A) (k : ℕ) → k < at → slice_get (changed_at xs at change) k ≡ slice_get xs k
@@ -427,46 +486,83 @@ elsewhere (x ∷ xs) (suc at) change (suc k) low = elsewhere xs at change k (ome
 
 -- ---- each change of the map
 
--- a push, once it's noted where globs are to be looked at
-pub noted_push : (a b : Run) (home : ℕ) (name : List ℕ) (items : PerNs) → b.map ≡ pushed a.map a.names home name items None → b.local ≡ a.local → b.changed ≡ with_slot home name a.changed
-    → b.globs.edges ≡ a.globs.edges → brought_of b.globs ≡ forgotten home name items (brought_of a.globs) → ((v w : View) → IsKept v a.globs → IsBound home name items v w → IsKept w b.globs)
-    → b.reached ≡ a.reached → b.taken ≡ a.taken → IsNoted a b
-unfolding core_in
-noted_push a b home name items map local changed edges brought forgets reached taken = noted_slot a b (of_module home name) changed (ap (λ (m : Map). m.derive_helpers) map) changes count left globs
+-- where each element at the place stays, all do
+unchanged_at : {A : Type 0} (xs : List A) (at : ℕ) (change : A → A) → ((x : A) → slice_get xs at ≡ Some x → change x ≡ x) → changed_at xs at change ≡ xs
+unchanged_at [] at change stays = refl
+unchanged_at (x ∷ xs) zero change stays = ap (λ y. y ∷ xs) (stays x refl)
+unchanged_at (x ∷ xs) (suc at) change stays = ap (λ ys. x ∷ ys) (unchanged_at xs at change stays)
+
+-- a push that changes nothing leaves the map
+push_stays : (map : Map) (names : GlobNames) (home : ℕ) (name : List ℕ) (items : PerNs) → push_changes map names home name items None ≡ false
+    → pushed map names home name items None ≡ map
+push_stays map names home name items none = λ i. record map { modules = unchanged_at map.modules home (pushed_module names place items None) same i }
   where
-    once : Map
-    once = pushed a.map a.names home name items None
+    place : Place
+    place = place_at map.id home name
 
-    changes : ChangesOnly a.map a.local b.map b.local (Some (of_module home name))
-    changes =
+    same : (m : ModuleValue) → module_at map home ≡ Some m → pushed_module names place items None m ≡ m
+    same m here =
+        λ i. record m {
+          scope = scope_stays m.scope names place None items (sym (ap (λ (o : Option ModuleValue). changes_module o names place items None) here)
+              ∙ none) i;
+        }
+
+-- a push, once it's noted where globs are to be looked at
+module _ (a b : Run) (home : ℕ) (name : List ℕ) (items : PerNs) (map : b.map ≡ pushed a.map a.names home name items None) (edges : b.globs.edges ≡ a.globs.edges)
+    (brought : brought_of b.globs ≡ forgotten home name items (brought_of a.globs)) (forgets : (v w : View) → IsKept v a.globs → IsBound home name items v w
+    → IsKept w b.globs) where
+  globs_bound : (finished : Maps) → LeavesGlobs finished a b
+  unfolding core_in
+  globs_bound finished last =
+      globs_pushed finished (import_state (at_rest (core_in a))) (import_state (at_rest (core_in b))) a.globs b.globs home name items (have_globs a)
+      (have_globs b) map edges brought forgets last
+
+  module _ (local : b.local ≡ a.local) (reached : b.reached ≡ a.reached) (taken : b.taken ≡ a.taken) where
+    abbrev pushed_once : Map
+    pushed_once = pushed a.map a.names home name items None
+
+    changes_pushed : ChangesOnly a.map a.local b.map b.local (Some (of_module home name))
+    changes_pushed =
         subst (λ (m : Map). ChangesOnly a.map a.local m b.local (Some (of_module home name))) (sym map)
-        (subst (λ (l : Local). ChangesOnly a.map a.local once l (Some (of_module home name))) (sym local) (changes-pushed a.map a.local a.names home name items None))
+        (subst (λ (l : Local). ChangesOnly a.map a.local pushed_once l (Some (of_module home name))) (sym local)
+        (changes-pushed a.map a.local a.names home name items None))
 
-    count : length a.map.modules ≤ length b.map.modules
-    count =
+    as_many : length a.map.modules ≤ length b.map.modules
+    as_many =
         subst (λ (m : Map). length a.map.modules ≤ length m.modules) (sym map)
         (let same = length-changed a.map.modules home (pushed_module a.names (place_at a.map.id home name) items None) in omega (arith, same))
 
-    left : LeavesImports a b
-    left = record {
-      enums = changes.grows.enums;
+    left_bound : LeavesImports a b
+    left_bound = record {
+      enums = changes_pushed.grows.enums;
       reached = λ i low. ap (λ (rs : List ImportDirective). slice_get rs i) reached;
       taken = λ i low. ap (λ (ts : List TakenValue). slice_get ts i) taken;
       longer = let same : length b.reached ≡ length a.reached = ap (λ (rs : List ImportDirective). length rs) reached in omega (arith, same);
       taken_longer = let same : length b.taken ≡ length a.taken = ap (λ (ts : List TakenValue). length ts) taken in omega (arith, same);
     }
 
-    globs : (finished : Maps) → LeavesGlobs finished a b
-    globs finished last =
-        globs_pushed finished (import_state (at_rest (core_in a))) (import_state (at_rest (core_in b))) a.globs b.globs home name items (have_globs a) (have_globs b) map edges brought forgets last
+    -- that may change what the name stands for, which is noted
+    pub noted_push : b.changed ≡ with_slot home name a.changed → IsNoted a b
+    noted_push changed = noted_slot a b (of_module home name) changed (ap (λ (m : Map). m.derive_helpers) map) changes_pushed as_many left_bound globs_bound
+
+    -- that changes nothing, and nothing is noted
+    pub noted_vain_push : push_changes a.map a.names home name items None ≡ false → b.changed ≡ a.changed → IsNoted a b
+    noted_vain_push none changed = record {
+      slots = slots_same a b (map ∙ push_stays a.map a.names home name items none) local changed;
+      imports = λ e. left_bound;
+      globs = λ e. globs_bound;
+    }
 
 -- a macro in textual scope
-pub noted_textual : (a b : Run) (home : ℕ) (name : List ℕ) (makro : MacroId) → b.map ≡ with_textual_macro a.map home name makro → b.local ≡ a.local → b.changed ≡ with_slot home name a.changed → KeepsImports a b → IsNoted a b
+pub noted_textual : (a b : Run) (home : ℕ) (name : List ℕ) (makro : MacroId) → b.map ≡ with_textual_macro a.map home name makro → b.local ≡ a.local → b.changed
+    ≡ with_slot home name a.changed → KeepsImports a b → IsNoted a b
 noted_textual a b home name makro map local changed stay =
     noted_slot a b (of_module home name) changed (ap (λ (m : Map). m.derive_helpers) map)
     (subst (λ (m : Map). ChangesOnly a.map a.local m b.local (Some (of_module home name))) (sym map)
-    (subst (λ (l : Local). ChangesOnly a.map a.local (with_textual_macro a.map home name makro) l (Some (of_module home name))) (sym local) (textual_macros a.map a.local home name makro)))
-    (subst (λ (m : Map). length a.map.modules ≤ length m.modules) (sym map) around.modules) (imports_around a b stay (with_textual_macro a.map home name makro) map around)
+    (subst (λ (l : Local). ChangesOnly a.map a.local (with_textual_macro a.map home name makro) l (Some (of_module home name))) (sym local)
+    (textual_macros a.map a.local home name makro)))
+    (subst (λ (m : Map). length a.map.modules ≤ length m.modules) (sym map) around.modules) (imports_around a b stay (with_textual_macro a.map home name makro)
+    map around)
     (globs_around a b stay.0 (with_textual_macro a.map home name makro) map around (λ h. in_order_scope a.map h home change))
   where
     change : ScopeValue → ScopeValue
@@ -476,22 +572,28 @@ noted_textual a b home name makro map local changed stay =
     around = scopes_around a.map home change (λ s other. refl) (λ s id. refl)
 
 -- a crate that paths may begin with
-pub noted_extern : (a b : Run) (name : List ℕ) (entry : ModuleId × Option ExternCrateId) → b.map ≡ a.map → b.local ≡ with_extern a.local name entry → b.changed ≡ with_preludes name a.changed → KeepsImports a b → IsNoted a b
+pub noted_extern : (a b : Run) (name : List ℕ) (entry : ModuleId × Option ExternCrateId) → b.map ≡ a.map → b.local ≡ with_extern a.local name entry → b.changed
+    ≡ with_preludes name a.changed → KeepsImports a b → IsNoted a b
 noted_extern a b name entry map local changed stay =
     noted_slot a b (of_preludes name) changed (ap (λ (m : Map). m.derive_helpers) map)
     (subst (λ (m : Map). ChangesOnly a.map a.local m b.local (Some (of_preludes name))) (sym map)
     (subst (λ (l : Local). ChangesOnly a.map a.local a.map l (Some (of_preludes name))) (sym local) (changes-crate a.map a.local name entry)))
-    (let same : length b.map.modules ≡ length a.map.modules = ap (λ (m : Map). length m.modules) map in omega (arith, same)) (imports_same a b stay map) (globs_same a b stay.0 map)
+    (let same : length b.map.modules ≡ length a.map.modules = ap (λ (m : Map). length m.modules) map in omega (arith, same)) (imports_same a b stay map)
+    (globs_same a b stay.0 map)
 
 -- what is listed
-pub noted_list : (a b : Run) (home : ℕ) (d : Listing) → b.map ≡ with_scope a.map home (listed d) → b.local ≡ a.local → b.changed ≡ a.changed → KeepsImports a b → IsNoted a b
+pub noted_list : (a b : Run) (home : ℕ) (d : Listing) → b.map ≡ with_scope a.map home (listed d) → b.local ≡ a.local → b.changed ≡ a.changed → KeepsImports a b
+    → IsNoted a b
 noted_list a b home d map local changed stay =
-    noted_around a b local changed stay (with_scope a.map home (listed d)) map refl (lists_around a.map home d) (λ h. in_order_scope a.map h home (listed d)) (λ slot there. (changes-listed a.map a.local home d).others slot (λ e. absurd cc))
+    noted_around a b local changed stay (with_scope a.map home (listed d)) map refl (lists_around a.map home d) (λ h. in_order_scope a.map h home (listed d))
+    (λ slot there. (changes-listed a.map a.local home d).others slot (λ e. absurd cc))
 
 -- an impl for which a builtin derive stands
-pub noted_derived : (a b : Run) → b.local ≡ a.local → b.changed ≡ a.changed → KeepsImports a b → (home : ℕ) (imp : BuiltinDeriveImplId) → b.map ≡ with_derived a.map home imp → IsNoted a b
+pub noted_derived : (a b : Run) → b.local ≡ a.local → b.changed ≡ a.changed → KeepsImports a b → (home : ℕ) (imp : BuiltinDeriveImplId) → b.map
+    ≡ with_derived a.map home imp → IsNoted a b
 noted_derived a b local changed stay home imp map =
-    noted_around a b local changed stay (with_derived a.map home imp) map refl (scopes_around a.map home (with_builtin_derive imp) (λ s other. refl) (λ s id. refl))
+    noted_around a b local changed stay (with_derived a.map home imp) map refl (scopes_around a.map home (with_builtin_derive imp) (λ s other. refl)
+    (λ s id. refl))
     (λ h. in_order_scope a.map h home (with_builtin_derive imp)) (λ slot there. same slot)
   where
     same : (slot : PathSlot) → AgreeAt a.map a.local (with_derived a.map home imp) a.local slot
@@ -501,15 +603,33 @@ noted_derived a b local changed stay home imp map =
     }
     same (of_preludes name) = record { crates = refl; macro_uses = refl }
 
+-- what a scope notes of calls, attributes and derives
+pub noted_invocation : (a b : Run) → b.local ≡ a.local → b.changed ≡ a.changed → KeepsImports a b → (home : ℕ) (invocation : Invocation) → b.map
+    ≡ with_noted a.map home invocation → IsNoted a b
+noted_invocation a b local changed stay home invocation map =
+    noted_around a b local changed stay (with_noted a.map home invocation) map refl (scopes_around a.map home (with_invocation invocation) (λ s other. refl)
+    (λ s id. refl))
+    (λ h. in_order_scope a.map h home (with_invocation invocation)) (λ slot there. same slot)
+  where
+    same : (slot : PathSlot) → AgreeAt a.map a.local (with_noted a.map home invocation) a.local slot
+    same (of_module at name) = record {
+      entries = kept (λ (o : Option ModuleValue). entry_of o name) a.map.modules home (with_module_scope (with_invocation invocation)) (λ m. refl) at;
+      legacy = kept (λ (o : Option ModuleValue). legacy_of o name) a.map.modules home (with_module_scope (with_invocation invocation)) (λ m. refl) at;
+    }
+    same (of_preludes name) = record { crates = refl; macro_uses = refl }
+
 -- the scope of a module that wasn't there
-other_scope_agrees : (map : Map) (local : Local) (bound home : ℕ) (change : ScopeValue → ScopeValue) → bound ≤ home → (slot : PathSlot) → IsThere bound slot → AgreeAt map local (with_scope map home change) local slot
+other_scope_agrees : (map : Map) (local : Local) (bound home : ℕ) (change : ScopeValue → ScopeValue) → bound ≤ home → (slot : PathSlot) → IsThere bound slot
+    → AgreeAt map local (with_scope map home change) local slot
 other_scope_agrees map local bound home change above (of_module at name) there =
-    let same : module_at (with_scope map home change) at ≡ module_at map at = elsewhere map.modules home (with_module_scope change) at (omega (arith, above, there)) in
+    let same : module_at (with_scope map home change) at ≡ module_at map at = elsewhere map.modules home (with_module_scope change) at
+    (omega (arith, above, there)) in
     record { entries = ap (λ (o : Option ModuleValue). entry_of o name) same; legacy = ap (λ (o : Option ModuleValue). legacy_of o name) same }
 other_scope_agrees map local bound home change above (of_preludes name) there = record { crates = refl; macro_uses = refl }
 
 -- a module that is made, and begins with the macros in textual scope around it
-pub noted_module : (a b : Run) (home : ℕ) (name : List ℕ) (origin : ModuleOrigin) (visibility : Visibility) (parent : Option ModuleId) → parent ≡ Some (numbered a.map.id home) → home < length a.map.modules
+pub noted_module : (a b : Run) (home : ℕ) (name : List ℕ) (origin : ModuleOrigin) (visibility : Visibility) (parent : Option ModuleId) → parent
+    ≡ Some (numbered a.map.id home) → home < length a.map.modules
     → b.map ≡ begun a.map home name (new_module origin visibility parent) → b.local ≡ a.local → b.changed ≡ a.changed → KeepsImports a b → IsNoted a b
 noted_module a b home name origin visibility parent inside low map local changed stay =
     let made : Map = with_module a.map home name (new_module origin visibility parent) in
@@ -517,16 +637,20 @@ noted_module a b home name origin visibility parent inside low map local changed
     let changes : ChangesOnly a.map a.local made a.local None = changes-made a.map a.local home name origin visibility parent in
     let change : ScopeValue → ScopeValue = λ s. record s { legacy_macros = textual_at made home } in
     noted_around a b local changed stay (begun a.map home name (new_module origin visibility parent)) map refl
-    (around_later a.map made (with_scope made count change) (modules_around a.map home name origin visibility parent) (scopes_around made count change (λ s other. refl) (λ s id. refl)))
+    (around_later a.map made (with_scope made count change) (modules_around a.map home name origin visibility parent)
+    (scopes_around made count change (λ s other. refl) (λ s id. refl)))
     (λ h. in_order_scope made (in_order_made a.map home name (new_module origin visibility parent) inside low h) count change)
     (λ slot there.
-    agree_later a.map made (with_scope made count change) a.local a.local a.local slot (changes.others slot (λ e. absurd cc)) (other_scope_agrees made a.local count count change (omega arith) slot there))
+    agree_later a.map made (with_scope made count change) a.local a.local a.local slot (changes.others slot (λ e. absurd cc))
+    (other_scope_agrees made a.local count count change (omega arith) slot there))
 
 -- what lies beside modules and preludes
 module _ (a b : Run) (local : b.local ≡ a.local) (changed : b.changed ≡ a.changed) (stay : KeepsImports a b) where
   -- a diagnostic
   pub noted_told : (d : DefDiagnostic) → b.map ≡ with_diagnostic a.map d → IsNoted a b
-  noted_told d map = noted_around a b local changed stay (with_diagnostic a.map d) map refl (record { grows = around; modules = omega arith; entries = λ at name. refl; traits = λ at id. refl }) (λ h. h) (λ slot there. same slot)
+  noted_told d map =
+      noted_around a b local changed stay (with_diagnostic a.map d) map refl
+      (record { grows = around; modules = omega arith; entries = λ at name. refl; traits = λ at id. refl }) (λ h. h) (λ slot there. same slot)
     where
       around : Grows a.map (with_diagnostic a.map d)
       around = record { id = refl; holder = refl; crate_data = refl; prelude = refl; parents = λ at m e. ap parent_of e; enums = λ id variants e. e }
@@ -538,7 +662,8 @@ module _ (a b : Run) (local : b.local ≡ a.local) (changed : b.changed ≡ a.ch
   -- the macro that an item defines
   pub noted_defined : (node : AstId) (makro : MacroId) → b.map ≡ with_macro_def a.map node makro → IsNoted a b
   noted_defined node makro map =
-      noted_around a b local changed stay (with_macro_def a.map node makro) map refl (record { grows = around; modules = omega arith; entries = λ at name. refl; traits = λ at id. refl }) (λ h. h) (λ slot there. same slot)
+      noted_around a b local changed stay (with_macro_def a.map node makro) map refl
+      (record { grows = around; modules = omega arith; entries = λ at name. refl; traits = λ at id. refl }) (λ h. h) (λ slot there. same slot)
     where
       around : Grows a.map (with_macro_def a.map node makro)
       around = record { id = refl; holder = refl; crate_data = refl; prelude = refl; parents = λ at m e. ap parent_of e; enums = λ id variants e. e }
@@ -550,7 +675,8 @@ module _ (a b : Run) (local : b.local ≡ a.local) (changed : b.changed ≡ a.ch
   -- the variants of an enum that had none
   noted_enum : (id : EnumId) (variants : Variants) → variants_at a.map id ≡ None → b.map ≡ with_enum a.map id variants → IsNoted a b
   noted_enum id variants fresh map =
-      noted_around a b local changed stay (with_enum a.map id variants) map refl (enums_around a.map id variants (λ before e. absurd (let no : ⊥ = cc in no))) (λ h. h) (λ slot there. same slot)
+      noted_around a b local changed stay (with_enum a.map id variants) map refl (enums_around a.map id variants (λ before e. absurd (let no : ⊥ = cc in no)))
+      (λ h. h) (λ slot there. same slot)
     where
       same : (slot : PathSlot) → AgreeAt a.map a.local (with_enum a.map id variants) a.local slot
       same (of_module at name) = record { entries = refl; legacy = refl }
@@ -559,7 +685,8 @@ module _ (a b : Run) (local : b.local ≡ a.local) (changed : b.changed ≡ a.ch
   -- what is kept of a macro
   pub noted_described : (makro : MacroId) (what : MacroDataValue) → b.map ≡ with_macro_data a.map makro what → IsNoted a b
   noted_described makro what map =
-      noted_around a b local changed stay (with_macro_data a.map makro what) map refl (record { grows = around; modules = omega arith; entries = λ at name. refl; traits = λ at id. refl }) (λ h. h) (λ slot there. same slot)
+      noted_around a b local changed stay (with_macro_data a.map makro what) map refl
+      (record { grows = around; modules = omega arith; entries = λ at name. refl; traits = λ at id. refl }) (λ h. h) (λ slot there. same slot)
     where
       around : Grows a.map (with_macro_data a.map makro what)
       around = record { id = refl; holder = refl; crate_data = refl; prelude = refl; parents = λ at m e. ap parent_of e; enums = λ id variants e. e }
@@ -571,7 +698,8 @@ module _ (a b : Run) (local : b.local ≡ a.local) (changed : b.changed ≡ a.ch
   -- a function that exports a macro
   pub noted_exported : (function : FunctionId) (makro : ProcMacroId) → b.map ≡ with_exported a.map function makro → IsNoted a b
   noted_exported function makro map =
-      noted_around a b local changed stay (with_exported a.map function makro) map refl (record { grows = around; modules = omega arith; entries = λ at name. refl; traits = λ at id. refl }) (λ h. h) (λ slot there. same slot)
+      noted_around a b local changed stay (with_exported a.map function makro) map refl
+      (record { grows = around; modules = omega arith; entries = λ at name. refl; traits = λ at id. refl }) (λ h. h) (λ slot there. same slot)
     where
       around : Grows a.map (with_exported a.map function makro)
       around = record { id = refl; holder = refl; crate_data = refl; prelude = refl; parents = λ at m e. ap parent_of e; enums = λ id variants e. e }

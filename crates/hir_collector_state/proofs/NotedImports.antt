@@ -24,7 +24,8 @@ module _ (finished : Maps) (a b : Run) (steps : Steps finished (import_state (at
   noted_stood : b.count ≡ a.count → NotesSlots a b
   unfolding core_in
   noted_stood same =
-      let is : import_state (at_rest (core_in b)) ≡ import_state (at_rest (core_in a)) = stood_still finished (import_state (at_rest (core_in a))) (import_state (at_rest (core_in b))) steps same in
+      let is : import_state (at_rest (core_in b)) ≡ import_state (at_rest (core_in a)) = stood_still finished (import_state (at_rest (core_in a)))
+      (import_state (at_rest (core_in b))) steps same in
       slots_same a b (ap (λ (s : ImportState). s.map) is) (ap (λ (s : ImportState). s.local) is) (still same)
 
   pub noted_imports : NotesSlots a b
@@ -35,7 +36,8 @@ module _ (finished : Maps) (a b : Run) (steps : Steps finished (import_state (at
       go (inr other) = slots_everything a b (moves other)
 
 -- the slots that imports changed are noted where those are known, and all otherwise
-pub noted_taken : (finished : Maps) (a b : Run) (apart : Bool) (slots : List PathSlot) → Steps finished (import_state (at_rest (core_in a))) (import_state (at_rest (core_in b)))
+pub noted_taken : (finished : Maps) (a b : Run) (apart : Bool) (slots : List PathSlot) → Steps finished (import_state (at_rest (core_in a)))
+    (import_state (at_rest (core_in b)))
     → (apart ≡ true → ScopesChangeAmong a.map b.map a.local slots) → b.local ≡ a.local → (apart ≡ true → b.changed ≡ with_slots slots a.changed)
     → (apart ≡ false → b.count ≡ a.count → b.changed ≡ a.changed) → (apart ≡ false → b.count ≢ a.count → b.changed ≡ everything) → NotesSlots a b
 noted_taken finished a b true slots steps among local known still moves = slots_with finished a b slots steps (among refl) local (known refl)

@@ -1,8 +1,10 @@
 -- Names that go along globs while items are walked are noted.
-use Rattle.std.proofs.Common.{◌≡◌, ◌⊎◌, inl, inr, ◌∙◌, ap, sym, refl, subst, ℕ, Bool, true, false, List, [], ◌∷◌, ◌++◌, length, Option, None, Some, Contains, cond, slice_get, arith}
+use Rattle.std.proofs.Common.{◌≡◌, ◌⊎◌, inl, inr, ◌∙◌, ap, sym, refl, subst, ℕ, Bool, true, false, List, [], ◌∷◌, ◌++◌, length, Option, None, Some, Contains}
+use Rattle.std.proofs.Common.{cond, slice_get, arith}
 use Rattle.std.proofs.lemmas.List.Elements.{Contains-append_cases, Contains-append_left, Contains-append_right, Contains-push_cases}
 use Rattle.std.specs.Option.{option_and_then}
 use Rattle.std.specs.Prelude.{Result, Ok, Err, IfOk, IsOkAnd, OnOk}
+use Rattle.hir_base.specs.declared.ast_id.AstId.{AstId}
 use Rattle.hir_base.specs.declared.ids.ModuleId.{ModuleId}
 use Rattle.hir_scope.specs.declared.imports.GlobId.{GlobId}
 use Rattle.hir_scope.specs.declared.visibility.Visibility.{Visibility}
@@ -17,9 +19,9 @@ use Rattle.hir_glob_imports.specs.Keys.{name_of}
 use Rattle.hir_glob_imports.specs.Rules.{brings, copies, follows, raises}
 use Rattle.hir_glob_imports.specs.declared.edge.Bound.{Bound}
 use Rattle.hir_glob_imports.specs.declared.edge.Key.{Key}
+use Rattle.hir_glob_imports.specs.declared.edge.Target.{Target}
 use Rattle.hir_glob_imports.specs.declared.edge.Key.TheVariants.{Types, Values, Macros, Unnamed}
 use Rattle.hir_glob_imports.specs.declared.edge.Slot.{Slot as GlobSlot}
-use Rattle.hir_glob_imports.specs.declared.edge.Target.{Target}
 use Rattle.hir_import_resolution.specs.Changes.{Change as ImportChange, act, along, keeps_trait, perform, pushes, records, takes}
 use Rattle.hir_import_resolution.specs.Directives.{TakenValue}
 use Rattle.hir_import_resolution.specs.Inner.State.{path_slots, slots_named}
@@ -27,11 +29,11 @@ use Rattle.hir_import_resolution.specs.Names.{ScopesValue, bound_of, copied, cop
 use Rattle.hir_import_resolution.specs.Rules.{Step, Steps, acts, more, none}
 use Rattle.hir_import_resolution.specs.State.{ImportState, scopes_of}
 use Rattle.hir_import_resolution.specs.declared.directive.ImportDirective.{ImportDirective}
-use Rattle.hir_call_queue.specs.Changes.{ChangedValue, IsUntouched, with_slots}
+use Rattle.hir_call_queue.specs.Changes.{ChangedValue, IsUnhelped, IsUntouched, with_slots}
 use Rattle.hir_collector_rules.specs.State.{Run, at_rest, core_in, import_state}
 use Rattle.hir_collector_rules.specs.Waiting.{IsNotedBeside, KeepsModules, LeavesGlobs, LeavesImports, NotesSlots, noted_along, noted_name}
 use Rattle.hir_collector_rules.proofs.Lists.{length_mapped}
-use Rattle.hir_collector_state.proofs.Noted.{helped_alike, some_before, untouched_before, untouched_other}
+use Rattle.hir_collector_state.proofs.Noted.{helped_alike, some_before, unhelped_before, untouched_before, untouched_other}
 
 -- ---- slots that are noted
 
@@ -50,6 +52,14 @@ module _ (c : ChangedValue) (slots : List PathSlot) where
       go : (all : Bool) → c.all ≡ all → IsUntouched (cond all c (record c { slots = c.slots ++ slots })) slot → IsUntouched c slot
       go true is e = e
       go false is e = record { some = is; other = λ among. e.other (Contains-append_left c.slots slots slot among) }
+
+  -- and no helper came into scope before where none did
+  unhelped_before_each : (item : AstId) → IsUnhelped (with_slots slots c) item → IsUnhelped c item
+  unhelped_before_each item e = go c.all refl e
+    where
+      go : (all : Bool) → c.all ≡ all → IsUnhelped (cond all c (record c { slots = c.slots ++ slots })) item → IsUnhelped c item
+      go true is e = e
+      go false is e = record { some = is; other = e.other }
 
   -- and it isn't one of the slots
   untouched_apart : (slot : PathSlot) → IsUntouched (with_slots slots c) slot → ¬ Contains slots slot
@@ -86,7 +96,12 @@ named_before : (at : ℕ) (name : Option (List ℕ)) (c : ChangedValue) (slot : 
 named_before at None c slot e = let wrong : true ≡ false = e.some in absurd (let no : ⊥ = cc in no)
 named_before at (Some name) c slot e = untouched_before (of_module at name) c slot e
 
-named_apart : (at : ℕ) (name : Option (List ℕ)) (c : ChangedValue) (slot : PathSlot) → IsUntouched (noted_name at name c) slot → ¬ Contains (slots_named at name) slot
+named_unhelped : (at : ℕ) (name : Option (List ℕ)) (c : ChangedValue) (item : AstId) → IsUnhelped (noted_name at name c) item → IsUnhelped c item
+named_unhelped at None c item e = let wrong : true ≡ false = e.some in absurd (let no : ⊥ = cc in no)
+named_unhelped at (Some name) c item e = unhelped_before (of_module at name) c item e
+
+named_apart : (at : ℕ) (name : Option (List ℕ)) (c : ChangedValue) (slot : PathSlot) → IsUntouched (noted_name at name c) slot
+    → ¬ Contains (slots_named at name) slot
 named_apart at None c slot e has = absurd (no_member slot has)
 named_apart at (Some name) c slot e has = go (first_or_later (of_module at name) [] slot has)
   where
@@ -102,9 +117,14 @@ along_before : (slots : List GlobSlot) (c : ChangedValue) (slot : PathSlot) → 
 along_before [] c slot e = e
 along_before (s ∷ ss) c slot e = named_before s.at (name_of s.key) c slot (along_before ss (noted_name s.at (name_of s.key) c) slot e)
 
+along_unhelped : (slots : List GlobSlot) (c : ChangedValue) (item : AstId) → IsUnhelped (noted_along slots c) item → IsUnhelped c item
+along_unhelped [] c item e = e
+along_unhelped (s ∷ ss) c item e = named_unhelped s.at (name_of s.key) c item (along_unhelped ss (noted_name s.at (name_of s.key) c) item e)
+
 along_apart : (slots : List GlobSlot) (c : ChangedValue) (slot : PathSlot) → IsUntouched (noted_along slots c) slot → ¬ Contains (path_slots slots) slot
 along_apart [] c slot e has = no_member slot has
-along_apart (s ∷ ss) c slot e has = go (along_apart ss (noted_name s.at (name_of s.key) c) slot e) (Contains-append_cases (slots_named s.at (name_of s.key)) (path_slots ss) slot has)
+along_apart (s ∷ ss) c slot e has =
+    go (along_apart ss (noted_name s.at (name_of s.key) c) slot e) (Contains-append_cases (slots_named s.at (name_of s.key)) (path_slots ss) slot has)
   where
     go : ¬ Contains (path_slots ss) slot → Contains (slots_named s.at (name_of s.key)) slot ⊎ Contains (path_slots ss) slot → ⊥
     go apart (inl here) = named_apart s.at (name_of s.key) c slot (along_before ss (noted_name s.at (name_of s.key) c) slot e) here
@@ -120,7 +140,9 @@ module _ (old new : Map) (differs : DiffersInScopes old new) where
       ∙ parent_listed old.modules at
 
   pub same_count : length new.modules ≡ length old.modules
-  same_count = sym (length_mapped (λ (v : ModuleValue). v.parent) new.modules) ∙ ap (λ (ps : List (Option ModuleId)). length ps) differs.parents ∙ length_mapped (λ (v : ModuleValue). v.parent) old.modules
+  same_count =
+      sym (length_mapped (λ (v : ModuleValue). v.parent) new.modules) ∙ ap (λ (ps : List (Option ModuleId)). length ps) differs.parents ∙ length_mapped
+      (λ (v : ModuleValue). v.parent) old.modules
 
   differs_kept : KeepsModules old new
   differs_kept = record {
@@ -134,14 +156,13 @@ module _ (old new : Map) (differs : DiffersInScopes old new) where
 
 -- ---- helpers stay where imports are taken and names go along globs
 
-copied_helpers : (n : ScopesValue) (s : GlobSlot) (of : Target) (vis : Visibility) (by : GlobId) → (copied n s of vis by).map.derive_helpers ≡ n.map.derive_helpers
+copied_helpers : (n : ScopesValue) (s : GlobSlot) (of : Target) (vis : Visibility) (by : GlobId) → (copied n s of vis by).map.derive_helpers
+    ≡ n.map.derive_helpers
 copied_helpers n s of vis by = go (bound_of n of s.key)
   where
     on : (key : Key) (b : Bound) → (copied_to n s.at key vis by b).map.derive_helpers ≡ n.map.derive_helpers
     on (Types name) b = refl
-    on (Values name) b = refl
-    on (Macros name) b = refl
-    on (Unnamed id) b = refl
+    on other b = refl
 
     go : (o : Option Bound) → (copied_where n s vis by o).map.derive_helpers ≡ n.map.derive_helpers
     go None = refl
@@ -152,9 +173,7 @@ followed_helpers n s of vis = go (bound_of n of s.key)
   where
     on : (key : Key) (b : Bound) → (followed_to n s.at key vis b).map.derive_helpers ≡ n.map.derive_helpers
     on (Types name) b = refl
-    on (Values name) b = refl
-    on (Macros name) b = refl
-    on (Unnamed id) b = refl
+    on other b = refl
 
     go : (o : Option Bound) → (followed_where n s vis o).map.derive_helpers ≡ n.map.derive_helpers
     go None = refl
@@ -192,12 +211,14 @@ module _ (finished : Maps) (a b : Run) (slots : List PathSlot) (steps : Steps fi
   same_helpers = steps_helpers finished (import_state (at_rest (core_in a))) (import_state (at_rest (core_in b))) steps
 
   slots_among : (b.changed.all ≡ false → a.changed.all ≡ false) → ((slot : PathSlot) → IsUntouched b.changed slot → IsUntouched a.changed slot)
-      → ((slot : PathSlot) → IsUntouched b.changed slot → ¬ Contains slots slot) → NotesSlots a b
-  slots_among some noted apart = record {
+      → ((slot : PathSlot) → IsUntouched b.changed slot → ¬ Contains slots slot) → ((item : AstId) → IsUnhelped b.changed item → IsUnhelped a.changed item)
+      → NotesSlots a b
+  slots_among some noted apart items = record {
     some = some;
     noted = noted;
     keeps = λ e. differs_kept a.map b.map among.differs;
     others = λ slot e there. subst (λ l. AgreeAt a.map a.local b.map l slot) (sym local) (among.others slot (apart slot e));
+    items = items;
     helpers = λ node name e. helped_alike a.map b.map same_helpers node name;
   }
 
@@ -208,6 +229,7 @@ module _ (finished : Maps) (a b : Run) (slots : List PathSlot) (steps : Steps fi
       (λ e. some_before_each a.changed slots (ap (λ (c : ChangedValue). c.all) (sym changed) ∙ e))
       (λ slot e. untouched_before_each a.changed slots slot (subst (λ (c : ChangedValue). IsUntouched c slot) changed e))
       (λ slot e. untouched_apart a.changed slots slot (subst (λ (c : ChangedValue). IsUntouched c slot) changed e))
+      (λ item e. unhelped_before_each a.changed slots item (subst (λ (c : ChangedValue). IsUnhelped c item) changed e))
 
 module _ (finished : Maps) (a b : Run) (slots : List GlobSlot) (steps : Steps finished (import_state (at_rest (core_in a))) (import_state (at_rest (core_in b))))
     (among : ScopesChangeAmong a.map b.map a.local (path_slots slots)) (local : b.local ≡ a.local) (changed : b.changed ≡ noted_along slots a.changed) where
@@ -229,7 +251,8 @@ module _ (finished : Maps) (a b : Run) (slots : List GlobSlot) (steps : Steps fi
         slots_among finished a b (path_slots slots) steps among local
         (λ e. along_some slots a.changed (ap (λ (c : ChangedValue). c.all) (sym changed) ∙ e))
         (λ slot e. along_before slots a.changed slot (along_slot slot e))
-        (λ slot e. along_apart slots a.changed slot (along_slot slot e));
+        (λ slot e. along_apart slots a.changed slot (along_slot slot e))
+        (λ item e. along_unhelped slots a.changed item (subst (λ (c : ChangedValue). IsUnhelped c item) changed e));
     imports = λ e. left_along reached taken;
     globs = λ e. globs;
   }
@@ -237,7 +260,8 @@ module _ (finished : Maps) (a b : Run) (slots : List GlobSlot) (steps : Steps fi
 -- ---- where two calls succeed
 
 module _ {T E U F : Type 0} where
-  pub through_both : (P Q : T → Type 0) (R : Type 0) (first : Result T E) (second : Result U F) → OnOk second (IsOkAnd first P) → IfOk first Q → ((x : T) → P x → Q x → R) → OnOk second R
+  pub through_both : (P Q : T → Type 0) (R : Type 0) (first : Result T E) (second : Result U F) → OnOk second (IsOkAnd first P) → IfOk first Q
+      → ((x : T) → P x → Q x → R) → OnOk second R
   through_both P Q R (Ok x) (Ok y) both holds gives = gives x both holds
   through_both P Q R (Err e) (Ok y) both holds gives = absurd both
   through_both P Q R (Ok x) (Err f) both holds gives = tt

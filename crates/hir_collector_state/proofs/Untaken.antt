@@ -1,9 +1,10 @@
 -- Imports that were never taken, one after another.
-use Rattle.std.proofs.Common.{◌≡◌, ◌∙◌, ℕ, zero, suc, ◌+◌, ◌<◌, List, [], ◌∷◌, length, drop, get_or, slice_get, Option, Some, None, cond, refl, sym, ap, ◌++◌, append_assoc, Bool, true, false, add-one}
+use Rattle.std.proofs.Common.{◌≡◌, ◌∙◌, ℕ, zero, suc, ◌+◌, ◌<◌, List, [], ◌∷◌, length, drop, get_or, slice_get, Option, Some, None, cond, refl, sym, ap, ◌++◌}
+use Rattle.std.proofs.Common.{append_assoc, Bool, true, false, add-one}
 use Rattle.hir_scope.specs.declared.imports.ImportOrExternCrate.{ImportOrExternCrate}
 use Rattle.hir_import_resolution.specs.declared.directive.ImportDirective.{ImportDirective}
-use Rattle.hir_import_resolution.specs.Directives.{TakenValue, way_of}
-use Rattle.hir_collector_rules.specs.Derivation.{leftover_among, is_left_over}
+use Rattle.hir_import_resolution.specs.Directives.{TakenValue}
+use Rattle.hir_collector_rules.specs.Derivation.{leftover_among, is_left_over, told_of}
 use Rattle.hir_collector_rules.proofs.Lists.{drop_at, drop_some, drop_none}
 
 -- without takings there is none
@@ -20,11 +21,12 @@ drop-empty (suc i) (t ∷ ts) e = drop-empty i ts e
 -- the import at a place, if it was never taken, and those from there on
 pub leftover_step : (rs : List ImportDirective) (ts : List TakenValue) (i : ℕ) (r : ImportDirective) → i < length rs → r ≡ get_or rs i r
     → leftover_among (drop i rs) (drop i ts)
-    ≡ cond (is_left_over (slice_get ts i)) (way_of r.source ∷ leftover_among (drop (i + 1) rs) (drop (i + 1) ts)) (leftover_among (drop (i + 1) rs) (drop (i + 1) ts))
+    ≡ cond (is_left_over (slice_get ts i)) (told_of r.source ∷ leftover_among (drop (i + 1) rs) (drop (i + 1) ts))
+    (leftover_among (drop (i + 1) rs) (drop (i + 1) ts))
 leftover_step rs ts i r h e = rw (drop_at rs i r h e, add-one) (go (slice_get ts i) refl)
   where
     go : (o : Option TakenValue) → slice_get ts i ≡ o → leftover_among (r ∷ drop (suc i) rs) (drop i ts)
-        ≡ cond (is_left_over o) (way_of r.source ∷ leftover_among (drop (suc i) rs) (drop (suc i) ts)) (leftover_among (drop (suc i) rs) (drop (suc i) ts))
+        ≡ cond (is_left_over o) (told_of r.source ∷ leftover_among (drop (suc i) rs) (drop (suc i) ts)) (leftover_among (drop (suc i) rs) (drop (suc i) ts))
     go None f =
         let none : drop i ts ≡ [] = drop_none ts i f in
         let after : drop (suc i) ts ≡ [] = drop-empty i ts none in
@@ -35,11 +37,12 @@ module _ (out : List ImportOrExternCrate) (rs : List ImportDirective) (ts : List
   -- an import that was never taken is left over
   pub untaken_next : i < length rs → r ≡ get_or rs i r → is_left_over (slice_get ts i) ≡ true
       → out ++ leftover_among (drop i rs) (drop i ts) ≡ leftover_among rs ts
-      → (out ++ way_of r.source ∷ []) ++ leftover_among (drop (i + 1) rs) (drop (i + 1) ts) ≡ leftover_among rs ts
+      → (out ++ told_of r.source ∷ []) ++ leftover_among (drop (i + 1) rs) (drop (i + 1) ts) ≡ leftover_among rs ts
   untaken_next h e is before =
       let rest = leftover_among (drop (i + 1) rs) (drop (i + 1) ts) in
-      let step : leftover_among (drop i rs) (drop i ts) ≡ way_of r.source ∷ rest = leftover_step rs ts i r h e ∙ ap (λ (b : Bool). cond b (way_of r.source ∷ rest) rest) is in
-      append_assoc out (way_of r.source ∷ []) rest ∙ ap (λ (ids : List ImportOrExternCrate). out ++ ids) (sym step) ∙ before
+      let step : leftover_among (drop i rs) (drop i ts) ≡ told_of r.source ∷ rest = leftover_step rs ts i r h e ∙ ap
+      (λ (b : Bool). cond b (told_of r.source ∷ rest) rest) is in
+      append_assoc out (told_of r.source ∷ []) rest ∙ ap (λ (ids : List ImportOrExternCrate). out ++ ids) (sym step) ∙ before
 
   -- one that was taken isn't
   pub taken_next : i < length rs → r ≡ get_or rs i r → is_left_over (slice_get ts i) ≡ false
@@ -47,5 +50,5 @@ module _ (out : List ImportOrExternCrate) (rs : List ImportDirective) (ts : List
       → out ++ leftover_among (drop (i + 1) rs) (drop (i + 1) ts) ≡ leftover_among rs ts
   taken_next h e is before =
       let rest = leftover_among (drop (i + 1) rs) (drop (i + 1) ts) in
-      let step : leftover_among (drop i rs) (drop i ts) ≡ rest = leftover_step rs ts i r h e ∙ ap (λ (b : Bool). cond b (way_of r.source ∷ rest) rest) is in
+      let step : leftover_among (drop i rs) (drop i ts) ≡ rest = leftover_step rs ts i r h e ∙ ap (λ (b : Bool). cond b (told_of r.source ∷ rest) rest) is in
       ap (λ (ids : List ImportOrExternCrate). out ++ ids) (sym step) ∙ before

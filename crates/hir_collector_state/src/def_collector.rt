@@ -51,7 +51,7 @@ use hir_collector_rules::exported::ExportedFunction;
 use hir_collector_rules::macro_directive::{Fate, MacroDirective};
 use hir_collector_rules::site::{ItemHead, Site};
 use hir_collector_rules::source_database::{Dependency, Key};
-use hir_collector_rules::start::{CollectError, STEP_LIMIT, Start};
+use hir_collector_rules::start::{STEP_LIMIT, Start, StepError};
 use hir_crate_graph::crate_set::CrateSet;
 use hir_def_map::nameres::DefMap;
 use hir_def_map::nameres::crate_data::DefMapCrateData;
@@ -79,6 +79,7 @@ use std::marker::Model;
 use std::rc::Rc;
 
 mod changes;
+mod invocations;
 mod spreading;
 mod waiting;
 
@@ -240,6 +241,13 @@ impl DefCollector {
         &self.map
     }
 
+    /// The crates that paths may begin with.
+    pub fn local(&self) -> &LocalDefMap
+        ensures value { result.now ≡ (core_in self.now).local }
+    {
+        &self.local
+    }
+
     /// The module of a number.
     pub fn module_id(&self, home: u32) -> ModuleId
         ensures value { result ≡ module_id (core_in self.now).map home }
@@ -293,14 +301,14 @@ impl DefCollector {
     }
 
     /// Counts a step.
-    pub fn tick(&mut self) -> Result<(), CollectError>
+    pub fn tick(&mut self) -> Result<(), StepError>
         ensures ok { OnOk result (core_in self.new ≡ counted (core_in self.old)) }
         ensures below { OnOk result ((core_in self.old).count < STEP_LIMIT) }
         ensures noted { OnOk result (IsNoted self.old self.new) }
-        ensures many { result ≡ Err CollectError.TooMany → STEP_LIMIT ≤ (core_in self.old).count }
+        ensures many { result ≡ Err StepError.TooMany → STEP_LIMIT ≤ (core_in self.old).count }
     {
         if self.count >= STEP_LIMIT {
-            return Err(CollectError::TooMany);
+            return Err(StepError::TooMany);
         }
         self.count += 1;
         Ok(())
@@ -313,10 +321,15 @@ impl DefCollector {
         ensures ok { OnOk result (core_in self.new ≡ with_bound (core_in self.old) home name items) }
         ensures noted { OnOk result (IsNoted self.old self.new) }
     {
-        self.changed.add(home, &name)?;
+        let bound = name.clone()?;
         forget(&mut self.globs, home, &name, items)?;
-        self.map
+        let changes = self
+            .map
             .push(&mut self.from_glob_import, home, name, items, None)?;
+        if !changes {
+            return Ok(());
+        }
+        self.changed.add(home, &bound)?;
         Ok(())
     }
 
@@ -363,12 +376,12 @@ impl DefCollector {
         name: Name,
         origin: ModuleOrigin,
         visibility: Visibility,
-    ) -> Result<ModuleId, CollectError>
+    ) -> Result<ModuleId, StepError>
         requires in_range { home < length (core_in self.old).map.modules }
         ensures made { IfOk result (λ id. id ≡ new_id (core_in self.old).map) }
         ensures ok { OnOk result (core_in self.new ≡ with_map (core_in self.old) (begun (core_in self.old).map home name (new_module origin visibility (Some (module_id (core_in self.old).map home))))) }
         ensures noted { OnOk result (IsNoted self.old self.new) }
-        ensures many { result ≡ Err CollectError.TooMany → STEP_LIMIT ≤ length (core_in self.old).map.modules }
+        ensures many { result ≡ Err StepError.TooMany → STEP_LIMIT ≤ length (core_in self.old).map.modules }
     {
         let alloc = self.allocator();
         let parent = self.module_id(home);
@@ -643,10 +656,10 @@ impl DefCollector {
     }
 
     /// Imports rest: all calls that there are may be tried from now on, which is a step where some could not be before.
-    pub fn rest(&mut self) -> Result<(), CollectError>
+    pub fn rest(&mut self) -> Result<(), StepError>
         ensures ok { OnOk result (Rested (core_in self.old) (core_in self.new)) }
         ensures noted { OnOk result (IsNoted self.old self.new) }
-        ensures many { result ≡ Err CollectError.TooMany → RestsTooFar (core_in self.old) }
+        ensures many { result ≡ Err StepError.TooMany → RestsTooFar (core_in self.old) }
     {
         let there = self.calls.len();
         if self.settled == there {
@@ -665,7 +678,7 @@ impl DefCollector {
         apart: bool,
         queue: ImportQueue,
         grown: &Changed,
-    ) -> Result<(DefCollector, ImportQueue), CollectError>
+    ) -> Result<(DefCollector, ImportQueue), StepError>
         requires apart { apart ≡ true → IsApart (part_of world) (core_in self).map.id (core_in self).local }
         requires there { (i : ℕ) (r : ImportDirective) → slice_get (core_in self).reached i ≡ Some r → r.home < length (core_in self).map.modules }
         requires in_order { IsInOrder (core_in self).map }
@@ -680,7 +693,7 @@ impl DefCollector {
         ensures up_to_date { IfOk result (λ r. AreUpToDate (part_of world.entry) r.1 (import_state (at_rest (core_in r.0)))) }
         ensures apart { IfOk result (λ r. is_apart r.1 ≡ apart) }
         ensures others { IfOk result (λ r. core_in r.0 ≡ core_with_imports (core_in self) (import_state (at_rest (core_in r.0)))) }
-        ensures many { result ≡ Err CollectError.TooMany → (env : Environment) → IsSpent env (part_of world.entry) (at_rest (core_in self)) }
+        ensures many { result ≡ Err StepError.TooMany → (env : Environment) → IsSpent env (part_of world.entry) (at_rest (core_in self)) }
     {
         let alloc = self.allocator();
         let before = self.count;
@@ -725,14 +738,14 @@ impl DefCollector {
     }
 
     /// Lets names go along globs until none is left to go.
-    pub fn spread(self, world: WorldPart<'_>) -> Result<DefCollector, CollectError>
+    pub fn spread(self, world: WorldPart<'_>) -> Result<DefCollector, StepError>
         requires sound { IsSound (part_of world) (import_state (at_rest (core_in self))) }
         ensures ok { IfOk result (λ run. (env : Environment) → Steps env (part_of world.entry) (at_rest (core_in self)) (at_rest (core_in run))) }
         ensures noted { IfOk result (λ run. NotesSlots self run) }
         ensures closed { IfOk result (λ run. IsClosed (part_of world.entry) (import_state (at_rest (core_in run)))) }
         ensures sound { IfOk result (λ run. IsSound (part_of world.entry) (import_state (at_rest (core_in run)))) }
         ensures others { IfOk result (λ run. core_in run ≡ core_with_imports (core_in self) (import_state (at_rest (core_in run)))) }
-        ensures many { result ≡ Err CollectError.TooMany → (env : Environment) → IsSpent env (part_of world.entry) (at_rest (core_in self)) }
+        ensures many { result ≡ Err StepError.TooMany → (env : Environment) → IsSpent env (part_of world.entry) (at_rest (core_in self)) }
     {
         let alloc = self.allocator();
         let before = self.count;

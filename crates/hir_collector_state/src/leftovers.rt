@@ -1,8 +1,8 @@
 //! Imports that are left over.
 ghost use Rattle.std.specs.Prelude.{◌≡◌, IfOk, slice_get};
-ghost use Rattle.hir_collector_rules.specs.Derivation.{is_left_over, leftover_among};
+ghost use Rattle.hir_collector_rules.specs.Derivation.{is_left_over, leftover_among, told_of};
 
-use hir_import_resolution::{ImportDirective, Taken};
+use hir_import_resolution::{ImportDirective, ImportSource, Taken};
 use hir_scope::imports::ImportOrExternCrate;
 use std::alloc::{AllocError, Global};
 
@@ -17,10 +17,20 @@ pub fn untaken(
     let mut leftover = Vec::new(alloc);
     for (i, import) in imports.iter().enumerate() {
         if is_left_over(taken, i) {
-            leftover.push(import.source.way())?;
+            leftover.push(told(import.source))?;
         }
     }
     Ok(leftover)
+}
+
+/// An import as it is told where it is left over: a glob as the glob that it is.
+fn told(source: ImportSource) -> ImportOrExternCrate
+    ensures value { result ≡ told_of source }
+{
+    match source.glob() {
+        Some(glob) => ImportOrExternCrate::Glob(glob),
+        None => source.way(),
+    }
 }
 
 /// Whether no taking of the import at the place reached anything.

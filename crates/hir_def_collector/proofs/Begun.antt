@@ -41,7 +41,8 @@ none_visited true = refl
 none_visited false = refl
 
 module _ (tables : TablesValue) (w : Workspace) (finished : Maps) (transitive : List Crate) (holders : List ModuleId) (start : Start) (id : TreeId) (run : Core) (source : SourceTreeValue)
-    (found : source ≡ source_in tables w (tree_key start id)) (is : run ≡ core_of finished source.tree (exports_macros start (crate_in w (krate_of start))) (w.config (krate_of start)) transitive holders start id) where
+    (found : source ≡ source_in tables w (tree_key start id)) (is : run ≡ core_of finished source.tree (exports_macros start (crate_in w (krate_of start)))
+    (w.config (krate_of start)) transitive holders start id) where
   -- where its number means something, its source is held
   pub held_root : IsSome (source_of tables id) → IsHeld tables w run.map.id.krate id source
   held_root there = go (source_of tables id) refl there
@@ -53,13 +54,16 @@ module _ (tables : TablesValue) (w : Workspace) (finished : Maps) (transitive : 
           let own : run.map.id.krate ≡ krate_of start = ap (λ (c : Core). c.map.id.krate) is in
           subst (λ (krate : Crate). IsHeld tables w krate id source) (sym own) (record { place = place; at = e; is = sym seen })
 
-  begun_as : (grown : TablesValue) → source ≡ source_in grown w (tree_key start id) → joined run (tree_visits (root_site id) source.tree) ≡ began grown w finished transitive holders start id
+  begun_as : (grown : TablesValue) → source ≡ source_in grown w (tree_key start id) → joined run (tree_visits (root_site id) source.tree)
+      ≡ began grown w finished transitive holders start id
   begun_as grown same =
       ap (λ (c : Core). joined c (tree_visits (root_site id) source.tree)) is
-      ∙ ap (λ (s : SourceTreeValue). start_by finished s.tree (exports_macros start (crate_in w (krate_of start))) (w.config (krate_of start)) transitive holders start id) same
+      ∙ ap (λ (s : SourceTreeValue). start_by finished s.tree (exports_macros start (crate_in w (krate_of start))) (w.config (krate_of start)) transitive
+      holders start id) same
 
   -- the start is the same over tables that have grown
-  pub begun_grown : (grown : TablesValue) → KeepsTables tables grown → IsSome (source_of tables id) → joined run (tree_visits (root_site id) source.tree) ≡ began grown w finished transitive holders start id
+  pub begun_grown : (grown : TablesValue) → KeepsTables tables grown → IsSome (source_of tables id) → joined run (tree_visits (root_site id) source.tree)
+      ≡ began grown w finished transitive holders start id
   begun_grown grown kept there =
       let own : krate_of start ≡ run.map.id.krate = sym (ap (λ (c : Core). c.map.id.krate) is) in
       let held : IsHeld tables w (krate_of start) id source = subst (λ (krate : Crate). IsHeld tables w krate id source) (sym own) (held_root there) in

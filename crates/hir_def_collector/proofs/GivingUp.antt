@@ -1,5 +1,6 @@
 -- Where nothing is to be done about what waits, and what is given up.
-use Rattle.std.proofs.Common.{◌≡◌, ◌∙◌, ◌⊎◌, ℕ, ◌+◌, ◌<◌, ◌≤◌, true, false, List, Option, length, slice_get, slice_set, None, Some, inl, inr, refl, sym, ap, subst, arith}
+use Rattle.std.proofs.Common.{◌≡◌, ◌∙◌, ◌⊎◌, ℕ, ◌+◌, ◌<◌, ◌≤◌, true, false, List, Option, length, slice_get, slice_set, None, Some, inl, inr, refl, sym, ap}
+use Rattle.std.proofs.Common.{subst, arith}
 use Rattle.std.proofs.lemmas.Bool.{cases_lt}
 use Rattle.hir_base.specs.declared.ast_id.AstId.{AstId}
 use Rattle.hir_base.specs.declared.macro_kind.MacroId.{MacroId}
@@ -7,16 +8,17 @@ use Rattle.hir_base.specs.declared.macro_kind.MacroId.TheVariants.{Macro2Id, Mac
 use Rattle.hir_def_map_rules.specs.Overlay.{Maps}
 use Rattle.hir_def_map_rules.specs.State.{Map}
 use Rattle.hir_collector_rules.specs.declared.macro_directive.Fate.{Fate}
-use Rattle.hir_collector_rules.specs.declared.macro_directive.Fate.TheVariants.{GivenUp, Waits}
 use Rattle.hir_collector_rules.specs.declared.macro_directive.MacroDirective.{MacroDirective}
 use Rattle.hir_collector_rules.specs.declared.macro_directive.MacroDirectiveKind.{MacroDirectiveKind}
+use Rattle.hir_collector_rules.specs.declared.macro_directive.WaitingItem.{WaitingItem}
+use Rattle.hir_collector_rules.specs.declared.macro_directive.Fate.TheVariants.{GivenUp, Waits}
 use Rattle.hir_collector_rules.specs.declared.macro_directive.MacroDirectiveKind.TheVariants.{Attr, Derive, FnLike}
 use Rattle.hir_def_collector.specs.declared.collector.calls.Due.{Due}
 use Rattle.hir_def_collector.specs.declared.collector.calls.Due.TheVariants.{Derives, Nothing, Reaches, Skips}
-use Rattle.hir_collector_rules.specs.declared.macro_directive.WaitingItem.{WaitingItem}
 use Rattle.hir_collector_rules.specs.CallMoves.{FindsBuiltin, IsAttributeWaiting, IsFirstWaiting, NoneWaits, NoneWaitsBefore}
 use Rattle.hir_def_collector.specs.Turns.{IsDueOf}
-use Rattle.hir_collector_rules.specs.Calls.{IsWaiting, LeadsNowhere, builtin_impl, called_macro, expands_by, is_call, is_inert_by, is_inert_now, item_in, waiting_item}
+use Rattle.hir_collector_rules.specs.Calls.{IsWaiting, LeadsNowhere, builtin_impl, called_macro, expands_by, is_call, is_inert_by, is_inert_now, item_in}
+use Rattle.hir_collector_rules.specs.Calls.{waiting_item}
 use Rattle.hir_collector_rules.specs.Keys.{Environment}
 use Rattle.hir_collector_rules.specs.State.{Core, Task, at_rest, joined}
 use Rattle.hir_collector_rules.specs.Steps.{Steps, by_builtin}
@@ -33,7 +35,8 @@ nothing_waits finished c i none = record {
 }
 
 -- nor where nothing is to be done about what does
-pub nothing_due : (finished : Maps) (c : Core) (i : ℕ) (here : MacroDirective) → IsWaiting (at_rest c) i here → IsDueOf finished c here Nothing → LeadsNowhere finished (at_rest c) i
+pub nothing_due : (finished : Maps) (c : Core) (i : ℕ) (here : MacroDirective) → IsWaiting (at_rest c) i here → IsDueOf finished c here Nothing
+    → LeadsNowhere finished (at_rest c) i
 nothing_due finished c i here at due = record {
   shallow = λ d waits. subst (λ (x : MacroDirective). is_call x ≡ true → x.site.level < c.map.crate_data.recursion_limit) (same d waits) due.0;
   nowhere = λ d waits. subst (λ (x : MacroDirective). called_macro finished c.local c.map x ≡ None) (same d waits) due.1;
@@ -47,7 +50,8 @@ nothing_due finished c i here at due = record {
         cc
 
 -- no attribute waits before the next place, where the one at this place was given up and none waited before it
-pub none_before : {env : Environment} {finished : Maps} (old mid new : Core) (i : ℕ) (tasks : List Task) → length old.fates ≡ length old.calls → NoneWaitsBefore old i → i < length old.fates
+pub none_before : {env : Environment} {finished : Maps} (old mid new : Core) (i : ℕ) (tasks : List Task) → length old.fates ≡ length old.calls
+    → NoneWaitsBefore old i → i < length old.fates
     → mid.calls ≡ old.calls → mid.fates ≡ slice_set old.fates i GivenUp → Steps env finished (joined mid tasks) (at_rest new) → NoneWaitsBefore new (i + 1)
 none_before {env} {finished} old mid new i tasks paired first inside calls fates steps = record {
   inside = let more : length mid.calls ≤ length new.calls = calls_longer steps in omega (arith, inside, paired, longer, more);
@@ -68,7 +72,8 @@ none_before {env} {finished} old mid new i tasks paired first inside calls fates
     not_here : (j : ℕ) (d : MacroDirective) → j ≡ i → IsWaiting (joined mid tasks) j d → ⊥
     not_here j d here waits =
         let given : slice_get mid.fates j ≡ Some GivenUp =
-        ap (λ (fs : List Fate). slice_get fs j) fates ∙ subst (λ (k : ℕ). slice_get (slice_set old.fates i GivenUp) k ≡ Some GivenUp) (sym here) (get_set_same old.fates i GivenUp inside) in
+        ap (λ (fs : List Fate). slice_get fs j) fates ∙ subst (λ (k : ℕ). slice_get (slice_set old.fates i GivenUp) k ≡ Some GivenUp) (sym here)
+        (get_set_same old.fates i GivenUp inside) in
         let waiting : slice_get mid.fates j ≡ Some Waits = waits.waits in
         let no : ⊥ = cc in no
 
@@ -93,7 +98,8 @@ none_before {env} {finished} old mid new i tasks paired first inside calls fates
     go j w (inr high) = high
 
 -- none waits there later either: what waits later and was there waited before
-pub none_waits_later : {env : Environment} {finished : Maps} (old new : Core) (first : ℕ) → length old.fates ≡ length old.calls → Steps env finished (at_rest old) (at_rest new) → NoneWaitsBefore old first → NoneWaitsBefore new first
+pub none_waits_later : {env : Environment} {finished : Maps} (old new : Core) (first : ℕ) → length old.fates ≡ length old.calls
+    → Steps env finished (at_rest old) (at_rest new) → NoneWaitsBefore old first → NoneWaitsBefore new first
 none_waits_later old new first paired steps before = record {
   inside = let more : length old.calls ≤ length new.calls = calls_longer steps in omega (arith, before.inside, more);
   none = λ j w. go j w (cases_lt j first);
@@ -101,7 +107,12 @@ none_waits_later old new first paired steps before = record {
   where
     go : (j : ℕ) → IsAttributeWaiting new j → (j < first) ⊎ (first ≤ j) → first ≤ j
     go j w (inl low) =
-        before.none j (record { call = w.call; waits = waiting_before steps paired w.waits (omega (arith, low, before.inside)); item = w.item; is_item = w.is_item })
+        before.none j (record {
+          call = w.call;
+          waits = waiting_before steps paired w.waits (omega (arith, low, before.inside));
+          item = w.item;
+          is_item = w.is_item;
+        })
     go j w (inr high) = high
 
 -- nor at the next place, where none waits at this one

@@ -1,3 +1,4 @@
+pub mod Outside
 pub mod Resolved
 pub mod Resuming
 pub mod Ready
@@ -6,3 +7,4 @@ pub mod Waiting
 pub mod Queued
 pub mod GivingUp
 pub mod Looking
+pub mod Turning

@@ -1,45 +1,42 @@
 -- What is asked for of a call that reaches a macro.
-use Rattle.std.proofs.Common.{◌≡◌, ◌∙◌, ◌⊎◌, ◌<◌, ℕ, zero, suc, length, inl, inr, ◌++◌, List, [], ◌∷◌, Option, Some, None, refl, sym, ap, subst, slice_get, option_and_then, option_map}
+use Rattle.std.proofs.Common.{◌≡◌, ◌∙◌, ℕ, ◌++◌, List, [], ◌∷◌, Option, Some, refl, sym, ap, subst, option_and_then, option_map}
 use Rattle.std.specs.Prelude.{IsSome}
 use Rattle.hir_base.specs.declared.ast_id.AstId.{AstId}
-use Rattle.hir_base.specs.declared.ast_id.BlockId.{BlockId}
-use Rattle.hir_base.specs.declared.ast_id.EntryId.{EntryId}
-use Rattle.hir_base.specs.declared.ast_id.HirFileId.{HirFileId}
-use Rattle.hir_base.specs.declared.ast_id.HirFileId.TheVariants.{Macro}
-use Rattle.hir_base.specs.declared.ast_id.MacroCallId.{MacroCallId}
-use Rattle.hir_base.specs.declared.ids.Crate.{Crate}
 use Rattle.hir_base.specs.declared.macro_kind.CallStyle.{CallStyle}
-use Rattle.hir_base.specs.declared.macro_kind.MacroId.{MacroId}
+use Rattle.hir_base.specs.declared.ids.Crate.{Crate}
+use Rattle.hir_base.specs.declared.ast_id.EntryId.{EntryId}
+use Rattle.hir_base.specs.declared.ast_id.MacroCallId.{MacroCallId}
 use Rattle.hir_base.specs.declared.macro_kind.MacroCallLoc.{MacroCallLoc}
+use Rattle.hir_base.specs.declared.macro_kind.MacroId.{MacroId}
 use Rattle.hir_base.specs.declared.macro_kind.MacroId.TheVariants as macros
 use Rattle.hir_item_tree.specs.SourceTree.{SourceTreeValue}
-use Rattle.hir_tables.specs.Interning.{Interns, IsFull, gets_next, had_number}
+use Rattle.hir_tables.specs.Interning.{Interns, IsFull}
 use Rattle.hir_tables.specs.SourcePlaces.{ExpansionValue, SourcePlaceValue, expansion}
-use Rattle.hir_tables.specs.Tables.{KeepsTables, TablesValue, call_at, entry_at, source_of, source_under as source_under_file}
+use Rattle.hir_tables.specs.Tables.{KeepsTables, TablesValue, call_at, entry_at, source_of}
 use Rattle.hir_tables.proofs.Growth.{KeepsTables-trans}
 use Rattle.hir_def_map_rules.specs.Diagnostics.{call_node}
 use Rattle.hir_def_map_rules.specs.Overlay.{Maps}
 use Rattle.hir_def_map_rules.specs.State.{Map}
-use Rattle.hir_collector_rules.specs.declared.macro_directive.MacroDirective.{MacroDirective}
 use Rattle.hir_collector_rules.specs.declared.source_database.Key.{Key}
+use Rattle.hir_collector_rules.specs.declared.macro_directive.MacroDirective.{MacroDirective}
+use Rattle.hir_collector_rules.specs.declared.macro_directive.MacroDirectiveKind.{MacroDirectiveKind}
 use Rattle.hir_collector_rules.specs.declared.source_database.Key.TheVariants as keys
 use Rattle.hir_collector_rules.specs.CallMoves.{SeesCall}
-use Rattle.hir_collector_rules.specs.declared.macro_directive.MacroDirectiveKind.{MacroDirectiveKind}
 use Rattle.hir_collector_rules.specs.declared.macro_directive.MacroDirectiveKind.TheVariants.{Attr, Derive, FnLike}
-use Rattle.hir_collector_rules.specs.Calls.{AreCallsPlaced, Expanding, IsMeantCall, IsPlacedBelow, IsNumberedCall, IsTextOf, call_key, call_loc, call_style, call_tree, called_text, expansion_of_call, expansion_readings, kind_by, text_readings}
-use Rattle.hir_collector_rules.specs.Keys.{Environment, IsMeant, entry_under, environment, input_at, node_tree, of_entry, of_input, of_text, of_tree, source_in, text_at}
+use Rattle.hir_collector_rules.specs.Calls.{AreCallsPlaced, Expanding, IsMeantCall, IsNumberedCall, IsTextOf, call_key, call_kind, call_loc, call_style}
+use Rattle.hir_collector_rules.specs.Calls.{call_tree, called_text, expansion_of_call, expansion_readings, kind_by, text_readings}
+use Rattle.hir_collector_rules.specs.Keys.{Environment, IsMeant, entry_under, environment, input_at, node_tree, of_entry, of_input, of_text, of_tree, source_in}
+use Rattle.hir_collector_rules.specs.Keys.{text_at}
 use Rattle.hir_collector_rules.specs.ModuleFiles.{Reading}
 use Rattle.hir_collector_rules.specs.Moves.{OnceGrown}
 use Rattle.hir_collector_rules.specs.NumberedOut.{IsCallNumberedOut, LacksExpansion, call_out, expansion_by, expansion_out}
 use Rattle.hir_collector_rules.specs.State.{Core, with_asked}
 use Rattle.hir_collector_rules.specs.Steps.{Sees, keys_read, with_keys}
 use Rattle.hir_collector_rules.specs.Workspace.{Workspace, seen_of}
-use Rattle.hir_mod_collector.proofs.CallPlaces.{placed_grown}
-use Rattle.hir_collector_rules.proofs.Lists.{get_inside}
+use Rattle.hir_mod_collector.proofs.CallPlaces.{placed_loc}
 use Rattle.hir_collector_rules.proofs.Meaning.{looks_stand}
 use Rattle.hir_collector_rules.proofs.ModuleFiles.{call_kept, macro_kept, site_kept}
 use Rattle.hir_collector_rules.proofs.Numbers.{full_out, still_out}
-use Rattle.hir_mod_collector.proofs.Rootless.{root_there}
 
 -- ---- keys, one after another
 
@@ -58,23 +55,27 @@ Sees-append env finished (x ∷ xs) ys p q = (p.0, Sees-append env finished xs y
 
 -- the text of a macro was asked for, and then the input, the expansion and its items
 pub asked_all : (c text input entry tree : Core) (own : Crate) (d : MacroDirective) (makro : MacroId) (x : Expanding)
-    → text ≡ record c { asked = with_keys c.asked (keys_read (text_readings makro x.text)) } → input ≡ with_asked text (keys.Input own d.ast_id) → entry ≡ with_asked input (keys.Expansion x.entry)
+    → text ≡ record c { asked = with_keys c.asked (keys_read (text_readings makro x.text)) } → input ≡ with_asked text (keys.Input own d.ast_id) → entry
+    ≡ with_asked input (keys.Expansion x.entry)
     → tree ≡ with_asked entry (keys.Tree (call_key own x.id))
     → tree ≡ record c { asked = with_keys c.asked (keys_read (text_readings makro x.text ++ expansion_readings own d x)) }
 asked_all c text input entry tree own d makro x first second third fourth =
     let behind : List Key = keys_read (expansion_readings own d x) in
     fourth
-    ∙ ap (λ (e : Core). with_asked e (keys.Tree (call_key own x.id))) (third ∙ ap (λ (e : Core). with_asked e (keys.Expansion x.entry)) (second ∙ ap (λ (e : Core). with_asked e (keys.Input own d.ast_id)) first))
+    ∙ ap (λ (e : Core). with_asked e (keys.Tree (call_key own x.id))) (third ∙ ap (λ (e : Core). with_asked e (keys.Expansion x.entry))
+    (second ∙ ap (λ (e : Core). with_asked e (keys.Input own d.ast_id)) first))
     ∙ ap (λ (ks : List Key). record c { asked = ks }) (sym (with_keys-append c.asked (keys_read (text_readings makro x.text)) behind))
     ∙ ap (λ (ks : List Key). record c { asked = with_keys c.asked ks }) (sym (keys_read-append (text_readings makro x.text) (expansion_readings own d x)))
 
 -- ---- numbers
 
 -- a call whose expansion has a number expands to that source
-pub source_of_call : (tables : TablesValue) (id : MacroCallId) (loc : MacroCallLoc) (key : ExpansionValue) → call_at tables id ≡ Some loc → entry_at tables loc.entry ≡ Some key
+pub source_of_call : (tables : TablesValue) (id : MacroCallId) (loc : MacroCallLoc) (key : ExpansionValue) → call_at tables id ≡ Some loc
+    → entry_at tables loc.entry ≡ Some key
     → source_of tables (call_tree id) ≡ Some (expansion key)
 source_of_call tables id loc key call entry =
-    ap (λ (o : Option MacroCallLoc). option_map expansion (option_and_then (λ (l : MacroCallLoc). entry_at tables l.entry) o)) call ∙ ap (λ (o : Option ExpansionValue). option_map expansion o) entry
+    ap (λ (o : Option MacroCallLoc). option_map expansion (option_and_then (λ (l : MacroCallLoc). entry_at tables l.entry) o)) call ∙ ap
+    (λ (o : Option ExpansionValue). option_map expansion o) entry
 
 module _ (first second tables : TablesValue) (w : Workspace) (finished : Maps) (c new : Core) (d : MacroDirective) (makro : MacroId) (x : Expanding) (source : SourceTreeValue)
     (before : KeepsTables first second) (after : KeepsTables second tables) (meant : IsMeantCall first d) (of_macro : IsMeant first makro) where
@@ -90,7 +91,8 @@ module _ (first second tables : TablesValue) (w : Workspace) (finished : Maps) (
   numbered : entry_at second x.entry ≡ Some key → call_at tables x.id ≡ Some (call_loc d x.entry) → IsNumberedCall tables own d makro x
   numbered entry call = record { meant = macro_kept first tables kept makro of_macro; entry = after.entries x.entry.0 key entry; call = call }
 
-  sees_text : (makro : MacroId) → IsMeant first makro → x.text ≡ called_text finished c.map makro (text_at first w makro) → (grown : TablesValue) → KeepsTables tables grown → (maps : Maps)
+  sees_text : (makro : MacroId) → IsMeant first makro → x.text ≡ called_text finished c.map makro (text_at first w makro) → (grown : TablesValue)
+      → KeepsTables tables grown → (maps : Maps)
       → Sees (environment grown w) maps (text_readings makro x.text)
   sees_text (macros.Macro2Id id) there is grown k maps =
       (looks_stand first grown w maps (keys.Text (macros.Macro2Id id)) (KeepsTables-trans first tables grown kept k) there ∙ ap of_text (sym is), tt)
@@ -104,9 +106,11 @@ module _ (first second tables : TablesValue) (w : Workspace) (finished : Maps) (
   text_of_it (macros.MacroRulesId id) is = tt
   text_of_it (macros.ProcMacroId id) is = is
 
-  pub sees_call : entry_at second x.entry ≡ Some key → call_at tables x.id ≡ Some (call_loc d x.entry) → x.text ≡ called_text finished c.map makro (text_at first w makro) → x.input ≡ input_at first w own d.ast_id
+  pub sees_call : entry_at second x.entry ≡ Some key → call_at tables x.id ≡ Some (call_loc d x.entry) → x.text ≡ called_text finished c.map makro
+      (text_at first w makro) → x.input ≡ input_at first w own d.ast_id
       → x.there ≡ w.entry key → x.tree ≡ seen_of source → source ≡ source_in tables w (call_key own x.id)
-      → new ≡ record c { asked = with_keys c.asked (keys_read (text_readings makro x.text ++ expansion_readings own d x)) } → SeesCall tables w finished d makro c new x source
+      → new ≡ record c { asked = with_keys c.asked (keys_read (text_readings makro x.text ++ expansion_readings own d x)) } → SeesCall tables w finished d makro
+      c new x source
   sees_call entry call text input there tree found asked =
       let at_last : IsNumberedCall tables own d makro x = numbered entry call in
       let place : source_of tables (call_tree x.id) ≡ Some (expansion key) = source_of_call tables x.id (call_loc d x.entry) key call at_last.entry in
@@ -127,7 +131,8 @@ module _ (first second tables : TablesValue) (w : Workspace) (finished : Maps) (
             );
         tree = tree;
         asked = asked;
-        written = record { tree = subst (λ (o : Option SourcePlaceValue). IsSome o) (sym place) refl; file = (site_kept first tables kept d.site meant.site).file };
+        written =
+            record { tree = subst (λ (o : Option SourcePlaceValue). IsSome o) (sym place) refl; file = (site_kept first tables kept d.site meant.site).file };
       }
 
 -- ---- what can't get a number
@@ -162,15 +167,16 @@ module _ (first tables : TablesValue) (w : Workspace) (finished : Maps) (m : Map
       ∙ ap (λ (t : Option (List ℕ)). expansion_of_call m.id.krate (call_style d) makro t input) text_is
       ∙ ap (λ (i : Option (List ℕ)). expansion_of_call m.id.krate (call_style d) makro (called_text finished m makro (text_at first w makro)) i) input_is
 
-  lacks_by : (key : ExpansionValue) → key ≡ key_at_first → ((grown : TablesValue) → KeepsTables tables grown → IsCallNumberedOut grown d key)
+  lacks_by : (key : ExpansionValue) → key ≡ key_at_first → ((grown : TablesValue) → KeepsTables tables grown → IsCallNumberedOut grown (call_kind d) key)
       → OnceGrown tables w (λ env. LacksExpansion env finished m d makro)
   lacks_by key is out = λ grown k. record {
     meant = macro_kept first grown (KeepsTables-trans first tables grown kept k) makro of_macro;
-    out = subst (λ (x : ExpansionValue). IsCallNumberedOut grown d x) (is ∙ sym (expansion_stays grown k)) (out grown k);
+    out = subst (λ (x : ExpansionValue). IsCallNumberedOut grown (call_kind d) x) (is ∙ sym (expansion_stays grown k)) (out grown k);
   }
 
   -- the expansion can't get a number
-  pub lacks_expansion : (key : ExpansionValue) → key ≡ key_at_first → IsFull tables.entries key → OnceGrown tables w (λ env. LacksExpansion env finished m d makro)
+  pub lacks_expansion : (key : ExpansionValue) → key ≡ key_at_first → IsFull tables.entries key
+      → OnceGrown tables w (λ env. LacksExpansion env finished m d makro)
   lacks_expansion key is full =
       let out = full_out tables.entries key full in
       lacks_by key is (λ grown k. expansion_out (still_out tables.entries grown.entries key k.entries out))
@@ -185,26 +191,6 @@ module _ (first tables : TablesValue) (w : Workspace) (finished : Maps) (m : Map
 
 -- ---- where calls are written
 
--- what is found in a list with one value more is the last, or was there
-found_behind : {A : Type 0} (xs : List A) (x : A) (n : ℕ) (y : A) → slice_get (xs ++ x ∷ []) n ≡ Some y → ((length xs ≡ n) × (x ≡ y)) ⊎ (slice_get xs n ≡ Some y)
-found_behind [] x zero y e = inl (refl, cc)
-found_behind [] x (suc n) y e = absurd (let no : ⊥ = cc in no)
-found_behind (z ∷ zs) x zero y e = inr e
-found_behind (z ∷ zs) x (suc n) y e = elim (found_behind zs x n y e) [
-  | inl p ↦ inl (ap suc p.0, p.1)
-  | inr old ↦ inr old
-]
-
-no_call : (c : MacroCallId) (o : Option MacroCallLoc) (tables : TablesValue) → call_at tables c ≡ o → IsSome (option_map expansion (option_and_then (λ (l : MacroCallLoc). entry_at tables l.entry) o)) → c.0 < length tables.calls
-no_call c None tables e there = absurd (let no : ⊥ = cc in no)
-no_call c (Some loc) tables e there = get_inside tables.calls c.0 loc e
-
--- a source that a call expands to, where it has a number, is of a call that has one
-within_calls : (tables : TablesValue) (node : AstId) (c : MacroCallId) → IsSome (source_of tables (node_tree node)) → node.file_id ≡ Macro c → node.block ≡ None → c.0 < length tables.calls
-within_calls tables node c there file block =
-    no_call c (call_at tables c) tables refl
-    (subst (λ (o : Option SourcePlaceValue). IsSome o) (ap (λ (id : HirFileId). source_under_file tables id node.block) file ∙ ap (λ (b : Option BlockId). source_under_file tables (Macro c) b) block) there)
-
 -- the node of a call, of a derive or of an attribute is that on which it is
 node_by_kind : (node : AstId) (kind : MacroDirectiveKind) → call_node (kind_by node kind) ≡ node
 node_by_kind node (FnLike path) = refl
@@ -212,30 +198,9 @@ node_by_kind node (Derive path attr index adt) = refl
 node_by_kind node (Attr path attr item) = refl
 
 -- where an expansion gets a number, and then a call in a source that has one, each call is placed still
-pub placed_call : (first second tables : TablesValue) (d : MacroDirective) (entry : EntryId) → KeepsTables first second → KeepsTables second tables → second ≡ record first { entries = second.entries }
-    → tables ≡ record second { calls = tables.calls } → Interns second.calls tables.calls (call_loc d entry) → IsSome (source_of first (node_tree d.ast_id)) → AreCallsPlaced first → AreCallsPlaced tables
-placed_call first second tables d entry before after entries calls interns there placed = record { calls = go interns }
-  where
-    middle : AreCallsPlaced second
-    middle = placed_grown first second before (ap (λ (t : TablesValue). t.calls) entries) placed
-
-    here : (n : ℕ) → length second.calls ≡ n → IsPlacedBelow tables n d.ast_id
-    here n last =
-        let known : IsSome (source_of second (node_tree d.ast_id)) = root_there first second (node_tree d.ast_id) before there in
-        record {
-          source = root_there second tables (node_tree d.ast_id) after known;
-          earlier = λ c file block. subst (λ (k : ℕ). c.0 < k) last (within_calls second d.ast_id c known file block);
-        }
-
-    earlier : (n : ℕ) (loc : MacroCallLoc) → slice_get second.calls n ≡ Some loc → IsPlacedBelow tables n (call_node loc.kind)
-    earlier n loc e = let at = middle.calls n loc e in record { source = root_there second tables (node_tree (call_node loc.kind)) after at.source; earlier = at.earlier }
-
-    last_or_before : (n : ℕ) (loc : MacroCallLoc) → slice_get (second.calls ++ call_loc d entry ∷ []) n ≡ Some loc → ((length second.calls ≡ n) × (call_loc d entry ≡ loc)) ⊎ (slice_get second.calls n ≡ Some loc)
-    last_or_before n loc e = found_behind second.calls (call_loc d entry) n loc e
-
-    go : Interns second.calls tables.calls (call_loc d entry) → (n : ℕ) (loc : MacroCallLoc) → slice_get tables.calls n ≡ Some loc → IsPlacedBelow tables n (call_node loc.kind)
-    go (had_number known same) n loc e = earlier n loc (ap (λ (ls : List MacroCallLoc). slice_get ls n) (sym same) ∙ e)
-    go (gets_next fresh same) n loc e = elim (last_or_before n loc (ap (λ (ls : List MacroCallLoc). slice_get ls n) (sym same) ∙ e)) [
-      | inl p ↦ subst (λ (l : MacroCallLoc). IsPlacedBelow tables n (call_node l.kind)) p.1 (subst (λ (node : AstId). IsPlacedBelow tables n node) (sym (node_by_kind d.ast_id d.kind)) (here n p.0))
-      | inr old ↦ earlier n loc old
-    ]
+pub placed_call : (first second tables : TablesValue) (d : MacroDirective) (entry : EntryId) → KeepsTables first second → KeepsTables second tables → second
+    ≡ record first { entries = second.entries }
+    → Interns second.calls tables.calls (call_loc d entry) → IsSome (source_of first (node_tree d.ast_id)) → AreCallsPlaced first → AreCallsPlaced tables
+placed_call first second tables d entry before after entries interns there =
+    placed_loc first second tables (call_loc d entry) before after entries interns
+    (subst (λ (node : AstId). IsSome (source_of first (node_tree node))) (sym (node_by_kind d.ast_id d.kind)) there)

@@ -1,5 +1,6 @@
 -- A pass over the calls that are queued is a round: each other call would be tried in vain.
-use Rattle.std.proofs.Common.{◌≡◌, ◌∙◌, ◌⊎◌, inl, inr, ◌==◌, ◌&&◌, ◌||◌, sym, refl, subst, ap, ℕ, ◌+◌, ◌<◌, Bool, true, false, List, [], length, slice_get, None, Some, cond, arith, add-one}
+use Rattle.std.proofs.Common.{◌≡◌, ◌∙◌, ◌⊎◌, inl, inr, ◌==◌, ◌&&◌, ◌||◌, sym, refl, subst, ap, ℕ, ◌+◌, ◌<◌, Bool, true, false, List, [], length, slice_get}
+use Rattle.std.proofs.Common.{None, Some, cond, arith, add-one}
 use Rattle.std.proofs.lemmas.Bool.Decides.{nat_tests}
 use Rattle.std.specs.Prelude.{not}
 use Rattle.hir_def_map_rules.specs.Overlay.{Maps}
@@ -26,7 +27,8 @@ use Rattle.hir_collector_rules.proofs.Tried.{WasTried-extend, rounds_steps, wait
 -- the calls were tried that aren't left: one was handled, or nothing was done
 pub data AreTried (env : Environment) (finished : Maps) (old now : Core) (places : List ℕ) : Bool → Type 0 where
   nothing_done : now ≡ old → ((k : ℕ) → is_among k places ≡ false → LeadsNowhere finished (at_rest old) k) → AreTried env finished old now places false
-  some_handled : Rises (at_rest old) (at_rest now) → ((k : ℕ) (d : MacroDirective) → is_among k places ≡ false → IsWaiting (at_rest old) k d → WasTried env finished (at_rest old) (at_rest now) k)
+  some_handled : Rises (at_rest old) (at_rest now) → ((k : ℕ) (d : MacroDirective) → is_among k places ≡ false → IsWaiting (at_rest old) k d
+      → WasTried env finished (at_rest old) (at_rest now) k)
       → AreTried env finished old now places true
 
 -- those are left that were, but for the one that was tried; and others may be
@@ -53,7 +55,8 @@ pub record HasRounds (env : Environment) (finished : Maps) (from to : State) (n 
 
 module _ (env : Environment) (finished : Maps) (old : Core) where
   -- at first all are left that are queued
-  pub tried_first : (q : CallQueue) → IsUpToDate finished q old None → (worklist_of q).current ≡ [] → count_of (worklist_of q) ≡ length old.calls → AreTried env finished old old (opened (worklist_of q)).current false
+  pub tried_first : (q : CallQueue) → IsUpToDate finished q old None → (worklist_of q).current ≡ [] → count_of (worklist_of q) ≡ length old.calls
+      → AreTried env finished old old (opened (worklist_of q)).current false
   tried_first q up over all = nothing_done refl (λ k out. record {
     shallow = λ d waits. up.shallow k d (rests k d out waits) (λ none. absurd cc) waits;
     nowhere = λ d waits. up.nowhere k d (rests k d out waits) (λ none. absurd cc) waits;
@@ -63,7 +66,10 @@ module _ (env : Environment) (finished : Maps) (old : Core) where
       rests : (k : ℕ) (d : MacroDirective) → is_among k (worklist_of q).later ≡ false → IsWaiting (at_rest old) k d → IsIdle (worklist_of q) k
       rests k d out waits =
           let inside : k < length old.calls = get_inside old.calls k d waits.call in
-          record { unfinished = up.unfinished k (omega (arith, inside, all)); not_queued = ap (λ (ps : List ℕ). is_among k ps || is_among k (worklist_of q).later) over ∙ out }
+          record {
+            unfinished = up.unfinished k (omega (arith, inside, all));
+            not_queued = ap (λ (ps : List ℕ). is_among k ps || is_among k (worklist_of q).later) over ∙ out;
+          }
 
   module _ (now new : Core) (i : ℕ) (inside : i < length old.calls) (fated : length old.fates ≡ length old.calls) (before after : List ℕ) (fewer : (k : ℕ) → is_among k after ≡ false → (i ≡ k) ⊎ (is_among k before ≡ false))
       (so_far : Steps env finished (at_rest old) (at_rest now)) (step : Steps env finished (at_rest now) (at_rest new)) where
@@ -81,37 +87,47 @@ module _ (env : Environment) (finished : Maps) (old : Core) where
     rises_here : (d : MacroDirective) → IsWaiting (at_rest now) i d → slice_get new.fates i ≡ Some Handled → Rises (at_rest old) (at_rest new)
     rises_here d waits done = record { place = i; call = d; waited = waiting_before so_far fated waits inside; handled = done }
 
-    pub tried_next : (done progress : Bool) → AreTried env finished old now before progress → TriesCall finished now new i done → AreTried env finished old new after (cond done true progress)
+    pub tried_next : (done progress : Bool) → AreTried env finished old now before progress → TriesCall finished now new i done → AreTried env finished old new
+        after (cond done true progress)
     tried_next false false (nothing_done same nowhere) (left stays here) =
-        nothing_done (stays ∙ same) (one_more (LeadsNowhere finished (at_rest old)) nowhere (subst (λ (c : Core). LeadsNowhere finished (at_rest c) i) same here))
+        nothing_done (stays ∙ same) (one_more (LeadsNowhere finished (at_rest old)) nowhere (subst (λ (c : Core). LeadsNowhere finished (at_rest c) i) same
+        here))
     tried_next false true (some_handled rises tried) (left stays here) =
         some_handled (subst (λ (c : Core). Rises (at_rest old) (at_rest c)) (sym stays) rises)
-        (λ k d out waits. one_more (Tried new) (λ j gone e w. WasTried-extend step (tried j e gone w)) (λ e w. met (at_rest now) so_far step here) k out d waits)
+        (λ k d out waits. one_more (Tried new) (λ j gone e w. WasTried-extend step (tried j e gone w)) (λ e w. met (at_rest now) so_far step here) k out d
+        waits)
     tried_next true false (nothing_done same nowhere) (handled d waits done) =
         some_handled (rises_here d waits done)
-        (λ k e out w. one_more (Tried new) (λ j gone f v. met (at_rest old) steps.none (Steps-append so_far step) (nowhere j gone)) (λ f v. rounds.handled done) k out e w)
+        (λ k e out w. one_more (Tried new) (λ j gone f v. met (at_rest old) steps.none (Steps-append so_far step) (nowhere j gone)) (λ f v. rounds.handled done)
+        k out e w)
     tried_next true true (some_handled rises tried) (handled d waits done) =
         some_handled (rises_here d waits done)
         (λ k e out w. one_more (Tried new) (λ j gone f v. WasTried-extend step (tried j f gone v)) (λ f v. rounds.handled done) k out e w)
 
   -- where none is left, a round was gone through, or nothing was done
-  pub tried_all : (new : Core) (places : List ℕ) (progress : Bool) → places ≡ [] → Steps env finished (at_rest old) (at_rest new) → AreTried env finished old new places progress → TriesCalls env finished old new progress
+  pub tried_all : (new : Core) (places : List ℕ) (progress : Bool) → places ≡ [] → Steps env finished (at_rest old) (at_rest new)
+      → AreTried env finished old new places progress → TriesCalls env finished old new progress
   tried_all new places false none so_far (nothing_done same nowhere) = idle same (λ i. nowhere i (ap (is_among i) none))
-  tried_all new places true none so_far (some_handled rises tried) = round (record { steps = so_far; tried = λ i d waits. tried i d (ap (is_among i) none) waits; rises = rises })
+  tried_all new places true none so_far (some_handled rises tried) =
+      round (record { steps = so_far; tried = λ i d waits. tried i d (ap (is_among i) none) waits; rises = rises })
 
   -- ---- rounds
 
   -- one more, behind those that there were and other steps
-  pub rounds_next : (now : State) (begun new : Core) (n : ℕ) → HasRounds env finished (at_rest old) now n → Steps env finished now (at_rest begun) → IsRound env finished (at_rest begun) (at_rest new)
+  pub rounds_next : (now : State) (begun new : Core) (n : ℕ) → HasRounds env finished (at_rest old) now n → Steps env finished now (at_rest begun)
+      → IsRound env finished (at_rest begun) (at_rest new)
       → HasRounds env finished (at_rest old) (at_rest new) (n + 1)
   rounds_next now begun new n before between of_round = record {
     last = at_rest new;
-    rounds = subst (λ (m : ℕ). Rounds env finished (at_rest old) (at_rest new) m) (sym (add-one n)) (more before.last (at_rest begun) (at_rest new) n before.rounds (Steps-append before.after between) of_round);
+    rounds =
+        subst (λ (m : ℕ). Rounds env finished (at_rest old) (at_rest new) m) (sym (add-one n)) (more before.last (at_rest begun) (at_rest new) n before.rounds
+        (Steps-append before.after between) of_round);
     after = steps.none;
   }
 
   -- as many, with more steps behind them
-  pub rounds_then : (now : State) (new : State) (n : ℕ) → HasRounds env finished (at_rest old) now n → Steps env finished now new → HasRounds env finished (at_rest old) new n
+  pub rounds_then : (now : State) (new : State) (n : ℕ) → HasRounds env finished (at_rest old) now n → Steps env finished now new
+      → HasRounds env finished (at_rest old) new n
   rounds_then now new n before between = record { last = before.last; rounds = before.rounds; after = Steps-append before.after between }
 
   -- all of it is steps
@@ -119,36 +135,42 @@ module _ (env : Environment) (finished : Maps) (old : Core) where
   has_rounds_steps now n before = Steps-append (rounds_steps before.rounds) before.after
 
   -- where a call was handled, this was one
-  pub of_round : (settled new : Core) (progress : Bool) → progress ≡ true → TriesCalls env finished settled new progress → IsRound env finished (at_rest settled) (at_rest new)
+  pub of_round : (settled new : Core) (progress : Bool) → progress ≡ true → TriesCalls env finished settled new progress
+      → IsRound env finished (at_rest settled) (at_rest new)
   of_round settled new false some_handled_here tried = absurd (let no : ⊥ = cc in no)
   of_round settled new true some_handled_here (round is) = is
 
   -- where none was, all is as it was, and nothing that waits reaches a macro
-  pub none_handled : (settled new : Core) (progress : Bool) → progress ≡ false → TriesCalls env finished settled new progress → (new ≡ settled) × ((i : ℕ) → LeadsNowhere finished (at_rest settled) i)
+  pub none_handled : (settled new : Core) (progress : Bool) → progress ≡ false → TriesCalls env finished settled new progress → (new ≡ settled)
+      × ((i : ℕ) → LeadsNowhere finished (at_rest settled) i)
   none_handled settled new true no_progress tried = absurd (let no : ⊥ = cc in no)
   none_handled settled new false no_progress (idle same nowhere) = (same, nowhere)
 
   -- and where no attribute waited either, imports rest still
-  pub rests_idle : (settled tried new : Core) → IsAtRest finished (import_state (at_rest settled)) → tried ≡ settled → ((i : ℕ) → LeadsNowhere finished (at_rest settled) i) → new ≡ tried → NoneWaits tried
+  pub rests_idle : (settled tried new : Core) → IsAtRest finished (import_state (at_rest settled)) → tried ≡ settled
+      → ((i : ℕ) → LeadsNowhere finished (at_rest settled) i) → new ≡ tried → NoneWaits tried
       → ComesToRest env finished old new false
   rests_idle settled tried new rest same nowhere stays none =
       let is : new ≡ settled = stays ∙ same in
-      rested (subst (λ (c : Core). IsAtRest finished (import_state (at_rest c))) (sym is) rest) (λ i. subst (λ (c : Core). LeadsNowhere finished (at_rest c) i) (sym is) (nowhere i))
+      rested (subst (λ (c : Core). IsAtRest finished (import_state (at_rest c))) (sym is) rest) (λ i. subst (λ (c : Core). LeadsNowhere finished (at_rest c) i)
+      (sym is) (nowhere i))
       (subst NoneWaits (sym stays) none)
 
--- steps that lead to where imports rest lead to where what has changed was queued
-pub settles_requeued : (env : Environment) (finished : Maps) (now settled requeued : Core) → requeued ≡ settled → Steps env finished (at_rest now) (at_rest settled) → Steps env finished (at_rest now) (at_rest requeued)
-settles_requeued env finished now settled requeued same steps = subst (λ (core : Core). Steps env finished (at_rest now) (at_rest core)) (sym same) steps
+-- what is queued changes nothing
+pub requeued_steps : (env : Environment) (finished : Maps) (old requeued : Core) → requeued ≡ old → Steps env finished (at_rest old) (at_rest requeued)
+requeued_steps env finished old requeued same = subst (λ (core : Core). Steps env finished (at_rest old) (at_rest core)) (sym same) steps.none
 
 -- ---- what was done with one call
 
 -- one that was handled doesn't wait any more
-pub was_handled : (finished : Maps) (old new : Core) (i : ℕ) (done : Bool) → TriesCall finished old new i done → done ≡ true → slice_get new.fates i ≡ Some Handled
+pub was_handled : (finished : Maps) (old new : Core) (i : ℕ) (done : Bool) → TriesCall finished old new i done → done ≡ true → slice_get new.fates i
+    ≡ Some Handled
 was_handled finished old new i true (handled d waits done) e = done
 was_handled finished old new i false (left stays here) e = absurd (let no : ⊥ = cc in no)
 
 -- one that was left reaches no macro, and nothing was done
-pub was_left : (finished : Maps) (old new : Core) (i : ℕ) (done : Bool) → TriesCall finished old new i done → done ≡ false → (new ≡ old) × LeadsNowhere finished (at_rest old) i
+pub was_left : (finished : Maps) (old new : Core) (i : ℕ) (done : Bool) → TriesCall finished old new i done → done ≡ false → (new ≡ old)
+    × LeadsNowhere finished (at_rest old) i
 was_left finished old new i true (handled d waits done) e = absurd (let no : ⊥ = cc in no)
 was_left finished old new i false (left stays here) e = (stays, here)
 
@@ -156,5 +178,6 @@ was_left finished old new i false (left stays here) e = (stays, here)
 pub rises_on : (from to : State) → Rises from to → ¬ (to ≡ from)
 rises_on from to rises same =
     let waits : slice_get from.core.fates rises.place ≡ Some Waits = rises.waited.waits in
-    let handled : slice_get from.core.fates rises.place ≡ Some Handled = subst (λ (s : State). slice_get s.core.fates rises.place ≡ Some Handled) same rises.handled in
+    let handled : slice_get from.core.fates rises.place ≡ Some Handled = subst (λ (s : State). slice_get s.core.fates rises.place ≡ Some Handled) same
+    rises.handled in
     let no : ⊥ = cc in no

@@ -2,8 +2,8 @@
 use Rattle.std.specs.Prelude.{◌≡◌, ◌&&◌, Bool, true, false, not, is_none, is_some, IsSome, List, Option, None, Some, option_map}
 use Rattle.std.specs.BTreeMap.{BTreeMap}
 use Rattle.std.proofs.Common.{refl, subst, sym}
-use Rattle.hir_base.specs.declared.ast_id.FileId.{FileId}
 use Rattle.hir_base.specs.declared.ids.Crate.{Crate}
+use Rattle.hir_base.specs.declared.ast_id.FileId.{FileId}
 use Rattle.hir_base.specs.declared.ids.MapId.{MapId}
 use Rattle.hir_base.specs.declared.ids.ModuleId.{ModuleId}
 use Rattle.hir_tables.specs.Tables.{TablesValue, file_at}
@@ -15,20 +15,19 @@ use Rattle.hir_def_map.specs.declared.world.finished.Finished.{Finished}
 use Rattle.hir_collector_rules.specs.ModuleFiles.{IsFileMeant, is_file_meant}
 use Rattle.hir_def_map_laws.specs.ReadLaw.{KeepApart}
 use Rattle.hir_def_map_laws.proofs.Apart.{some_apart, worlds_apart}
-use Rattle.hir_def_map_laws.proofs.InScopes.{crate_maps_outside}
 use Rattle.hir_import_resolution.specs.Inner.State.{IsApart}
+use Rattle.hir_def_collector.proofs.Outside.{outside_by}
+use Rattle.hir_def_collector.specs.Outside.{begins_outside}
 
 -- a map that isn't there
 pub no_map : (p : Option Placed) → option_map (λ (placed : Placed). placed.map) p ≡ None → p ≡ None
 no_map None e = refl
 no_map (Some placed) e = absurd cc
 
--- two of which neither is there
-pub both_none : {A B : Type 0} (o : Option A) (p : Option B) → (is_none o && is_none p) ≡ true → (o ≡ None) × (p ≡ None)
-both_none None None h = (refl, refl)
-both_none None (Some y) h = absurd (let no : ⊥ = cc in no)
-both_none (Some x) None h = absurd (let no : ⊥ = cc in no)
-both_none (Some x) (Some y) h = absurd (let no : ⊥ = cc in no)
+-- where something isn't there, and more holds
+pub none_and : {A : Type 0} (o : Option A) (b : Bool) → (is_none o && b) ≡ true → (o ≡ None) × (b ≡ true)
+none_and None b h = (refl, h)
+none_and (Some x) b h = absurd (let no : ⊥ = cc in no)
 
 -- where something that is there doesn't lack another, the other is there
 pub not_lacking : {A : Type 0} (o : Option A) (b : Bool) → (is_some o && not b) ≡ false → IsSome o → b ≡ true
@@ -40,10 +39,20 @@ pub meant_by : (tables : TablesValue) (file : Option FileId) → is_file_meant t
 meant_by tables None h = λ id e. absurd (let no : ⊥ = cc in no)
 meant_by tables (Some f) h = λ id e. let same : f ≡ id = cc in subst (λ (k : FileId). IsSome (file_at tables k)) same h
 
--- the finished maps don't refer to the map of a crate that isn't among them
+-- where it lacks the other, it is there and the other isn't
+pub lacking : {A : Type 0} (o : Option A) (b : Bool) → (is_some o && not b) ≡ true → IsSome o × (b ≡ false)
+lacking None b h = absurd (let no : ⊥ = cc in no)
+lacking (Some x) true h = absurd (let no : ⊥ = cc in no)
+lacking (Some x) false h = (refl, refl)
+
+pub unmeant_by : (tables : TablesValue) (file : Option FileId) → is_file_meant tables file ≡ false → ¬ IsFileMeant tables file
+unmeant_by tables None h meant = let no : ⊥ = cc in no
+unmeant_by tables (Some f) h meant = let there : is_some (file_at tables f) ≡ true = meant f refl in let no : ⊥ = cc in no
+
+-- the finished maps don't refer to a map that isn't among them
 pub apart : (maps : BTreeMap MapId Finished) (crates : List Crate) (holders : List ModuleId) (part : Maps) (own : MapId) (local : Local) → IsChecked maps
-    → part ≡ among crates holders (finished_in maps) → finished_in maps own ≡ None → own.block ≡ None → IsApart part own local
-apart maps crates holders part own local checked is absent of_crate = record {
+    → part ≡ among crates holders (finished_in maps) → finished_in maps own ≡ None → begins_outside own local ≡ true → IsApart part own local
+apart maps crates holders part own local checked is absent outside = record {
   apart = subst (λ (m : Maps). KeepApart m own) (sym is) (some_apart crates holders (finished_in maps) own (worlds_apart maps own checked absent));
-  outside = crate_maps_outside own local of_crate;
+  outside = outside_by own local outside;
 }

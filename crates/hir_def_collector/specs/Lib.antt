@@ -1,2 +1,3 @@
 -- ---- words of private code
 pub mod Turns
+pub mod Outside

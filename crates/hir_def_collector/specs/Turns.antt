@@ -9,14 +9,18 @@ use Rattle.hir_collector_rules.specs.declared.macro_directive.MacroDirective.{Ma
 use Rattle.hir_collector_rules.specs.declared.macro_directive.WaitingItem.{WaitingItem}
 use Rattle.hir_collector_rules.specs.Calls.{called_macro, is_call, is_inert_now, waiting_item}
 use Rattle.hir_collector_rules.specs.Keys.{Environment}
-use Rattle.hir_collector_rules.specs.State.{Core, at_rest}
+use Rattle.hir_collector_rules.specs.State.{Core, Run, at_rest, core_in}
 use Rattle.hir_collector_rules.specs.Steps.{IsPassedOver}
+use Rattle.hir_import_resolution.specs.declared.import_queue.ImportQueue.{ImportQueue}
+use Rattle.hir_call_queue.specs.Changes.{ChangedValue, joined}
+use Rattle.hir_collector_rules.specs.Waiting.{IsBehind}
 use Rattle.hir_collector_rules.specs.CallMoves.{ComesToRest, EndsInRound, FindsBuiltin, FindsMacro, NoneWaitsBefore}
 
 -- what is to be done about what waits: nothing where it reaches nothing; a call that is too deep is dropped; the item of an attribute goes on where that is
 -- inert or builtin; a builtin derive stands for an impl; what reaches another macro is expanded, or dropped where it is too deep
 abbrev pub IsDueOf : Maps → Core → MacroDirective → Due → Type 0
-IsDueOf finished c d Nothing = (is_call d ≡ true → d.site.level < c.map.crate_data.recursion_limit) × (called_macro finished c.local c.map d ≡ None) × (is_inert_now c.map d ≡ false)
+IsDueOf finished c d Nothing =
+    (is_call d ≡ true → d.site.level < c.map.crate_data.recursion_limit) × (called_macro finished c.local c.map d ≡ None) × (is_inert_now c.map d ≡ false)
 IsDueOf finished c d TooDeep = (is_call d ≡ true) × (c.map.crate_data.recursion_limit ≤ d.site.level)
 IsDueOf finished c d Skips = (k : WaitingItem) × (waiting_item d ≡ Some k) × IsPassedOver finished (at_rest c) d
 IsDueOf finished c d (Derives makro) = FindsBuiltin finished c d makro × (waiting_item d ≡ None)
@@ -35,3 +39,9 @@ abbrev pub CountsOn : Core → Core → Turn → Type 0
 CountsOn old new Round = old.count < new.count
 CountsOn old new (GaveUp next) = old.count < new.count
 CountsOn old new Rests = Unit {0}
+
+-- of imports that had read nothing that has changed when this was the core, those have that read what is gathered or noted now
+abbrev pub StaysBehind : Maps → Core → ChangedValue → Run → Type 0
+StaysBehind finished rested gathered now = (imports : ImportQueue)
+    → ((changed : ChangedValue) (run : Run) → core_in run ≡ rested → IsBehind finished imports changed run)
+    → IsBehind finished imports (joined gathered now.changed) now

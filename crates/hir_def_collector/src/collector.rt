@@ -43,13 +43,15 @@ ghost use Rattle.hir_def_map.specs.World.{finished_in};
 ghost use Rattle.hir_collector_rules.specs.Workspace.{Workspace, config_view, dependencies_of, options_of};
 ghost use Rattle.hir_collector_rules.specs.Keys.{AgreeOn, Environment, environment};
 ghost use Rattle.hir_collector_rules.specs.ModuleFiles.{IsFileMeant, file_of_tree, is_file_meant};
-ghost use Rattle.hir_collector_rules.specs.Start.{began, beginning, block_of, core_of, exports_macros, holders_by, id_of, is_declared, is_proc_macro_by, root_site, tree_visits};
+ghost use Rattle.hir_collector_rules.specs.Start.{began, beginning, core_of, exports_macros, holders_by, id_of, is_declared, is_proc_macro_by, root_site, tree_visits};
 ghost use Rattle.hir_collector_rules.specs.CallMoves.{ComesToRest, IsReady};
 ghost use Rattle.hir_collector_rules.specs.Calls.{AreCallsPlaced, IsMeantAt};
 ghost use Rattle.hir_collector_rules.specs.State.{at_rest, core_in, joined};
 ghost use Rattle.hir_collector_rules.specs.Steps.{Steps};
 ghost use Rattle.hir_collector_rules.specs.Derivation.{Ends, IsOverlong, IsSpent, collected_view};
+ghost use Rattle.hir_collector_rules.specs.UnknownSources.{MeetsUnknownSource};
 ghost use Rattle.hir_collector_rules.specs.Moves.{OnceGrown};
+ghost use Rattle.hir_def_collector.specs.Outside.{begins_inside, begins_outside};
 
 pub mod calls;
 mod resume;
@@ -57,14 +59,14 @@ mod resume;
 use crate::collector::calls::resolve_rounds;
 use hir_base::ast_id::FileId;
 use hir_base::cfg_options::CfgOptions;
-use hir_base::ids::ModuleId;
+use hir_base::ids::{MapId, ModuleId};
 pub use hir_collector_items::exports;
 use hir_collector_items::sources::source_at;
 use hir_collector_items::start_data::{start_data, start_local};
 use hir_collector_rules::collected::Collected;
 use hir_collector_rules::site::Site;
 use hir_collector_rules::source_database::{Config, CrateRoot, Dependency, SourceDatabase};
-pub use hir_collector_rules::start::{CollectError, STEP_LIMIT, Start};
+pub use hir_collector_rules::start::{CollectError, STEP_LIMIT, Start, StepError};
 pub use hir_collector_rules::{collected, declaration, macro_directive, shared_tree, site};
 use hir_collector_state::def_collector::DefCollector;
 use hir_crate_graph::crate_set::CrateSet;
@@ -109,6 +111,9 @@ pub fn collect_defs<D: SourceDatabase>(
     // Steps lead on from the start to as many as are counted.
     ensures many { result ≡ Err CollectError.TooMany
         → IsOverlong locations.new (D.workspace db.old) (finished_in world.now.maps) (beginning start tree (option_map (λ l. l.now) _local.entry)) }
+    // The file of the tree has no number, or steps lead to a macro that is written in a source which has none.
+    ensures unknown { result ≡ Err CollectError.UnknownSource
+        → MeetsUnknownSource locations.new (D.workspace db.old) (finished_in world.now.maps) (beginning start tree (option_map (λ l. l.now) _local.entry)) }
 {
     if lacks_its_file(locations, tree) {
         return Err(CollectError::UnknownSource);
@@ -131,7 +136,8 @@ pub fn collect_defs<D: SourceDatabase>(
     if is_unknown {
         return Ok(run.finish(false, transitive)?);
     }
-    let (run, round_limit_met) = resolve_rounds(run, db, part, locations, is_apart(world, start))?;
+    let apart = is_apart(world, start, &run);
+    let (run, round_limit_met) = resolve_rounds(run, db, part, locations, apart)?;
     Ok(run.finish(round_limit_met, transitive)?)
 }
 
@@ -171,11 +177,32 @@ fn holders_by(alloc: Global, world: &World, start: Start) -> Result<Vec<ModuleId
     }
 }
 
-/// Whether nothing that a run reads speaks of its own map: it is a crate's, and isn't finished.
-fn is_apart(world: &World, start: Start) -> bool
-    ensures value { result ≡ is_none (block_of start) && is_none (map_in (finished_in world.now.maps) (id_of start)) }
+/// Whether one of the crates that paths begin with lies in a map.
+fn begins_inside(own: MapId, local: &LocalDefMap) -> bool
+    ensures value { result ≡ begins_inside own local.now }
 {
-    start.block().is_none() && world.map(start.map_id()).is_none()
+    let mut left = local.extern_prelude();
+    'next: while let Some((_, entry)) = left.next() {
+        if entry.0.map == own {
+            return true;
+        }
+    }
+    false
+}
+
+/// Whether none does, where the map is a block's.
+fn begins_outside(own: MapId, local: &LocalDefMap) -> bool
+    ensures value { result ≡ begins_outside own local.now }
+{
+    own.block.is_none() || !begins_inside(own, local)
+}
+
+/// Whether nothing that a run reads speaks of its own map: that isn't finished, and where it is a block's, no path begins with a
+/// module of it.
+fn is_apart(world: &World, start: Start, run: &DefCollector) -> bool
+    ensures value { result ≡ is_none (map_in (finished_in world.now.maps) (id_of start)) && begins_outside (core_in run.now).map.id (core_in run.now).local }
+{
+    world.map(start.map_id()).is_none() && begins_outside(run.map().id(), run.local())
 }
 
 /// Whether a crate is a procedural macro's; one that isn't there is none.
@@ -286,7 +313,7 @@ fn begin<D: SourceDatabase>(
     holders: &[ModuleId],
     start: Start,
     id: TreeId,
-) -> Result<DefCollector, CollectError>
+) -> Result<DefCollector, StepError>
     requires file { IsSome (source_of locations.old id) → IsFileMeant locations.old (file_of_tree id) }
     ensures kept { KeepsTables locations.old locations.new }
     ensures same { D.workspace db.new ≡ D.workspace db.old }
@@ -297,7 +324,7 @@ fn begin<D: SourceDatabase>(
     ensures grown { IfOk result (λ run. IsSome (source_of locations.old id) → OnceGrown locations.new (D.workspace db.old) (λ env. Steps env (part_of world.entry)
         (began env.tables (D.workspace db.old) (part_of world.entry) transitive.now.value holders.now start id) (at_rest (core_in run)))) }
     ensures idle { IfOk result (λ run. source_of locations.old id ≡ None → (env : Environment) → ComesToRest env (part_of world.entry) (core_in run) (core_in run) false) }
-    ensures many { result ≡ Err CollectError.TooMany → IsSpent (environment locations.new (D.workspace db.old)) (part_of world.entry)
+    ensures many { result ≡ Err StepError.TooMany → IsSpent (environment locations.new (D.workspace db.old)) (part_of world.entry)
         (began locations.new (D.workspace db.old) (part_of world.entry) transitive.now.value holders.now start id) }
 {
     let krate = start.krate();
@@ -337,7 +364,7 @@ fn walk_root<D: SourceDatabase>(
     locations: &mut Tables,
     source: &Rc<SourceTree>,
     id: TreeId,
-) -> Result<(), CollectError>
+) -> Result<(), StepError>
     requires in_range { 0 < length (core_in run.old).map.modules }
     requires meant { IsMeantAt locations.old (root_site id) }
     ensures kept { KeepsTables locations.old locations.new }
@@ -345,7 +372,7 @@ fn walk_root<D: SourceDatabase>(
     ensures same { D.workspace db.new ≡ D.workspace db.old }
     ensures ok { OnOk result (OnceGrown locations.new (D.workspace db.old) (λ env. Steps env (part_of world.entry)
         (joined (core_in run.old) (tree_visits (root_site id) source.now.value.tree)) (at_rest (core_in run.new)))) }
-    ensures many { result ≡ Err CollectError.TooMany → IsSpent (environment locations.new (D.workspace db.old)) (part_of world.entry)
+    ensures many { result ≡ Err StepError.TooMany → IsSpent (environment locations.new (D.workspace db.old)) (part_of world.entry)
         (joined (core_in run.old) (tree_visits (root_site id) source.now.value.tree)) }
 {
     if !is_declared(id, source.tree()) {

@@ -5,3 +5,4 @@ pub mod collector;
 
 pub use hir_collector_rules::source_database;
 pub use hir_mod_collector::builtin_attr;
+pub use hir_mod_dir::{ModDir, resolve_declaration};

@@ -1,6 +1,7 @@
 -- A run's map seen from a state on the way: each module lists what it lists there, what is still to be visited declares, and
 -- what expansions yet to come do.
-use Rattle.std.proofs.Common.{◌≡◌, ◌∙◌, ◌<◌, ◌≤◌, ◌+◌, ℕ, Bool, true, false, List, [], ◌∷◌, ◌++◌, length, Option, Some, inl, inr, refl, sym, ap, subst, arith, append-nil, append_assoc, Contains}
+use Rattle.std.proofs.Common.{◌≡◌, ◌∙◌, ◌<◌, ◌≤◌, ◌+◌, ℕ, Bool, true, false, List, [], ◌∷◌, ◌++◌, length, Option, Some, inl, inr, refl, sym, ap, subst, arith}
+use Rattle.std.proofs.Common.{append-nil, append_assoc, Contains}
 use Rattle.std.proofs.lemmas.Bool.{cases_lt}
 use Rattle.hir_base.specs.declared.ids.MapId.{MapId}
 use Rattle.hir_base.specs.declared.ids.ModuleDefId.{ModuleDefId}
@@ -27,7 +28,8 @@ use Rattle.hir_def_collector_laws.specs.Expansions.{Expansion, IsExpansion, at_h
 use Rattle.hir_def_collector_laws.specs.Modules.{ListsItsItems}
 use Rattle.hir_def_collector_laws.proofs.Lists.{at_home-above, at_home-below, at_home-both, at_home-nothing, at_home-same}
 use Rattle.hir_def_collector_laws.proofs.Passed.{StayHelpers, StayHelpers-perform}
-use Rattle.hir_def_collector_laws.proofs.Listings.{Stays, StaysAt, Stays-perform, Stays-trans, added-perform, all_added, all_made, data-perform, id-perform, length-perform, made_there}
+use Rattle.hir_def_collector_laws.proofs.Listings.{Stays, StaysAt, Stays-perform, Stays-trans, added-perform, all_added, all_made, data-perform, id-perform}
+use Rattle.hir_def_collector_laws.proofs.Listings.{length-perform, made_there}
 
 -- ---- definitions of visits
 
@@ -50,11 +52,13 @@ altogether s (item i is) p = p.0 ++ altogether s is p.1
 
 pub gathered_at : (k : ℕ) (s : Site) (is : KeptForest) (p : ForEach (visits_over s is)) → gathered k (visits_over s is) p ≡ at_home s.home k (altogether s is p)
 gathered_at k s no_items p = sym (at_home-nothing s.home k)
-gathered_at k s (item i is) p = ap (λ (xs : List ModuleDefId). at_home s.home k p.0 ++ xs) (gathered_at k s is p.1) ∙ sym (at_home-both s.home k p.0 (altogether s is p.1))
+gathered_at k s (item i is) p =
+    ap (λ (xs : List ModuleDefId). at_home s.home k p.0 ++ xs) (gathered_at k s is p.1) ∙ sym (at_home-both s.home k p.0 (altogether s is p.1))
 
 pub gathered_below : (k : ℕ) (vs : List Task) (p : ForEach vs) → VisitsBelow k vs → gathered k vs p ≡ []
 gathered_below k [] p f = refl
-gathered_below k (visits v ∷ ts) p f = ap (λ (xs : List ModuleDefId). xs ++ gathered k ts p.1) (at_home-below v.site.home k p.0 f.0) ∙ gathered_below k ts p.1 f.1
+gathered_below k (visits v ∷ ts) p f =
+    ap (λ (xs : List ModuleDefId). xs ++ gathered k ts p.1) (at_home-below v.site.home k p.0 f.0) ∙ gathered_below k ts p.1 f.1
 gathered_below k (closes parent child ∷ ts) p f = gathered_below k ts p f
 
 abbrev pub earlier : (xs ys : List Task) → ForEach (xs ++ ys) → ForEach xs
@@ -67,7 +71,8 @@ others [] ys p = p
 others (visits v ∷ xs) ys p = others xs ys p.1
 others (closes parent child ∷ xs) ys p = others xs ys p
 
-pub gathered_both : (k : ℕ) (xs ys : List Task) (p : ForEach (xs ++ ys)) → gathered k (xs ++ ys) p ≡ gathered k xs (earlier xs ys p) ++ gathered k ys (others xs ys p)
+pub gathered_both : (k : ℕ) (xs ys : List Task) (p : ForEach (xs ++ ys)) → gathered k (xs ++ ys) p ≡ gathered k xs (earlier xs ys p) ++ gathered k ys
+    (others xs ys p)
 gathered_both k [] ys p = refl
 gathered_both k (visits v ∷ xs) ys p =
     ap (λ (zs : List ModuleDefId). at_home v.site.home k p.0 ++ zs) (gathered_both k xs ys p.1)
@@ -83,7 +88,8 @@ unclosed (closes a b ∷ xs) rest parent child p = unclosed xs rest parent child
 gathered_unclosed : (k : ℕ) (xs rest : List Task) (parent child : ℕ) (p : ForEach (xs ++ closes parent child ∷ rest))
     → gathered k (xs ++ closes parent child ∷ rest) p ≡ gathered k (xs ++ rest) (unclosed xs rest parent child p)
 gathered_unclosed k [] rest parent child p = refl
-gathered_unclosed k (visits v ∷ xs) rest parent child p = ap (λ (zs : List ModuleDefId). at_home v.site.home k p.0 ++ zs) (gathered_unclosed k xs rest parent child p.1)
+gathered_unclosed k (visits v ∷ xs) rest parent child p =
+    ap (λ (zs : List ModuleDefId). at_home v.site.home k p.0 ++ zs) (gathered_unclosed k xs rest parent child p.1)
 gathered_unclosed k (closes a b ∷ xs) rest parent child p = gathered_unclosed k xs rest parent child p
 
 module _ (tables : TablesValue) (w : Workspace) (finished : Maps) (from : Beginning) (answer : CollectedValue) (last : Core) where
@@ -100,17 +106,20 @@ module _ (tables : TablesValue) (w : Workspace) (finished : Maps) (from : Beginn
   declare_altogether more s no_items p f = refl
   declare_altogether more s (item i is) p f = (p.0, altogether s is p.1, f.0, declare_altogether more s is p.1 f.1, refl)
 
-  pub earlier_declare : (more : ℕ → List ModuleDefId) (xs ys : List Task) (p : ForEach (xs ++ ys)) → AllDeclare more (xs ++ ys) p → AllDeclare more xs (earlier xs ys p)
+  pub earlier_declare : (more : ℕ → List ModuleDefId) (xs ys : List Task) (p : ForEach (xs ++ ys)) → AllDeclare more (xs ++ ys) p
+      → AllDeclare more xs (earlier xs ys p)
   earlier_declare more [] ys p f = tt
   earlier_declare more (visits v ∷ xs) ys p f = (f.0, earlier_declare more xs ys p.1 f.1)
   earlier_declare more (closes parent child ∷ xs) ys p f = earlier_declare more xs ys p f
 
-  pub others_declare : (more : ℕ → List ModuleDefId) (xs ys : List Task) (p : ForEach (xs ++ ys)) → AllDeclare more (xs ++ ys) p → AllDeclare more ys (others xs ys p)
+  pub others_declare : (more : ℕ → List ModuleDefId) (xs ys : List Task) (p : ForEach (xs ++ ys)) → AllDeclare more (xs ++ ys) p
+      → AllDeclare more ys (others xs ys p)
   others_declare more [] ys p f = f
   others_declare more (visits v ∷ xs) ys p f = others_declare more xs ys p.1 f.1
   others_declare more (closes parent child ∷ xs) ys p f = others_declare more xs ys p f
 
-  declare_unclosed : (more : ℕ → List ModuleDefId) (xs rest : List Task) (parent child : ℕ) (p : ForEach (xs ++ closes parent child ∷ rest)) → AllDeclare more (xs ++ closes parent child ∷ rest) p
+  declare_unclosed : (more : ℕ → List ModuleDefId) (xs rest : List Task) (parent child : ℕ) (p : ForEach (xs ++ closes parent child ∷ rest))
+      → AllDeclare more (xs ++ closes parent child ∷ rest) p
       → AllDeclare more (xs ++ rest) (unclosed xs rest parent child p)
   declare_unclosed more [] rest parent child p f = f
   declare_unclosed more (visits v ∷ xs) rest parent child p f = (f.0, declare_unclosed more xs rest parent child p.1 f.1)
@@ -135,12 +144,14 @@ module _ (tables : TablesValue) (w : Workspace) (finished : Maps) (from : Beginn
     pub stays : Stays m answer.map
     pub helpers : StayHelpers m answer.map
     pub listed : ForEach vs
-    pub lists : (k : ℕ) → k < length m.modules → declarations_of (module_at answer.map k) ≡ declarations_of (module_at m k) ++ (gathered k vs listed ++ expanded_in es k)
+    pub lists : (k : ℕ) → k < length m.modules → declarations_of (module_at answer.map k) ≡ declarations_of (module_at m k) ++
+        (gathered k vs listed ++ expanded_in es k)
     -- whatever expansions declare in modules that are there already
     pub holds : (more : ℕ → List ModuleDefId) → Agrees more es (length m.modules) → Holds more es (length m.modules) vs listed
 
   -- where a module is closed, nothing is ahead that isn't without it
-  ahead_closing : (es : List Expansion) (m : Map) (xs rest : List Task) (parent child : ℕ) → IsAhead es m (xs ++ closes parent child ∷ rest) → IsAhead es m (xs ++ rest)
+  ahead_closing : (es : List Expansion) (m : Map) (xs rest : List Task) (parent child : ℕ) → IsAhead es m (xs ++ closes parent child ∷ rest)
+      → IsAhead es m (xs ++ rest)
   ahead_closing es m xs rest parent child q = record {
     id = q.id;
     crate_data = q.crate_data;
@@ -148,14 +159,18 @@ module _ (tables : TablesValue) (w : Workspace) (finished : Maps) (from : Beginn
     stays = q.stays;
     helpers = q.helpers;
     listed = unclosed xs rest parent child q.listed;
-    lists = λ k low. q.lists k low ∙ ap (λ (zs : List ModuleDefId). declarations_of (module_at m k) ++ (zs ++ expanded_in es k)) (gathered_unclosed k xs rest parent child q.listed);
+    lists =
+        λ k low. q.lists k low ∙ ap (λ (zs : List ModuleDefId). declarations_of (module_at m k) ++ (zs ++ expanded_in es k))
+        (gathered_unclosed k xs rest parent child q.listed);
     holds = λ more agrees.
         let h : Holds more es (length m.modules) (xs ++ closes parent child ∷ rest) q.listed = q.holds more agrees in
         record { pending = declare_unclosed more xs rest parent child q.listed h.pending; modules = h.modules; expanded = h.expanded };
   }
 
-  pub ahead_unclosed : (es : List Expansion) (m : Map) (xs rest : List Task) (marked : Bool) (parent child : ℕ) → IsAhead es m ((xs ++ closing marked parent child) ++ rest) → IsAhead es m (xs ++ rest)
-  ahead_unclosed es m xs rest marked parent child q = go marked (subst (λ (ts : List Task). IsAhead es m ts) (append_assoc xs (closing marked parent child) rest) q)
+  pub ahead_unclosed : (es : List Expansion) (m : Map) (xs rest : List Task) (marked : Bool) (parent child : ℕ)
+      → IsAhead es m ((xs ++ closing marked parent child) ++ rest) → IsAhead es m (xs ++ rest)
+  ahead_unclosed es m xs rest marked parent child q =
+      go marked (subst (λ (ts : List Task). IsAhead es m ts) (append_assoc xs (closing marked parent child) rest) q)
     where
       go : (b : Bool) → IsAhead es m (xs ++ (closing b parent child ++ rest)) → IsAhead es m (xs ++ rest)
       go true f = ahead_closing es m xs rest parent child f
@@ -170,8 +185,10 @@ module _ (tables : TablesValue) (w : Workspace) (finished : Maps) (from : Beginn
 
     -- back over changes, where what they list, what comes next and what is expanded later is what is declared before
     pub back_to : {next vs : List Task} (sooner : List Expansion) (q : IsAhead es after next) (listed : ForEach vs)
-        → ((k : ℕ) → k < length before.modules → all_added cs k ++ (gathered k next q.listed ++ expanded_in es k) ≡ gathered k vs listed ++ expanded_in sooner k)
-        → ((more : ℕ → List ModuleDefId) → Agrees more sooner (length before.modules) → Holds more sooner (length before.modules) vs listed) → IsAhead sooner before vs
+        → ((k : ℕ) → k < length before.modules → all_added cs k ++ (gathered k next q.listed ++ expanded_in es k) ≡ gathered k vs listed ++ expanded_in sooner
+        k)
+        → ((more : ℕ → List ModuleDefId) → Agrees more sooner (length before.modules) → Holds more sooner (length before.modules) vs listed)
+        → IsAhead sooner before vs
     back_to {next = next} {vs = vs} sooner q listed same holds =
         let grown : length after.modules ≡ length before.modules + all_made cs = length-perform cs s in
         record {
@@ -195,11 +212,13 @@ module _ (tables : TablesValue) (w : Workspace) (finished : Maps) (from : Beginn
         → ((more : ℕ → List ModuleDefId) → Agrees more es (length before.modules) → Holds more es (length before.modules) vs listed) → IsAhead es before vs
     back {next = next} {vs = vs} q listed same holds =
         back_to es q listed
-        (λ k low. sym (append_assoc (all_added cs k) (gathered k next q.listed) (expanded_in es k)) ∙ ap (λ (xs : List ModuleDefId). xs ++ expanded_in es k) (same k low)) holds
+        (λ k low. sym (append_assoc (all_added cs k) (gathered k next q.listed) (expanded_in es k)) ∙ ap (λ (xs : List ModuleDefId). xs ++ expanded_in es k)
+        (same k low)) holds
 
     -- and no module is made
     pub back_same : {next vs : List Task} (q : IsAhead es after next) (listed : ForEach vs) → all_made cs ≡ 0
-        → ((k : ℕ) → all_added cs k ++ gathered k next q.listed ≡ gathered k vs listed) → ((more : ℕ → List ModuleDefId) → AllDeclare more next q.listed → AllDeclare more vs listed) → IsAhead es before vs
+        → ((k : ℕ) → all_added cs k ++ gathered k next q.listed ≡ gathered k vs listed) → ((more : ℕ → List ModuleDefId) → AllDeclare more next q.listed
+        → AllDeclare more vs listed) → IsAhead es before vs
     back_same {next = next} q listed none_made same declare =
         let grown : length after.modules ≡ length before.modules + all_made cs = length-perform cs s in
         back q listed (λ k low. same k)
@@ -208,7 +227,8 @@ module _ (tables : TablesValue) (w : Workspace) (finished : Maps) (from : Beginn
         record { pending = declare more h.pending; modules = λ k past below. h.modules k (omega (arith, grown, none_made, past)) below; expanded = h.expanded })
 
     -- an item that lists what it declares
-    pub back_one : (site : Site) (i : KeptItem) (done : ℕ) (rest : List Task) (defs : List ModuleDefId) → ((more : ℕ → List ModuleDefId) → DeclaresOne tables w finished answer last more i done site defs) → all_made cs ≡ 0
+    pub back_one : (site : Site) (i : KeptItem) (done : ℕ) (rest : List Task) (defs : List ModuleDefId)
+        → ((more : ℕ → List ModuleDefId) → DeclaresOne tables w finished answer last more i done site defs) → all_made cs ≡ 0
         → ((k : ℕ) → all_added cs k ≡ at_home site.home k defs) → IsAhead es after rest → IsAhead es before (visits (behind (visit site i) done) ∷ rest)
     back_one site i done rest defs declares none_made adds q =
         back_same q (defs, q.listed) none_made (λ k. ap (λ (xs : List ModuleDefId). xs ++ gathered k rest q.listed) (adds k)) (λ more f. (declares more, f))
@@ -246,7 +266,8 @@ module _ (tables : TablesValue) (w : Workspace) (finished : Maps) (from : Beginn
 
       pub is_module : (site : Site) → site.home ≡ home → IsModuleOf answer.map site origin number
       is_module site same =
-          let stays : StaysAt (module_at answer.map number) (new_module origin vis (Some (module_id old_map home))) = Stays-trans made.core.map new_map answer.map (Stays-perform cs made) q.stays number _ there in
+          let stays : StaysAt (module_at answer.map number) (new_module origin vis (Some (module_id old_map home))) = Stays-trans made.core.map new_map
+          answer.map (Stays-perform cs made) q.stays number _ there in
           record {
             value = stays.value;
             there = stays.there;
@@ -261,12 +282,16 @@ module _ (tables : TablesValue) (w : Workspace) (finished : Maps) (from : Beginn
           let inside_made : number < length made.core.map.modules = omega (arith, longer) in
           q.lists number (omega (arith, one_more))
           ∙ ap (λ (xs : List ModuleDefId). xs ++ (gathered number next q.listed ++ expanded_in es number))
-          (added-perform cs made number inside_made ∙ ap (λ (o : Option ModuleValue). declarations_of o ++ all_added cs number) there ∙ adds number ∙ at_home-below home number _ low)
+          (added-perform cs made number inside_made ∙ ap (λ (o : Option ModuleValue). declarations_of o ++ all_added cs number) there ∙ adds number ∙
+          at_home-below home number _ low)
 
       pub back_made : (site : Site) (i : KeptItem) (done : ℕ) (rest : List Task) → site.home ≡ home
-          → ((more : ℕ → List ModuleDefId) → Agrees more es number → AllDeclare more next q.listed → DeclaresOne tables w finished answer last more i done site (module_alone answer.map number))
-          → ((more : ℕ → List ModuleDefId) → Agrees more es number → AllDeclare more next q.listed → ListsItsItems tables w finished from answer last more number)
-          → (listed : ForEach rest) → ((k : ℕ) → k < number → gathered k next q.listed ≡ gathered k rest listed) → ((more : ℕ → List ModuleDefId) → AllDeclare more next q.listed → AllDeclare more rest listed)
+          → ((more : ℕ → List ModuleDefId) → Agrees more es number → AllDeclare more next q.listed → DeclaresOne tables w finished answer last more i done site
+          (module_alone answer.map number))
+          → ((more : ℕ → List ModuleDefId) → Agrees more es number → AllDeclare more next q.listed → ListsItsItems tables w finished from answer last more
+          number)
+          → (listed : ForEach rest) → ((k : ℕ) → k < number → gathered k next q.listed ≡ gathered k rest listed)
+          → ((more : ℕ → List ModuleDefId) → AllDeclare more next q.listed → AllDeclare more rest listed)
           → IsAhead es old_map (visits (behind (visit site i) done) ∷ rest)
       back_made site i done rest same declares lists listed gathers declare =
           back es s (makes home name origin vis ∷ cs) q (module_alone answer.map number, listed)
@@ -306,14 +331,17 @@ module _ (tables : TablesValue) (w : Workspace) (finished : Maps) (from : Beginn
           ∙ ap (λ (h : ℕ). at_home h number inside_defs) here
           ∙ at_home-same number inside_defs
 
-      pub items_listed : (HaveNoCall answer.map.crate_data.registered_tools items → expanded_in es number ≡ []) → (more : ℕ → List ModuleDefId) → Agrees more es number → AllDeclare more (visits_over inner items ++ rest) q.listed
+      pub items_listed : (HaveNoCall answer.map.crate_data.registered_tools items → expanded_in es number ≡ []) → (more : ℕ → List ModuleDefId)
+          → Agrees more es number → AllDeclare more (visits_over inner items ++ rest) q.listed
           → ListsFirst answer.map more number items (λ own. Declares tables w finished answer last more items inner own)
       items_listed quiet more agrees f =
           let same : more number ≡ expanded_in es number = agrees number (omega arith) in
           record {
             own = inside_defs;
             declared = declare_altogether more inner items first_visits (earlier_declare more (visits_over inner items) rest q.listed f);
-            listed = module_lists q ∙ ap (λ (xs : List ModuleDefId). xs ++ expanded_in es number) gathered_here ∙ ap (λ (xs : List ModuleDefId). inside_defs ++ xs) (sym same);
+            listed =
+                module_lists q ∙ ap (λ (xs : List ModuleDefId). xs ++ expanded_in es number) gathered_here ∙ ap (λ (xs : List ModuleDefId). inside_defs ++ xs)
+                (sym same);
             alone = λ none. same ∙ quiet none;
           }
 

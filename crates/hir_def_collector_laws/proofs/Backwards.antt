@@ -1,25 +1,28 @@
 -- Back over one step: what the next item declares is what it lists, and what the items that come next in it declare; and what an
 -- expansion declares is what its items do, which come next, or the item that goes on.
-use Rattle.std.proofs.Common.{◌≡◌, ◌∙◌, ◌<◌, ◌≤◌, ◌⊎◌, inl, inr, ◌+◌, ℕ, zero, suc, drop, slice_get, List, [], ◌∷◌, ◌++◌, length, ◌||◌, Bool, true, false, Option, None, Some, map as list_map, refl, sym, ap, subst, arith, Contains, append-nil, if◌then◌else◌}
+use Rattle.std.proofs.Common.{◌≡◌, ◌∙◌, ◌<◌, ◌≤◌, ◌⊎◌, inl, inr, ◌+◌, ℕ, zero, suc, drop, slice_get, List, [], ◌∷◌, ◌++◌, length, ◌||◌, Bool, true, false}
+use Rattle.std.proofs.Common.{Option, None, Some, map as list_map, refl, sym, ap, subst, arith, Contains, append-nil, if◌then◌else◌}
 use Rattle.std.proofs.lemmas.List.Elements.{Contains-append_right}
 use Rattle.either.specs.declared.Either.TheVariants as either
 use Rattle.hir_base.specs.Cfg.{Cfg}
-use Rattle.hir_base.specs.declared.ast_id.FileId.{FileId}
-use Rattle.hir_base.specs.declared.edition.Edition.{Edition}
 use Rattle.hir_base.specs.declared.ast_id.AstId.{AstId}
-use Rattle.hir_base.specs.declared.ast_id.AstKind.TheVariants as nodes
-use Rattle.hir_base.specs.declared.ids.AdtId.TheVariants as adts
 use Rattle.hir_base.specs.declared.ids.Crate.{Crate}
+use Rattle.hir_base.specs.declared.edition.Edition.{Edition}
+use Rattle.hir_base.specs.declared.ast_id.FileId.{FileId}
+use Rattle.hir_base.specs.declared.macro_kind.MacroId.{MacroId}
 use Rattle.hir_base.specs.declared.ids.MapId.{MapId}
 use Rattle.hir_base.specs.declared.ids.ModuleDefId.{ModuleDefId}
-use Rattle.hir_base.specs.declared.ids.ModuleDefId.TheVariants as definitions
 use Rattle.hir_base.specs.declared.ids.ModuleId.{ModuleId}
-use Rattle.hir_base.specs.declared.macro_kind.MacroId.{MacroId}
+use Rattle.hir_base.specs.declared.ast_id.AstKind.TheVariants as nodes
+use Rattle.hir_base.specs.declared.ids.AdtId.TheVariants as adts
+use Rattle.hir_base.specs.declared.ids.ModuleDefId.TheVariants as definitions
 use Rattle.hir_base.specs.declared.macro_kind.MacroId.TheVariants.{ProcMacroId}
 use Rattle.hir_item_tree.specs.Collected.{Collected, Numbered as Attribute, is_enabled, is_enabled_by}
 use Rattle.hir_item_tree.specs.ItemTree.{Tree}
 use Rattle.hir_item_tree.specs.Kinds.{item_head}
-use Rattle.hir_item_tree.specs.KeptForest.{Head, Leaf, KeptItem, KeptForest, constant, enumeration, extern_block, extern_crate, function, holder, implementation, import, inline_module, leaf, macro_call, macro_def, macro_rules, no_items, outline_module, static_item, structure, trait_item, type_alias, union_structure}
+use Rattle.hir_item_tree.specs.KeptForest.{Head, Leaf, KeptItem, KeptForest, constant, enumeration, extern_block, extern_crate, function, holder}
+use Rattle.hir_item_tree.specs.KeptForest.{implementation, import, inline_module, leaf, macro_call, macro_def, macro_rules, no_items, outline_module}
+use Rattle.hir_item_tree.specs.KeptForest.{static_item, structure, trait_item, type_alias, union_structure}
 use Rattle.hir_item_tree.specs.declared.tree_id.TreeId.{TreeId}
 use Rattle.hir_item_tree.specs.declared.tree_id.TreeKey.{TreeKey}
 use Rattle.hir_mod_dir.specs.Directory.{Directory}
@@ -28,22 +31,24 @@ use Rattle.hir_tables.specs.Tables.{TablesValue}
 use Rattle.hir_scope.specs.declared.visibility.Visibility.{Visibility}
 use Rattle.hir_def_map_rules.specs.Overlay.{Maps}
 use Rattle.hir_def_map_rules.specs.State.{CrateData, Map, module_at, new_id}
-use Rattle.hir_def_map_rules.specs.declared.derive_helpers.DeriveHelper.{DeriveHelper}
 use Rattle.hir_def_map_rules.specs.declared.diagnostics.DefDiagnostic.{DefDiagnostic}
+use Rattle.hir_def_map_rules.specs.declared.derive_helpers.DeriveHelper.{DeriveHelper}
 use Rattle.hir_def_map_rules.specs.declared.origin.ModuleOrigin.{ModuleOrigin}
 use Rattle.hir_import_resolution.specs.Changes.{Change as ImportChange}
 use Rattle.hir_import_resolution.specs.Rules.{acts as import_acts}
 use Rattle.hir_collector_rules.specs.declared.declaration.Declaration.{Declaration}
-use Rattle.hir_collector_rules.specs.declared.macro_directive.Fate.TheVariants.{Handled}
 use Rattle.hir_collector_rules.specs.declared.exported.Export.{Export}
 use Rattle.hir_collector_rules.specs.declared.macro_directive.MacroDirective.{MacroDirective}
-use Rattle.hir_collector_rules.specs.declared.macro_directive.WaitingItem.{WaitingItem}
 use Rattle.hir_collector_rules.specs.declared.site.Site.{Site}
+use Rattle.hir_collector_rules.specs.declared.macro_directive.WaitingItem.{WaitingItem}
+use Rattle.hir_collector_rules.specs.declared.macro_directive.Fate.TheVariants.{Handled}
 use Rattle.hir_collector_rules.specs.declared.source_database.Key.TheVariants as keys
 use Rattle.hir_collector_rules.specs.Attributes.{attr_id, export_at, is_derive, is_passed, item_node, proc_macro_id}
 use Rattle.hir_collector_rules.specs.Calls.{Expanding, IsNumberedCall, call_key, call_site, error_of, expansion_readings, helpers_brought, text_readings}
 use Rattle.hir_collector_rules.specs.Causes.{declarations_of}
-use Rattle.hir_collector_rules.specs.Changes.{Change, act, adds_textual, changes_imports, defines, describes, ends, goes_on, lists_derive, makes, perform, takes_textual, tells}
+use Rattle.hir_collector_rules.specs.Changes.{Change, act, adds_textual, changes_imports, defines, describes, ends, goes_on, lists_derive, notes, makes}
+use Rattle.hir_collector_rules.specs.Changes.{perform, takes_textual, tells}
+use Rattle.hir_collector_rules.specs.Invocations.{impl_noted, invocation_of}
 use Rattle.hir_collector_rules.specs.Derivation.{CollectedValue}
 use Rattle.hir_collector_rules.specs.Items.{declaration_of, declared_by, declared_by_leaf, file_origin, inline_origin, own_visibility}
 use Rattle.hir_collector_rules.specs.ItemIds.{enum_id, function_id, macro_def_id, macro_rules_id, module_id, node_of}
@@ -52,19 +57,31 @@ use Rattle.hir_collector_rules.specs.Macros.{is_macro_use, macro_declaration}
 use Rattle.hir_collector_rules.specs.ModuleFiles.{IsNumbered, ModuleFile, Search, file_key, file_readings, file_tree, module_file, tried_in}
 use Rattle.hir_collector_rules.specs.Start.{Beginning}
 use Rattle.hir_collector_rules.specs.State.{Core, State, Task, Visit, behind, visits, import_state, visits_over}
-use Rattle.hir_collector_rules.specs.Steps.{Rule, drops_item, awaits_attribute, lists_derives, faults_derive, exports_macro, reaches_call, rests, expands_call, drops_call, drops_reached, derives_builtin, skips_attribute, falls_back, defines_rules, defines_macro, closes_module, declares_item, declares_enum, lists_constant, lists_impl, opens_module, opens_file, drops_file, misses_file, enters_block, reaches_imports, reaches_crate, resolves_imports, Drops, Expands, HasAttribute, IsItemOf, IsNext, LooksFor, May, Numbered, Sees, acts, after, asking, attribute_at, declaring, inside_block, inside_file, inside_module, keys_read, macro_data_of, module_declaration, path_of, reads, search_readings, visit, visit_behind, visits_in_file, visits_inside}
+use Rattle.hir_collector_rules.specs.Steps.{Rule, drops_item, awaits_attribute, lists_derives, faults_derive, exports_macro, reaches_call, rests, expands_call}
+use Rattle.hir_collector_rules.specs.Steps.{drops_call, drops_reached, derives_builtin, skips_attribute, falls_back, defines_rules, defines_macro}
+use Rattle.hir_collector_rules.specs.Steps.{closes_module, declares_item, declares_enum, lists_constant, lists_impl, opens_module, opens_file, drops_file}
+use Rattle.hir_collector_rules.specs.Steps.{misses_file, enters_block, reaches_imports, reaches_crate, resolves_imports, Drops, Expands, HasAttribute, IsItemOf}
+use Rattle.hir_collector_rules.specs.Steps.{IsNext, LooksFor, May, Numbered, Sees, acts, after, asking, attribute_at, declaring, inside_block, inside_file}
+use Rattle.hir_collector_rules.specs.Steps.{inside_module, keys_read, macro_data_of, module_declaration, path_of, reads, search_readings, visit, visit_behind}
+use Rattle.hir_collector_rules.specs.Steps.{visits_in_file, visits_inside}
 use Rattle.hir_collector_rules.specs.Workspace.{TreeLook, Workspace}
 use Rattle.hir_collector_rules.proofs.InRange.{IsInRange, VisitsBelow, call_below, next_below}
 use Rattle.hir_collector_rules.proofs.ModuleFiles.{found_read}
-use Rattle.hir_def_collector_laws.specs.Declares.{AreDoneWith, Declares, DeclaresOne, HaveNoCall, InPlace, IsDoneWith, IsLookedFor, IfEnabled, IsModuleOf, LeafDeclares, ListsFirst, Waited, definitions_of, disabled_file, in_place, macro_exported, module_alone, of_file, site_inside, waited, without_file}
+use Rattle.hir_def_collector_laws.specs.Declares.{AreDoneWith, Declares, DeclaresOne, HaveNoCall, InPlace, IsDoneWith, IsLookedFor, IfEnabled, IsModuleOf}
+use Rattle.hir_def_collector_laws.specs.Declares.{LeafDeclares, ListsFirst, Waited, definitions_of, disabled_file, in_place, macro_exported, module_alone}
+use Rattle.hir_def_collector_laws.specs.Declares.{of_file, site_inside, waited, without_file}
 use Rattle.hir_def_collector_laws.specs.Expansions.{Expansion, IsExpansion, at_home, expanded, expanded_in, resumed}
 use Rattle.hir_def_collector_laws.specs.Modules.{HasItems, inside_item, items_of, of_file as has_file, too_deep, without_file as has_none}
 use Rattle.hir_def_collector_laws.specs.Written.{IsWritten, key_of}
-use Rattle.hir_def_collector_laws.proofs.Ahead.{AllDeclare, ForEach, Holds, IsAhead, ahead_unclosed, altogether, back_made, back_one, back_same, back_to, declare_altogether, earlier, earlier_declare, gathered, gathered_at, gathered_below, gathered_both, is_module, items_apart, items_listed, module_lists, others, others_declare}
+use Rattle.hir_def_collector_laws.proofs.Ahead.{AllDeclare, ForEach, Holds, IsAhead, ahead_unclosed, altogether, back_made, back_one, back_same, back_to}
+use Rattle.hir_def_collector_laws.proofs.Ahead.{declare_altogether, earlier, earlier_declare, gathered, gathered_at, gathered_below, gathered_both, is_module}
+use Rattle.hir_def_collector_laws.proofs.Ahead.{items_apart, items_listed, module_lists, others, others_declare}
 use Rattle.hir_def_collector_laws.proofs.Done.{from_rule}
 use Rattle.hir_def_collector_laws.proofs.Found.{expansion_read, expansion_seen, found_seen}
 use Rattle.hir_def_collector_laws.proofs.Lists.{at_first, at_home-both, at_home-below, at_home-nothing, standing}
-use Rattle.hir_def_collector_laws.proofs.Listings.{all_added, all_made, bringing_agenda, bringing_makes_none, bringing_unlisted, expanding_agenda, expanding_makes_none, expanding_unlisted, length-perform, macro_agenda, macro_makes_none, macro_unlisted, nothing_added, nothing_made, reporting_agenda, reporting_makes_none, reporting_unlisted}
+use Rattle.hir_def_collector_laws.proofs.Listings.{all_added, all_made, bringing_agenda, bringing_makes_none, bringing_unlisted, expanding_agenda}
+use Rattle.hir_def_collector_laws.proofs.Listings.{expanding_makes_none, expanding_unlisted, length-perform, macro_agenda, macro_makes_none, macro_unlisted}
+use Rattle.hir_def_collector_laws.proofs.Listings.{nothing_added, nothing_made, reporting_agenda, reporting_makes_none, reporting_unlisted}
 use Rattle.hir_def_collector_laws.proofs.Passed.{IsLookedUp, StayHelpers, all_passed, looked_up, passed_later}
 use Rattle.hir_def_collector_laws.proofs.Quiet.{IsQuiet, NoCallIn, NoCallNext, calls_below, quiet_below, quiet_closed}
 use Rattle.hir_def_collector_laws.proofs.Written.{IsAllWritten, call_among, placed_next}
@@ -86,7 +103,8 @@ same_definitions b m n e s h (type_alias name) = ap (λ (x : MapId). definitions
 same_definitions b m n e s h (outline_module name) = refl
 same_definitions b m n e s h (macro_call path) = refl
 same_definitions b m n e s h (macro_rules name expander helpers) = refl
-same_definitions b m n e s h (macro_def name expander helpers) = ap (λ (x : MapId). definitions_of b (record m { id = x }) s h (macro_def name expander helpers)) e
+same_definitions b m n e s h (macro_def name expander helpers) =
+    ap (λ (x : MapId). definitions_of b (record m { id = x }) s h (macro_def name expander helpers)) e
 
 if_enabled : {P : Type 0} (defs : List ModuleDefId) (b : Bool) → b ≡ true → P → IfEnabled b P defs
 if_enabled defs true e p = p
@@ -109,7 +127,8 @@ module _ (tables : TablesValue) (w : Workspace) (finished : Maps) (from : Beginn
   abbrev One : KeptItem → ℕ → Site → List ModuleDefId → Type 0
   One i done site defs = (more : ℕ → List ModuleDefId) → DeclaresOne tables w finished answer last more i done site defs
 
-  leaf_one : (site : Site) (head : Head) (l : Leaf) (done : ℕ) (defs : List ModuleDefId) → is_enabled head.attributes ≡ true → AreDoneWith answer.map site (leaf head l) done
+  leaf_one : (site : Site) (head : Head) (l : Leaf) (done : ℕ) (defs : List ModuleDefId) → is_enabled head.attributes ≡ true
+      → AreDoneWith answer.map site (leaf head l) done
       → LeafDeclares tables w finished answer last site head l defs → One (leaf head l) done site defs
   leaf_one site head l done defs on passed p = λ more. if_enabled defs (is_enabled head.attributes) on (in_place passed p)
 
@@ -127,18 +146,31 @@ module _ (tables : TablesValue) (w : Workspace) (finished : Maps) (from : Beginn
     placed_earlier : {P : Type 0} → InPlace last answer.map site i behind_it P defs → InPlace last answer.map site i done P defs
     placed_earlier (in_place all p) = in_place (passed all) p
     placed_earlier (waited waits e) =
-        waited (record { call = waits.call; among = waits.among; site_is = waits.site_is; item = waits.item; waits = waits.waits; kept = waits.kept; behind = omega (arith, low, waits.behind) }) e
+        waited (record {
+          call = waits.call;
+          among = waits.among;
+          site_is = waits.site_is;
+          item = waits.item;
+          waits = waits.waits;
+          kept = waits.kept;
+          behind = omega (arith, low, waits.behind);
+        }) e
 
   if_else : {P Q : Type 0} (defs : List ModuleDefId) (b : Bool) → (P → Q) → IfEnabled b P defs → IfEnabled b Q defs
   if_else defs true f p = f p
   if_else defs false f p = p
 
-  earlier_one : (site : Site) (i : KeptItem) (done behind_it : ℕ) (defs : List ModuleDefId) → done ≤ behind_it → (AreDoneWith answer.map site i behind_it → AreDoneWith answer.map site i done)
-      → (more : ℕ → List ModuleDefId) → DeclaresOne tables w finished answer last more i behind_it site defs → DeclaresOne tables w finished answer last more i done site defs
-  earlier_one site (leaf head l) done behind_it defs low passed more p = if_else defs (is_enabled head.attributes) (placed_earlier site (leaf head l) done behind_it defs low passed) p
-  earlier_one site (holder head k items) done behind_it defs low passed more p = if_else defs (is_enabled head.attributes) (placed_earlier site (holder head k items) done behind_it defs low passed) p
+  earlier_one : (site : Site) (i : KeptItem) (done behind_it : ℕ) (defs : List ModuleDefId) → done ≤ behind_it
+      → (AreDoneWith answer.map site i behind_it → AreDoneWith answer.map site i done)
+      → (more : ℕ → List ModuleDefId) → DeclaresOne tables w finished answer last more i behind_it site defs → DeclaresOne tables w finished answer last more i
+      done site defs
+  earlier_one site (leaf head l) done behind_it defs low passed more p =
+      if_else defs (is_enabled head.attributes) (placed_earlier site (leaf head l) done behind_it defs low passed) p
+  earlier_one site (holder head k items) done behind_it defs low passed more p =
+      if_else defs (is_enabled head.attributes) (placed_earlier site (holder head k items) done behind_it defs low passed) p
 
-  declared_one : (s : State) (v : Visit) (done : ℕ) (d : Declaration) → s.core.map.id ≡ answer.map.id → s.core.is_proc_macro ≡ last.is_proc_macro → is_enabled (item_head v.item).attributes ≡ true
+  declared_one : (s : State) (v : Visit) (done : ℕ) (d : Declaration) → s.core.map.id ≡ answer.map.id → s.core.is_proc_macro ≡ last.is_proc_macro
+      → is_enabled (item_head v.item).attributes ≡ true
       → AreDoneWith answer.map v.site v.item done → export_at s.core.is_proc_macro s.core.map v.site v.item ≡ None
       → declaration_of finished s.core.local s.core.map v ≡ Some d → One v.item done v.site (d.def ∷ [])
   declared_one s v done d own proc on passed none e = go v.item on passed none e
@@ -147,9 +179,11 @@ module _ (tables : TablesValue) (w : Workspace) (finished : Maps) (from : Beginn
       is_d a def f g = let same : a ≡ d = cc in ap (λ (x : Declaration). x.def ∷ []) (sym same) ∙ ap (λ (x : ModuleDefId). x ∷ []) f
 
       in_answer : (h : Head) (l : Leaf) → definitions_of s.core.is_proc_macro s.core.map v.site h l ≡ definitions_of last.is_proc_macro answer.map v.site h l
-      in_answer h l = same_definitions s.core.is_proc_macro s.core.map answer.map own v.site h l ∙ ap (λ (b : Bool). definitions_of b answer.map v.site h l) proc
+      in_answer h l =
+          same_definitions s.core.is_proc_macro s.core.map answer.map own v.site h l ∙ ap (λ (b : Bool). definitions_of b answer.map v.site h l) proc
 
-      by_leaf : (h : Head) (l : Leaf) → export_at s.core.is_proc_macro s.core.map v.site (leaf h l) ≡ None → declared_by_leaf finished s.core.local s.core.map v.site h l ≡ Some d
+      by_leaf : (h : Head) (l : Leaf) → export_at s.core.is_proc_macro s.core.map v.site (leaf h l) ≡ None → declared_by_leaf finished s.core.local s.core.map
+          v.site h l ≡ Some d
           → LeafDeclares tables w finished answer last v.site h l (d.def ∷ [])
       by_leaf h (import tree) f g = absurd cc
       by_leaf h (extern_crate name alias) f g = absurd cc
@@ -171,7 +205,8 @@ module _ (tables : TablesValue) (w : Workspace) (finished : Maps) (from : Beginn
       by_leaf h (macro_rules name expander helpers) f g = absurd cc
       by_leaf h (macro_def name expander helpers) f g = absurd cc
 
-      go : (i : KeptItem) → is_enabled (item_head i).attributes ≡ true → AreDoneWith answer.map v.site i done → export_at s.core.is_proc_macro s.core.map v.site i ≡ None
+      go : (i : KeptItem) → is_enabled (item_head i).attributes ≡ true → AreDoneWith answer.map v.site i done → export_at s.core.is_proc_macro s.core.map v.site
+          i ≡ None
           → declared_by finished s.core.local s.core.map v.site i ≡ Some d → One i done v.site (d.def ∷ [])
       go (leaf h l) f all n g = leaf_one v.site h l done (d.def ∷ []) f all (by_leaf h l n g)
       go (holder h k items) f all n g = absurd cc
@@ -193,14 +228,16 @@ module _ (tables : TablesValue) (w : Workspace) (finished : Maps) (from : Beginn
         (all_passed m (item_node v.site v.item) here.done (drop here.done (item_head v.item).attributes.attributes) here.passed a h))
 
     -- so are those before a `derive`, where those behind it are
-    done_behind : (v : Visit) (rest : List Task) (at : ℕ) (a : Attribute) → HasAttribute s v at a rest → is_derive a ≡ true → AreDoneWith answer.map v.site v.item (suc at)
+    done_behind : (v : Visit) (rest : List Task) (at : ℕ) (a : Attribute) → HasAttribute s v at a rest → is_derive a ≡ true → AreDoneWith answer.map v.site
+        v.item (suc at)
         → AreDoneWith answer.map v.site v.item v.done
     done_behind v rest at a has derives all x h = go (found.others x h)
       where
         found : IsLookedUp m (item_node v.site v.item) (item_head v.item).attributes.attributes v.done at a
         found = looked_up m (item_node v.site v.item) (item_head v.item).attributes.attributes v.done at a has.active
 
-        go : (is_passed m (item_node v.site v.item) x ≡ true) ⊎ ((a ≡ x) ⊎ Contains (drop (suc at) (item_head v.item).attributes.attributes) x) → IsDoneWith answer.map (item_node v.site v.item) x
+        go : (is_passed m (item_node v.site v.item) x ≡ true) ⊎ ((a ≡ x) ⊎ Contains (drop (suc at) (item_head v.item).attributes.attributes) x)
+            → IsDoneWith answer.map (item_node v.site v.item) x
         go (inl passed) = inl (passed_later m answer.map same stay (item_node v.site v.item) x passed)
         go (inr (inl is)) = inr (subst (λ (y : Attribute). is_derive y ≡ true) is derives)
         go (inr (inr behind_it)) = all x behind_it
@@ -228,14 +265,18 @@ module _ (tables : TablesValue) (w : Workspace) (finished : Maps) (from : Beginn
     MapAfter r = (perform (asking s r) (acts finished s r)).core.map
 
     -- a leaf that lists nothing among definitions
-    unlisted_one : (r : Rule) (site : Site) (head : Head) (l : Leaf) (done : ℕ) (rest : List Task) → One (leaf head l) done site [] → all_made (acts finished s r) ≡ 0
+    unlisted_one : (r : Rule) (site : Site) (head : Head) (l : Leaf) (done : ℕ) (rest : List Task) → One (leaf head l) done site []
+        → all_made (acts finished s r) ≡ 0
         → ((k : ℕ) → all_added (acts finished s r) k ≡ []) → Ahead (MapAfter r) rest → Ahead m (visits (behind (visit site (leaf head l)) done) ∷ rest)
     unlisted_one r site head l done rest declares none_made nothing q =
-        back_one tables w finished from answer last es (asking s r) (acts finished s r) site (leaf head l) done rest [] declares none_made (λ k. nothing k ∙ sym (at_home-nothing site.home k)) q
+        back_one tables w finished from answer last es (asking s r) (acts finished s r) site (leaf head l) done rest [] declares none_made
+        (λ k. nothing k ∙ sym (at_home-nothing site.home k)) q
 
     -- an extern block
-    block_back : (site : Site) (head : Head) (items : KeptForest) (done : ℕ) (rest : List Task) → is_enabled head.attributes ≡ true → AreDoneWith answer.map site (holder head extern_block items) done
-        → Ahead (MapAfter (enters_block site head items rest)) (visits_over (inside_block m site head) items ++ rest) → Ahead m (visits (behind (visit site (holder head extern_block items)) done) ∷ rest)
+    block_back : (site : Site) (head : Head) (items : KeptForest) (done : ℕ) (rest : List Task) → is_enabled head.attributes ≡ true
+        → AreDoneWith answer.map site (holder head extern_block items) done
+        → Ahead (MapAfter (enters_block site head items rest)) (visits_over (inside_block m site head) items ++ rest)
+        → Ahead m (visits (behind (visit site (holder head extern_block items)) done) ∷ rest)
     block_back site head items done rest on passed q =
         let r : Rule = enters_block site head items rest in
         let inner : Site = inside_block m site head in
@@ -243,13 +284,18 @@ module _ (tables : TablesValue) (w : Workspace) (finished : Maps) (from : Beginn
         let later_defs : ForEach rest = others (visits_over inner items) rest q.listed in
         let defs : List ModuleDefId = altogether inner items first in
         back_same tables w finished from answer last es (asking s r) (acts finished s r) q (defs, later_defs) refl
-        (λ k. gathered_both k (visits_over inner items) rest q.listed ∙ ap (λ (xs : List ModuleDefId). xs ++ gathered k rest later_defs) (gathered_at k inner items first))
+        (λ k. gathered_both k (visits_over inner items) rest q.listed ∙ ap (λ (xs : List ModuleDefId). xs ++ gathered k rest later_defs)
+        (gathered_at k inner items first))
         (λ more g.
         let declares : Declares tables w finished answer last more items inner defs =
-        declare_altogether tables w finished from answer last more inner items first (earlier_declare tables w finished from answer last more (visits_over inner items) rest q.listed g) in
+        declare_altogether tables w finished from answer last more inner items first
+        (earlier_declare tables w finished from answer last more (visits_over inner items) rest q.listed g) in
         let in_answer : Declares tables w finished answer last more items (inside_block answer.map site head) defs =
-        subst (λ (id : MapId). Declares tables w finished answer last more items (inside_block (record m { id = id }) site head) defs) f.id declares in
-        (if_enabled defs (is_enabled head.attributes) on (in_place passed in_answer), others_declare tables w finished from answer last more (visits_over inner items) rest q.listed g))
+        subst (λ (id : MapId). Declares tables w finished answer last more items (inside_block (record m { id = id }) site head) defs) f.id declares in (
+          if_enabled defs (is_enabled head.attributes) on (in_place passed in_answer),
+          others_declare tables w finished from answer last more
+              (visits_over inner items) rest q.listed g,
+        ))
 
     -- ---- modules
 
@@ -264,7 +310,8 @@ module _ (tables : TablesValue) (w : Workspace) (finished : Maps) (from : Beginn
           → ((im : IsModuleOf answer.map site origin count) → HasItems tables w finished from answer im.value.origin (site_inside site count site.dir) no_items)
           → Ahead Made rest → Ahead m (visits (behind (visit site i) done) ∷ rest)
       empty_back i done rest apart quiet declares has q =
-          let im : IsModuleOf answer.map site origin count = is_module tables w finished from answer last es (asking s r) site.home name origin vis cs low none_made adds q site refl in
+          let im : IsModuleOf answer.map site origin count = is_module tables w finished from answer last es (asking s r) site.home name origin vis cs low
+          none_made adds q site refl in
           let nothing : declarations_of (module_at answer.map count) ≡ [] =
           module_lists tables w finished from answer last es (asking s r) site.home name origin vis cs low none_made adds q
           ∙ ap (λ (xs : List ModuleDefId). xs ++ expanded_in es count) (gathered_below count rest q.listed apart) ∙ quiet in
@@ -285,16 +332,20 @@ module _ (tables : TablesValue) (w : Workspace) (finished : Maps) (from : Beginn
           q.listed (λ k b. refl) (λ more g. g)
 
       -- a module with items
-      filled_back : (i : KeptItem) (done : ℕ) (rest : List Task) (inner : Site) (items : KeptForest) → inner.home ≡ count → inner.extern_block ≡ None → VisitsBelow count rest
+      filled_back : (i : KeptItem) (done : ℕ) (rest : List Task) (inner : Site) (items : KeptForest) → inner.home ≡ count → inner.extern_block ≡ None
+          → VisitsBelow count rest
           → (HaveNoCall tools items → expanded_in es count ≡ [])
-          → (IsModuleOf answer.map site origin count → (more : ℕ → List ModuleDefId) → ListsFirst answer.map more count items (λ own. Declares tables w finished answer last more items inner own)
+          → (IsModuleOf answer.map site origin count → (more : ℕ → List ModuleDefId) → ListsFirst answer.map more count items
+          (λ own. Declares tables w finished answer last more items inner own)
           → DeclaresOne tables w finished answer last more i done site (module_alone answer.map count))
           → ((im : IsModuleOf answer.map site origin count) → HasItems tables w finished from answer im.value.origin inner items)
           → Ahead Made (visits_over inner items ++ rest) → Ahead m (visits (behind (visit site i) done) ∷ rest)
       filled_back i done rest inner items here alone apart quiet declares has q =
-          let im : IsModuleOf answer.map site origin count = is_module tables w finished from answer last es (asking s r) site.home name origin vis cs low none_made adds q site refl in
+          let im : IsModuleOf answer.map site origin count = is_module tables w finished from answer last es (asking s r) site.home name origin vis cs low
+          none_made adds q site refl in
           back_made tables w finished from answer last es (asking s r) site.home name origin vis cs low none_made adds q site i done rest refl
-          (λ more agrees g. declares im more (items_listed tables w finished from answer last es (asking s r) site.home name origin vis cs low none_made adds inner items rest here apart q quiet more agrees g))
+          (λ more agrees g. declares im more (items_listed tables w finished from answer last es (asking s r) site.home name origin vis cs low none_made adds
+          inner items rest here apart q quiet more agrees g))
           (λ more agrees g. record {
             value = im.value;
             there = im.there;
@@ -303,7 +354,9 @@ module _ (tables : TablesValue) (w : Workspace) (finished : Maps) (from : Beginn
             alone = alone;
             items = items;
             has = has im;
-            lists = items_listed tables w finished from answer last es (asking s r) site.home name origin vis cs low none_made adds inner items rest here apart q quiet more agrees g;
+            lists =
+                items_listed tables w finished from answer last es (asking s r) site.home name origin vis cs low none_made adds inner items rest here apart q
+                quiet more agrees g;
           })
           (others (visits_over inner items) rest q.listed)
           (items_apart tables w finished from answer last es (asking s r) site.home name origin vis cs low none_made adds inner items rest here apart q)
@@ -311,20 +364,24 @@ module _ (tables : TablesValue) (w : Workspace) (finished : Maps) (from : Beginn
 
     -- what is listed where a module is made
     making_adds : (site : Site) (name : List ℕ) (vis : Visibility) (next : List Task) (k : ℕ)
-        → all_added (takes_textual count site.home ∷ goes_on next ∷ declaring site.home (module_declaration m name vis)) k ≡ at_home site.home k (definitions.ModuleId (new_id m) ∷ [])
+        → all_added (takes_textual count site.home ∷ goes_on next ∷ declaring site.home (module_declaration m name vis)) k
+        ≡ at_home site.home k (definitions.ModuleId (new_id m) ∷ [])
     making_adds site name vis next k = append-nil (at_home site.home k (definitions.ModuleId (new_id m) ∷ []))
 
     -- a module that is written where it is declared
     inline_back : (site : Site) (head : Head) (name : List ℕ) (items : KeptForest) (done : ℕ) (rest : List Task) → is_enabled head.attributes ≡ true
         → AreDoneWith answer.map site (holder head (inline_module name) items) done → site.home < count → VisitsBelow count rest
         → IsWritten tables w answer.asked (key_of answer site.tree) (holder head (inline_module name) items)
-        → (o : Option Directory) → inline_directory site.dir name (path_of head) ≡ o → (NoCallNext tools count (visits_inside m site head o items ++ rest) → expanded_in es count ≡ [])
-        → Ahead (MapAfter (opens_module site head name items rest)) (visits_inside m site head o items ++ rest) → Ahead m (visits (behind (visit site (holder head (inline_module name) items)) done) ∷ rest)
+        → (o : Option Directory) → inline_directory site.dir name (path_of head) ≡ o → (NoCallNext tools count (visits_inside m site head o items ++ rest)
+        → expanded_in es count ≡ [])
+        → Ahead (MapAfter (opens_module site head name items rest)) (visits_inside m site head o items ++ rest)
+        → Ahead m (visits (behind (visit site (holder head (inline_module name) items)) done) ∷ rest)
     inline_back site head name items done rest on passed low apart p None e quiet q =
         let r : Rule = opens_module site head name items rest in
         let vis : Visibility = own_visibility finished s.core.local m site head in
         let next : List Task = visits_inside m site head (inline_directory site.dir name (path_of head)) items ++ rest in
-        empty_back r site head name (inline_origin site.tree head.id) vis (takes_textual count site.home ∷ goes_on next ∷ declaring site.home (module_declaration m name vis)) low refl (making_adds site name vis next)
+        empty_back r site head name (inline_origin site.tree head.id) vis (takes_textual count site.home ∷ goes_on next ∷ declaring site.home
+        (module_declaration m name vis)) low refl (making_adds site name vis next)
         (holder head (inline_module name) items) done rest apart (quiet (quiet_below tools count rest apart))
         (λ im nothing more. if_enabled (module_alone answer.map count) (is_enabled head.attributes) on (in_place passed (record {
           number = count;
@@ -339,16 +396,19 @@ module _ (tables : TablesValue) (w : Workspace) (finished : Maps) (from : Beginn
         let vis : Visibility = own_visibility finished s.core.local m site head in
         let next : List Task = visits_inside m site head (inline_directory site.dir name (path_of head)) items ++ rest in
         let marked : Bool = is_macro_use head.attributes in
-        filled_back r site head name (inline_origin site.tree head.id) vis (takes_textual count site.home ∷ goes_on next ∷ declaring site.home (module_declaration m name vis)) low refl (making_adds site name vis next)
+        filled_back r site head name (inline_origin site.tree head.id) vis (takes_textual count site.home ∷ goes_on next ∷ declaring site.home
+        (module_declaration m name vis)) low refl (making_adds site name vis next)
         (holder head (inline_module name) items) done rest (inside_module m site dir) items refl refl apart
-        (λ none. quiet (quiet_closed tools count (inside_module m site dir) items marked site.home count rest (λ here. none) (quiet_below tools count rest apart)))
+        (λ none. quiet (quiet_closed tools count (inside_module m site dir) items marked site.home count rest (λ here. none)
+        (quiet_below tools count rest apart)))
         (λ im more listed. if_enabled (module_alone answer.map count) (is_enabled head.attributes) on (in_place passed (record {
           number = count;
           made = im;
           is = refl;
           lists = λ other f.
               let same : dir ≡ other = cc in
-              subst (λ (d : Directory). ListsFirst answer.map more count items (λ own. Declares tables w finished answer last more items (site_inside site count d) own)) same listed;
+              subst (λ (d : Directory). ListsFirst answer.map more count items
+              (λ own. Declares tables w finished answer last more items (site_inside site count d) own)) same listed;
           deep = λ f. absurd (let no : ⊥ = cc in no);
         })))
         (λ im. inside_item head name items im.origin_is on p)
@@ -376,12 +436,14 @@ module _ (tables : TablesValue) (w : Workspace) (finished : Maps) (from : Beginn
       }
 
       -- the file that is found was asked for, and its tree is what is seen
-      file_asked : (file : ModuleFile) → module_file search.found ≡ Some file → Contains answer.asked (keys.Tree (file_key answer.map.id.krate answer.map.crate_data.edition file.id))
+      file_asked : (file : ModuleFile) → module_file search.found ≡ Some file
+          → Contains answer.asked (keys.Tree (file_key answer.map.id.krate answer.map.crate_data.edition file.id))
       file_asked file found =
           subst (λ (key : TreeKey). Contains answer.asked (keys.Tree key)) (same_key file edition)
           (read (file_key m.id.krate m.crate_data.edition file.id) (found_read m.id.krate m.crate_data.edition search.absent search.found file found))
 
-      file_seen : (file : ModuleFile) → module_file search.found ≡ Some file → (tree_at tables w (file_key answer.map.id.krate answer.map.crate_data.edition file.id)).tree ≡ file.tree
+      file_seen : (file : ModuleFile) → module_file search.found ≡ Some file
+          → (tree_at tables w (file_key answer.map.id.krate answer.map.crate_data.edition file.id)).tree ≡ file.tree
       file_seen file found =
           ap (λ (key : TreeKey). (tree_at tables w key).tree) (sym (same_key file edition))
           ∙ found_seen tables w finished m.id.krate m.crate_data.edition search.absent search.found file found sees
@@ -389,9 +451,11 @@ module _ (tables : TablesValue) (w : Workspace) (finished : Maps) (from : Beginn
       here_done : AreDoneWith answer.map site (leaf head (outline_module name)) looks.here.done
       here_done = done_with (visit site (leaf head (outline_module name))) rest looks.here
 
-      file_back : (file : ModuleFile) → module_file search.found ≡ Some file → is_enabled file.tree.attributes ≡ true → site.home < count → VisitsBelow count rest
+      file_back : (file : ModuleFile) → module_file search.found ≡ Some file → is_enabled file.tree.attributes ≡ true → site.home < count
+          → VisitsBelow count rest
           → (NoCallNext tools count (visits_in_file m site head file ++ rest) → expanded_in es count ≡ [])
-          → Ahead (MapAfter (opens_file site head name search file rest)) (visits_in_file m site head file ++ rest) → Ahead m (visits (behind (visit site (leaf head (outline_module name))) looks.here.done) ∷ rest)
+          → Ahead (MapAfter (opens_file site head name search file rest)) (visits_in_file m site head file ++ rest)
+          → Ahead m (visits (behind (visit site (leaf head (outline_module name))) looks.here.done) ∷ rest)
       file_back file found enabled low apart quiet q =
           let r : Rule = opens_file site head name search file rest in
           let vis : Visibility = own_visibility finished s.core.local m site head in
@@ -400,13 +464,17 @@ module _ (tables : TablesValue) (w : Workspace) (finished : Maps) (from : Beginn
           let id : TreeId = file_tree answer.map.crate_data.edition file.id in
           let items : items_of id (tree_at tables w (file_key answer.map.id.krate answer.map.crate_data.edition file.id)).tree ≡ file.tree.items =
           ap (items_of id) (file_seen file found) ∙ items_enabled answer.map.crate_data.edition file.id file.tree enabled in
-          filled_back r site head name (file_origin site.tree head.id m.crate_data.edition file) vis (takes_textual count site.home ∷ goes_on next ∷ declaring site.home (module_declaration m name vis)) low refl (making_adds site name vis next)
+          filled_back r site head name (file_origin site.tree head.id m.crate_data.edition file) vis
+          (takes_textual count site.home ∷ goes_on next ∷ declaring site.home (module_declaration m name vis)) low refl (making_adds site name vis next)
           (leaf head (outline_module name)) looks.here.done rest (inside_file m file) file.tree.items refl refl apart
-          (λ none. quiet (quiet_closed tools count (inside_file m file) file.tree.items marked site.home count rest (λ here. none) (quiet_below tools count rest apart)))
+          (λ none. quiet (quiet_closed tools count (inside_file m file) file.tree.items marked site.home count rest (λ here. none)
+          (quiet_below tools count rest apart)))
           (λ im more listed. leaf_one site head (outline_module name) looks.here.done (module_alone answer.map count) looks.here.enabled here_done
-          (of_file search looked_for file found enabled count (subst (λ (e : Edition). IsModuleOf answer.map site (file_origin site.tree head.id e file) count) edition im) refl) more)
+          (of_file search looked_for file found enabled count (subst (λ (e : Edition). IsModuleOf answer.map site (file_origin site.tree head.id e file) count)
+          edition im) refl) more)
           (λ im. subst (λ (is : KeptForest). HasItems tables w finished from answer im.value.origin (inside_file m file) is) items
-          (has_file file.is_mod_rs _ site.tree file.id (im.origin_is ∙ ap (λ (e : Edition). file_origin site.tree head.id e file) edition) (ap (λ (e : Edition). file_tree e file.id) edition) (file_asked file found)))
+          (has_file file.is_mod_rs _ site.tree file.id (im.origin_is ∙ ap (λ (e : Edition). file_origin site.tree head.id e file) edition)
+          (ap (λ (e : Edition). file_tree e file.id) edition) (file_asked file found)))
           (ahead_unclosed tables w finished from answer last es (MapAfter r) (visits_over (inside_file m file) file.tree.items) rest marked site.home count q)
 
       drop_back : (report : DefDiagnostic) → Drops s site head name search report rest → Ahead (MapAfter (drops_file site head name search report rest)) rest
@@ -418,23 +486,30 @@ module _ (tables : TablesValue) (w : Workspace) (finished : Maps) (from : Beginn
           refl (λ k. refl) q
 
       miss_back : (report : DefDiagnostic) → module_file search.found ≡ None → site.home < count → VisitsBelow count rest
-          → IsWritten tables w answer.asked (key_of answer site.tree) (leaf head (outline_module name)) → (NoCallNext tools count rest → expanded_in es count ≡ [])
-          → Ahead (MapAfter (misses_file site head name search report rest)) rest → Ahead m (visits (behind (visit site (leaf head (outline_module name))) looks.here.done) ∷ rest)
+          → IsWritten tables w answer.asked (key_of answer site.tree) (leaf head (outline_module name))
+          → (NoCallNext tools count rest → expanded_in es count ≡ [])
+          → Ahead (MapAfter (misses_file site head name search report rest)) rest
+          → Ahead m (visits (behind (visit site (leaf head (outline_module name))) looks.here.done) ∷ rest)
       miss_back report missing low apart p quiet q =
           let r : Rule = misses_file site head name search report rest in
           let vis : Visibility = own_visibility finished s.core.local m site head in
-          empty_back r site head name (inline_origin site.tree head.id) vis (takes_textual count site.home ∷ goes_on rest ∷ declaring site.home (module_declaration m name vis) ++ tells report ∷ []) low refl
+          empty_back r site head name (inline_origin site.tree head.id) vis (takes_textual count site.home ∷ goes_on rest ∷ declaring site.home
+          (module_declaration m name vis) ++ tells report ∷ []) low refl
           (λ k. append-nil (at_home site.home k (definitions.ModuleId (new_id m) ∷ [])))
           (leaf head (outline_module name)) looks.here.done rest apart (quiet (quiet_below tools count rest apart))
-          (λ im nothing. leaf_one site head (outline_module name) looks.here.done (module_alone answer.map count) looks.here.enabled here_done (without_file search looked_for missing count im refl nothing))
-          (λ im. has_none head name search (record { tries = looked_for.tries; numbers = looked_for.numbers; sees = looked_for.sees }) missing im.origin_is looks.here.enabled p) q
+          (λ im nothing. leaf_one site head (outline_module name) looks.here.done (module_alone answer.map count) looks.here.enabled here_done
+          (without_file search looked_for missing count im refl nothing))
+          (λ im. has_none head name search (record { tries = looked_for.tries; numbers = looked_for.numbers; sees = looked_for.sees }) missing im.origin_is
+          looks.here.enabled p) q
 
     -- ---- expansions
 
     -- what comes next is what one of them brings
-    brought_back : (r : Rule) (d : MacroDirective) (next : List Task) (defs : List ModuleDefId) (q : Ahead (MapAfter r) next) → d.site.home < count → all_made (acts finished s r) ≡ 0
+    brought_back : (r : Rule) (d : MacroDirective) (next : List Task) (defs : List ModuleDefId) (q : Ahead (MapAfter r) next) → d.site.home < count
+        → all_made (acts finished s r) ≡ 0
         → ((k : ℕ) → all_added (acts finished s r) k ++ (gathered k next q.listed ++ expanded_in es k) ≡ at_home d.site.home k defs ++ expanded_in es k)
-        → ((more : ℕ → List ModuleDefId) → AllDeclare tables w finished from answer last more next q.listed → IsExpansion tables w finished answer last more (record { call = d; defs = defs }))
+        → ((more : ℕ → List ModuleDefId) → AllDeclare tables w finished from answer last more next q.listed → IsExpansion tables w finished answer last more
+        (record { call = d; defs = defs }))
         → IsAhead tables w finished from answer last (record { call = d; defs = defs } ∷ es) m []
     brought_back r d next defs q home none_made lists is_expansion =
         let e : Expansion = record { call = d; defs = defs } in
@@ -451,7 +526,8 @@ module _ (tables : TablesValue) (w : Workspace) (finished : Maps) (from : Beginn
           expanded = now_or_later more e (is_expansion more h.pending) h.expanded;
         })
       where
-        now_or_later : (more : ℕ → List ModuleDefId) (e : Expansion) → IsExpansion tables w finished answer last more e → ((x : Expansion) → Contains es x → IsExpansion tables w finished answer last more x)
+        now_or_later : (more : ℕ → List ModuleDefId) (e : Expansion) → IsExpansion tables w finished answer last more e
+            → ((x : Expansion) → Contains es x → IsExpansion tables w finished answer last more x)
             → (x : Expansion) → Contains (e ∷ es) x → IsExpansion tables w finished answer last more x
         now_or_later more e now others x (zero, below, is) = subst (λ (y : Expansion). IsExpansion tables w finished answer last more y) is now
         now_or_later more e now others x (suc n, below, is) = others x (n, omega (arith, below), is)
@@ -459,7 +535,8 @@ module _ (tables : TablesValue) (w : Workspace) (finished : Maps) (from : Beginn
     -- the items to which a call expands
     expansion_back : (i : ℕ) (d : MacroDirective) (makro : MacroId) (x : Expanding) → Expands finished s i d makro x
         → Sees (environment tables w) finished (text_readings makro x.text ++ expansion_readings m.id.krate d x) → IsNumberedCall tables m.id.krate d makro x
-        → ((key : TreeKey) → Contains (keys_read (text_readings makro x.text ++ expansion_readings m.id.krate d x)) (keys.Tree key) → Contains answer.asked (keys.Tree key))
+        → ((key : TreeKey) → Contains (keys_read (text_readings makro x.text ++ expansion_readings m.id.krate d x)) (keys.Tree key)
+        → Contains answer.asked (keys.Tree key))
         → (q : Ahead (MapAfter (expands_call i d makro x)) (visits_over (call_site d x.id) x.tree.tree.items))
         → IsAhead tables w finished from answer last (from_rule (expands_call i d makro x) (altogether (call_site d x.id) x.tree.tree.items q.listed) es) m []
     expansion_back i d makro x may sees numbered read q =
@@ -469,8 +546,9 @@ module _ (tables : TablesValue) (w : Workspace) (finished : Maps) (from : Beginn
         let helpers : List DeriveHelper = helpers_brought finished m d makro (Some (either.Left x.id)) in
         brought_back (expands_call i d makro x) d (visits_over site items) (altogether site items q.listed) q
         (call_below count s.core.calls i d inside.calls may.called.due.waiting.call)
-        (ap (λ (n : ℕ). 0 + (0 + n)) (expanding_makes_none d.ast_id helpers at d (error_of x.there)))
-        (λ k. ap (λ (xs : List ModuleDefId). xs ++ (gathered k (visits_over site items) q.listed ++ expanded_in es k)) (expanding_unlisted d.ast_id helpers at d (error_of x.there) k)
+        (ap (λ (n : ℕ). 0 + (0 + (0 + n))) (expanding_makes_none d.ast_id helpers at d (error_of x.there)))
+        (λ k. ap (λ (xs : List ModuleDefId). xs ++ (gathered k (visits_over site items) q.listed ++ expanded_in es k))
+        (expanding_unlisted d.ast_id helpers at d (error_of x.there) k)
         ∙ ap (λ (xs : List ModuleDefId). xs ++ expanded_in es k) (gathered_at k site items q.listed))
         (λ more all. is_expansion more (altogether site items q.listed) (declare_altogether tables w finished from answer last more site items q.listed all))
       where
@@ -480,25 +558,32 @@ module _ (tables : TablesValue) (w : Workspace) (finished : Maps) (from : Beginn
         seen : tree_at tables w (call_key krate x.id) ≡ x.tree
         seen = subst (λ (id : MapId). tree_at tables w (call_key id.krate x.id) ≡ x.tree) f.id (expansion_seen tables w finished m.id.krate d makro x sees)
 
-        is_expansion : (more : ℕ → List ModuleDefId) (defs : List ModuleDefId) → Declares tables w finished answer last more x.tree.tree.items (call_site d x.id) defs
+        is_expansion : (more : ℕ → List ModuleDefId) (defs : List ModuleDefId) → Declares tables w finished answer last more x.tree.tree.items
+            (call_site d x.id) defs
             → IsExpansion tables w finished answer last more (record { call = d; defs = defs })
-        is_expansion more defs declares = expanded (call_among tables w from answer s.core.calls d f.calls (standing s.core.calls i d may.called.due.waiting.call)) makro x (record {
-          shallow = subst (λ (c : CrateData). d.site.level < c.recursion_limit) same may.shallow;
-          numbers = subst (λ (id : MapId). IsNumberedCall tables id.krate d makro x) f.id numbered;
-          sees = subst (λ (id : MapId). Sees (environment tables w) finished (text_readings makro x.text ++ expansion_readings id.krate d x)) f.id sees;
-          key_asked = subst (λ (id : MapId). Contains answer.asked (keys.Tree (call_key id.krate x.id))) f.id (read (call_key m.id.krate x.id) (expansion_read m.id.krate d makro x));
-          declares = subst (λ (t : TreeLook). Declares tables w finished answer last more t.tree.items (call_site d x.id) defs) (sym seen) declares;
-        })
+        is_expansion more defs declares =
+            expanded (call_among tables w from answer s.core.calls d f.calls (standing s.core.calls i d may.called.due.waiting.call)) makro x (record {
+              shallow = subst (λ (c : CrateData). d.site.level < c.recursion_limit) same may.shallow;
+              numbers = subst (λ (id : MapId). IsNumberedCall tables id.krate d makro x) f.id numbered;
+              sees = subst (λ (id : MapId). Sees (environment tables w) finished (text_readings makro x.text ++ expansion_readings id.krate d x)) f.id sees;
+              key_asked =
+                  subst (λ (id : MapId). Contains answer.asked (keys.Tree (call_key id.krate x.id))) f.id
+                  (read (call_key m.id.krate x.id) (expansion_read m.id.krate d makro x));
+              declares = subst (λ (t : TreeLook). Declares tables w finished answer last more t.tree.items (call_site d x.id) defs) (sym seen) declares;
+            })
 
     -- the item that had waited for an attribute
-    resumed_back : (r : Rule) (i : ℕ) (d : MacroDirective) (k : WaitingItem) (waited_item : KeptItem) → slice_get s.core.calls i ≡ Some d → IsItemOf d k waited_item
-        → all_made (acts finished s r) ≡ 0 → ((n : ℕ) → all_added (acts finished s r) n ≡ []) → (q : Ahead (MapAfter r) (visits (visit_behind d k waited_item) ∷ []))
+    resumed_back : (r : Rule) (i : ℕ) (d : MacroDirective) (k : WaitingItem) (waited_item : KeptItem) → slice_get s.core.calls i ≡ Some d
+        → IsItemOf d k waited_item
+        → all_made (acts finished s r) ≡ 0 → ((n : ℕ) → all_added (acts finished s r) n ≡ [])
+        → (q : Ahead (MapAfter r) (visits (visit_behind d k waited_item) ∷ []))
         → IsAhead tables w finished from answer last (record { call = d; defs = q.listed.0 } ∷ es) m []
     resumed_back r i d k waited_item at of none_made nothing q =
         brought_back r d (visits (visit_behind d k waited_item) ∷ []) q.listed.0 q (call_below count s.core.calls i d inside.calls at) none_made
         (λ n. ap (λ (xs : List ModuleDefId). xs ++ (gathered n (visits (visit_behind d k waited_item) ∷ []) q.listed ++ expanded_in es n)) (nothing n)
         ∙ ap (λ (xs : List ModuleDefId). xs ++ expanded_in es n) (append-nil (at_home d.site.home n q.listed.0)))
-        (λ more all. resumed (call_among tables w from answer s.core.calls d f.calls (standing s.core.calls i d at)) k waited_item (record { waits = of.waits; kept = of.kept; declares = all.0 }))
+        (λ more all. resumed (call_among tables w from answer s.core.calls d f.calls (standing s.core.calls i d at)) k waited_item
+        (record { waits = of.waits; kept = of.kept; declares = all.0 }))
 
     -- ---- each rule
 
@@ -519,17 +604,24 @@ module _ (tables : TablesValue) (w : Workspace) (finished : Maps) (from : Beginn
     QuietAfter t = (k : ℕ) → k < length t.core.map.modules → IsQuiet tools k t → expanded_in es k ≡ []
 
     -- so it is in the next module
-    quiet_made : (t : State) → length t.core.map.modules ≡ count + 1 → t.core.calls ≡ s.core.calls → QuietAfter t → NoCallNext tools count t.agenda → expanded_in es count ≡ []
+    quiet_made : (t : State) → length t.core.map.modules ≡ count + 1 → t.core.calls ≡ s.core.calls → QuietAfter t → NoCallNext tools count t.agenda
+        → expanded_in es count ≡ []
     quiet_made t longer same quiet next =
-        quiet count (omega (arith, longer)) (record { visits = next; calls = subst (λ (ds : List MacroDirective). NoCallIn count ds) (sym same) (calls_below count s.core.calls inside.calls) })
+        quiet count (omega (arith, longer)) (record {
+          visits = next;
+          calls = subst (λ (ds : List MacroDirective). NoCallIn count ds) (sym same)
+              (calls_below count s.core.calls inside.calls);
+        })
 
     same_edition : m.crate_data.edition ≡ answer.map.crate_data.edition
     same_edition = ap (λ (c : CrateData). c.edition) same
 
     -- a function that exports a macro is two definitions
-    exported_defs : (site : Site) (head : Head) (name : List ℕ) (d : Declaration) (e : Export) → declaration_of finished s.core.local m (visit site (leaf head (function name))) ≡ Some d
+    exported_defs : (site : Site) (head : Head) (name : List ℕ) (d : Declaration) (e : Export) → declaration_of finished s.core.local m
+        (visit site (leaf head (function name))) ≡ Some d
         → export_at s.core.is_proc_macro m site (leaf head (function name)) ≡ Some e
-        → d.def ∷ definitions.MacroId (ProcMacroId (proc_macro_id m site head.id e.style)) ∷ [] ≡ definitions_of last.is_proc_macro answer.map site head (function name)
+        → d.def ∷ definitions.MacroId (ProcMacroId (proc_macro_id m site head.id e.style)) ∷ [] ≡ definitions_of last.is_proc_macro answer.map site head
+        (function name)
     exported_defs site head name d e declares exports_it =
         is_function _ refl declares
         ∙ sym (ap (λ (o : Option Export). definitions.FunctionId (function_id m site head.id) ∷ macro_exported m site head o) exports_it)
@@ -537,7 +629,8 @@ module _ (tables : TablesValue) (w : Workspace) (finished : Maps) (from : Beginn
         ∙ ap (λ (b : Bool). definitions_of b answer.map site head (function name)) proc
       where
         is_function : (x : Declaration) → x.def ≡ definitions.FunctionId (function_id m site head.id) → Some x ≡ Some d
-            → d.def ∷ definitions.MacroId (ProcMacroId (proc_macro_id m site head.id e.style)) ∷ [] ≡ definitions.FunctionId (function_id m site head.id) ∷ definitions.MacroId (ProcMacroId (proc_macro_id m site head.id e.style)) ∷ []
+            → d.def ∷ definitions.MacroId (ProcMacroId (proc_macro_id m site head.id e.style)) ∷ [] ≡ definitions.FunctionId (function_id m site head.id) ∷
+            definitions.MacroId (ProcMacroId (proc_macro_id m site head.id e.style)) ∷ []
         is_function x at g =
             let is : x ≡ d = cc in
             ap (λ (y : Declaration). y.def ∷ definitions.MacroId (ProcMacroId (proc_macro_id m site head.id e.style)) ∷ []) (sym is)
@@ -545,19 +638,22 @@ module _ (tables : TablesValue) (w : Workspace) (finished : Maps) (from : Beginn
 
     pub back_rule : (r : Rule) → May finished s r → Sees (environment tables w) finished (reads s r) → Numbered tables s r
         → ((key : TreeKey) → Contains (keys_read (reads s r)) (keys.Tree key) → Contains answer.asked (keys.Tree key))
-        → ((d : MacroDirective) → Contains (after finished s r).core.calls d → Contains last.calls d) → QuietAfter (after finished s r) → Ahead (MapAfter r) (after finished s r).agenda → IsSooner r
+        → ((d : MacroDirective) → Contains (after finished s r).core.calls d → Contains last.calls d) → QuietAfter (after finished s r)
+        → Ahead (MapAfter r) (after finished s r).agenda → IsSooner r
     back_rule (drops_item v report rest) may sees numbers read kept quiet q =
         record {
           defs = [];
           ahead = at_next may.next
-              (back_one tables w finished from answer last es (asking s (drops_item v report rest)) (acts finished s (drops_item v report rest)) v.site v.item v.done rest [] (off_one v.site v.item v.done (no_map (item_head v.item).attributes may.condition may.disabled)) refl
+              (back_one tables w finished from answer last es (asking s (drops_item v report rest)) (acts finished s (drops_item v report rest)) v.site v.item
+              v.done rest [] (off_one v.site v.item v.done (no_map (item_head v.item).attributes may.condition may.disabled)) refl
               (λ k. sym (at_home-nothing v.site.home k)) q);
         }
     back_rule (declares_item v d rest) may sees numbers read kept quiet q =
         record {
           defs = [];
           ahead = at_next may.here.next
-              (back_one tables w finished from answer last es (asking s (declares_item v d rest)) (acts finished s (declares_item v d rest)) v.site v.item may.here.done rest (d.def ∷ [])
+              (back_one tables w finished from answer last es (asking s (declares_item v d rest)) (acts finished s (declares_item v d rest)) v.site v.item
+              may.here.done rest (d.def ∷ [])
               (declared_one s v may.here.done d f.id proc may.here.enabled (done_with v rest may.here) may.exports_none may.declares) refl
               (λ k. append-nil (at_home v.site.home k (d.def ∷ []))) q);
         }
@@ -568,25 +664,41 @@ module _ (tables : TablesValue) (w : Workspace) (finished : Maps) (from : Beginn
           defs = [];
           ahead = at_next may.next
               (back_one tables w finished from answer last es (asking s r) (acts finished s r) site (leaf head (enumeration name)) may.done rest (def ∷ [])
-              (leaf_one site head (enumeration name) may.done (def ∷ []) may.enabled (done_with _ rest may) (same_definitions last.is_proc_macro m answer.map f.id site head (enumeration name))) refl (λ k. append-nil (at_home site.home k (def ∷ []))) q);
+              (leaf_one site head (enumeration name) may.done (def ∷ []) may.enabled (done_with _ rest may)
+              (same_definitions last.is_proc_macro m answer.map f.id site head (enumeration name))) refl (λ k. append-nil (at_home site.home k (def ∷ []))) q);
         }
     back_rule (lists_constant site head rest) may sees numbers read kept quiet q =
-        record { defs = []; ahead = at_next may.next (unlisted_one (lists_constant site head rest) site head (constant None) may.done rest (leaf_one site head (constant None) may.done [] may.enabled (done_with _ rest may) refl) refl (λ k. refl) q) }
+        record {
+          defs = [];
+          ahead = at_next may.next (unlisted_one (lists_constant site head rest) site head (constant None) may.done rest
+              (leaf_one site head (constant None) may.done [] may.enabled (done_with _ rest may) refl) refl (λ k. refl) q);
+        }
     back_rule (lists_impl site head of_trait rest) may sees numbers read kept quiet q =
-        record { defs = []; ahead = at_next may.next (unlisted_one (lists_impl site head of_trait rest) site head (implementation of_trait) may.done rest (leaf_one site head (implementation of_trait) may.done [] may.enabled (done_with _ rest may) refl) refl (λ k. refl) q) }
+        record {
+          defs = [];
+          ahead = at_next may.next (unlisted_one (lists_impl site head of_trait rest) site head (implementation of_trait) may.done rest
+              (leaf_one site head (implementation of_trait) may.done [] may.enabled (done_with _ rest may) refl) refl (λ k. refl) q);
+        }
     back_rule (opens_module site head name items rest) may sees numbers read kept quiet q =
         let apart = below _ rest may.next in
         record {
           defs = [];
-          ahead = at_next may.next (inline_back site head name items may.done rest may.enabled (done_with _ rest may) apart.0 apart.1 (placed _ rest may.next) (inline_directory site.dir name (path_of head)) refl
-              (quiet_made (after finished s (opens_module site head name items rest)) (length-perform (acts finished s (opens_module site head name items rest)) (asking s (opens_module site head name items rest))) refl quiet) q);
+          ahead =
+              at_next may.next (inline_back site head name items may.done rest may.enabled (done_with _ rest may) apart.0 apart.1 (placed _ rest may.next)
+              (inline_directory site.dir name (path_of head)) refl
+              (quiet_made (after finished s (opens_module site head name items rest)) (length-perform (acts finished s (opens_module site head name items rest))
+              (asking s (opens_module site head name items rest))) refl quiet) q);
         }
     back_rule (opens_file site head name search file rest) may sees numbers read kept quiet q =
         let apart = below _ rest may.looks.here.next in
         record {
           defs = [];
-          ahead = at_next may.looks.here.next (file_back same_edition site head name search rest may.looks numbers sees read file may.found may.enabled apart.0 apart.1
-              (quiet_made (after finished s (opens_file site head name search file rest)) (length-perform (acts finished s (opens_file site head name search file rest)) (asking s (opens_file site head name search file rest))) refl quiet) q);
+          ahead =
+              at_next may.looks.here.next (file_back same_edition site head name search rest may.looks numbers sees read file may.found may.enabled apart.0
+              apart.1
+              (quiet_made (after finished s (opens_file site head name search file rest))
+              (length-perform (acts finished s (opens_file site head name search file rest)) (asking s (opens_file site head name search file rest))) refl
+              quiet) q);
         }
     back_rule (drops_file site head name search report rest) may sees numbers read kept quiet q =
         record { defs = []; ahead = at_next may.looks.here.next (drop_back same_edition site head name search rest may.looks numbers sees read report may q) }
@@ -594,25 +706,40 @@ module _ (tables : TablesValue) (w : Workspace) (finished : Maps) (from : Beginn
         let apart = below _ rest may.looks.here.next in
         record {
           defs = [];
-          ahead = at_next may.looks.here.next (miss_back same_edition site head name search rest may.looks numbers sees read report may.missing apart.0 apart.1 (placed _ rest may.looks.here.next)
-              (quiet_made (after finished s (misses_file site head name search report rest)) (length-perform (acts finished s (misses_file site head name search report rest)) (asking s (misses_file site head name search report rest))) refl quiet) q);
+          ahead =
+              at_next may.looks.here.next (miss_back same_edition site head name search rest may.looks numbers sees read report may.missing apart.0 apart.1
+              (placed _ rest may.looks.here.next)
+              (quiet_made (after finished s (misses_file site head name search report rest))
+              (length-perform (acts finished s (misses_file site head name search report rest)) (asking s (misses_file site head name search report rest))) refl
+              quiet) q);
         }
     back_rule (enters_block site head items rest) may sees numbers read kept quiet q =
         record { defs = []; ahead = at_next may.next (block_back site head items may.done rest may.enabled (done_with _ rest may) q) }
     back_rule (reaches_imports site head tree rest) may sees numbers read kept quiet q =
-        record { defs = []; ahead = at_next may.next (unlisted_one (reaches_imports site head tree rest) site head (import tree) may.done rest (leaf_one site head (import tree) may.done [] may.enabled (done_with _ rest may) refl) refl (λ k. refl) q) }
+        record {
+          defs = [];
+          ahead = at_next may.next (unlisted_one (reaches_imports site head tree rest) site head (import tree) may.done rest
+              (leaf_one site head (import tree) may.done [] may.enabled (done_with _ rest may) refl) refl (λ k. refl) q);
+        }
     back_rule (reaches_crate site head name alias rest) may sees numbers read kept quiet q =
-        record { defs = []; ahead = at_next may.next (unlisted_one (reaches_crate site head name alias rest) site head (extern_crate name alias) may.done rest (leaf_one site head (extern_crate name alias) may.done [] may.enabled (done_with _ rest may) refl) refl (λ k. refl) q) }
+        record {
+          defs = [];
+          ahead = at_next may.next (unlisted_one (reaches_crate site head name alias rest) site head (extern_crate name alias) may.done rest
+              (leaf_one site head (extern_crate name alias) may.done [] may.enabled (done_with _ rest may) refl) refl (λ k. refl) q);
+        }
     back_rule (defines_rules site head name expander helpers rest) may sees numbers read kept quiet q =
         let r : Rule = defines_rules site head name expander helpers rest in
         let makro : MacroId = macro_rules_id m site head.id expander in
         let node : AstId = node_of site.tree nodes.MacroRules head.id in
-        let defined : State = perform (asking s r) (goes_on rest ∷ defines node makro ∷ describes makro (macro_data_of name helpers) ∷ adds_textual site.home name makro ∷ []) in
-        let now : Ahead (MapAfter r) rest = subst (λ (vs : List Task). Ahead (MapAfter r) vs) (macro_agenda defined head name makro (module_id m site.home) node expander) q in
+        let defined : State = perform (asking s r) (goes_on rest ∷ defines node makro ∷ describes makro (macro_data_of name helpers) ∷ adds_textual site.home
+        name makro ∷ []) in
+        let now : Ahead (MapAfter r) rest = subst (λ (vs : List Task). Ahead (MapAfter r) vs) (macro_agenda defined head name makro (module_id m site.home) node
+        expander) q in
         record {
           defs = [];
           ahead = at_next may.next
-              (unlisted_one r site head (macro_rules name expander helpers) may.done rest (leaf_one site head (macro_rules name expander helpers) may.done [] may.enabled (done_with _ rest may) refl)
+              (unlisted_one r site head (macro_rules name expander helpers) may.done rest (leaf_one site head (macro_rules name expander helpers) may.done []
+              may.enabled (done_with _ rest may) refl)
               (ap (λ (n : ℕ). 0 + (0 + (0 + (0 + n)))) (macro_makes_none head name makro (module_id m site.home) node expander))
               (macro_unlisted head name makro (module_id m site.home) node expander) now);
         }
@@ -621,19 +748,28 @@ module _ (tables : TablesValue) (w : Workspace) (finished : Maps) (from : Beginn
         let makro : MacroId = macro_def_id m site head.id expander in
         let def : ModuleDefId = definitions.MacroId makro in
         let node : AstId = node_of site.tree nodes.MacroDef head.id in
-        let bound : State = perform (asking s r) (goes_on rest ∷ defines node makro ∷ describes makro (macro_data_of name helpers) ∷ declaring site.home (macro_declaration name makro (own_visibility finished s.core.local m site head))) in
-        let now : Ahead (MapAfter r) rest = subst (λ (vs : List Task). Ahead (MapAfter r) vs) (reporting_agenda bound (module_id m site.home) node expander) q in
+        let bound : State = perform (asking s r) (goes_on rest ∷ defines node makro ∷ describes makro (macro_data_of name helpers) ∷ declaring site.home
+        (macro_declaration name makro (own_visibility finished s.core.local m site head))) in
+        let now : Ahead (MapAfter r) rest = subst (λ (vs : List Task). Ahead (MapAfter r) vs) (reporting_agenda bound (module_id m site.home) node expander) q
+        in
         record {
           defs = [];
           ahead = at_next may.next
-              (back_one tables w finished from answer last es (asking s r) (acts finished s r) site (leaf head (macro_def name expander helpers)) may.done rest (def ∷ [])
-              (leaf_one site head (macro_def name expander helpers) may.done (def ∷ []) may.enabled (done_with _ rest may) (same_definitions last.is_proc_macro m answer.map f.id site head (macro_def name expander helpers)))
+              (back_one tables w finished from answer last es (asking s r) (acts finished s r) site (leaf head (macro_def name expander helpers)) may.done rest
+              (def ∷ [])
+              (leaf_one site head (macro_def name expander helpers) may.done (def ∷ []) may.enabled (done_with _ rest may)
+              (same_definitions last.is_proc_macro m answer.map f.id site head (macro_def name expander helpers)))
               (ap (λ (n : ℕ). 0 + (0 + (0 + (0 + (0 + n))))) (reporting_makes_none (module_id m site.home) node expander))
-              (λ k. ap (λ (xs : List ModuleDefId). at_home site.home k (def ∷ []) ++ xs) (reporting_unlisted (module_id m site.home) node expander k) ∙ append-nil (at_home site.home k (def ∷ []))) now);
+              (λ k. ap (λ (xs : List ModuleDefId). at_home site.home k (def ∷ []) ++ xs) (reporting_unlisted (module_id m site.home) node expander k) ∙
+              append-nil (at_home site.home k (def ∷ []))) now);
         }
     back_rule (closes_module parent child rest) may sees numbers read kept quiet q =
         let r : Rule = closes_module parent child rest in
-        record { defs = []; ahead = at_next may (back_same tables w finished from answer last es (asking s r) (acts finished s r) q q.listed refl (λ k. refl) (λ more g. g)) }
+        record {
+          defs = [];
+          ahead = at_next may (back_same tables w finished from answer last es (asking s r) (acts finished s r) q q.listed refl (λ k. refl)
+              (λ more g. g));
+        }
     back_rule (awaits_attribute v a k rest) may sees numbers read kept quiet q =
         let r : Rule = awaits_attribute v a k rest in
         let node : AstId = item_node v.site v.item in
@@ -651,16 +787,21 @@ module _ (tables : TablesValue) (w : Workspace) (finished : Maps) (from : Beginn
         record {
           defs = [];
           ahead = at_next may.has.on.next
-              (back_one tables w finished from answer last es (asking s r) (acts finished s r) v.site v.item v.done rest [] (waits_one v.site v.item v.done may.has.on.enabled waits) refl
+              (back_one tables w finished from answer last es (asking s r) (acts finished s r) v.site v.item v.done rest []
+              (waits_one v.site v.item v.done may.has.on.enabled waits) refl
               (λ n. sym (at_home-nothing v.site.home n)) q);
         }
-    back_rule (lists_derives v at a adt paths rest) may sees numbers read kept quiet q =
-        let r : Rule = lists_derives v at a adt paths rest in
+    back_rule (lists_derives v at a adt paths call rest) may sees numbers read kept quiet q =
+        let r : Rule = lists_derives v at a adt paths call rest in
         record {
           defs = [];
           ahead = at_next may.has.on.next
               (back_same tables w finished from answer last es (asking s r) (acts finished s r) q q.listed refl (λ n. refl)
-              (λ more g. (earlier_one v.site v.item v.done (suc at) q.listed.0 (derive_low v rest at a may.has) (done_behind v rest at a may.has may.derives) more g.0, g.1)));
+              (λ more g. (
+                earlier_one v.site v.item v.done (suc at) q.listed.0 (derive_low v rest at a may.has) (done_behind v rest at a may.has may.derives)
+                    more g.0,
+                g.1,
+              )));
         }
     back_rule (faults_derive v at report rest) may sees numbers read kept quiet q =
         let r : Rule = faults_derive v at report rest in
@@ -668,7 +809,11 @@ module _ (tables : TablesValue) (w : Workspace) (finished : Maps) (from : Beginn
           defs = [];
           ahead = at_next may.has.on.next
               (back_same tables w finished from answer last es (asking s r) (acts finished s r) q q.listed refl (λ n. refl)
-              (λ more g. (earlier_one v.site v.item v.done (suc at) q.listed.0 (derive_low v rest at may.attribute may.has) (done_behind v rest at may.attribute may.has may.derives) more g.0, g.1)));
+              (λ more g. (
+                earlier_one v.site v.item v.done (suc at) q.listed.0 (derive_low v rest at may.attribute may.has)
+                    (done_behind v rest at may.attribute may.has may.derives) more g.0,
+                g.1,
+              )));
         }
     back_rule (exports_macro site head name d e rest) may sees numbers read kept quiet q =
         let r : Rule = exports_macro site head name d e rest in
@@ -678,14 +823,24 @@ module _ (tables : TablesValue) (w : Workspace) (finished : Maps) (from : Beginn
         record {
           defs = [];
           ahead = at_next may.here.next
-              (back_one tables w finished from answer last es (asking s r) (acts finished s r) site (leaf head (function name)) may.here.done rest (d.def ∷ makro ∷ [])
+              (back_one tables w finished from answer last es (asking s r) (acts finished s r) site (leaf head (function name)) may.here.done rest
+              (d.def ∷ makro ∷ [])
               (leaf_one site head (function name) may.here.done (d.def ∷ makro ∷ []) may.here.enabled (done_with _ rest may.here) declares) refl
-              (λ n. ap (λ (xs : List ModuleDefId). at_home site.home n (d.def ∷ []) ++ xs) (append-nil (at_home site.home n (makro ∷ []))) ∙ sym (at_home-both site.home n (d.def ∷ []) (makro ∷ []))) q);
+              (λ n. ap (λ (xs : List ModuleDefId). at_home site.home n (d.def ∷ []) ++ xs) (append-nil (at_home site.home n (makro ∷ []))) ∙ sym
+              (at_home-both site.home n (d.def ∷ []) (makro ∷ []))) q);
         }
     back_rule (reaches_call site head path rest) may sees numbers read kept quiet q =
-        record { defs = []; ahead = at_next may.next (unlisted_one (reaches_call site head path rest) site head (macro_call path) may.done rest (leaf_one site head (macro_call path) may.done [] may.enabled (done_with _ rest may) refl) refl (λ k. refl) q) }
+        record {
+          defs = [];
+          ahead = at_next may.next (unlisted_one (reaches_call site head path rest) site head (macro_call path) may.done rest
+              (leaf_one site head (macro_call path) may.done [] may.enabled (done_with _ rest may) refl) refl (λ k. refl) q);
+        }
     back_rule rests may sees numbers read kept quiet q =
-        record { defs = []; ahead = back_same tables w finished from answer last es (asking s rests) (acts finished s rests) q q.listed refl (λ k. refl) (λ more g. g) }
+        record {
+          defs = [];
+          ahead = back_same tables w finished from answer last es (asking s rests) (acts finished s rests) q q.listed refl (λ k. refl)
+              (λ more g. g);
+        }
     back_rule (drops_call i d) may sees numbers read kept quiet q =
         let r : Rule = drops_call i d in
         record { defs = []; ahead = back_same tables w finished from answer last es (asking s r) (acts finished s r) q q.listed refl (λ k. refl) (λ more g. g) }
@@ -696,17 +851,21 @@ module _ (tables : TablesValue) (w : Workspace) (finished : Maps) (from : Beginn
         let now : Ahead (MapAfter r) s.agenda = subst (λ (vs : List Task). Ahead (MapAfter r) vs) (bringing_agenda begun d.ast_id helpers) q in
         record {
           defs = [];
-          ahead = back_same tables w finished from answer last es (asking s r) (acts finished s r) now now.listed (ap (λ (n : ℕ). 0 + n) (bringing_makes_none d.ast_id helpers))
+          ahead =
+              back_same tables w finished from answer last es (asking s r) (acts finished s r) now now.listed
+              (ap (λ (n : ℕ). 0 + n) (bringing_makes_none d.ast_id helpers))
               (λ k. ap (λ (xs : List ModuleDefId). xs ++ gathered k s.agenda now.listed) (bringing_unlisted d.ast_id helpers k)) (λ more g. g);
         }
     back_rule (derives_builtin i d makro imp) may sees numbers read kept quiet q =
         let r : Rule = derives_builtin i d makro imp in
         let helpers : List DeriveHelper = helpers_brought finished m d makro (Some (either.Right imp)) in
-        let begun : State = perform (asking s r) (ends i Handled ∷ lists_derive d.site.home imp ∷ []) in
+        let begun : State = perform (asking s r) (ends i Handled ∷ lists_derive d.site.home imp ∷ notes d.site.home (impl_noted d.ast_id imp) ∷ []) in
         let now : Ahead (MapAfter r) s.agenda = subst (λ (vs : List Task). Ahead (MapAfter r) vs) (bringing_agenda begun d.ast_id helpers) q in
         record {
           defs = [];
-          ahead = back_same tables w finished from answer last es (asking s r) (acts finished s r) now now.listed (ap (λ (n : ℕ). 0 + (0 + n)) (bringing_makes_none d.ast_id helpers))
+          ahead =
+              back_same tables w finished from answer last es (asking s r) (acts finished s r) now now.listed
+              (ap (λ (n : ℕ). 0 + (0 + (0 + n))) (bringing_makes_none d.ast_id helpers))
               (λ k. ap (λ (xs : List ModuleDefId). xs ++ gathered k s.agenda now.listed) (bringing_unlisted d.ast_id helpers k)) (λ more g. g);
         }
     back_rule (skips_attribute i d k waited_item) may sees numbers read kept quiet q =
@@ -727,14 +886,21 @@ module _ (tables : TablesValue) (w : Workspace) (finished : Maps) (from : Beginn
         let r : Rule = resolves_imports rule in
         let cs : List ImportChange = import_acts finished (import_state s) rule in
         let now : Ahead (MapAfter r) s.agenda = subst (λ (vs : List Task). Ahead (MapAfter r) vs) (same_agenda cs (asking s r)) q in
-        record { defs = []; ahead = back_same tables w finished from answer last es (asking s r) (acts finished s r) now now.listed (nothing_made cs) (λ k. ap (λ (xs : List ModuleDefId). xs ++ gathered k s.agenda now.listed) (nothing_added cs k)) (λ more g. g) }
+        record {
+          defs = [];
+          ahead = back_same tables w finished from answer last es (asking s r) (acts finished s r) now now.listed (nothing_made cs)
+              (λ k. ap (λ (xs : List ModuleDefId). xs ++ gathered k s.agenda now.listed) (nothing_added cs k)) (λ more g. g);
+        }
     back_rule (expands_call i d makro x) may sees numbers read kept quiet q =
         let r : Rule = expands_call i d makro x in
         let next : List Task = visits_over (call_site d x.id) x.tree.tree.items in
-        let begun : State = perform (asking s r) (ends i Handled ∷ goes_on next ∷ []) in
-        let now : Ahead (MapAfter r) next = subst (λ (vs : List Task). Ahead (MapAfter r) vs) (expanding_agenda begun d.ast_id (helpers_brought finished m d makro (Some (either.Left x.id))) (module_id m d.site.home) d (error_of x.there)) q in
+        let begun : State = perform (asking s r) (ends i Handled ∷ goes_on next ∷ notes d.site.home (invocation_of d x.id) ∷ []) in
+        let now : Ahead (MapAfter r) next = subst (λ (vs : List Task). Ahead (MapAfter r) vs)
+        (expanding_agenda begun d.ast_id (helpers_brought finished m d makro (Some (either.Left x.id))) (module_id m d.site.home) d (error_of x.there)) q in
         let defs : List ModuleDefId = altogether (call_site d x.id) x.tree.tree.items now.listed in
         record {
           defs = defs;
-          ahead = subst (λ (vs : List Task). IsAhead tables w finished from answer last (from_rule r defs es) m vs) (sym may.called.due.visited) (expansion_back i d makro x may sees numbers read now);
+          ahead =
+              subst (λ (vs : List Task). IsAhead tables w finished from answer last (from_rule r defs es) m vs) (sym may.called.due.visited)
+              (expansion_back i d makro x may sees numbers read now);
         }

@@ -3,25 +3,27 @@ use Rattle.std.specs.BTreeMap.{is_at}
 use Rattle.std.specs.Cmp.Lexicographic.{slice_cmp}
 use Rattle.std.specs.Map.{lookup, remove_entry}
 use Rattle.std.specs.Ordering.{nat_cmp}
-use Rattle.std.proofs.Common.{◌≡◌, ◌∙◌, ℕ, List, [], ◌∷◌, ◌++◌, Bool, true, false, cond, Option, None, Some, IsSome, is_some, map as list_map, slice_get, refl, sym, ap, subst, Contains}
+use Rattle.std.proofs.Common.{◌≡◌, ◌∙◌, ℕ, List, [], ◌∷◌, ◌++◌, Bool, true, false, cond, Option, None, Some, IsSome, is_some, map as list_map, slice_get, refl}
+use Rattle.std.proofs.Common.{sym, ap, subst, Contains}
 use Rattle.std.proofs.lemmas.Cmp.{nat_list_cmp_total}
 use Rattle.std.proofs.lemmas.List.Elements.{Contains-append_left}
 use Rattle.hir_base.specs.contracts.ids.ModuleDefIdPartialEq.TheImpl as module_def
 use Rattle.hir_base.specs.contracts.ids.TraitIdPartialEq.TheImpl as trait_id
 use Rattle.hir_base.specs.contracts.macro_kind.MacroIdPartialEq.TheImpl as makro
 use Rattle.hir_base.specs.declared.ids.Crate.{Crate}
+use Rattle.hir_base.specs.declared.macro_kind.MacroId.{MacroId}
 use Rattle.hir_base.specs.declared.ids.ModuleDefId.{ModuleDefId}
-use Rattle.hir_base.specs.declared.ids.ModuleDefId.TheVariants as definitions
 use Rattle.hir_base.specs.declared.ids.ModuleId.{ModuleId}
 use Rattle.hir_base.specs.declared.ids.TraitId.{TraitId}
-use Rattle.hir_base.specs.declared.macro_kind.MacroId.{MacroId}
+use Rattle.hir_base.specs.declared.ids.ModuleDefId.TheVariants as definitions
 use Rattle.hir_use_tree.specs.declared.imports.ImportAlias.{ImportAlias}
 use Rattle.hir_use_tree.specs.declared.imports.ImportAlias.TheVariants as aliases
 use Rattle.hir_use_tree.specs.declared.imports.ImportKind.TheVariants as kinds
 use Rattle.hir_scope.specs.contracts.imports.ImportOrExternCratePartialEq.TheImpl as item_import
 use Rattle.hir_scope.specs.contracts.imports.ImportOrGlobPartialEq.TheImpl as glob_import
 use Rattle.hir_scope_table.specs.Table.{rewritten}
-use Rattle.hir_scope.specs.Bindings.{macro_candidate, taken, takes as takes_slot, type_candidate, value_candidate, with_item_definition, with_item_visibility, written_items}
+use Rattle.hir_scope.specs.Bindings.{macro_candidate, taken, takes as takes_slot, type_candidate, value_candidate, with_item_definition, with_item_visibility}
+use Rattle.hir_scope.specs.Bindings.{written_items}
 use Rattle.hir_scope.specs.ImportRecords.{is_glob}
 use Rattle.hir_scope.specs.Entries.{item_at}
 use Rattle.hir_scope.specs.Globs.{GlobNames, Place, has_place}
@@ -34,26 +36,28 @@ use Rattle.hir_scope.specs.Scope.Updates.{censored_item, censored_macro, is_defi
 use Rattle.hir_scope.specs.declared.imports.GlobId.{GlobId}
 use Rattle.hir_scope.specs.declared.imports.ImportId.{ImportId}
 use Rattle.hir_scope.specs.declared.imports.ImportOrExternCrate.{ImportOrExternCrate}
-use Rattle.hir_scope.specs.declared.imports.ImportOrExternCrate.TheVariants as ways
 use Rattle.hir_scope.specs.declared.imports.ImportOrGlob.{ImportOrGlob}
-use Rattle.hir_scope.specs.declared.imports.ImportOrGlob.TheVariants as value_ways
 use Rattle.hir_scope.specs.declared.item_in_ns.ItemInNs.{ItemInNs}
-use Rattle.hir_scope.specs.declared.item_in_ns.ItemInNs.TheVariants as in_ns
 use Rattle.hir_scope.specs.declared.per_ns.PerNs.{PerNs}
 use Rattle.hir_scope.specs.declared.visibility.Visibility.{Visibility}
+use Rattle.hir_scope.specs.declared.imports.ImportOrExternCrate.TheVariants as ways
+use Rattle.hir_scope.specs.declared.imports.ImportOrGlob.TheVariants as value_ways
+use Rattle.hir_scope.specs.declared.item_in_ns.ItemInNs.TheVariants as in_ns
 use Rattle.hir_tables.specs.Tables.{TablesValue}
 use Rattle.hir_def_map_rules.specs.Declaration.{listed}
 use Rattle.hir_def_map_rules.specs.Overlay.{Maps}
 use Rattle.hir_def_map_rules.specs.State.{Local, Map, ModuleValue, changed_at, entry_of, module_at, new_id, new_module, numbered, with_child, with_module_scope}
 use Rattle.hir_def_map_rules.specs.declared.declaration.Declaration.{Declaration as Listing}
 use Rattle.hir_def_map_rules.specs.declared.declaration.Declaration.TheVariants as listings
-use Rattle.hir_glob_imports.specs.Rules.{Rule as GlobRule, May as MayAlong, acts as glob_acts, brings, copies, copies_along, follows, follows_along, raises, raises_along}
+use Rattle.hir_glob_imports.specs.Rules.{Rule as GlobRule, May as MayAlong, acts as glob_acts, brings, copies, copies_along, follows, follows_along, raises}
+use Rattle.hir_glob_imports.specs.Rules.{raises_along}
 use Rattle.hir_glob_imports.specs.declared.edge.Bound.{Bound}
 use Rattle.hir_glob_imports.specs.declared.edge.Edge.{Edge}
 use Rattle.hir_glob_imports.specs.declared.edge.Key.{Key}
 use Rattle.hir_glob_imports.specs.declared.edge.Key.TheVariants.{Types, Values, Macros, Unnamed}
 use Rattle.hir_import_resolution.specs.Changes.{Change as ImportChange, along, keeps_trait, pushes, pushing, records, takes}
-use Rattle.hir_import_resolution.specs.Directives.{answer_by_source, answer_of_crate, glob_of, is_unnamed, kept_by, kept_of, kept_trait, kind_of, leaf_of, path_answer, trait_among, way_of}
+use Rattle.hir_import_resolution.specs.Directives.{answer_by_source, answer_of_crate, glob_of, is_unnamed, kept_by, kept_of, kept_trait, kind_of, leaf_of}
+use Rattle.hir_import_resolution.specs.Directives.{path_answer, trait_among, way_of}
 use Rattle.hir_import_resolution.specs.Names.{bound_of, redefined, revised, scope_table, view_of, with_trait}
 use Rattle.hir_import_resolution.specs.Rules.{Rule as ImportRule, May as MayImport, acts as import_acts, goes_along, takes_glob, takes_import}
 use Rattle.hir_import_resolution.specs.State.{ImportState, glob_state, scopes_of}
@@ -61,7 +65,10 @@ use Rattle.hir_import_resolution.specs.declared.directive.ImportDirective.{Impor
 use Rattle.hir_import_resolution.specs.declared.directive.ImportSource.{ImportSource}
 use Rattle.hir_import_resolution.specs.declared.directive.ImportSource.TheVariants as sources
 use Rattle.hir_collector_rules.specs.Calls.{error_of}
-use Rattle.hir_collector_rules.specs.Changes.{Change, lists, makes, gives_variants, begins_paths, reaches, awaits, ends, settles, changes_imports, adds_textual, takes_textual, defines, describes, helps, lists_derive, exports, uses_macros, tells, goes_on, act, perform, with_builtin_derive}
+use Rattle.hir_collector_rules.specs.Changes.{Change, lists, makes, gives_variants, begins_paths, reaches, awaits, ends, settles, changes_imports, adds_textual}
+use Rattle.hir_collector_rules.specs.Changes.{takes_textual, defines, describes, helps, lists_derive, notes, exports, uses_macros, tells, goes_on, act, perform}
+use Rattle.hir_collector_rules.specs.Changes.{with_builtin_derive}
+use Rattle.hir_collector_rules.specs.Invocations.{with_invocation}
 use Rattle.hir_collector_rules.specs.declared.exported.ExportedFunction.{ExportedFunction}
 use Rattle.hir_collector_rules.specs.Derivation.{CollectedValue, Ends}
 use Rattle.hir_collector_rules.specs.Ended.{ended, exporting_scope, without_function, without_functions}
@@ -70,14 +77,21 @@ use Rattle.hir_collector_rules.specs.Keys.{Environment, environment}
 use Rattle.hir_collector_rules.specs.Macros.{textual_at}
 use Rattle.hir_collector_rules.specs.Start.{Beginning, krate_of}
 use Rattle.hir_collector_rules.specs.State.{Core, State, import_state}
-use Rattle.hir_collector_rules.specs.Steps.{Rule, drops_item, awaits_attribute, lists_derives, faults_derive, exports_macro, reaches_call, rests, expands_call, drops_call, drops_reached, derives_builtin, skips_attribute, falls_back, defines_rules, defines_macro, closes_module, declares_item, declares_enum, lists_constant, lists_impl, opens_module, opens_file, drops_file, misses_file, enters_block, reaches_imports, reaches_crate, resolves_imports, May, Step, Steps, acts, asking, more, none}
+use Rattle.hir_collector_rules.specs.Steps.{Rule, drops_item, awaits_attribute, lists_derives, faults_derive, exports_macro, reaches_call, rests, expands_call}
+use Rattle.hir_collector_rules.specs.Steps.{drops_call, drops_reached, derives_builtin, skips_attribute, falls_back, defines_rules, defines_macro}
+use Rattle.hir_collector_rules.specs.Steps.{closes_module, declares_item, declares_enum, lists_constant, lists_impl, opens_module, opens_file, drops_file}
+use Rattle.hir_collector_rules.specs.Steps.{misses_file, enters_block, reaches_imports, reaches_crate, resolves_imports, May, Step, Steps, acts, asking, more}
+use Rattle.hir_collector_rules.specs.Steps.{none}
 use Rattle.hir_collector_rules.specs.Workspace.{Workspace}
 use Rattle.hir_collector_rules.proofs.Asks.{still_asked-Step}
 use Rattle.hir_collector_rules.proofs.Changes.{AllFine, fine_bringing, fine_expanding, fine_macro, fine_reporting, perform_keeps}
-use Rattle.hir_collector_rules.proofs.ImportEdits.{Edit, copy_at, copy_where, edit, edit_of, edited, follow_at, follow_where, imports_after, keeps_unnamed, map_after, pushes_to, redefines, revises}
-use Rattle.hir_def_collector_laws.specs.Imports.{AreBrought, BindingsAreWritten, Brings, BringsValue, HasImport, IsTraitBrought, IsUnderscoreImport, UnnamedTraitsAreWritten}
+use Rattle.hir_collector_rules.proofs.ImportEdits.{Edit, copy_at, copy_where, edit, edit_of, edited, follow_at, follow_where, imports_after, keeps_unnamed}
+use Rattle.hir_collector_rules.proofs.ImportEdits.{map_after, pushes_to, redefines, revises}
+use Rattle.hir_def_collector_laws.specs.Imports.{AreBrought, BindingsAreWritten, Brings, BringsValue, HasImport, IsTraitBrought, IsUnderscoreImport}
+use Rattle.hir_def_collector_laws.specs.Imports.{UnnamedTraitsAreWritten}
 use Rattle.hir_def_collector_laws.proofs.Ended.{ended_by}
-use Rattle.hir_def_collector_laws.proofs.Entries.{AllValues, AloneKeys, all_among, all_found, all_last, all_mapped, all_removed, all_set, all_with_entry, alone_mapped, alone_removed, alone_set, alone_with_entry}
+use Rattle.hir_def_collector_laws.proofs.Entries.{AllValues, AloneKeys, all_among, all_found, all_last, all_mapped, all_removed, all_set, all_with_entry}
+use Rattle.hir_def_collector_laws.proofs.Entries.{alone_mapped, alone_removed, alone_set, alone_with_entry}
 use Rattle.hir_def_collector_laws.proofs.Imports.{answer_asked, answer_here, first_written, import_written}
 use Rattle.hir_def_collector_laws.proofs.Lists.{standing}
 use Rattle.hir_def_collector_laws.proofs.ModuleLists.{IsChanged, IsOfLonger, changed-at, changed_one, newest, of_longer, older, other_one}
@@ -86,31 +100,16 @@ use Rattle.hir_def_collector_laws.proofs.Written.{AreAsked, IsAllWritten, IsOfGl
 -- ---- imports that were found stay
 
 grown-act : (s : State) (c : Change) (r : ImportDirective) → Contains s.core.reached r → Contains (act s c).core.reached r
-grown-act s (lists home d) r h = h
-grown-act s (makes home name origin visibility) r h = h
-grown-act s (gives_variants id variants) r h = h
-grown-act s (begins_paths i) r h = h
 grown-act s (reaches rs) r h = Contains-append_left s.core.reached rs r h
-grown-act s (awaits calls) r h = h
-grown-act s (ends i fate) r h = h
-grown-act s settles r h = h
 grown-act s (changes_imports c) r h = subst (λ (rs : List ImportDirective). Contains rs r) (sym (imports_after (import_state s) c)) h
-grown-act s (adds_textual home name makro) r h = h
-grown-act s (takes_textual home from_) r h = h
-grown-act s (defines node makro) r h = h
-grown-act s (describes makro what) r h = h
-grown-act s (helps node helper) r h = h
-grown-act s (lists_derive home imp) r h = h
-grown-act s (exports f makro) r h = h
-grown-act s (uses_macros macros by) r h = h
-grown-act s (tells d) r h = h
-grown-act s (goes_on vs) r h = h
+grown-act s other r h = h
 
 grown-perform : (cs : List Change) (s : State) (r : ImportDirective) → Contains s.core.reached r → Contains (perform s cs).core.reached r
 grown-perform [] s r h = h
 grown-perform (c ∷ cs) s r h = grown-perform cs (act s c) r (grown-act s c r h)
 
-grown-Step : {env : Environment} {finished : Maps} {old new : State} → Step env finished old new → (r : ImportDirective) → Contains old.core.reached r → Contains new.core.reached r
+grown-Step : {env : Environment} {finished : Maps} {old new : State} → Step env finished old new → (r : ImportDirective) → Contains old.core.reached r
+    → Contains new.core.reached r
 grown-Step {finished = finished} {old = old} step r h =
     subst (λ (s : State). Contains s.core.reached r) (sym step.is) (grown-perform (acts finished old step.rule) (asking old step.rule) r h)
 
@@ -192,7 +191,8 @@ module _ (rs : List ImportDirective) where
           let same : ways.ExternCrate id ≡ way = cc in
           subst (OneBrings r.home) same (record { directive = r; among = h; is = ap way_of f; written_in = refl })
 
-  glob_brings : (home : ℕ) (edge_id : GlobId) (r : ImportDirective) → Contains rs r → glob_of r.source ≡ Some edge_id → r.home ≡ home → IsFineWay home (Some (ways.Glob edge_id))
+  glob_brings : (home : ℕ) (edge_id : GlobId) (r : ImportDirective) → Contains rs r → glob_of r.source ≡ Some edge_id → r.home ≡ home
+      → IsFineWay home (Some (ways.Glob edge_id))
   glob_brings home id r h is here way e =
       let same : ways.Glob id ≡ way = cc in
       subst (OneBrings home) same (record { directive = r; among = h; is = is; written_in = here })
@@ -214,67 +214,93 @@ module _ (rs : List ImportDirective) where
     types_pushed : (s : ScopeValue) → IsFineScope home s → AllValues (IsFineType home) (pushed_scope globs place items by s).types
     types_pushed s f = go (is_nothing items)
       where
-        bound : (i : Item ModuleDefId ImportOrExternCrate) (b : Bool) → AllValues (IsFineType home) (written_items place.1 (cond b (type_candidate (Some i) by) None) s.types)
+        bound : (i : Item ModuleDefId ImportOrExternCrate) (b : Bool)
+            → AllValues (IsFineType home) (written_items place.1 (cond b (type_candidate (Some i) by) None) s.types)
         bound i true = all_with_entry (IsFineType home) (slice_cmp nat_cmp) s.types place.1 (record { def = i.def; vis = i.vis; import = by }) f.types fine
         bound i false = f.types
 
-        offered : (o : Option (Item ModuleDefId ImportOrExternCrate)) → AllValues (IsFineType home) (written_items place.1 (taken module_def.ghosts.eq item_import.ghosts.eq s.types globs.types place (type_candidate o by)) s.types)
+        offered : (o : Option (Item ModuleDefId ImportOrExternCrate))
+            → AllValues (IsFineType home) (written_items place.1 (taken module_def.ghosts.eq item_import.ghosts.eq s.types globs.types place
+            (type_candidate o by))
+            s.types)
         offered None = f.types
-        offered (Some i) = bound i (takes_slot module_def.ghosts.eq item_import.ghosts.eq (has_place globs.types place) (item_at s.types place.1) (record { item = record { def = i.def; vis = i.vis; import = by }; is_glob = is_glob by }))
+        offered (Some i) =
+            bound i (takes_slot module_def.ghosts.eq item_import.ghosts.eq (has_place globs.types place) (item_at s.types place.1)
+            (record { item = record { def = i.def; vis = i.vis; import = by }; is_glob = is_glob by }))
 
-        go : (b : Bool) → AllValues (IsFineType home) (cond b (with_unresolved s place.1) (written_scope place.1 (taken_candidates s globs place items by) s)).types
+        go : (b : Bool) → AllValues (IsFineType home)
+            (cond b (with_unresolved s place.1) (written_scope place.1 (taken_candidates s globs place items by) s)).types
         go true = f.types
         go false = offered items.types
 
     values_pushed : (s : ScopeValue) → IsFineScope home s → AllValues (IsFineValueItem home) (pushed_scope globs place items by s).values
     values_pushed s f = go (is_nothing items)
       where
-        bound : (i : Item ModuleDefId ImportOrGlob) (b : Bool) → AllValues (IsFineValueItem home) (written_items place.1 (cond b (value_candidate (Some i) by) None) s.values)
-        bound i true = all_with_entry (IsFineValueItem home) (slice_cmp nat_cmp) s.values place.1 (record { def = i.def; vis = i.vis; import = value_import by }) f.values (value_fine home by fine)
+        bound : (i : Item ModuleDefId ImportOrGlob) (b : Bool) → AllValues (IsFineValueItem home)
+            (written_items place.1 (cond b (value_candidate (Some i) by) None) s.values)
+        bound i true =
+            all_with_entry (IsFineValueItem home) (slice_cmp nat_cmp) s.values place.1 (record { def = i.def; vis = i.vis; import = value_import by }) f.values
+            (value_fine home by fine)
         bound i false = f.values
 
-        offered : (o : Option (Item ModuleDefId ImportOrGlob)) → AllValues (IsFineValueItem home) (written_items place.1 (taken module_def.ghosts.eq glob_import.ghosts.eq s.values globs.values place (value_candidate o by)) s.values)
+        offered : (o : Option (Item ModuleDefId ImportOrGlob)) → AllValues (IsFineValueItem home)
+            (written_items place.1 (taken module_def.ghosts.eq glob_import.ghosts.eq s.values globs.values place (value_candidate o by)) s.values)
         offered None = f.values
-        offered (Some i) = bound i (takes_slot module_def.ghosts.eq glob_import.ghosts.eq (has_place globs.values place) (item_at s.values place.1) (record { item = record { def = i.def; vis = i.vis; import = value_import by }; is_glob = is_glob by }))
+        offered (Some i) =
+            bound i (takes_slot module_def.ghosts.eq glob_import.ghosts.eq (has_place globs.values place) (item_at s.values place.1)
+            (record { item = record { def = i.def; vis = i.vis; import = value_import by }; is_glob = is_glob by }))
 
-        go : (b : Bool) → AllValues (IsFineValueItem home) (cond b (with_unresolved s place.1) (written_scope place.1 (taken_candidates s globs place items by) s)).values
+        go : (b : Bool) → AllValues (IsFineValueItem home)
+            (cond b (with_unresolved s place.1) (written_scope place.1 (taken_candidates s globs place items by) s)).values
         go true = f.values
         go false = offered items.values
 
     values_alone : (s : ScopeValue) → IsFineScope home s → AloneKeys (slice_cmp nat_cmp) nat_list_cmp_total (pushed_scope globs place items by s).values
     values_alone s f = go (is_nothing items)
       where
-        bound : (i : Item ModuleDefId ImportOrGlob) (b : Bool) → AloneKeys (slice_cmp nat_cmp) nat_list_cmp_total (written_items place.1 (cond b (value_candidate (Some i) by) None) s.values)
-        bound i true = alone_with_entry (slice_cmp nat_cmp) nat_list_cmp_total s.values place.1 (record { def = i.def; vis = i.vis; import = value_import by }) f.alone
+        bound : (i : Item ModuleDefId ImportOrGlob) (b : Bool) → AloneKeys (slice_cmp nat_cmp) nat_list_cmp_total
+            (written_items place.1 (cond b (value_candidate (Some i) by) None) s.values)
+        bound i true =
+            alone_with_entry (slice_cmp nat_cmp) nat_list_cmp_total s.values place.1 (record { def = i.def; vis = i.vis; import = value_import by }) f.alone
         bound i false = f.alone
 
-        offered : (o : Option (Item ModuleDefId ImportOrGlob)) → AloneKeys (slice_cmp nat_cmp) nat_list_cmp_total (written_items place.1 (taken module_def.ghosts.eq glob_import.ghosts.eq s.values globs.values place (value_candidate o by)) s.values)
+        offered : (o : Option (Item ModuleDefId ImportOrGlob)) → AloneKeys (slice_cmp nat_cmp) nat_list_cmp_total
+            (written_items place.1 (taken module_def.ghosts.eq glob_import.ghosts.eq s.values globs.values place (value_candidate o by)) s.values)
         offered None = f.alone
-        offered (Some i) = bound i (takes_slot module_def.ghosts.eq glob_import.ghosts.eq (has_place globs.values place) (item_at s.values place.1) (record { item = record { def = i.def; vis = i.vis; import = value_import by }; is_glob = is_glob by }))
+        offered (Some i) =
+            bound i (takes_slot module_def.ghosts.eq glob_import.ghosts.eq (has_place globs.values place) (item_at s.values place.1)
+            (record { item = record { def = i.def; vis = i.vis; import = value_import by }; is_glob = is_glob by }))
 
-        go : (b : Bool) → AloneKeys (slice_cmp nat_cmp) nat_list_cmp_total (cond b (with_unresolved s place.1) (written_scope place.1 (taken_candidates s globs place items by) s)).values
+        go : (b : Bool) → AloneKeys (slice_cmp nat_cmp) nat_list_cmp_total
+            (cond b (with_unresolved s place.1) (written_scope place.1 (taken_candidates s globs place items by) s)).values
         go true = f.alone
         go false = offered items.values
 
     macros_pushed : (s : ScopeValue) → IsFineScope home s → AllValues (IsFineMacro home) (pushed_scope globs place items by s).macros
     macros_pushed s f = go (is_nothing items)
       where
-        bound : (i : Item MacroId ImportOrExternCrate) (b : Bool) → AllValues (IsFineMacro home) (written_items place.1 (cond b (macro_candidate (Some i) by) None) s.macros)
+        bound : (i : Item MacroId ImportOrExternCrate) (b : Bool) → AllValues (IsFineMacro home)
+            (written_items place.1 (cond b (macro_candidate (Some i) by) None) s.macros)
         bound i true = all_with_entry (IsFineMacro home) (slice_cmp nat_cmp) s.macros place.1 (record { def = i.def; vis = i.vis; import = by }) f.macros fine
         bound i false = f.macros
 
-        offered : (o : Option (Item MacroId ImportOrExternCrate)) → AllValues (IsFineMacro home) (written_items place.1 (taken makro.ghosts.eq item_import.ghosts.eq s.macros globs.macros place (macro_candidate o by)) s.macros)
+        offered : (o : Option (Item MacroId ImportOrExternCrate)) → AllValues (IsFineMacro home)
+            (written_items place.1 (taken makro.ghosts.eq item_import.ghosts.eq s.macros globs.macros place (macro_candidate o by)) s.macros)
         offered None = f.macros
-        offered (Some i) = bound i (takes_slot makro.ghosts.eq item_import.ghosts.eq (has_place globs.macros place) (item_at s.macros place.1) (record { item = record { def = i.def; vis = i.vis; import = by }; is_glob = is_glob by }))
+        offered (Some i) =
+            bound i (takes_slot makro.ghosts.eq item_import.ghosts.eq (has_place globs.macros place) (item_at s.macros place.1)
+            (record { item = record { def = i.def; vis = i.vis; import = by }; is_glob = is_glob by }))
 
-        go : (b : Bool) → AllValues (IsFineMacro home) (cond b (with_unresolved s place.1) (written_scope place.1 (taken_candidates s globs place items by) s)).macros
+        go : (b : Bool) → AllValues (IsFineMacro home)
+            (cond b (with_unresolved s place.1) (written_scope place.1 (taken_candidates s globs place items by) s)).macros
         go true = f.macros
         go false = offered items.macros
 
     traits_pushed : (s : ScopeValue) → IsFineScope home s → AllValues (IsFineTrait home) (pushed_scope globs place items by s).unnamed_traits
     traits_pushed s f = go (is_nothing items)
       where
-        go : (b : Bool) → AllValues (IsFineTrait home) (cond b (with_unresolved s place.1) (written_scope place.1 (taken_candidates s globs place items by) s)).unnamed_traits
+        go : (b : Bool) → AllValues (IsFineTrait home)
+            (cond b (with_unresolved s place.1) (written_scope place.1 (taken_candidates s globs place items by) s)).unnamed_traits
         go true = f.traits
         go false = f.traits
 
@@ -287,38 +313,86 @@ module _ (rs : List ImportDirective) where
         go None e = f
         go (Some i) e = all_set P (is_at (slice_cmp nat_cmp name)) items (new i) f (keeps i (all_found P (is_at (slice_cmp nat_cmp name)) items i f e))
 
-  rewritten_alone : (new : Item ModuleDefId ImportOrGlob → Item ModuleDefId ImportOrGlob) (items : List (List ℕ × Item ModuleDefId ImportOrGlob)) (name : List ℕ)
-      → AloneKeys (slice_cmp nat_cmp) nat_list_cmp_total items → AloneKeys (slice_cmp nat_cmp) nat_list_cmp_total (rewritten new items name (item_at items name))
+  rewritten_alone : (new : Item ModuleDefId ImportOrGlob → Item ModuleDefId ImportOrGlob) (items : List (List ℕ × Item ModuleDefId ImportOrGlob))
+      (name : List ℕ)
+      → AloneKeys (slice_cmp nat_cmp) nat_list_cmp_total items → AloneKeys (slice_cmp nat_cmp) nat_list_cmp_total
+      (rewritten new items name (item_at items name))
   rewritten_alone new items name f = go (item_at items name)
     where
       go : (o : Option (Item ModuleDefId ImportOrGlob)) → AloneKeys (slice_cmp nat_cmp) nat_list_cmp_total (rewritten new items name o)
       go None = f
       go (Some i) = alone_set (slice_cmp nat_cmp) nat_list_cmp_total (is_at (slice_cmp nat_cmp name)) items (new i) f
 
-  redefined_fine : (name : List ℕ) (def : ItemInNs) (vis : Visibility) (home : ℕ) (s : ScopeValue) → IsFineScope home s → IsFineScope home (redefined name def vis s)
-  redefined_fine name (in_ns.Types def) vis home s f = record { types = rewritten_fine (IsFineType home) (with_item_definition def vis) (λ i p. p) s.types name f.types; values = f.values; macros = f.macros; traits = f.traits; alone = f.alone }
-  redefined_fine name (in_ns.Values def) vis home s f = record { types = f.types; values = rewritten_fine (IsFineValueItem home) (with_item_definition def vis) (λ i p. p) s.values name f.values; macros = f.macros; traits = f.traits; alone = rewritten_alone (with_item_definition def vis) s.values name f.alone }
-  redefined_fine name (in_ns.Macros def) vis home s f = record { types = f.types; values = f.values; macros = rewritten_fine (IsFineMacro home) (with_item_definition def vis) (λ i p. p) s.macros name f.macros; traits = f.traits; alone = f.alone }
+  redefined_fine : (name : List ℕ) (def : ItemInNs) (vis : Visibility) (home : ℕ) (s : ScopeValue) → IsFineScope home s
+      → IsFineScope home (redefined name def vis s)
+  redefined_fine name (in_ns.Types def) vis home s f =
+      record {
+        types = rewritten_fine (IsFineType home) (with_item_definition def vis) (λ i p. p) s.types name f.types;
+        values = f.values;
+        macros = f.macros;
+        traits = f.traits;
+        alone = f.alone;
+      }
+  redefined_fine name (in_ns.Values def) vis home s f =
+      record {
+        types = f.types;
+        values = rewritten_fine (IsFineValueItem home) (with_item_definition def vis) (λ i p. p) s.values name f.values;
+        macros = f.macros;
+        traits = f.traits;
+        alone = rewritten_alone (with_item_definition def vis) s.values name f.alone;
+      }
+  redefined_fine name (in_ns.Macros def) vis home s f =
+      record {
+        types = f.types;
+        values = f.values;
+        macros = rewritten_fine (IsFineMacro home) (with_item_definition def vis) (λ i p. p) s.macros name f.macros;
+        traits = f.traits;
+        alone = f.alone;
+      }
 
   -- a trait that is kept without a name
-  kept_import_fine : (home : ℕ) (by : Option ImportId) → IsFineKept home by → (o : Option (Item (Unit {0}) ImportId)) → ((i : Item (Unit {0}) ImportId) → o ≡ Some i → IsFineTrait home i) → IsFineKept home (unnamed_import o by)
+  kept_import_fine : (home : ℕ) (by : Option ImportId) → IsFineKept home by → (o : Option (Item (Unit {0}) ImportId))
+      → ((i : Item (Unit {0}) ImportId) → o ≡ Some i → IsFineTrait home i) → IsFineKept home (unnamed_import o by)
   kept_import_fine home by fine None f = fine
   kept_import_fine home by fine (Some i) f = f i refl
 
-  trait_fine : (home : ℕ) (id : TraitId) (vis : Visibility) (by : Option ImportId) → IsFineKept home by → (s : ScopeValue) → IsFineScope home s → IsFineScope home (with_trait id vis by s)
+  trait_fine : (home : ℕ) (id : TraitId) (vis : Visibility) (by : Option ImportId) → IsFineKept home by → (s : ScopeValue) → IsFineScope home s
+      → IsFineScope home (with_trait id vis by s)
   trait_fine home id vis by fine s f = record {
     types = f.types;
     values = f.values;
     macros = f.macros;
     traits = all_last (IsFineTrait home) trait_id.ghosts.eq s.unnamed_traits id _ f.traits
-        (kept_import_fine home by fine (lookup (trait_id.ghosts.eq id) s.unnamed_traits) (λ i e. all_found (IsFineTrait home) (trait_id.ghosts.eq id) s.unnamed_traits i f.traits e));
+        (kept_import_fine home by fine (lookup (trait_id.ghosts.eq id) s.unnamed_traits) (λ i e. all_found (IsFineTrait home) (trait_id.ghosts.eq id)
+        s.unnamed_traits i f.traits e));
     alone = f.alone;
   }
 
   revised_fine : (home : ℕ) (key : Key) (vis : Visibility) → OneIsGlob home → (s : ScopeValue) → IsFineScope home s → IsFineScope home (revised key vis s)
-  revised_fine home (Types name) vis fine s f = record { types = rewritten_fine (IsFineType home) (with_item_visibility vis) (λ i p. p) s.types name f.types; values = f.values; macros = f.macros; traits = f.traits; alone = f.alone }
-  revised_fine home (Values name) vis fine s f = record { types = f.types; values = rewritten_fine (IsFineValueItem home) (with_item_visibility vis) (λ i p. p) s.values name f.values; macros = f.macros; traits = f.traits; alone = rewritten_alone (with_item_visibility vis) s.values name f.alone }
-  revised_fine home (Macros name) vis fine s f = record { types = f.types; values = f.values; macros = rewritten_fine (IsFineMacro home) (with_item_visibility vis) (λ i p. p) s.macros name f.macros; traits = f.traits; alone = f.alone }
+  revised_fine home (Types name) vis fine s f =
+      record {
+        types = rewritten_fine (IsFineType home) (with_item_visibility vis) (λ i p. p) s.types name f.types;
+        values = f.values;
+        macros = f.macros;
+        traits = f.traits;
+        alone = f.alone;
+      }
+  revised_fine home (Values name) vis fine s f =
+      record {
+        types = f.types;
+        values = rewritten_fine (IsFineValueItem home) (with_item_visibility vis) (λ i p. p) s.values name f.values;
+        macros = f.macros;
+        traits = f.traits;
+        alone = rewritten_alone (with_item_visibility vis) s.values name f.alone;
+      }
+  revised_fine home (Macros name) vis fine s f =
+      record {
+        types = f.types;
+        values = f.values;
+        macros = rewritten_fine (IsFineMacro home) (with_item_visibility vis) (λ i p. p) s.macros name f.macros;
+        traits = f.traits;
+        alone = f.alone;
+      }
   revised_fine home (Unnamed id) vis fine s f = trait_fine home id vis None fine s f
 
   -- what brings it is an import of the module
@@ -346,7 +420,8 @@ module _ (rs : List ImportDirective) where
   pub record AreFine (ms : List ModuleValue) : Type 0 where
     pub each : (number : ℕ) (m : ModuleValue) → slice_get ms number ≡ Some m → IsFineScope number m.scope
 
-  fine_changed : (ms : List ModuleValue) (at : ℕ) (change : ModuleValue → ModuleValue) → ((m : ModuleValue) → IsFineScope at m.scope → IsFineScope at (change m).scope) → AreFine ms → AreFine (changed_at ms at change)
+  fine_changed : (ms : List ModuleValue) (at : ℕ) (change : ModuleValue → ModuleValue)
+      → ((m : ModuleValue) → IsFineScope at m.scope → IsFineScope at (change m).scope) → AreFine ms → AreFine (changed_at ms at change)
   fine_changed ms at change keeps f = record { each = λ number m e. go number m (changed-at ms at change number m e) }
     where
       go : (number : ℕ) (m : ModuleValue) → IsChanged ms at change number m → IsFineScope number m.scope
@@ -367,11 +442,7 @@ module _ (rs : List ImportDirective) where
 
   fine_listed : (home : ℕ) (d : Listing) (s : ScopeValue) → IsFineScope home s → IsFineScope home (listed d s)
   fine_listed home (listings.Def def) s f = record { types = f.types; values = f.values; macros = f.macros; traits = f.traits; alone = f.alone }
-  fine_listed home (listings.Use use_) s f = record { types = f.types; values = f.values; macros = f.macros; traits = f.traits; alone = f.alone }
-  fine_listed home (listings.ExternCrate extern_crate) s f = record { types = f.types; values = f.values; macros = f.macros; traits = f.traits; alone = f.alone }
-  fine_listed home (listings.Impl imp is_trait_impl) s f = record { types = f.types; values = f.values; macros = f.macros; traits = f.traits; alone = f.alone }
-  fine_listed home (listings.ExternBlock extern_block) s f = record { types = f.types; values = f.values; macros = f.macros; traits = f.traits; alone = f.alone }
-  fine_listed home (listings.UnnamedConst konst) s f = record { types = f.types; values = f.values; macros = f.macros; traits = f.traits; alone = f.alone }
+  fine_listed home other s f = record { types = f.types; values = f.values; macros = f.macros; traits = f.traits; alone = f.alone }
 
   abbrev AreFineEdits : Option (ℕ × Edit) → Type 0
   AreFineEdits None = Unit {0}
@@ -379,7 +450,8 @@ module _ (rs : List ImportDirective) where
 
   edited_fine : (m : Map) (o : Option (ℕ × Edit)) → AreFineEdits o → AreFine m.modules → AreFine (edited m o).modules
   edited_fine m None fine f = f
-  edited_fine m (Some e) fine f = fine_changed m.modules e.0 (with_module_scope (edit (numbered m.id e.0) e.1)) (λ v g. edit_fine (numbered m.id e.0) e.0 e.1 fine v.scope g) f
+  edited_fine m (Some e) fine f =
+      fine_changed m.modules e.0 (with_module_scope (edit (numbered m.id e.0) e.1)) (λ v g. edit_fine (numbered m.id e.0) e.0 e.1 fine v.scope g) f
 
   -- ---- changes
 
@@ -394,25 +466,8 @@ module _ (rs : List ImportDirective) where
   IsFineImport (along finished (raises slot vis)) = OneIsGlob slot.at
 
   abbrev IsFineChange : State → Change → Type 0
-  IsFineChange s (lists home d) = Unit {0}
-  IsFineChange s (makes home name origin visibility) = Unit {0}
-  IsFineChange s (gives_variants id variants) = Unit {0}
-  IsFineChange s (begins_paths r) = Unit {0}
-  IsFineChange s (reaches found) = Unit {0}
-  IsFineChange s (awaits calls) = Unit {0}
-  IsFineChange s (ends i fate) = Unit {0}
-  IsFineChange s settles = Unit {0}
   IsFineChange s (changes_imports c) = IsFineImport c
-  IsFineChange s (adds_textual home name makro) = Unit {0}
-  IsFineChange s (takes_textual home from_) = Unit {0}
-  IsFineChange s (defines node makro) = Unit {0}
-  IsFineChange s (describes makro what) = Unit {0}
-  IsFineChange s (helps node helper) = Unit {0}
-  IsFineChange s (lists_derive home imp) = Unit {0}
-  IsFineChange s (exports f makro) = Unit {0}
-  IsFineChange s (uses_macros macros by) = Unit {0}
-  IsFineChange s (tells d) = Unit {0}
-  IsFineChange s (goes_on vs) = Unit {0}
+  IsFineChange s other = Unit {0}
 
   fine_edits : (s : ImportState) (c : ImportChange) → IsFineImport c → AreFineEdits (edit_of s c)
   fine_edits s (pushes home None items source) fine = tt
@@ -458,32 +513,33 @@ module _ (rs : List ImportDirective) where
       (λ v g. record { types = g.types; values = g.values; macros = g.macros; traits = g.traits; alone = g.alone }) f
 
   fine-act : (s : State) (c : Change) → IsFineState s → IsFineChange s c → IsFineState (act s c)
-  fine-act s (lists home d) f fine = record { modules = fine_changed s.core.map.modules home (with_module_scope (listed d)) (λ v g. fine_listed home d v.scope g) f.modules }
+  fine-act s (lists home d) f fine =
+      record { modules = fine_changed s.core.map.modules home (with_module_scope (listed d)) (λ v g. fine_listed home d v.scope g) f.modules }
   fine-act s (makes home name origin visibility) f fine = record {
-    modules = fine_longer (changed_at s.core.map.modules home (with_child name (new_id s.core.map))) (new_module origin visibility (Some (module_id s.core.map home))) refl
+    modules =
+        fine_longer (changed_at s.core.map.modules home (with_child name (new_id s.core.map))) (new_module origin visibility (Some (module_id s.core.map home)))
+        refl
         (fine_changed s.core.map.modules home (with_child name (new_id s.core.map)) (λ v g. g) f.modules);
   }
-  fine-act s (gives_variants id variants) f fine = record { modules = f.modules }
-  fine-act s (begins_paths r) f fine = record { modules = f.modules }
-  fine-act s (reaches found) f fine = record { modules = f.modules }
-  fine-act s (awaits calls) f fine = record { modules = f.modules }
-  fine-act s (ends i fate) f fine = record { modules = f.modules }
-  fine-act s settles f fine = record { modules = f.modules }
   fine-act s (changes_imports c) f fine = record {
-    modules = subst (λ (m : Map). AreFine m.modules) (sym (map_after (import_state s) c)) (edited_fine s.core.map (edit_of (import_state s) c) (fine_edits (import_state s) c fine) f.modules);
+    modules =
+        subst (λ (m : Map). AreFine m.modules) (sym (map_after (import_state s) c))
+        (edited_fine s.core.map (edit_of (import_state s) c) (fine_edits (import_state s) c fine) f.modules);
   }
-  fine-act s (adds_textual home name makro) f fine = record { modules = textual_fine s.core.map.modules home (λ macros. with_macro macros name makro) f.modules }
+  fine-act s (adds_textual home name makro) f fine =
+      record { modules = textual_fine s.core.map.modules home (λ macros. with_macro macros name makro) f.modules }
   fine-act s (takes_textual home from_) f fine = record { modules = textual_fine s.core.map.modules home (λ _. textual_at s.core.map from_) f.modules }
-  fine-act s (defines node makro) f fine = record { modules = f.modules }
-  fine-act s (describes makro what) f fine = record { modules = f.modules }
-  fine-act s (helps node helper) f fine = record { modules = f.modules }
   fine-act s (lists_derive home imp) f fine = record {
-    modules = fine_changed s.core.map.modules home (with_module_scope (with_builtin_derive imp)) (λ v g. record { types = g.types; values = g.values; macros = g.macros; traits = g.traits; alone = g.alone }) f.modules;
+    modules =
+        fine_changed s.core.map.modules home (with_module_scope (with_builtin_derive imp))
+        (λ v g. record { types = g.types; values = g.values; macros = g.macros; traits = g.traits; alone = g.alone }) f.modules;
   }
-  fine-act s (exports function_of makro) f fine = record { modules = f.modules }
-  fine-act s (uses_macros macros by) f fine = record { modules = f.modules }
-  fine-act s (tells d) f fine = record { modules = f.modules }
-  fine-act s (goes_on vs) f fine = record { modules = f.modules }
+  fine-act s (notes home invocation) f fine = record {
+    modules =
+        fine_changed s.core.map.modules home (with_module_scope (with_invocation invocation))
+        (λ v g. record { types = g.types; values = g.values; macros = g.macros; traits = g.traits; alone = g.alone }) f.modules;
+  }
+  fine-act s other f fine = record { modules = f.modules }
 
   -- ---- rules
 
@@ -500,12 +556,14 @@ module _ (rs : List ImportDirective) where
   no_trait None = refl
   no_trait (Some krate) = refl
 
-  unnamed_alias : (alias : Option ImportAlias) (o : Option TraitId) (tr : TraitId) → cond (is_unnamed alias) o None ≡ Some tr → (alias ≡ Some aliases.Underscore) × (o ≡ Some tr)
+  unnamed_alias : (alias : Option ImportAlias) (o : Option TraitId) (tr : TraitId) → cond (is_unnamed alias) o None ≡ Some tr
+      → (alias ≡ Some aliases.Underscore) × (o ≡ Some tr)
   unnamed_alias None o tr e = absurd (let no : ⊥ = cc in no)
   unnamed_alias (Some aliases.Underscore) o tr e = (refl, e)
   unnamed_alias (Some (aliases.Alias name)) o tr e = absurd (let no : ⊥ = cc in no)
 
-  kept_fine : (finished : Maps) (local : Local) (m : Map) (r : ImportDirective) → Contains rs r → (tr : TraitId) → kept_trait finished local m r ≡ Some tr → IsFineKept r.home (leaf_of r.source)
+  kept_fine : (finished : Maps) (local : Local) (m : Map) (r : ImportDirective) → Contains rs r → (tr : TraitId) → kept_trait finished local m r ≡ Some tr
+      → IsFineKept r.home (leaf_of r.source)
   kept_fine finished local m r h tr e = go r.source refl
     where
       kept : (r.alias ≡ Some aliases.Underscore) × (trait_among (kept_by finished local m r).types ≡ Some tr)
@@ -515,7 +573,8 @@ module _ (rs : List ImportDirective) where
       go (sources.Use id kind) is = record { directive = r; among = h; is = record { way = ap way_of is; alias = kept.0 }; written_in = refl }
       go (sources.ExternCrate id krate) is =
           let nothing_kept : trait_among (kept_by finished local m r).types ≡ None =
-          ap (λ (source : ImportSource). trait_among (kept_of (kind_of source) (answer_by_source source (path_answer finished local m r))).types) is ∙ no_trait krate in
+          ap (λ (source : ImportSource). trait_among (kept_of (kind_of source) (answer_by_source source (path_answer finished local m r))).types) is ∙ no_trait
+          krate in
           absurd (let no : None ≡ Some tr = sym nothing_kept ∙ kept.1 in cc)
 
   module _ (finished : Maps) (s : State) (found : (r : ImportDirective) → Contains s.core.reached r → Contains rs r)
@@ -524,7 +583,8 @@ module _ (rs : List ImportDirective) where
     here_glob : (j : ℕ) (e : Edge) (at : ℕ) → slice_get s.core.globs.edges j ≡ Some e → e.importer ≡ at → IsFineWay at (Some (ways.Glob e.id)) × OneIsGlob at
     here_glob j e at recorded into = subst (λ (k : ℕ). IsFineWay k (Some (ways.Glob e.id)) × OneIsGlob k) into (globs j e recorded)
 
-    glob_all : (rule : GlobRule) → MayAlong scope_table (glob_state finished (import_state s)) rule → AllImports (list_map (along finished) (glob_acts (view_of (scopes_of finished (import_state s))) rule))
+    glob_all : (rule : GlobRule) → MayAlong scope_table (glob_state finished (import_state s)) rule
+        → AllImports (list_map (along finished) (glob_acts (view_of (scopes_of finished (import_state s))) rule))
     glob_all (copies_along j e slot b) may = (here_glob j e slot.at may.shows.recorded may.shows.at, (tt, tt))
     glob_all (follows_along j e slot b) may = ((here_glob j e slot.at may.shows.recorded may.shows.at).1, (tt, tt))
     glob_all (raises_along j e slot vis) may = ((here_glob j e slot.at may.shows.recorded may.shows.at).1, tt)
@@ -537,34 +597,27 @@ module _ (rs : List ImportDirective) where
     rule_all (goes_along rule) may = glob_all rule may
 
     fine_rule : (r : Rule) → May finished s r → AllFine IsFineChange (asking s r) (acts finished s r)
-    fine_rule (drops_item v report rest) may = (tt, (tt, tt))
     fine_rule (declares_item v d rest) may = (tt, (tt, (none_fine v.site.home, tt)))
     fine_rule (declares_enum site head name variants rest) may = (tt, (tt, (tt, (none_fine site.home, tt))))
-    fine_rule (lists_constant site head rest) may = (tt, (tt, tt))
-    fine_rule (lists_impl site head of_trait rest) may = (tt, (tt, tt))
     fine_rule (opens_module site head name items rest) may = (tt, (tt, (tt, (tt, (none_fine site.home, tt)))))
     fine_rule (opens_file site head name search file rest) may = (tt, (tt, (tt, (tt, (none_fine site.home, tt)))))
-    fine_rule (drops_file site head name search report rest) may = (tt, (tt, tt))
     fine_rule (misses_file site head name search report rest) may = (tt, (tt, (tt, (tt, (none_fine site.home, (tt, tt))))))
-    fine_rule (enters_block site head items rest) may = (tt, (tt, tt))
     fine_rule (reaches_imports site head tree rest) may = (tt, (tt, (tt, tt)))
     fine_rule (reaches_crate site head name alias rest) may = (tt, (tt, (tt, (tt, (tt, tt)))))
-    fine_rule (defines_rules site head name expander helpers rest) may = (tt, (tt, (tt, (tt, fine_macro IsFineChange _ _ expander (λ t. tt) head name _ (λ t. none_fine 0) _))))
-    fine_rule (defines_macro site head name expander helpers rest) may = (tt, (tt, (tt, (tt, (none_fine site.home, fine_reporting IsFineChange _ _ expander (λ t. tt) _)))))
-    fine_rule (closes_module parent child rest) may = (tt, (tt, tt))
-    fine_rule (awaits_attribute v a k rest) may = (tt, (tt, tt))
-    fine_rule (lists_derives v at a adt paths rest) may = (tt, (tt, tt))
-    fine_rule (faults_derive v at report rest) may = (tt, (tt, tt))
+    fine_rule (defines_rules site head name expander helpers rest) may =
+        (tt, (tt, (tt, (tt, fine_macro IsFineChange _ _ expander (λ t. tt) head name _ (λ t. none_fine 0) _))))
+    fine_rule (defines_macro site head name expander helpers rest) may =
+        (tt, (tt, (tt, (tt, (none_fine site.home, fine_reporting IsFineChange _ _ expander (λ t. tt) _)))))
+    fine_rule (lists_derives v at a adt paths call rest) may = (tt, (tt, (tt, tt)))
     fine_rule (exports_macro site head name d e rest) may = (tt, (tt, (tt, (tt, (none_fine site.home, (tt, (none_fine site.home, tt)))))))
-    fine_rule (reaches_call site head path rest) may = (tt, (tt, tt))
     fine_rule rests may = (tt, tt)
-    fine_rule (expands_call i d makro x) may = (tt, (tt, fine_expanding IsFineChange _ (λ t helper. tt) _ _ d (error_of x.there) (λ t text. tt) _))
+    fine_rule (expands_call i d makro x) may = (tt, (tt, (tt, fine_expanding IsFineChange _ (λ t helper. tt) _ _ d (error_of x.there) (λ t text. tt) _)))
     fine_rule (drops_call i d) may = (tt, tt)
     fine_rule (drops_reached i d makro) may = (tt, fine_bringing IsFineChange _ (λ t helper. tt) _ _)
-    fine_rule (derives_builtin i d makro imp) may = (tt, (tt, fine_bringing IsFineChange _ (λ t helper. tt) _ _))
-    fine_rule (skips_attribute i d k waited) may = (tt, (tt, tt))
+    fine_rule (derives_builtin i d makro imp) may = (tt, (tt, (tt, fine_bringing IsFineChange _ (λ t helper. tt) _ _)))
     fine_rule (falls_back i d k waited) may = (tt, (tt, (tt, tt)))
     fine_rule (resolves_imports rule) may = imports_all (import_acts finished (import_state s) rule) (asking s (resolves_imports rule)) (rule_all rule may)
+    fine_rule other may = (tt, (tt, tt))
 
   -- ---- what others see of the root of a procedural-macro crate
 
@@ -582,7 +635,11 @@ module _ (rs : List ImportDirective) where
     where
       removed : (b : Bool) → AllValues (IsFineValueItem home) (cond b (remove_entry (is_at (slice_cmp nat_cmp x.name)) s.values) s.values)
           × AloneKeys (slice_cmp nat_cmp) nat_list_cmp_total (cond b (remove_entry (is_at (slice_cmp nat_cmp x.name)) s.values) s.values)
-      removed true = (all_removed (IsFineValueItem home) (is_at (slice_cmp nat_cmp x.name)) s.values f.values, alone_removed (slice_cmp nat_cmp) nat_list_cmp_total (is_at (slice_cmp nat_cmp x.name)) s.values f.alone)
+      removed true = (
+        all_removed (IsFineValueItem home) (is_at (slice_cmp nat_cmp x.name)) s.values f.values,
+        alone_removed (slice_cmp nat_cmp) nat_list_cmp_total
+            (is_at (slice_cmp nat_cmp x.name)) s.values f.alone,
+      )
       removed false = (f.values, f.alone)
 
   fine_exporting : (home : ℕ) (krate : Crate) (fs : List ExportedFunction) (s : ScopeValue) → IsFineScope home s → IsFineScope home (exporting_scope krate fs s)
@@ -599,11 +656,14 @@ module _ (rs : List ImportDirective) where
   pub fine_ended : (c : Core) → AreFine c.map.modules → AreFine (ended c).modules
   fine_ended c f =
       ended_by c (λ (m : Map). AreFine m.modules) f
-      (fine_changed c.map.modules 0 (with_module_scope (exporting_scope c.map.id.krate c.exported)) (λ v g. fine_exporting 0 c.map.id.krate c.exported v.scope g) f)
+      (fine_changed c.map.modules 0 (with_module_scope (exporting_scope c.map.id.krate c.exported))
+      (λ v g. fine_exporting 0 c.map.id.krate c.exported v.scope g) f)
 
 module _ (tables : TablesValue) (w : Workspace) (from : Beginning) (answer : CollectedValue) (rs : List ImportDirective) where
-  fine-Steps : {finished : Maps} {begun last : State} → answer.map.id.krate ≡ krate_of from.start → IsAllWritten tables w from answer begun → AreAsked tables w from answer last
-      → ((r : ImportDirective) → Contains last.core.reached r → Contains rs r) → IsFineState rs begun → Steps (environment tables w) finished begun last → IsFineState rs last
+  fine-Steps : {finished : Maps} {begun last : State} → answer.map.id.krate ≡ krate_of from.start → IsAllWritten tables w from answer begun
+      → AreAsked tables w from answer last
+      → ((r : ImportDirective) → Contains last.core.reached r → Contains rs r) → IsFineState rs begun → Steps (environment tables w) finished begun last
+      → IsFineState rs last
   fine-Steps here first asked found f none = f
   fine-Steps {finished = finished} here first asked found f (more old new before step) =
       let earlier : AreAsked tables w from answer old = λ key h. asked key (still_asked-Step step key h) in
@@ -616,7 +676,8 @@ module _ (tables : TablesValue) (w : Workspace) (from : Beginning) (answer : Col
       let among : Contains rs one.directive = found_earlier one.directive one.among in
       (glob_brings rs e.importer e.id one.directive among one.is_glob one.into, glob_is rs e.importer e.id one.directive among one.is_glob one.into) in
       let begun : IsFineState rs (asking old step.rule) = record { modules = fine.modules } in
-      let done = perform_keeps (IsFineState rs) (IsFineChange rs) (fine-act rs) (acts finished old step.rule) (asking old step.rule) begun (fine_rule rs finished old found_earlier globs step.rule step.may) in
+      let done = perform_keeps (IsFineState rs) (IsFineChange rs) (fine-act rs) (acts finished old step.rule) (asking old step.rule) begun
+      (fine_rule rs finished old found_earlier globs step.rule step.may) in
       subst (IsFineState rs) (sym step.is) (record { modules = done.modules })
 
 module _ (tables : TablesValue) (w : Workspace) (finished : Maps) (from : Beginning) (answer : CollectedValue) (e : Ends tables w finished from answer) where
@@ -625,19 +686,33 @@ module _ (tables : TablesValue) (w : Workspace) (finished : Maps) (from : Beginn
 
   pub fine_last : IsFineState found_imports e.last
   fine_last =
-      fine-Steps tables w from answer found_imports (answer_here tables w finished from answer e) (first_written tables w finished from answer e) (answer_asked tables w finished from answer e) (λ r h. h)
+      fine-Steps tables w from answer found_imports (answer_here tables w finished from answer e) (first_written tables w finished from answer e)
+      (answer_asked tables w finished from answer e) (λ r h. h)
       (record { modules = fine_longer found_imports [] _ refl (record { each = λ number m h. absurd (let no : ⊥ = cc in no) }) }) e.derived
 
   fine_answer : AreFine found_imports answer.map.modules
   fine_answer = subst (λ (m : Map). AreFine found_imports m.modules) (sym e.map_is) (fine_ended found_imports e.last.core fine_last.modules)
 
-  has_import : (number : ℕ) (way : ImportOrExternCrate) → OneBrings found_imports number way → HasImport tables w from answer (λ r. Brings r way × (r.home ≡ number))
-  has_import number way one = record { directive = one.directive; is_import = import_written tables w finished from answer e one.directive one.among; is_such = (one.is, one.written_in) }
+  has_import : (number : ℕ) (way : ImportOrExternCrate) → OneBrings found_imports number way → HasImport tables w from answer
+      (λ r. Brings r way × (r.home ≡ number))
+  has_import number way one =
+      record {
+        directive = one.directive;
+        is_import = import_written tables w finished from answer e one.directive one.among;
+        is_such = (one.is, one.written_in);
+      }
 
-  has_value : (number : ℕ) (way : ImportOrGlob) → OneBringsValue found_imports number way → HasImport tables w from answer (λ r. BringsValue r way × (r.home ≡ number))
-  has_value number way one = record { directive = one.directive; is_import = import_written tables w finished from answer e one.directive one.among; is_such = (one.is, one.written_in) }
+  has_value : (number : ℕ) (way : ImportOrGlob) → OneBringsValue found_imports number way → HasImport tables w from answer
+      (λ r. BringsValue r way × (r.home ≡ number))
+  has_value number way one =
+      record {
+        directive = one.directive;
+        is_import = import_written tables w finished from answer e one.directive one.among;
+        is_such = (one.is, one.written_in);
+      }
 
-  entry_brought : (number : ℕ) (o : Option ModuleValue) → ((v : ModuleValue) → o ≡ Some v → IsFineScope found_imports number v.scope) → (name : List ℕ) → AreBrought tables w from answer number (entry_of o name)
+  entry_brought : (number : ℕ) (o : Option ModuleValue) → ((v : ModuleValue) → o ≡ Some v → IsFineScope found_imports number v.scope) → (name : List ℕ)
+      → AreBrought tables w from answer number (entry_of o name)
   entry_brought number None f name = record {
     types = λ i way at is. absurd (let no : ⊥ = cc in no);
     values = λ i way at is. absurd (let no : ⊥ = cc in no);
@@ -646,24 +721,39 @@ module _ (tables : TablesValue) (w : Workspace) (finished : Maps) (from : Beginn
   entry_brought number (Some m) f name =
       let fine : IsFineScope found_imports number m.scope = f m refl in
       record {
-        types = λ i way at is. has_import number way (all_found (IsFineType found_imports number) (is_at (slice_cmp nat_cmp name)) m.scope.types i fine.types at way is);
-        values = λ i way at is. has_value number way (all_found (IsFineValueItem found_imports number) (is_at (slice_cmp nat_cmp name)) m.scope.values i fine.values at way is);
-        macros = λ i way at is. has_import number way (all_found (IsFineMacro found_imports number) (is_at (slice_cmp nat_cmp name)) m.scope.macros i fine.macros at way is);
+        types =
+            λ i way at is. has_import number way (all_found (IsFineType found_imports number) (is_at (slice_cmp nat_cmp name)) m.scope.types i fine.types at way
+            is);
+        values =
+            λ i way at is. has_value number way (all_found (IsFineValueItem found_imports number) (is_at (slice_cmp nat_cmp name)) m.scope.values i fine.values
+            at way is);
+        macros =
+            λ i way at is. has_import number way (all_found (IsFineMacro found_imports number) (is_at (slice_cmp nat_cmp name)) m.scope.macros i fine.macros at
+            way is);
       }
 
   trait_kept : (number : ℕ) (item : Item (Unit {0}) ImportId) → IsFineTrait found_imports number item → IsTraitBrought tables w from answer number item
   trait_kept number item fine = record {
     by_import = λ id is.
         let one : OneKeeps found_imports number id = subst (IsFineKept found_imports number) is fine in
-        record { directive = one.directive; is_import = import_written tables w finished from answer e one.directive one.among; is_such = (one.is, one.written_in) };
+        record {
+          directive = one.directive;
+          is_import = import_written tables w finished from answer e one.directive one.among;
+          is_such = (one.is, one.written_in);
+        };
     by_glob = λ is.
         let one : OneIsGlob found_imports number = subst (IsFineKept found_imports number) is fine in
-        record { directive = one.directive; is_import = import_written tables w finished from answer e one.directive one.among; is_such = (one.is, one.written_in) };
+        record {
+          directive = one.directive;
+          is_import = import_written tables w finished from answer e one.directive one.among;
+          is_such = (one.is, one.written_in);
+        };
   }
 
 pub bindings_are_written : BindingsAreWritten
 bindings_are_written tables w finished from answer e number name =
-    entry_brought tables w finished from answer e number (module_at answer.map number) (λ v at. (fine_answer tables w finished from answer e).each number v at) name
+    entry_brought tables w finished from answer e number (module_at answer.map number) (λ v at. (fine_answer tables w finished from answer e).each number v at)
+    name
 
 pub unnamed_traits_are_written : UnnamedTraitsAreWritten
 unnamed_traits_are_written tables w finished from answer e number m at id item among =

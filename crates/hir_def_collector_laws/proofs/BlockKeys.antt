@@ -3,14 +3,14 @@ use Rattle.std.specs.Prelude.{◌≡◌, ◌||◌, ℕ, List, [], ◌∷◌, ◌
 use Rattle.std.specs.List.{list_any}
 use Rattle.std.proofs.Common.{◌+◌, ◌<◌, zero, suc, Contains, ap, refl, subst, sym, ◌∙◌, arith}
 use Rattle.hir_base.specs.ModPath.{Path}
+use Rattle.hir_base.specs.declared.ids.AdtId.{AdtId}
 use Rattle.hir_base.specs.declared.ast_id.AstId.{AstId}
 use Rattle.hir_base.specs.declared.ast_id.AttrId.{AttrId}
 use Rattle.hir_base.specs.declared.ast_id.BlockId.{BlockId}
-use Rattle.hir_base.specs.declared.edition.Edition.{Edition}
-use Rattle.hir_base.specs.declared.ids.AdtId.{AdtId}
 use Rattle.hir_base.specs.declared.ids.Crate.{Crate}
-use Rattle.hir_base.specs.declared.ids.ModuleId.{ModuleId}
+use Rattle.hir_base.specs.declared.edition.Edition.{Edition}
 use Rattle.hir_base.specs.declared.macro_kind.MacroId.{MacroId}
+use Rattle.hir_base.specs.declared.ids.ModuleId.{ModuleId}
 use Rattle.hir_base.specs.declared.macro_kind.MacroId.TheVariants as macros
 use Rattle.hir_item_tree.specs.declared.tree_id.TreeId.{TreeId}
 use Rattle.hir_scope.specs.PerNs.{Item}
@@ -28,19 +28,24 @@ use Rattle.hir_import_resolution.specs.Rules.{acts as import_acts}
 use Rattle.hir_tables.specs.Tables.{TablesValue}
 use Rattle.hir_collector_rules.specs.Attributes.{attr_id, item_node}
 use Rattle.hir_collector_rules.specs.Calls.{by_style, called_macro, error_of, path_of_call, style_of, suited, suits}
-use Rattle.hir_collector_rules.specs.Changes.{Change, lists, makes, gives_variants, begins_paths, reaches, awaits, ends, settles, changes_imports, adds_textual, takes_textual, defines, describes, helps, lists_derive, exports, uses_macros, tells, goes_on, act}
+use Rattle.hir_collector_rules.specs.Changes.{Change, lists, makes, gives_variants, begins_paths, reaches, awaits, ends, settles, changes_imports, adds_textual}
+use Rattle.hir_collector_rules.specs.Changes.{takes_textual, defines, describes, helps, lists_derive, notes, exports, uses_macros, tells, goes_on, act}
 use Rattle.hir_collector_rules.specs.ItemIds.{macro_rules_id, module_id}
 use Rattle.hir_collector_rules.specs.Keys.{Environment, environment, map_keys}
 use Rattle.hir_collector_rules.specs.ModuleFiles.{LookedAt, Tried, file_readings, tried_in}
 use Rattle.hir_collector_rules.specs.Start.{Beginning, begin_of, block_of, holders_by, krate_of, read_by, start_of}
 use Rattle.hir_collector_rules.specs.State.{State, import_state}
-use Rattle.hir_collector_rules.specs.Steps.{Rule, drops_item, awaits_attribute, lists_derives, faults_derive, exports_macro, reaches_call, rests, expands_call, drops_call, drops_reached, derives_builtin, skips_attribute, falls_back, defines_rules, defines_macro, closes_module, declares_item, declares_enum, lists_constant, lists_impl, opens_module, opens_file, drops_file, misses_file, enters_block, reaches_imports, reaches_crate, resolves_imports, May, acts, asking, derives_from, keys_read, reads, Step, Steps, none, more}
+use Rattle.hir_collector_rules.specs.Steps.{Rule, drops_item, awaits_attribute, lists_derives, faults_derive, exports_macro, reaches_call, rests, expands_call}
+use Rattle.hir_collector_rules.specs.Steps.{drops_call, drops_reached, derives_builtin, skips_attribute, falls_back, defines_rules, defines_macro}
+use Rattle.hir_collector_rules.specs.Steps.{closes_module, declares_item, declares_enum, lists_constant, lists_impl, opens_module, opens_file, drops_file}
+use Rattle.hir_collector_rules.specs.Steps.{misses_file, enters_block, reaches_imports, reaches_crate, resolves_imports, May, acts, asking, derives_from}
+use Rattle.hir_collector_rules.specs.Steps.{keys_read, reads, Step, Steps, none, more}
 use Rattle.hir_collector_rules.specs.Workspace.{Workspace, transitive_dependencies_in}
+use Rattle.hir_collector_rules.specs.declared.source_database.Key.{Key}
 use Rattle.hir_collector_rules.specs.declared.macro_directive.MacroDirective.{MacroDirective}
 use Rattle.hir_collector_rules.specs.declared.site.Site.{Site}
-use Rattle.hir_collector_rules.specs.declared.source_database.Key.{Key}
-use Rattle.hir_collector_rules.specs.declared.source_database.Key.TheVariants as keys
 use Rattle.hir_collector_rules.specs.declared.start.Start.{Start}
+use Rattle.hir_collector_rules.specs.declared.source_database.Key.TheVariants as keys
 use Rattle.hir_collector_rules.specs.declared.start.Start.TheVariants as starts
 use Rattle.hir_collector_rules.proofs.Changes.{AllFine, all_fine, asked-Step, fine_bringing, fine_expanding, fine_macro, fine_reporting, perform_keeps}
 use Rattle.hir_collector_rules.proofs.Holds.{in_range-start}
@@ -84,7 +89,8 @@ of_files : (krate : Crate) (edition : Edition) (tried : List Tried) → Blockles
 of_files krate edition [] = tt
 of_files krate edition (t ∷ ts) = go t.file (of_files krate edition ts)
   where
-    go : (o : Option LookedAt) → Blockless (keys_read (file_readings krate edition ts)) → Blockless (keys_read (file_readings krate edition (record t { file = o } ∷ ts)))
+    go : (o : Option LookedAt) → Blockless (keys_read (file_readings krate edition ts))
+        → Blockless (keys_read (file_readings krate edition (record t { file = o } ∷ ts)))
     go None others = others
     go (Some f) others = (refl, others)
 
@@ -101,54 +107,22 @@ on_node d = is_some d.ast_id.block
 
 -- no call that a change lets wait is
 abbrev Written : State → Change → Type 0
-Written s (lists home d) = Unit {0}
-Written s (makes home name origin visibility) = Unit {0}
-Written s (gives_variants id variants) = Unit {0}
-Written s (begins_paths r) = Unit {0}
-Written s (reaches rs) = Unit {0}
 Written s (awaits calls) = list_any on_node calls ≡ false
-Written s (ends i fate) = Unit {0}
-Written s settles = Unit {0}
-Written s (changes_imports c) = Unit {0}
-Written s (adds_textual home name makro) = Unit {0}
-Written s (takes_textual home from) = Unit {0}
-Written s (defines node makro) = Unit {0}
-Written s (describes makro what) = Unit {0}
-Written s (helps node helper) = Unit {0}
-Written s (lists_derive home imp) = Unit {0}
-Written s (exports f makro) = Unit {0}
-Written s (uses_macros macros by) = Unit {0}
-Written s (tells d) = Unit {0}
-Written s (goes_on vs) = Unit {0}
+Written s other = Unit {0}
 
 abbrev AreWritten : State → Type 0
 AreWritten s = list_any on_node s.core.calls ≡ false
 
 written-act : (s : State) (c : Change) → AreWritten s → Written s c → AreWritten (act s c)
-written-act s (lists home d) f fine = f
-written-act s (makes home name origin visibility) f fine = f
-written-act s (gives_variants id variants) f fine = f
-written-act s (begins_paths r) f fine = f
-written-act s (reaches rs) f fine = f
 written-act s (awaits calls) f fine = none_joined on_node s.core.calls calls f fine
-written-act s (ends i fate) f fine = f
-written-act s settles f fine = f
-written-act s (changes_imports c) f fine = f
-written-act s (adds_textual home name makro) f fine = f
-written-act s (takes_textual home from) f fine = f
-written-act s (defines node makro) f fine = f
-written-act s (describes makro what) f fine = f
-written-act s (helps node helper) f fine = f
-written-act s (lists_derive home imp) f fine = f
-written-act s (exports x makro) f fine = f
-written-act s (uses_macros macros by) f fine = f
-written-act s (tells d) f fine = f
-written-act s (goes_on vs) f fine = f
+written-act s other f fine = f
 
-derives_written : (site : Site) (node : AstId) (attr : AttrId) (adt : AdtId) → is_some node.block ≡ false → (index : ℕ) (paths : List Path) → list_any on_node (derives_from site node attr adt index paths) ≡ false
+derives_written : (site : Site) (node : AstId) (attr : AttrId) (adt : AdtId) → is_some node.block ≡ false → (index : ℕ) (paths : List Path)
+    → list_any on_node (derives_from site node attr adt index paths) ≡ false
 derives_written site node attr adt own index [] = refl
 derives_written site node attr adt own index (path ∷ paths) =
-    neither (is_some node.block) (list_any on_node (derives_from site node attr adt (count_of (index + 1)) paths)) own (derives_written site node attr adt own (count_of (index + 1)) paths)
+    neither (is_some node.block) (list_any on_node (derives_from site node attr adt (count_of (index + 1)) paths)) own
+    (derives_written site node attr adt own (count_of (index + 1)) paths)
 
 -- ---- steps
 
@@ -164,43 +138,31 @@ module _ (answers : PathsAnswerFromSources) (paths : PathsLeadToWhatIsThere) (fi
     called_clear : (d : MacroDirective) (makro : MacroId) → called_macro finished s.core.local s.core.map d ≡ Some makro → on_macro in_blocks makro ≡ false
     called_clear d makro reached = go _ clear.macros reached
       where
-        clear : HoldsOfNone in_blocks (resolution_of (overlay finished s.core.map) (by_style (style_of d.kind) s.core.local) (numbered s.core.map.id d.site.home) (path_of_call d)).resolved_def
+        clear : HoldsOfNone in_blocks (resolution_of (overlay finished s.core.map) (by_style (style_of d.kind) s.core.local)
+            (numbered s.core.map.id d.site.home) (path_of_call d)).resolved_def
         clear = answers in_blocks (overlay finished s.core.map) (by_style (style_of d.kind) s.core.local) (numbered s.core.map.id d.site.home) (path_of_call d)
             (HoldsNowhere-overlay in_blocks finished s.core.map nowhere b.sourced.map) b.sourced.local
 
-        by : (i : Item MacroId ImportOrExternCrate) → on_macro_item in_blocks i ≡ false → (t : Bool) → cond t (Some i.def) None ≡ Some makro → on_macro in_blocks makro ≡ false
+        by : (i : Item MacroId ImportOrExternCrate) → on_macro_item in_blocks i ≡ false → (t : Bool) → cond t (Some i.def) None ≡ Some makro
+            → on_macro in_blocks makro ≡ false
         by i f true e =
             let same : i.def ≡ makro = cc in
-            subst (λ (m : MacroId). on_macro in_blocks m ≡ false) same (not_first (on_macro in_blocks i.def) (on_visibility in_blocks i.vis || on_some (on_import in_blocks) i.import) f)
+            subst (λ (m : MacroId). on_macro in_blocks m ≡ false) same
+            (not_first (on_macro in_blocks i.def) (on_visibility in_blocks i.vis || on_some (on_import in_blocks) i.import) f)
         by i f false e = absurd (let wrong : ⊥ = cc in wrong)
 
-        go : (o : Option (Item MacroId ImportOrExternCrate)) → on_some (on_macro_item in_blocks) o ≡ false → suited d.kind (macro_in o) ≡ Some makro → on_macro in_blocks makro ≡ false
+        go : (o : Option (Item MacroId ImportOrExternCrate)) → on_some (on_macro_item in_blocks) o ≡ false → suited d.kind (macro_in o) ≡ Some makro
+            → on_macro in_blocks makro ≡ false
         go None f e = absurd (let wrong : ⊥ = cc in wrong)
         go (Some i) f e = by i f (suits d.kind i.def) e
 
     -- what a rule reads is of no block
     reads_blockless : (r : Rule) → May finished s r → Blockless (keys_read (reads s r))
-    reads_blockless (drops_item v report rest) may = tt
-    reads_blockless (declares_item v d rest) may = tt
-    reads_blockless (declares_enum site head name found rest) may = (no_block site.tree.block (next_visits in_blocks s.agenda _ rest b.sourced.visits may.next).0, tt)
-    reads_blockless (lists_constant site head rest) may = tt
-    reads_blockless (lists_impl site head of_trait rest) may = tt
-    reads_blockless (opens_module site head name items rest) may = tt
+    reads_blockless (declares_enum site head name found rest) may =
+        (no_block site.tree.block (next_visits in_blocks s.agenda _ rest b.sourced.visits may.next).0, tt)
     reads_blockless (opens_file site head name search f rest) may = of_files s.core.map.id.krate s.core.map.crate_data.edition (tried_in search)
     reads_blockless (drops_file site head name search report rest) may = of_files s.core.map.id.krate s.core.map.crate_data.edition (tried_in search)
     reads_blockless (misses_file site head name search report rest) may = of_files s.core.map.id.krate s.core.map.crate_data.edition (tried_in search)
-    reads_blockless (enters_block site head items rest) may = tt
-    reads_blockless (reaches_imports site head tree rest) may = tt
-    reads_blockless (reaches_crate site head name alias rest) may = tt
-    reads_blockless (defines_rules site head name expander helpers rest) may = tt
-    reads_blockless (defines_macro site head name expander helpers rest) may = tt
-    reads_blockless (closes_module parent child rest) may = tt
-    reads_blockless (awaits_attribute v a k rest) may = tt
-    reads_blockless (lists_derives v at a adt ps rest) may = tt
-    reads_blockless (faults_derive v at report rest) may = tt
-    reads_blockless (exports_macro site head name d e rest) may = tt
-    reads_blockless (reaches_call site head path rest) may = tt
-    reads_blockless rests may = tt
     reads_blockless (expands_call i d makro x) may = by_macro makro (of_text makro (called_clear d makro may.called.reaches))
       where
         input : d.ast_id.block ≡ None
@@ -210,47 +172,41 @@ module _ (answers : PathsAnswerFromSources) (paths : PathsLeadToWhatIsThere) (fi
         by_macro (macros.Macro2Id id) text = (text, (input, (refl, (refl, tt))))
         by_macro (macros.MacroRulesId id) text = (text, (input, (refl, (refl, tt))))
         by_macro (macros.ProcMacroId id) text = (input, (refl, (refl, tt)))
-    reads_blockless (drops_call i d) may = tt
-    reads_blockless (drops_reached i d makro) may = tt
-    reads_blockless (derives_builtin i d makro imp) may = tt
-    reads_blockless (skips_attribute i d k item) may = tt
-    reads_blockless (falls_back i d k item) may = tt
-    reads_blockless (resolves_imports rule) may = tt
+    reads_blockless other may = tt
 
     -- nor is a call that it lets wait
     brings_written : (r : Rule) → May finished s r → AllFine Written (asking s r) (acts finished s r)
-    brings_written (drops_item v report rest) may = (tt, (tt, tt))
     brings_written (declares_item v d rest) may = (tt, (tt, (tt, tt)))
     brings_written (declares_enum site head name found rest) may = (tt, (tt, (tt, (tt, tt))))
-    brings_written (lists_constant site head rest) may = (tt, (tt, tt))
-    brings_written (lists_impl site head of_trait rest) may = (tt, (tt, tt))
     brings_written (opens_module site head name items rest) may = (tt, (tt, (tt, (tt, (tt, tt)))))
     brings_written (opens_file site head name search f rest) may = (tt, (tt, (tt, (tt, (tt, tt)))))
-    brings_written (drops_file site head name search report rest) may = (tt, (tt, tt))
     brings_written (misses_file site head name search report rest) may = (tt, (tt, (tt, (tt, (tt, (tt, tt))))))
-    brings_written (enters_block site head items rest) may = (tt, (tt, tt))
     brings_written (reaches_imports site head tree rest) may = (tt, (tt, (tt, tt)))
     brings_written (reaches_crate site head name alias rest) may = (tt, (tt, (tt, (tt, (tt, tt)))))
     brings_written (defines_rules site head name expander helpers rest) may =
         (tt, (tt, (tt, (tt, fine_macro Written _ _ expander (λ at. tt) head name (macro_rules_id s.core.map site head.id expander) (λ at. tt) _))))
     brings_written (defines_macro site head name expander helpers rest) may = (tt, (tt, (tt, (tt, (tt, fine_reporting Written _ _ expander (λ at. tt) _)))))
-    brings_written (closes_module parent child rest) may = (tt, (tt, tt))
     brings_written (awaits_attribute v a k rest) may =
         (tt, (neither (is_some v.site.tree.block) false (next_visits in_blocks s.agenda v rest b.sourced.visits may.has.on.next).0 refl, tt))
-    brings_written (lists_derives v at a adt ps rest) may =
-        (tt, (derives_written v.site (item_node v.site v.item) (attr_id a) adt (next_visits in_blocks s.agenda v rest b.sourced.visits may.has.on.next).0 0 ps, tt))
-    brings_written (faults_derive v at report rest) may = (tt, (tt, tt))
+    brings_written (lists_derives v at a adt ps call rest) may = (
+      tt,
+      (
+        derives_written v.site (item_node v.site v.item) (attr_id a) adt (next_visits in_blocks s.agenda v rest b.sourced.visits may.has.on.next).0 0 ps,
+        (tt, tt),
+      ),
+    )
     brings_written (exports_macro site head name d e rest) may = (tt, (tt, (tt, (tt, (tt, (tt, (tt, tt)))))))
-    brings_written (reaches_call site head path rest) may = (tt, (neither (is_some site.tree.block) false (next_visits in_blocks s.agenda _ rest b.sourced.visits may.next).0 refl, tt))
+    brings_written (reaches_call site head path rest) may =
+        (tt, (neither (is_some site.tree.block) false (next_visits in_blocks s.agenda _ rest b.sourced.visits may.next).0 refl, tt))
     brings_written rests may = (tt, tt)
     brings_written (expands_call i d makro x) may =
-        (tt, (tt, fine_expanding Written _ (λ at helper. tt) _ (module_id s.core.map d.site.home) d (error_of x.there) (λ at text. tt) _))
+        (tt, (tt, (tt, fine_expanding Written _ (λ at helper. tt) _ (module_id s.core.map d.site.home) d (error_of x.there) (λ at text. tt) _)))
     brings_written (drops_call i d) may = (tt, tt)
     brings_written (drops_reached i d makro) may = (tt, fine_bringing Written _ (λ at helper. tt) _ _)
-    brings_written (derives_builtin i d makro imp) may = (tt, (tt, fine_bringing Written _ (λ at helper. tt) _ _))
-    brings_written (skips_attribute i d k item) may = (tt, (tt, tt))
+    brings_written (derives_builtin i d makro imp) may = (tt, (tt, (tt, fine_bringing Written _ (λ at helper. tt) _ _)))
     brings_written (falls_back i d k item) may = (tt, (tt, (tt, tt)))
     brings_written (resolves_imports rule) may = all_fine Written (λ at c. tt) (import_acts finished (import_state s) rule) _
+    brings_written other may = (tt, (tt, tt))
 
     blockless-Step : (env : Environment) (new : State) → Step env finished s new → IsBlockless new
     blockless-Step env new step =
@@ -260,21 +216,27 @@ module _ (answers : PathsAnswerFromSources) (paths : PathsLeadToWhatIsThere) (fi
         record {
           sourced = sourced-Step in_blocks answers paths finished whole nowhere s inside names (λ at there. refl) b.sourced env new step clear;
           asked = asked;
-          calls = subst AreWritten (sym step.is) (perform_keeps AreWritten Written written-act (acts finished s step.rule) (asking s step.rule) b.calls (brings_written step.rule step.may));
+          calls =
+              subst AreWritten (sym step.is) (perform_keeps AreWritten Written written-act (acts finished s step.rule) (asking s step.rule) b.calls
+              (brings_written step.rule step.may));
         }
 
-  all_blockless : (env : Environment) (from to : State) → IsInRange from → NamesWhatIsThere finished from → IsBlockless from → Steps env finished from to → IsBlockless to
+  all_blockless : (env : Environment) (from to : State) → IsInRange from → NamesWhatIsThere finished from → IsBlockless from → Steps env finished from to
+      → IsBlockless to
   all_blockless env from to inside names first none = first
   all_blockless env from to inside names first (more old new before last) =
-      blockless-Step old (in_range-Steps before inside) (steps_keep paths finished whole env from old inside names before) (all_blockless env from old inside names first before) env new last
+      blockless-Step old (in_range-Steps before inside) (steps_keep paths finished whole env from old inside names before)
+      (all_blockless env from old inside names first before) env new last
 
 -- ---- a crate's run
 
 -- it begins with the tree of a file
-first_blockless : (finished : Maps) → HoldsNowhere in_blocks finished → (tables : TablesValue) (w : Workspace) (from : Beginning) (start : Start) → block_of start ≡ None → from.tree.block ≡ None
+first_blockless : (finished : Maps) → HoldsNowhere in_blocks finished → (tables : TablesValue) (w : Workspace) (from : Beginning) (start : Start)
+    → block_of start ≡ None → from.tree.block ≡ None
     → IsBlockless (start_of tables w finished (holders_by finished start) (record from { start = start }))
 first_blockless finished nowhere tables w from (starts.Crate krate root) own fileless = record {
-  sourced = first_sourced in_blocks finished nowhere tables w (holders_by finished (starts.Crate krate root)) (record from { start = starts.Crate krate root }) tt
+  sourced =
+      first_sourced in_blocks finished nowhere tables w (holders_by finished (starts.Crate krate root)) (record from { start = starts.Crate krate root }) tt
       (ap (λ (o : Option BlockId). is_some o) fileless);
   asked = (fileless, tt);
   calls = refl;
@@ -293,10 +255,13 @@ none_asked answers paths tables w all from answer whole stands e own fileless no
     let names : NamesWhatIsThere finished begun = begins paths finished whole tables w holders from stands in
     let no_holders : holders_by all from.start ≡ holders_by finished from.start = no_holder all finished from.start own in
     let first : IsBlockless begun =
-    subst (λ (hs : List ModuleId). IsBlockless (start_of tables w finished hs from)) (sym no_holders) (first_blockless finished nowhere tables w from from.start own fileless) in
-    let last : IsBlockless e.last = all_blockless answers paths finished whole nowhere (environment tables w) begun e.last (in_range-start tables w finished holders from) names first e.derived in
+    subst (λ (hs : List ModuleId). IsBlockless (start_of tables w finished hs from)) (sym no_holders)
+    (first_blockless finished nowhere tables w from from.start own fileless) in
+    let last : IsBlockless e.last = all_blockless answers paths finished whole nowhere (environment tables w) begun e.last
+    (in_range-start tables w finished holders from) names first e.derived in
     let asked : Blockless answer.asked =
-    subst Blockless (sym e.asked_is) (both e.last.core.asked (map_keys (transitive_dependencies_in w (krate_of from.start))) last.asked (of_maps (transitive_dependencies_in w (krate_of from.start)))) in (
+    subst Blockless (sym e.asked_is) (both e.last.core.asked (map_keys (transitive_dependencies_in w (krate_of from.start))) last.asked
+    (of_maps (transitive_dependencies_in w (krate_of from.start)))) in (
       of_each answer.asked asked,
       (ends_sourced in_blocks answers paths finished whole tables w all from answer refl stands (begins_clear finished from.start from.tree own) e (record {
         written = λ key h. ap (λ (o : Option BlockId). is_some o) (of_each answer.asked asked (keys.Tree key) h);

@@ -1,8 +1,9 @@
 -- The impls that a module lists for builtin derives stay.
-use Rattle.std.proofs.Common.{◌≡◌, ◌<◌, ℕ, zero, suc, Bool, true, false, cond, List, [], ◌∷◌, ◌++◌, length, slice_get, Option, None, Some, refl, sym, subst, arith, Contains}
+use Rattle.std.proofs.Common.{◌≡◌, ◌<◌, ℕ, zero, suc, Bool, true, false, cond, List, [], ◌∷◌, ◌++◌, length, slice_get, Option, None, Some, refl, sym, subst}
+use Rattle.std.proofs.Common.{arith, Contains}
 use Rattle.std.proofs.lemmas.List.Elements.{Contains-append_left, Contains-append_right}
-use Rattle.hir_base.specs.declared.ids.ModuleId.{ModuleId}
 use Rattle.hir_base.specs.declared.macro_kind.BuiltinDeriveImplId.{BuiltinDeriveImplId}
+use Rattle.hir_base.specs.declared.ids.ModuleId.{ModuleId}
 use Rattle.hir_scope.specs.PerNs.{is_nothing}
 use Rattle.hir_scope.specs.Scope.{ScopeValue}
 use Rattle.hir_scope.specs.Scope.Push.{taken_candidates, with_unresolved, written_scope}
@@ -16,7 +17,10 @@ use Rattle.hir_glob_imports.specs.declared.edge.Key.{Key}
 use Rattle.hir_glob_imports.specs.declared.edge.Key.TheVariants.{Types, Values, Macros, Unnamed}
 use Rattle.hir_import_resolution.specs.Names.{redefined, revised}
 use Rattle.hir_collector_rules.specs.declared.exported.ExportedFunction.{ExportedFunction}
-use Rattle.hir_collector_rules.specs.Changes.{Change, lists, makes, gives_variants, begins_paths, reaches, awaits, ends, settles, changes_imports, adds_textual, takes_textual, defines, describes, helps, lists_derive, exports, uses_macros, tells, goes_on, act, perform, with_builtin_derive}
+use Rattle.hir_collector_rules.specs.Changes.{Change, lists, makes, gives_variants, begins_paths, reaches, awaits, ends, settles, changes_imports, adds_textual}
+use Rattle.hir_collector_rules.specs.Changes.{takes_textual, defines, describes, helps, lists_derive, notes, exports, uses_macros, tells, goes_on, act, perform}
+use Rattle.hir_collector_rules.specs.Changes.{with_builtin_derive}
+use Rattle.hir_collector_rules.specs.Invocations.{with_invocation}
 use Rattle.hir_collector_rules.specs.Ended.{ended, exporting_scope, without_function, without_functions}
 use Rattle.hir_collector_rules.specs.State.{Core, State, import_state}
 use Rattle.hir_collector_rules.proofs.ImportEdits.{Edit, edit, edit_of, edited, keeps_unnamed, map_after, pushes_to, redefines, revises}
@@ -29,7 +33,8 @@ StayDerived m n = (k : ℕ) (imp : BuiltinDeriveImplId) → Contains (derived_in
 
 -- a change of one module that keeps its impls
 derived_changed : (ms : List ModuleValue) (at : ℕ) (change : ModuleValue → ModuleValue)
-    → ((m : ModuleValue) (imp : BuiltinDeriveImplId) → Contains m.scope.builtin_derive_impls imp → Contains (change m).scope.builtin_derive_impls imp) → (k : ℕ) (imp : BuiltinDeriveImplId)
+    → ((m : ModuleValue) (imp : BuiltinDeriveImplId) → Contains m.scope.builtin_derive_impls imp → Contains (change m).scope.builtin_derive_impls imp)
+    → (k : ℕ) (imp : BuiltinDeriveImplId)
     → Contains (derived_in (slice_get ms k)) imp → Contains (derived_in (slice_get (changed_at ms at change) k)) imp
 derived_changed [] at change keeps k imp h = h
 derived_changed (m ∷ ms) zero change keeps zero imp h = keeps m imp h
@@ -37,7 +42,8 @@ derived_changed (m ∷ ms) zero change keeps (suc k) imp h = h
 derived_changed (m ∷ ms) (suc at) change keeps zero imp h = h
 derived_changed (m ∷ ms) (suc at) change keeps (suc k) imp h = derived_changed ms at change keeps k imp h
 
-derived_longer : (ms more : List ModuleValue) (k : ℕ) (imp : BuiltinDeriveImplId) → Contains (derived_in (slice_get ms k)) imp → Contains (derived_in (slice_get (ms ++ more) k)) imp
+derived_longer : (ms more : List ModuleValue) (k : ℕ) (imp : BuiltinDeriveImplId) → Contains (derived_in (slice_get ms k)) imp
+    → Contains (derived_in (slice_get (ms ++ more) k)) imp
 derived_longer [] more k imp (n, below, is) = absurd (omega arith)
 derived_longer (m ∷ ms) more zero imp h = h
 derived_longer (m ∷ ms) more (suc k) imp h = derived_longer ms more k imp h
@@ -49,16 +55,13 @@ StayDerived-scope m at change same k imp h =
 
 listed_keeps : (d : Listing) (s : ScopeValue) → (listed d s).builtin_derive_impls ≡ s.builtin_derive_impls
 listed_keeps (listings.Def def) s = refl
-listed_keeps (listings.Use use_) s = refl
-listed_keeps (listings.ExternCrate extern_crate) s = refl
-listed_keeps (listings.Impl imp is_trait_impl) s = refl
-listed_keeps (listings.ExternBlock extern_block) s = refl
-listed_keeps (listings.UnnamedConst konst) s = refl
+listed_keeps other s = refl
 
 edit_keeps : (m : ModuleId) (e : Edit) (s : ScopeValue) → (edit m e s).builtin_derive_impls ≡ s.builtin_derive_impls
 edit_keeps m (pushes_to globs name items by) s = go (is_nothing items)
   where
-    go : (b : Bool) → (cond b (with_unresolved s name) (written_scope name (taken_candidates s globs (m, name) items by) s)).builtin_derive_impls ≡ s.builtin_derive_impls
+    go : (b : Bool) → (cond b (with_unresolved s name) (written_scope name (taken_candidates s globs (m, name) items by) s)).builtin_derive_impls
+        ≡ s.builtin_derive_impls
     go true = refl
     go false = refl
 edit_keeps m (keeps_unnamed id vis by) s = refl
@@ -85,25 +88,16 @@ StayDerived-act s (lists home d) k imp h = StayDerived-scope s.core.map home (li
 StayDerived-act s (makes home name origin visibility) k imp h =
     derived_longer (changed_at s.core.map.modules home (with_child name (new_id s.core.map))) _ k imp
     (derived_changed s.core.map.modules home (with_child name (new_id s.core.map)) (λ m i c. c) k imp h)
-StayDerived-act s (gives_variants id variants) k imp h = h
-StayDerived-act s (begins_paths r) k imp h = h
-StayDerived-act s (reaches rs) k imp h = h
-StayDerived-act s (awaits calls) k imp h = h
-StayDerived-act s (ends i fate) k imp h = h
-StayDerived-act s settles k imp h = h
 StayDerived-act s (changes_imports c) k imp h =
-    subst (λ (m : Map). Contains (derived_in (module_at m k)) imp) (sym (map_after (import_state s) c)) (StayDerived-edited s.core.map (edit_of (import_state s) c) k imp h)
+    subst (λ (m : Map). Contains (derived_in (module_at m k)) imp) (sym (map_after (import_state s) c))
+    (StayDerived-edited s.core.map (edit_of (import_state s) c) k imp h)
 StayDerived-act s (adds_textual home name makro) k imp h = StayDerived-scope s.core.map home _ (λ x. refl) k imp h
 StayDerived-act s (takes_textual home from_) k imp h = StayDerived-scope s.core.map home _ (λ x. refl) k imp h
-StayDerived-act s (defines node makro) k imp h = h
-StayDerived-act s (describes makro what) k imp h = h
-StayDerived-act s (helps node helper) k imp h = h
 StayDerived-act s (lists_derive home new) k imp h =
-    derived_changed s.core.map.modules home (with_module_scope (with_builtin_derive new)) (λ m i c. Contains-append_left m.scope.builtin_derive_impls (new ∷ []) i c) k imp h
-StayDerived-act s (exports f makro) k imp h = h
-StayDerived-act s (uses_macros macros by) k imp h = h
-StayDerived-act s (tells d) k imp h = h
-StayDerived-act s (goes_on tasks) k imp h = h
+    derived_changed s.core.map.modules home (with_module_scope (with_builtin_derive new)) (λ m i c. Contains-append_left m.scope.builtin_derive_impls (new ∷ [])
+    i c) k imp h
+StayDerived-act s (notes home invocation) k imp h = StayDerived-scope s.core.map home (with_invocation invocation) (λ x. refl) k imp h
+StayDerived-act s other k imp h = h
 
 pub StayDerived-perform : (cs : List Change) (s : State) → StayDerived s.core.map (perform s cs).core.map
 StayDerived-perform [] s k imp h = h

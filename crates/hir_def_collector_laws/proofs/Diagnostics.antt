@@ -1,12 +1,13 @@
 -- Each diagnostic of a run speaks of an item that was visited, or of a call or an import that was come upon.
-use Rattle.std.proofs.Common.{◌≡◌, ◌∙◌, ◌<◌, ◌≤◌, ℕ, zero, suc, List, [], ◌∷◌, ◌++◌, length, slice_get, Bool, true, false, cond, Option, None, Some, inl, inr, refl, sym, ap, subst, arith, Contains}
+use Rattle.std.proofs.Common.{◌≡◌, ◌∙◌, ◌<◌, ◌≤◌, ℕ, zero, suc, List, [], ◌∷◌, ◌++◌, length, slice_get, Bool, true, false, cond, Option, None, Some, inl, inr}
+use Rattle.std.proofs.Common.{refl, sym, ap, subst, arith, Contains}
 use Rattle.std.proofs.lemmas.List.Elements.{Contains-append_cases}
 use Rattle.hir_base.specs.declared.ast_id.AstId.{AstId}
-use Rattle.hir_base.specs.declared.ast_id.AstKind.TheVariants as nodes
 use Rattle.hir_base.specs.declared.ast_id.AttrId.{AttrId}
 use Rattle.hir_base.specs.declared.ids.Crate.{Crate}
 use Rattle.hir_base.specs.declared.ids.MapId.{MapId}
 use Rattle.hir_base.specs.declared.ids.ModuleId.{ModuleId}
+use Rattle.hir_base.specs.declared.ast_id.AstKind.TheVariants as nodes
 use Rattle.hir_item_tree.specs.Collected.{Numbered}
 use Rattle.hir_item_tree.specs.KeptForest.{KeptItem, extern_crate, import, leaf, macro_call}
 use Rattle.hir_item_tree.specs.Kinds.{item_head, item_kind}
@@ -22,20 +23,26 @@ use Rattle.hir_import_resolution.specs.declared.directive.ImportDirective.{Impor
 use Rattle.hir_import_resolution.specs.declared.directive.ImportSource.{ImportSource}
 use Rattle.hir_import_resolution.specs.declared.directive.ImportSource.TheVariants as sources
 use Rattle.hir_collector_rules.specs.declared.macro_directive.Fate.{Fate}
-use Rattle.hir_collector_rules.specs.declared.macro_directive.Fate.TheVariants as fates
 use Rattle.hir_collector_rules.specs.declared.macro_directive.MacroDirective.{MacroDirective}
 use Rattle.hir_collector_rules.specs.declared.macro_directive.MacroDirectiveKind.{MacroDirectiveKind}
+use Rattle.hir_collector_rules.specs.declared.macro_directive.Fate.TheVariants as fates
 use Rattle.hir_collector_rules.specs.declared.macro_directive.MacroDirectiveKind.TheVariants.{Attr, Derive, FnLike}
 use Rattle.hir_collector_rules.specs.Attributes.{item_node}
 use Rattle.hir_collector_rules.specs.Calls.{call_kind, error_of, kind_by, path_of_call}
-use Rattle.hir_collector_rules.specs.Changes.{Change, lists, makes, gives_variants, begins_paths, reaches, awaits, ends, settles, changes_imports, adds_textual, takes_textual, defines, describes, helps, lists_derive, exports, uses_macros, tells, goes_on, act}
+use Rattle.hir_collector_rules.specs.Changes.{Change, lists, makes, gives_variants, begins_paths, reaches, awaits, ends, settles, changes_imports, adds_textual}
+use Rattle.hir_collector_rules.specs.Changes.{takes_textual, defines, describes, helps, lists_derive, notes, exports, uses_macros, tells, goes_on, act}
 use Rattle.hir_collector_rules.specs.Derivation.{CollectedValue, Ends}
 use Rattle.hir_collector_rules.specs.ItemIds.{module_id, node_of}
 use Rattle.hir_collector_rules.specs.Keys.{environment}
-use Rattle.hir_collector_rules.specs.Reports.{begins_with, call_report, crates_among, failed_call, leftover_diagnostics, report_by, reports_of, unimplemented_macro, unresolved_among, unresolved_calls}
+use Rattle.hir_collector_rules.specs.Reports.{begins_with, call_report, crates_among, failed_call, leftover_diagnostics, report_by, reports_of}
+use Rattle.hir_collector_rules.specs.Reports.{unimplemented_macro, unresolved_among, unresolved_calls}
 use Rattle.hir_collector_rules.specs.Start.{Beginning, begin_of, holders_by, krate_of, read_by}
 use Rattle.hir_collector_rules.specs.State.{State, Task, Visit, visits, import_state}
-use Rattle.hir_collector_rules.specs.Steps.{Rule, drops_item, awaits_attribute, lists_derives, faults_derive, exports_macro, reaches_call, rests, expands_call, drops_call, drops_reached, derives_builtin, skips_attribute, falls_back, defines_rules, defines_macro, closes_module, declares_item, declares_enum, lists_constant, lists_impl, opens_module, opens_file, drops_file, misses_file, enters_block, reaches_imports, reaches_crate, resolves_imports, IsFaulty, May, Steps, no_paths, no_target, acts, asking, call_at, more, none}
+use Rattle.hir_collector_rules.specs.Steps.{Rule, drops_item, awaits_attribute, lists_derives, faults_derive, exports_macro, reaches_call, rests, expands_call}
+use Rattle.hir_collector_rules.specs.Steps.{drops_call, drops_reached, derives_builtin, skips_attribute, falls_back, defines_rules, defines_macro}
+use Rattle.hir_collector_rules.specs.Steps.{closes_module, declares_item, declares_enum, lists_constant, lists_impl, opens_module, opens_file, drops_file}
+use Rattle.hir_collector_rules.specs.Steps.{misses_file, enters_block, reaches_imports, reaches_crate, resolves_imports, IsFaulty, May, Steps, no_paths}
+use Rattle.hir_collector_rules.specs.Steps.{no_target, acts, asking, call_at, more, none}
 use Rattle.hir_collector_rules.specs.Workspace.{Workspace}
 use Rattle.hir_collector_rules.proofs.Asks.{only, still_asked-Step}
 use Rattle.hir_collector_rules.proofs.Changes.{AllFine, all_fine, fine_bringing, fine_expanding, fine_macro, fine_reporting, perform_keeps}
@@ -86,7 +93,12 @@ module _ (tables : TablesValue) (w : Workspace) (from : Beginning) (answer : Col
 
       go : (kind : MacroDirectiveKind) → IsCallBy tables w answer d kind → IsOfItem tables w answer d.ast_id
       go (FnLike path) by =
-          let item : IsOfItem tables w answer (call_at d.site by.head by.path).ast_id = record { item = leaf by.head (macro_call by.path); written = by.written; kind = refl; id = refl } in
+          let item : IsOfItem tables w answer (call_at d.site by.head by.path).ast_id = record {
+            item = leaf by.head (macro_call by.path);
+            written = by.written;
+            kind = refl;
+            id = refl;
+          } in
           subst (λ (x : MacroDirective). IsOfItem tables w answer x.ast_id) (sym by.is) item
       go (Derive path attr index adt) by = item_with attr by.item by.attribute by.at
       go (Attr path attr k) by = item_with attr by.item by.attribute by.at
@@ -104,52 +116,19 @@ module _ (tables : TablesValue) (w : Workspace) (from : Beginning) (answer : Col
 
   -- what is told speaks of an item
   abbrev IsFine : State → Change → Type 0
-  IsFine s (lists home d) = Unit {0}
-  IsFine s (makes home name origin visibility) = Unit {0}
-  IsFine s (gives_variants id variants) = Unit {0}
-  IsFine s (begins_paths r) = Unit {0}
-  IsFine s (reaches found) = Unit {0}
-  IsFine s (awaits calls) = Unit {0}
-  IsFine s (ends i fate) = Unit {0}
-  IsFine s settles = Unit {0}
-  IsFine s (changes_imports c) = Unit {0}
-  IsFine s (adds_textual home name makro) = Unit {0}
-  IsFine s (takes_textual home from_) = Unit {0}
-  IsFine s (defines node makro) = Unit {0}
-  IsFine s (describes makro what) = Unit {0}
-  IsFine s (helps node helper) = Unit {0}
-  IsFine s (lists_derive home imp) = Unit {0}
-  IsFine s (exports f makro) = Unit {0}
-  IsFine s (uses_macros macros by) = Unit {0}
   IsFine s (tells d) = IsTold d
-  IsFine s (goes_on vs) = Unit {0}
+  IsFine s other = Unit {0}
 
   same_edited : (m : Map) (o : Option (ℕ × Edit)) → (edited m o).diagnostics ≡ m.diagnostics
   same_edited m None = refl
   same_edited m (Some e) = refl
 
   told-act : (s : State) (c : Change) → AreTold s → IsFine s c → AreTold (act s c)
-  told-act s (lists home d) f fine = record { each = f.each }
-  told-act s (makes home name origin visibility) f fine = record { each = f.each }
-  told-act s (gives_variants id variants) f fine = record { each = f.each }
-  told-act s (begins_paths r) f fine = record { each = f.each }
-  told-act s (reaches found) f fine = record { each = f.each }
-  told-act s (awaits calls) f fine = record { each = f.each }
-  told-act s (ends i fate) f fine = record { each = f.each }
-  told-act s settles f fine = record { each = f.each }
   told-act s (changes_imports c) f fine = record {
     each = subst AllTold (sym (ap (λ (m : Map). m.diagnostics) (map_after (import_state s) c) ∙ same_edited s.core.map (edit_of (import_state s) c))) f.each;
   }
-  told-act s (adds_textual home name makro) f fine = record { each = f.each }
-  told-act s (takes_textual home from_) f fine = record { each = f.each }
-  told-act s (defines node makro) f fine = record { each = f.each }
-  told-act s (describes makro what) f fine = record { each = f.each }
-  told-act s (helps node helper) f fine = record { each = f.each }
-  told-act s (lists_derive home imp) f fine = record { each = f.each }
-  told-act s (exports function_of makro) f fine = record { each = f.each }
-  told-act s (uses_macros macros by) f fine = record { each = f.each }
   told-act s (tells d) f fine = record { each = told_more s.core.map.diagnostics (d ∷ []) f.each (one_told d fine) }
-  told-act s (goes_on vs) f fine = record { each = f.each }
+  told-act s other f fine = record { each = f.each }
 
   -- ---- rules
 
@@ -169,7 +148,8 @@ module _ (tables : TablesValue) (w : Workspace) (from : Beginning) (answer : Col
         }
 
     -- so is a call
-    call_told : (d : MacroDirective) (i : ℕ) → slice_get s.core.calls i ≡ Some d → (error : List ℕ) → IsTold (failed_call (module_id s.core.map d.site.home) d.ast_id (path_of_call d) error)
+    call_told : (d : MacroDirective) (i : ℕ) → slice_get s.core.calls i ≡ Some d → (error : List ℕ)
+        → IsTold (failed_call (module_id s.core.map d.site.home) d.ast_id (path_of_call d) error)
     call_told d i at error =
         let home : d.site.home < length s.core.map.modules = call_below (length s.core.map.modules) s.core.calls i d in_range.calls at in
         record {
@@ -183,7 +163,8 @@ module _ (tables : TablesValue) (w : Workspace) (from : Beginning) (answer : Col
     given_up_told : (d : MacroDirective) (i : ℕ) → slice_get s.core.calls i ≡ Some d → IsTold (call_report s.core.map.id d)
     given_up_told d i at =
         let home : d.site.home < length s.core.map.modules = call_below (length s.core.map.modules) s.core.calls i d in_range.calls at in
-        let item : IsOfItem tables w answer d.ast_id = call_item d (call_among tables w from answer s.core.calls d written.calls (standing s.core.calls i d at)) in
+        let item : IsOfItem tables w answer d.ast_id = call_item d (call_among tables w from answer s.core.calls d written.calls (standing s.core.calls i d at))
+        in
         record {
           number = d.site.home;
           there = omega arith;
@@ -193,16 +174,22 @@ module _ (tables : TablesValue) (w : Workspace) (from : Beginning) (answer : Col
 
     -- and a `derive` that is reported
     fault_told : (v : Visit) (rest : List Task) → s.agenda ≡ visits v ∷ rest → (a : Numbered) (report : DefDiagnostic) → IsFaulty s v a report → IsTold report
-    fault_told v rest next a report (no_target missing is) = next_told v rest next report (ap (λ (d : DefDiagnostic). d.in_module) is) (ap (λ (d : DefDiagnostic). node_told (diagnostic_view d).kind) is)
-    fault_told v rest next a report (no_paths adt target missing is) = next_told v rest next report (ap (λ (d : DefDiagnostic). d.in_module) is) (ap (λ (d : DefDiagnostic). node_told (diagnostic_view d).kind) is)
+    fault_told v rest next a report (no_target missing is) =
+        next_told v rest next report (ap (λ (d : DefDiagnostic). d.in_module) is) (ap (λ (d : DefDiagnostic). node_told (diagnostic_view d).kind) is)
+    fault_told v rest next a report (no_paths adt target missing is) =
+        next_told v rest next report (ap (λ (d : DefDiagnostic). d.in_module) is) (ap (λ (d : DefDiagnostic). node_told (diagnostic_view d).kind) is)
 
     fine_rule : (r : Rule) → May finished s r → AllFine IsFine (asking s r) (acts finished s r)
-    fine_rule (drops_item v report rest) may =
-        (tt, (next_told v rest may.next report (ap (λ (d : DefDiagnostic). d.in_module) may.reported.is) (ap (λ (d : DefDiagnostic). node_told (diagnostic_view d).kind) may.reported.is), tt))
+    fine_rule (drops_item v report rest) may = (
+      tt,
+      (
+        next_told v rest may.next report (ap (λ (d : DefDiagnostic). d.in_module) may.reported.is)
+            (ap (λ (d : DefDiagnostic). node_told (diagnostic_view d).kind) may.reported.is),
+        tt,
+      ),
+    )
     fine_rule (declares_item v d rest) may = (tt, (tt, (tt, tt)))
     fine_rule (declares_enum site head name found rest) may = (tt, (tt, (tt, (tt, tt))))
-    fine_rule (lists_constant site head rest) may = (tt, (tt, tt))
-    fine_rule (lists_impl site head of_trait rest) may = (tt, (tt, tt))
     fine_rule (opens_module site head name items rest) may = (tt, (tt, (tt, (tt, (tt, tt)))))
     fine_rule (opens_file site head name search file rest) may = (tt, (tt, (tt, (tt, (tt, tt)))))
     fine_rule (drops_file site head name search report rest) may =
@@ -215,7 +202,6 @@ module _ (tables : TablesValue) (w : Workspace) (from : Beginning) (answer : Col
         next_told _ rest may.looks.here.next report (ap (λ (d : DefDiagnostic). d.in_module) may.reported.is)
         (ap (λ (d : DefDiagnostic). node_told (diagnostic_view d).kind) may.reported.is) in
         (tt, (tt, (tt, (tt, (tt, (speaks, tt))))))
-    fine_rule (enters_block site head items rest) may = (tt, (tt, tt))
     fine_rule (reaches_imports site head tree rest) may = (tt, (tt, (tt, tt)))
     fine_rule (reaches_crate site head name alias rest) may = (tt, (tt, (tt, (tt, (tt, tt)))))
     fine_rule (defines_rules site head name expander helpers rest) may =
@@ -226,25 +212,34 @@ module _ (tables : TablesValue) (w : Workspace) (from : Beginning) (answer : Col
         let speaks : IsTold (unimplemented_macro (module_id s.core.map site.home) (node_of site.tree nodes.MacroDef head.id)) =
         next_told _ rest may.next (unimplemented_macro (module_id s.core.map site.home) (node_of site.tree nodes.MacroDef head.id)) refl refl in
         (tt, (tt, (tt, (tt, (tt, fine_reporting IsFine _ _ expander (λ t. speaks) _)))))
-    fine_rule (closes_module parent child rest) may = (tt, (tt, tt))
-    fine_rule (awaits_attribute v a k rest) may = (tt, (tt, tt))
-    fine_rule (lists_derives v at a adt paths rest) may = (tt, (tt, tt))
+    fine_rule (lists_derives v at a adt paths call rest) may = (tt, (tt, (tt, tt)))
     fine_rule (faults_derive v at report rest) may = (tt, (fault_told v rest may.has.on.next may.attribute report may.faulty, tt))
     fine_rule (exports_macro site head name d e rest) may = (tt, (tt, (tt, (tt, (tt, (tt, (tt, tt)))))))
-    fine_rule (reaches_call site head path rest) may = (tt, (tt, tt))
     fine_rule rests may = (tt, tt)
-    fine_rule (expands_call i d makro x) may = (tt, (tt, fine_expanding IsFine _ (λ t helper. tt) _ (module_id s.core.map d.site.home) d (error_of x.there) (λ t text. call_told d i may.called.due.waiting.call text) _))
+    fine_rule (expands_call i d makro x) may = (
+      tt,
+      (
+        tt,
+        (
+          tt,
+          fine_expanding IsFine _ (λ t helper. tt) _ (module_id s.core.map d.site.home) d (error_of x.there)
+              (λ t text. call_told d i may.called.due.waiting.call text) _,
+        ),
+      ),
+    )
     fine_rule (drops_call i d) may = (tt, tt)
     fine_rule (drops_reached i d makro) may = (tt, fine_bringing IsFine _ (λ t helper. tt) _ _)
-    fine_rule (derives_builtin i d makro imp) may = (tt, (tt, fine_bringing IsFine _ (λ t helper. tt) _ _))
-    fine_rule (skips_attribute i d k waited) may = (tt, (tt, tt))
+    fine_rule (derives_builtin i d makro imp) may = (tt, (tt, (tt, fine_bringing IsFine _ (λ t helper. tt) _ _)))
     fine_rule (falls_back i d k waited) may = (tt, (given_up_told d i may.waiting.call, (tt, tt)))
     fine_rule (resolves_imports rule) may = all_fine IsFine (λ t c. tt) (import_acts finished (import_state s) rule) (asking s (resolves_imports rule))
+    fine_rule other may = (tt, (tt, tt))
 
   -- ---- steps
 
-  told-Steps : {finished : Maps} {begun last : State} → answer.map.id.krate ≡ krate_of from.start → IsAllWritten tables w from answer begun → IsInRange begun → AreTold begun
-      → AreAsked tables w from answer last → length last.core.map.modules ≤ length answer.map.modules → Steps (environment tables w) finished begun last → AreTold last
+  told-Steps : {finished : Maps} {begun last : State} → answer.map.id.krate ≡ krate_of from.start → IsAllWritten tables w from answer begun → IsInRange begun
+      → AreTold begun
+      → AreAsked tables w from answer last → length last.core.map.modules ≤ length answer.map.modules → Steps (environment tables w) finished begun last
+      → AreTold last
   told-Steps here written in_range f asked fits none = f
   told-Steps {finished = finished} here written in_range f asked fits (more old new before step) =
       let earlier : AreAsked tables w from answer old = λ key h. asked key (still_asked-Step step key h) in
@@ -253,7 +248,8 @@ module _ (tables : TablesValue) (w : Workspace) (from : Beginning) (answer : Col
       let before_told : AreTold old = told-Steps here written in_range f earlier fits_earlier before in
       let begun : AreTold (asking old step.rule) = record { each = before_told.each } in
       let done = perform_keeps AreTold IsFine told-act (acts finished old step.rule) (asking old step.rule) begun
-      (fine_rule finished old (written-Steps tables w from answer here before earlier written) (in_range-Steps before in_range) fits_earlier step.rule step.may) in
+      (fine_rule finished old (written-Steps tables w from answer here before earlier written) (in_range-Steps before in_range) fits_earlier step.rule step.may)
+      in
       subst AreTold (sym step.is) (record { each = done.each })
 
   -- ---- what is left over
@@ -261,14 +257,17 @@ module _ (tables : TablesValue) (w : Workspace) (from : Beginning) (answer : Col
   krate_of_module : (m : ModuleId) (number : ℕ) → m ≡ numbered answer.map.id number → m.map.krate ≡ answer.map.id.krate
   krate_of_module m number e = ap (λ (x : ModuleId). x.map.krate) e
 
-  told_source : (names : List (List ℕ)) (r : ImportDirective) → r.home < length answer.map.modules → (source : ImportSource) → IsOfSource tables w from answer r source
+  told_source : (names : List (List ℕ)) (r : ImportDirective) → r.home < length answer.map.modules → (source : ImportSource) → IsOfSource tables w from answer r
+      source
       → AllTold (report_by (numbered answer.map.id r.home) names source r.path)
   told_source names r there (sources.Use id kind) is = go (begins_with names r.path.kind r.path.segments)
     where
       item : IsOfItem tables w answer (record { file_id = id.use_.loc.file_id; block = id.use_.loc.block; kind = nodes.Use; id = id.use_.loc.id })
       item = record {
         item = leaf is.head (import is.tree);
-        written = subst (λ (k : Crate). IsWritten tables w answer.asked (record { krate = k; id = record { file = id.use_.loc.file_id; block = id.use_.loc.block } }) (leaf is.head (import is.tree)))
+        written =
+            subst (λ (k : Crate). IsWritten tables w answer.asked (record { krate = k; id = record { file = id.use_.loc.file_id; block = id.use_.loc.block } })
+            (leaf is.head (import is.tree)))
             (krate_of_module id.use_.loc.container r.home is.module_is) is.written;
         kind = refl;
         id = is.node;
@@ -282,7 +281,9 @@ module _ (tables : TablesValue) (w : Workspace) (from : Beginning) (answer : Col
       item : IsOfItem tables w answer (record { file_id = id.loc.file_id; block = id.loc.block; kind = nodes.ExternCrate; id = id.loc.id })
       item = record {
         item = leaf is.head (extern_crate is.name r.alias);
-        written = subst (λ (k : Crate). IsWritten tables w answer.asked (record { krate = k; id = record { file = id.loc.file_id; block = id.loc.block } }) (leaf is.head (extern_crate is.name r.alias)))
+        written =
+            subst (λ (k : Crate). IsWritten tables w answer.asked (record { krate = k; id = record { file = id.loc.file_id; block = id.loc.block } })
+            (leaf is.head (extern_crate is.name r.alias)))
             (krate_of_module id.loc.container r.home is.module_is) is.written;
         kind = refl;
         id = is.node;
@@ -305,7 +306,8 @@ module _ (tables : TablesValue) (w : Workspace) (from : Beginning) (answer : Col
   told_calls (d ∷ ds) [] f = none_told
   told_calls (d ∷ ds) (fates.Waits ∷ fs) f =
       let first = f d (at_first d ds) in
-      told_more (call_report answer.map.id d ∷ []) (unresolved_calls answer.map.id ds fs) (one_told (call_report answer.map.id d) (told_call d first.0 first.1)) (told_calls ds fs (λ e h. f e (later d ds e h)))
+      told_more (call_report answer.map.id d ∷ []) (unresolved_calls answer.map.id ds fs) (one_told (call_report answer.map.id d) (told_call d first.0 first.1))
+      (told_calls ds fs (λ e h. f e (later d ds e h)))
   told_calls (d ∷ ds) (fates.Handled ∷ fs) f = told_calls ds fs (λ e h. f e (later d ds e h))
   told_calls (d ∷ ds) (fates.GivenUp ∷ fs) f = told_calls ds fs (λ e h. f e (later d ds e h))
 
@@ -325,7 +327,8 @@ unresolved_found [] ts r h = h
 unresolved_found (x ∷ xs) [] r (n, below, is) = let past : n < 0 = below in absurd (omega arith)
 unresolved_found (x ∷ xs) (t ∷ ts) r h = go (is_untaken t) h (λ c. unresolved_found xs ts r c)
   where
-    go : (b : Bool) → Contains (cond b (x ∷ unresolved_among xs ts) (unresolved_among xs ts)) r → (Contains (unresolved_among xs ts) r → Contains xs r) → Contains (x ∷ xs) r
+    go : (b : Bool) → Contains (cond b (x ∷ unresolved_among xs ts) (unresolved_among xs ts)) r → (Contains (unresolved_among xs ts) r → Contains xs r)
+        → Contains (x ∷ xs) r
     go true (zero, below, is) others = (0, omega arith, is)
     go true (suc n, below, is) others = later x xs r (others (n, omega (arith, below), is))
     go false c others = later x xs r (others c)
@@ -344,13 +347,15 @@ module _ (tables : TablesValue) (w : Workspace) (finished : Maps) (from : Beginn
 
   last_told : AreTold tables w from answer e.last
   last_told =
-      told-Steps tables w from answer (answer_here tables w finished from answer e) (first_written tables w finished from answer e) begun_in_range (record { each = none_told tables w from answer })
+      told-Steps tables w from answer (answer_here tables w finished from answer e) (first_written tables w finished from answer e) begun_in_range
+      (record { each = none_told tables w from answer })
       (answer_asked tables w finished from answer e) (omega (arith, same_count)) e.derived
 
   imports_there : AreImportsThere tables w from answer (unresolved_among e.last.core.reached e.last.core.taken)
   imports_there r h =
       let among : Contains e.last.core.reached r = unresolved_found e.last.core.reached e.last.core.taken r h in
-      let below : r.home < length e.last.core.map.modules = import_below (length e.last.core.map.modules) e.last.core.reached r (in_range-Steps e.derived begun_in_range).imports among in
+      let below : r.home < length e.last.core.map.modules = import_below (length e.last.core.map.modules) e.last.core.reached r
+      (in_range-Steps e.derived begun_in_range).imports among in
       (import_written tables w finished from answer e r among, omega (arith, same_count))
 
   -- the map of the answer is that of the last state
@@ -372,8 +377,10 @@ module _ (tables : TablesValue) (w : Workspace) (finished : Maps) (from : Beginn
   all_told =
       let calls : List DefDiagnostic = unresolved_calls e.last.core.map.id e.last.core.calls e.last.core.fates in
       let imports : List DefDiagnostic = leftover_diagnostics e.last.core.map e.last.core.reached e.last.core.taken in
-      subst (λ (ds : List DefDiagnostic). AllTold tables w from answer ds) (sym (ap (λ (m : Map). m.diagnostics) e.map_is ∙ ap (λ (ds : List DefDiagnostic). ds ++ (calls ++ imports)) (same_diagnostics e.last.core)))
-      (told_more tables w from answer e.last.core.map.diagnostics (calls ++ imports) last_told.each (told_more tables w from answer calls imports calls_told leftover_told))
+      subst (λ (ds : List DefDiagnostic). AllTold tables w from answer ds)
+      (sym (ap (λ (m : Map). m.diagnostics) e.map_is ∙ ap (λ (ds : List DefDiagnostic). ds ++ (calls ++ imports)) (same_diagnostics e.last.core)))
+      (told_more tables w from answer e.last.core.map.diagnostics (calls ++ imports) last_told.each
+      (told_more tables w from answer calls imports calls_told leftover_told))
 
 pub diagnostics_are_of_items : DiagnosticsAreOfItems
 diagnostics_are_of_items tables w finished from answer e d h = all_told tables w finished from answer e d h

@@ -1,20 +1,28 @@
 -- What doesn't wait any more was expanded or went on, was too deep, or is a builtin derive; and an attribute that was given up went on.
-use Rattle.std.proofs.Common.{◌≡◌, ◌≢◌, ◌<◌, ◌≤◌, ◌⊎◌, inl, inr, ℕ, zero, suc, List, [], ◌∷◌, ◌++◌, slice_get, slice_set, length, Some, Contains, refl, sym, ap, subst}
-use Rattle.hir_base.specs.declared.ids.ModuleDefId.{ModuleDefId}
+use Rattle.std.proofs.Common.{◌≡◌, ◌≢◌, ◌<◌, ◌≤◌, ◌⊎◌, inl, inr, ℕ, zero, suc, List, [], ◌∷◌, ◌++◌, slice_get, slice_set, length, Some, Contains, refl, sym, ap}
+use Rattle.std.proofs.Common.{subst}
 use Rattle.hir_base.specs.declared.macro_kind.BuiltinDeriveImplId.{BuiltinDeriveImplId}
 use Rattle.hir_base.specs.declared.macro_kind.MacroId.{MacroId}
+use Rattle.hir_base.specs.declared.ids.ModuleDefId.{ModuleDefId}
 use Rattle.hir_def_map_rules.specs.Overlay.{Maps}
 use Rattle.hir_def_map_rules.specs.State.{Map, module_at}
 use Rattle.hir_import_resolution.specs.Rules.{acts as import_acts}
 use Rattle.hir_collector_rules.specs.declared.macro_directive.Fate.{Fate}
-use Rattle.hir_collector_rules.specs.declared.macro_directive.Fate.TheVariants.{GivenUp, Handled, Waits}
 use Rattle.hir_collector_rules.specs.declared.macro_directive.MacroDirective.{MacroDirective}
+use Rattle.hir_collector_rules.specs.declared.macro_directive.Fate.TheVariants.{GivenUp, Handled, Waits}
 use Rattle.either.specs.declared.Either.TheVariants as either
 use Rattle.hir_collector_rules.specs.Calls.{error_of, helpers_brought}
-use Rattle.hir_collector_rules.specs.Changes.{Change, lists, makes, gives_variants, begins_paths, reaches, awaits, ends, settles, changes_imports, adds_textual, takes_textual, defines, describes, helps, lists_derive, exports, uses_macros, tells, goes_on, act, perform, with_derived}
+use Rattle.hir_collector_rules.specs.Changes.{Change, lists, makes, gives_variants, begins_paths, reaches, awaits, ends, settles, changes_imports, adds_textual}
+use Rattle.hir_collector_rules.specs.Changes.{takes_textual, defines, describes, helps, lists_derive, notes, exports, uses_macros, tells, goes_on, act, perform}
+use Rattle.hir_collector_rules.specs.Changes.{with_derived}
+use Rattle.hir_collector_rules.specs.Invocations.{impl_noted}
 use Rattle.hir_collector_rules.specs.Keys.{Environment}
 use Rattle.hir_collector_rules.specs.State.{Core, State, all_wait, import_state}
-use Rattle.hir_collector_rules.specs.Steps.{Rule, drops_item, awaits_attribute, lists_derives, faults_derive, exports_macro, reaches_call, rests, expands_call, drops_call, drops_reached, derives_builtin, skips_attribute, falls_back, defines_rules, defines_macro, closes_module, declares_item, declares_enum, lists_constant, lists_impl, opens_module, opens_file, drops_file, misses_file, enters_block, reaches_imports, reaches_crate, resolves_imports, DerivesBuiltin, May, Step, acts, asking, bringing, more, none}
+use Rattle.hir_collector_rules.specs.Steps.{Rule, drops_item, awaits_attribute, lists_derives, faults_derive, exports_macro, reaches_call, rests, expands_call}
+use Rattle.hir_collector_rules.specs.Steps.{drops_call, drops_reached, derives_builtin, skips_attribute, falls_back, defines_rules, defines_macro}
+use Rattle.hir_collector_rules.specs.Steps.{closes_module, declares_item, declares_enum, lists_constant, lists_impl, opens_module, opens_file, drops_file}
+use Rattle.hir_collector_rules.specs.Steps.{misses_file, enters_block, reaches_imports, reaches_crate, resolves_imports, DerivesBuiltin, May, Step, acts}
+use Rattle.hir_collector_rules.specs.Steps.{asking, bringing, more, none}
 use Rattle.hir_collector_rules.proofs.Changes.{AllFine, all_fine, fine_bringing, fine_expanding, fine_macro, fine_reporting, perform_keeps}
 use Rattle.hir_collector_rules.proofs.InRange.{IsInRange, call_below}
 use Rattle.hir_collector_rules.proofs.Tried.{call_stays}
@@ -32,7 +40,8 @@ from_rule r defs es = es
 -- ---- fates
 
 -- of more calls, all wait
-ended_left : (what : Fate) → what ≢ Waits → (fs : List Fate) (ds : List MacroDirective) (i : ℕ) → slice_get (fs ++ all_wait ds) i ≡ Some what → slice_get fs i ≡ Some what
+ended_left : (what : Fate) → what ≢ Waits → (fs : List Fate) (ds : List MacroDirective) (i : ℕ) → slice_get (fs ++ all_wait ds) i ≡ Some what → slice_get fs i
+    ≡ Some what
 ended_left what apart [] [] i e = e
 ended_left what apart [] (d ∷ ds) zero e = let same : Waits ≡ what = cc in absurd (apart (sym same))
 ended_left what apart [] (d ∷ ds) (suc i) e = ended_left what apart [] ds i e
@@ -40,7 +49,8 @@ ended_left what apart (f ∷ fs) ds zero e = e
 ended_left what apart (f ∷ fs) ds (suc i) e = ended_left what apart fs ds i e
 
 -- of others, those with this fate are the same
-ended_set : (what : Fate) (fs : List Fate) (j : ℕ) (f : Fate) (i : ℕ) → slice_get (slice_set fs j f) i ≡ Some what → slice_get fs i ≡ Some what ⊎ ((j ≡ i) × (f ≡ what))
+ended_set : (what : Fate) (fs : List Fate) (j : ℕ) (f : Fate) (i : ℕ) → slice_get (slice_set fs j f) i ≡ Some what → slice_get fs i ≡ Some what
+    ⊎ ((j ≡ i) × (f ≡ what))
 ended_set what [] j f i e = inl e
 ended_set what (x ∷ xs) zero f zero e = inr (refl, cc)
 ended_set what (x ∷ xs) zero f (suc i) e = inl e
@@ -58,32 +68,10 @@ module _ (what : Fate) (apart : what ≢ Waits) (Q : ℕ → Type 0) (old : Stat
     each : (i : ℕ) → slice_get s.core.fates i ≡ Some what → slice_get old.core.fates i ≡ Some what ⊎ Q i
 
   abbrev EndsWell : State → Change → Type 0
-  EndsWell s (lists home d) = Unit {0}
-  EndsWell s (makes home name origin visibility) = Unit {0}
-  EndsWell s (gives_variants id variants) = Unit {0}
-  EndsWell s (begins_paths r) = Unit {0}
-  EndsWell s (reaches rs) = Unit {0}
-  EndsWell s (awaits calls) = Unit {0}
   EndsWell s (ends i fate) = fate ≡ what → Q i
-  EndsWell s settles = Unit {0}
-  EndsWell s (changes_imports c) = Unit {0}
-  EndsWell s (adds_textual home name makro) = Unit {0}
-  EndsWell s (takes_textual home from_) = Unit {0}
-  EndsWell s (defines node makro) = Unit {0}
-  EndsWell s (describes makro what_kept) = Unit {0}
-  EndsWell s (helps node helper) = Unit {0}
-  EndsWell s (lists_derive home imp) = Unit {0}
-  EndsWell s (exports f makro) = Unit {0}
-  EndsWell s (uses_macros macros by) = Unit {0}
-  EndsWell s (tells d) = Unit {0}
-  EndsWell s (goes_on vs) = Unit {0}
+  EndsWell s other = Unit {0}
 
   ended-act : (s : State) (c : Change) → AreEnded s → EndsWell s c → AreEnded (act s c)
-  ended-act s (lists home d) p fine = record { each = p.each }
-  ended-act s (makes home name origin visibility) p fine = record { each = p.each }
-  ended-act s (gives_variants id variants) p fine = record { each = p.each }
-  ended-act s (begins_paths r) p fine = record { each = p.each }
-  ended-act s (reaches rs) p fine = record { each = p.each }
   ended-act s (awaits calls) p fine = record { each = λ i h. p.each i (ended_left what apart s.core.fates calls i h) }
   ended-act s (ends j fate) p fine = record {
     each = λ i h. elim (ended_set what s.core.fates j fate i h) as (λ _. slice_get old.core.fates i ≡ Some what ⊎ Q i) [
@@ -91,18 +79,7 @@ module _ (what : Fate) (apart : what ≢ Waits) (Q : ℕ → Type 0) (old : Stat
       | inr here ↦ inr (subst Q here.0 (fine here.1))
     ];
   }
-  ended-act s settles p fine = record { each = p.each }
-  ended-act s (changes_imports c) p fine = record { each = p.each }
-  ended-act s (adds_textual home name makro) p fine = record { each = p.each }
-  ended-act s (takes_textual home from_) p fine = record { each = p.each }
-  ended-act s (defines node makro) p fine = record { each = p.each }
-  ended-act s (describes makro what_kept) p fine = record { each = p.each }
-  ended-act s (helps node helper) p fine = record { each = p.each }
-  ended-act s (lists_derive home imp) p fine = record { each = p.each }
-  ended-act s (exports f makro) p fine = record { each = p.each }
-  ended-act s (uses_macros macros by) p fine = record { each = p.each }
-  ended-act s (tells d) p fine = record { each = p.each }
-  ended-act s (goes_on vs) p fine = record { each = p.each }
+  ended-act s other p fine = record { each = p.each }
 
 handled_apart : Handled ≢ Waits
 handled_apart e = let no : ⊥ = cc in no
@@ -140,35 +117,12 @@ module _ (last : Core) (m : Map) where
   went_more e es d p = (p.0, later e es p.0 p.1, p.2)
 
   -- what holds of some holds of more
-  from_more : (P : List Expansion → Type 0) → ((e : Expansion) (es : List Expansion) → P es → P (e ∷ es)) → (r : Rule) (defs : List ModuleDefId) (es : List Expansion) → P es → P (from_rule r defs es)
-  from_more P besides (drops_item v report rest) defs es p = p
-  from_more P besides (declares_item v c rest) defs es p = p
-  from_more P besides (declares_enum site head name found rest) defs es p = p
-  from_more P besides (lists_constant site head rest) defs es p = p
-  from_more P besides (lists_impl site head of_trait rest) defs es p = p
-  from_more P besides (opens_module site head name items rest) defs es p = p
-  from_more P besides (opens_file site head name looked file rest) defs es p = p
-  from_more P besides (drops_file site head name looked report rest) defs es p = p
-  from_more P besides (misses_file site head name looked report rest) defs es p = p
-  from_more P besides (enters_block site head items rest) defs es p = p
-  from_more P besides (reaches_imports site head tree rest) defs es p = p
-  from_more P besides (reaches_crate site head name alias rest) defs es p = p
-  from_more P besides (defines_rules site head name expander helpers rest) defs es p = p
-  from_more P besides (defines_macro site head name expander helpers rest) defs es p = p
-  from_more P besides (closes_module parent child rest) defs es p = p
-  from_more P besides (awaits_attribute v a k rest) defs es p = p
-  from_more P besides (lists_derives v at a adt paths rest) defs es p = p
-  from_more P besides (faults_derive v at report rest) defs es p = p
-  from_more P besides (exports_macro site head name c e rest) defs es p = p
-  from_more P besides (reaches_call site head path rest) defs es p = p
-  from_more P besides rests defs es p = p
+  from_more : (P : List Expansion → Type 0) → ((e : Expansion) (es : List Expansion) → P es → P (e ∷ es)) → (r : Rule) (defs : List ModuleDefId)
+      (es : List Expansion) → P es → P (from_rule r defs es)
   from_more P besides (expands_call i call makro x) defs es p = besides _ es p
-  from_more P besides (drops_call i call) defs es p = p
-  from_more P besides (drops_reached i call makro) defs es p = p
-  from_more P besides (derives_builtin i call makro imp) defs es p = p
   from_more P besides (skips_attribute i call k item) defs es p = besides _ es p
   from_more P besides (falls_back i call k item) defs es p = besides _ es p
-  from_more P besides (resolves_imports rule) defs es p = p
+  from_more P besides other defs es p = p
 
   module _ (finished : Maps) (old : State) (inside : IsInRange old) (deep : old.core.map.crate_data.recursion_limit ≡ m.crate_data.recursion_limit)
       (stays : (i : ℕ) (d : MacroDirective) → slice_get old.core.calls i ≡ Some d → slice_get last.calls i ≡ Some d) (es : List Expansion) where
@@ -176,19 +130,23 @@ module _ (last : Core) (m : Map) where
     done_here : (i : ℕ) (call d : MacroDirective) → slice_get old.core.calls i ≡ Some call → slice_get last.calls i ≡ Some d → call ≡ d
     done_here i call d at is = let still : slice_get last.calls i ≡ Some call = stays i call at in cc
 
-    deep_here : (i : ℕ) (d : MacroDirective) (rest : List Expansion) → slice_get old.core.calls i ≡ Some d → old.core.map.crate_data.recursion_limit ≤ d.site.level → IsDoneAt rest i
+    deep_here : (i : ℕ) (d : MacroDirective) (rest : List Expansion) → slice_get old.core.calls i ≡ Some d → old.core.map.crate_data.recursion_limit ≤
+        d.site.level → IsDoneAt rest i
     deep_here i d rest at past call is =
-        too_deep (subst (λ (c : MacroDirective). m.crate_data.recursion_limit ≤ c.site.level) (done_here i d call at is) (subst (λ (n : ℕ). n ≤ d.site.level) deep past))
+        too_deep (subst (λ (c : MacroDirective). m.crate_data.recursion_limit ≤ c.site.level) (done_here i d call at is)
+        (subst (λ (n : ℕ). n ≤ d.site.level) deep past))
 
     -- an impl is listed
     builtin_here : (i : ℕ) (d : MacroDirective) (makro : MacroId) (imp : BuiltinDeriveImplId) → DerivesBuiltin finished old i d makro imp
         → StayDerived (perform (asking old (derives_builtin i d makro imp)) (acts finished old (derives_builtin i d makro imp))).core.map m → IsDoneAt es i
     builtin_here i d makro imp may derived call is =
         let home : d.site.home < length old.core.map.modules = call_below (length old.core.map.modules) old.core.calls i d inside.calls may.due.waiting.call in
-        let now : Contains (derived_in (module_at (with_derived old.core.map d.site.home imp) d.site.home)) imp = derived_now old.core.map.modules d.site.home imp home in
+        let now : Contains (derived_in (module_at (with_derived old.core.map d.site.home imp) d.site.home)) imp = derived_now old.core.map.modules d.site.home
+        imp home in
         let listed : State = perform (asking old (derives_builtin i d makro imp)) (ends i Handled ∷ lists_derive d.site.home imp ∷ []) in
         let there : Contains (derived_in (module_at m d.site.home)) imp =
-        derived d.site.home imp (StayDerived-perform (bringing d.ast_id (helpers_brought finished old.core.map d makro (Some (either.Right imp)))) listed d.site.home imp now) in
+        derived d.site.home imp (StayDerived-perform (notes d.site.home (impl_noted d.ast_id imp) ∷ bringing d.ast_id
+        (helpers_brought finished old.core.map d makro (Some (either.Right imp)))) listed d.site.home imp now) in
         subst (λ (c : MacroDirective). IsDone m es c) (done_here i d call may.due.waiting.call is) (builtin makro imp may.builtin may.is there)
 
     abbrev Done : Rule → List ModuleDefId → State → Change → Type 0
@@ -197,68 +155,70 @@ module _ (last : Core) (m : Map) where
     abbrev Went : Rule → List ModuleDefId → State → Change → Type 0
     Went r defs = EndsWell GivenUp given_up_apart (WentOnAt (from_rule r defs es)) old
 
-    done_rule : (r : Rule) (defs : List ModuleDefId) → May finished old r → StayDerived (perform (asking old r) (acts finished old r)).core.map m → AllFine (Done r defs) (asking old r) (acts finished old r)
-    done_rule (drops_item v report rest) defs may derived = (tt, (tt, tt))
+    done_rule : (r : Rule) (defs : List ModuleDefId) → May finished old r → StayDerived (perform (asking old r) (acts finished old r)).core.map m
+        → AllFine (Done r defs) (asking old r) (acts finished old r)
     done_rule (declares_item v c rest) defs may derived = (tt, (tt, (tt, tt)))
     done_rule (declares_enum site head name found rest) defs may derived = (tt, (tt, (tt, (tt, tt))))
-    done_rule (lists_constant site head rest) defs may derived = (tt, (tt, tt))
-    done_rule (lists_impl site head of_trait rest) defs may derived = (tt, (tt, tt))
     done_rule (opens_module site head name items rest) defs may derived = (tt, (tt, (tt, (tt, (tt, tt)))))
     done_rule (opens_file site head name search file rest) defs may derived = (tt, (tt, (tt, (tt, (tt, tt)))))
-    done_rule (drops_file site head name search report rest) defs may derived = (tt, (tt, tt))
     done_rule (misses_file site head name search report rest) defs may derived = (tt, (tt, (tt, (tt, (tt, (tt, tt))))))
-    done_rule (enters_block site head items rest) defs may derived = (tt, (tt, tt))
     done_rule (reaches_imports site head tree rest) defs may derived = (tt, (tt, (tt, tt)))
     done_rule (reaches_crate site head name alias rest) defs may derived = (tt, (tt, (tt, (tt, (tt, tt)))))
-    done_rule (defines_rules site head name expander helpers rest) defs may derived = (tt, (tt, (tt, (tt, fine_macro (Done (defines_rules site head name expander helpers rest) defs) _ _ expander (λ t. tt) head name _ (λ t. tt) _))))
-    done_rule (defines_macro site head name expander helpers rest) defs may derived = (tt, (tt, (tt, (tt, (tt, fine_reporting (Done (defines_macro site head name expander helpers rest) defs) _ _ expander (λ t. tt) _)))))
-    done_rule (closes_module parent child rest) defs may derived = (tt, (tt, tt))
-    done_rule (awaits_attribute v a k rest) defs may derived = (tt, (tt, tt))
-    done_rule (lists_derives v at a adt paths rest) defs may derived = (tt, (tt, tt))
-    done_rule (faults_derive v at report rest) defs may derived = (tt, (tt, tt))
+    done_rule (defines_rules site head name expander helpers rest) defs may derived =
+        (tt, (tt, (tt, (tt, fine_macro (Done (defines_rules site head name expander helpers rest) defs) _ _ expander (λ t. tt) head name _ (λ t. tt) _))))
+    done_rule (defines_macro site head name expander helpers rest) defs may derived =
+        (tt, (tt, (tt, (tt, (tt, fine_reporting (Done (defines_macro site head name expander helpers rest) defs) _ _ expander (λ t. tt) _)))))
+    done_rule (lists_derives v at a adt paths call rest) defs may derived = (tt, (tt, (tt, tt)))
     done_rule (exports_macro site head name c e rest) defs may derived = (tt, (tt, (tt, (tt, (tt, (tt, (tt, tt)))))))
-    done_rule (reaches_call site head path rest) defs may derived = (tt, (tt, tt))
     done_rule rests defs may derived = (tt, tt)
-    done_rule (expands_call i call makro x) defs may derived = (λ same d is. among _ (at_first _ es) (done_here i call d may.called.due.waiting.call is), (tt, fine_expanding (Done (expands_call i call makro x) defs) _ (λ t helper. tt) _ _ call (error_of x.there) (λ t text. tt) _))
+    done_rule (expands_call i call makro x) defs may derived = (
+      λ same d is. among _ (at_first _ es) (done_here i call d may.called.due.waiting.call is),
+      (tt, (tt, fine_expanding (Done (expands_call i call makro x) defs) _ (λ t helper. tt) _ _ call (error_of x.there) (λ t text. tt) _)),
+    )
     done_rule (drops_call i call) defs may derived = (λ same. deep_here i call es may.due.waiting.call may.deep, tt)
-    done_rule (drops_reached i call makro) defs may derived = (λ same. deep_here i call es may.called.due.waiting.call may.deep, fine_bringing (Done (drops_reached i call makro) defs) _ (λ t helper. tt) _ _)
-    done_rule (derives_builtin i call makro imp) defs may derived = (λ same. builtin_here i call makro imp may derived, (tt, fine_bringing (Done (derives_builtin i call makro imp) defs) _ (λ t helper. tt) _ _))
+    done_rule (drops_reached i call makro) defs may derived =
+        (λ same. deep_here i call es may.called.due.waiting.call may.deep, fine_bringing (Done (drops_reached i call makro) defs) _ (λ t helper. tt) _ _)
+    done_rule (derives_builtin i call makro imp) defs may derived =
+        (λ same. builtin_here i call makro imp may derived, (tt, (tt, fine_bringing (Done (derives_builtin i call makro imp) defs) _ (λ t helper. tt) _ _)))
     done_rule (skips_attribute i call k item) defs may derived = (λ same d is. among _ (at_first _ es) (done_here i call d may.due.waiting.call is), (tt, tt))
     done_rule (falls_back i call k item) defs may derived = (λ same. absurd (let no : ⊥ = cc in no), (tt, (tt, tt)))
-    done_rule (resolves_imports rule) defs may derived = all_fine (Done (resolves_imports rule) defs) (λ t c. tt) (import_acts finished (import_state old) rule) (asking old (resolves_imports rule))
+    done_rule (resolves_imports rule) defs may derived =
+        all_fine (Done (resolves_imports rule) defs) (λ t c. tt) (import_acts finished (import_state old) rule) (asking old (resolves_imports rule))
+    done_rule other defs may derived = (tt, (tt, tt))
 
     went_rule : (r : Rule) (defs : List ModuleDefId) → May finished old r → AllFine (Went r defs) (asking old r) (acts finished old r)
-    went_rule (drops_item v report rest) defs may = (tt, (tt, tt))
     went_rule (declares_item v c rest) defs may = (tt, (tt, (tt, tt)))
     went_rule (declares_enum site head name found rest) defs may = (tt, (tt, (tt, (tt, tt))))
-    went_rule (lists_constant site head rest) defs may = (tt, (tt, tt))
-    went_rule (lists_impl site head of_trait rest) defs may = (tt, (tt, tt))
     went_rule (opens_module site head name items rest) defs may = (tt, (tt, (tt, (tt, (tt, tt)))))
     went_rule (opens_file site head name search file rest) defs may = (tt, (tt, (tt, (tt, (tt, tt)))))
-    went_rule (drops_file site head name search report rest) defs may = (tt, (tt, tt))
     went_rule (misses_file site head name search report rest) defs may = (tt, (tt, (tt, (tt, (tt, (tt, tt))))))
-    went_rule (enters_block site head items rest) defs may = (tt, (tt, tt))
     went_rule (reaches_imports site head tree rest) defs may = (tt, (tt, (tt, tt)))
     went_rule (reaches_crate site head name alias rest) defs may = (tt, (tt, (tt, (tt, (tt, tt)))))
-    went_rule (defines_rules site head name expander helpers rest) defs may = (tt, (tt, (tt, (tt, fine_macro (Went (defines_rules site head name expander helpers rest) defs) _ _ expander (λ t. tt) head name _ (λ t. tt) _))))
-    went_rule (defines_macro site head name expander helpers rest) defs may = (tt, (tt, (tt, (tt, (tt, fine_reporting (Went (defines_macro site head name expander helpers rest) defs) _ _ expander (λ t. tt) _)))))
-    went_rule (closes_module parent child rest) defs may = (tt, (tt, tt))
-    went_rule (awaits_attribute v a k rest) defs may = (tt, (tt, tt))
-    went_rule (lists_derives v at a adt paths rest) defs may = (tt, (tt, tt))
-    went_rule (faults_derive v at report rest) defs may = (tt, (tt, tt))
+    went_rule (defines_rules site head name expander helpers rest) defs may =
+        (tt, (tt, (tt, (tt, fine_macro (Went (defines_rules site head name expander helpers rest) defs) _ _ expander (λ t. tt) head name _ (λ t. tt) _))))
+    went_rule (defines_macro site head name expander helpers rest) defs may =
+        (tt, (tt, (tt, (tt, (tt, fine_reporting (Went (defines_macro site head name expander helpers rest) defs) _ _ expander (λ t. tt) _)))))
+    went_rule (lists_derives v at a adt paths call rest) defs may = (tt, (tt, (tt, tt)))
     went_rule (exports_macro site head name c e rest) defs may = (tt, (tt, (tt, (tt, (tt, (tt, (tt, tt)))))))
-    went_rule (reaches_call site head path rest) defs may = (tt, (tt, tt))
     went_rule rests defs may = (tt, tt)
-    went_rule (expands_call i call makro x) defs may = (λ same. absurd (let no : ⊥ = cc in no), (tt, fine_expanding (Went (expands_call i call makro x) defs) _ (λ t helper. tt) _ _ call (error_of x.there) (λ t text. tt) _))
+    went_rule (expands_call i call makro x) defs may = (
+      λ same. absurd (let no : ⊥ = cc in no),
+      (tt, (tt, fine_expanding (Went (expands_call i call makro x) defs) _ (λ t helper. tt) _ _ call (error_of x.there) (λ t text. tt) _)),
+    )
     went_rule (drops_call i call) defs may = (λ same. absurd (let no : ⊥ = cc in no), tt)
-    went_rule (drops_reached i call makro) defs may = (λ same. absurd (let no : ⊥ = cc in no), fine_bringing (Went (drops_reached i call makro) defs) _ (λ t helper. tt) _ _)
-    went_rule (derives_builtin i call makro imp) defs may = (λ same. absurd (let no : ⊥ = cc in no), (tt, fine_bringing (Went (derives_builtin i call makro imp) defs) _ (λ t helper. tt) _ _))
+    went_rule (drops_reached i call makro) defs may =
+        (λ same. absurd (let no : ⊥ = cc in no), fine_bringing (Went (drops_reached i call makro) defs) _ (λ t helper. tt) _ _)
+    went_rule (derives_builtin i call makro imp) defs may =
+        (λ same. absurd (let no : ⊥ = cc in no), (tt, (tt, fine_bringing (Went (derives_builtin i call makro imp) defs) _ (λ t helper. tt) _ _)))
     went_rule (skips_attribute i call k item) defs may = (λ same. absurd (let no : ⊥ = cc in no), (tt, tt))
     went_rule (falls_back i call k item) defs may = (λ same d is. (_, at_first _ es, done_here i call d may.waiting.call is), (tt, (tt, tt)))
-    went_rule (resolves_imports rule) defs may = all_fine (Went (resolves_imports rule) defs) (λ t c. tt) (import_acts finished (import_state old) rule) (asking old (resolves_imports rule))
+    went_rule (resolves_imports rule) defs may =
+        all_fine (Went (resolves_imports rule) defs) (λ t c. tt) (import_acts finished (import_state old) rule) (asking old (resolves_imports rule))
+    went_rule other defs may = (tt, (tt, tt))
 
   pub done-Step : {env : Environment} {finished : Maps} {old new : State} (defs : List ModuleDefId) (es : List Expansion) → IsInRange old
-      → old.core.map.crate_data.recursion_limit ≡ m.crate_data.recursion_limit → (step : Step env finished old new) → AreDone es new → AreDone (from_rule step.rule defs es) old
+      → old.core.map.crate_data.recursion_limit ≡ m.crate_data.recursion_limit → (step : Step env finished old new) → AreDone es new
+      → AreDone (from_rule step.rule defs es) old
   done-Step {finished = finished} {old = old} {new = new} defs es inside deep step p = record {
     stays = stays;
     derived = λ k imp h. derived_after k imp (StayDerived-perform (acts finished old step.rule) (asking old step.rule) k imp h);
@@ -280,14 +240,18 @@ module _ (last : Core) (m : Map) where
 
       handled : AreEnded Handled handled_apart (IsDoneAt (from_rule step.rule defs es)) old new
       handled =
-          let ends_so = perform_keeps (AreEnded Handled handled_apart (IsDoneAt (from_rule step.rule defs es)) old) (EndsWell Handled handled_apart (IsDoneAt (from_rule step.rule defs es)) old)
+          let ends_so = perform_keeps (AreEnded Handled handled_apart (IsDoneAt (from_rule step.rule defs es)) old)
+          (EndsWell Handled handled_apart (IsDoneAt (from_rule step.rule defs es)) old)
           (ended-act Handled handled_apart (IsDoneAt (from_rule step.rule defs es)) old)
-          (acts finished old step.rule) (asking old step.rule) (record { each = λ i h. inl h }) (done_rule finished old inside deep stays es step.rule defs step.may derived_after) in
+          (acts finished old step.rule) (asking old step.rule) (record { each = λ i h. inl h })
+          (done_rule finished old inside deep stays es step.rule defs step.may derived_after) in
           subst (AreEnded Handled handled_apart (IsDoneAt (from_rule step.rule defs es)) old) (sym step.is) (record { each = ends_so.each })
 
       gone_on : AreEnded GivenUp given_up_apart (WentOnAt (from_rule step.rule defs es)) old new
       gone_on =
-          let ends_so = perform_keeps (AreEnded GivenUp given_up_apart (WentOnAt (from_rule step.rule defs es)) old) (EndsWell GivenUp given_up_apart (WentOnAt (from_rule step.rule defs es)) old)
+          let ends_so = perform_keeps (AreEnded GivenUp given_up_apart (WentOnAt (from_rule step.rule defs es)) old)
+          (EndsWell GivenUp given_up_apart (WentOnAt (from_rule step.rule defs es)) old)
           (ended-act GivenUp given_up_apart (WentOnAt (from_rule step.rule defs es)) old)
-          (acts finished old step.rule) (asking old step.rule) (record { each = λ i h. inl h }) (went_rule finished old inside deep stays es step.rule defs step.may) in
+          (acts finished old step.rule) (asking old step.rule) (record { each = λ i h. inl h })
+          (went_rule finished old inside deep stays es step.rule defs step.may) in
           subst (AreEnded GivenUp given_up_apart (WentOnAt (from_rule step.rule defs es)) old) (sym step.is) (record { each = ends_so.each })

@@ -17,7 +17,9 @@ module _ (c : Core) where
       go false = all
 
   pub same_length : length (ended c).modules ≡ length c.map.modules
-  same_length = ended_by (λ (m : Map). length m.modules ≡ length c.map.modules) refl (length-changed c.map.modules 0 (with_module_scope (exporting_scope c.map.id.krate c.exported)))
+  same_length =
+      ended_by (λ (m : Map). length m.modules ≡ length c.map.modules) refl
+      (length-changed c.map.modules 0 (with_module_scope (exporting_scope c.map.id.krate c.exported)))
 
   pub same_id : (ended c).id ≡ c.map.id
   same_id = ended_by (λ (m : Map). m.id ≡ c.map.id) refl refl

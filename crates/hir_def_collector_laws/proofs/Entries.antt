@@ -80,7 +80,8 @@ module _ {K V : Type 0} (cmp : K → K → Ordering) (total : IsTotalOrder cmp) 
   pub tied_alike : (q k : K) → cmp q k ≡ Equal → (es : List (K × V)) → lookup (is_at (cmp q)) es ≡ lookup (is_at (cmp k)) es
   tied_alike q k tied [] = refl
   tied_alike q k tied (e ∷ es) =
-      ap (λ (o : Ordering). cond (is_eq o) (Some e.1) (lookup (is_at (cmp q)) es)) (total.congr q k e.0 tied) ∙ ap (cond (is_at (cmp k) e.0) (Some e.1)) (tied_alike q k tied es)
+      ap (λ (o : Ordering). cond (is_eq o) (Some e.1) (lookup (is_at (cmp q)) es)) (total.congr q k e.0 tied) ∙ ap (cond (is_at (cmp k) e.0) (Some e.1))
+      (tied_alike q k tied es)
 
   -- no key stands twice
   abbrev pub AloneKeys : List (K × V) → Type 0
@@ -109,7 +110,8 @@ module _ {K V : Type 0} (cmp : K → K → Ordering) (total : IsTotalOrder cmp) 
 
   none_mapped : (test : K → Bool) (new : V → V) (es : List (K × V)) → lookup test es ≡ None → lookup test (map (λ (e : K × V). (e.0, new e.1)) es) ≡ None
   none_mapped test new [] e = refl
-  none_mapped test new (x ∷ xs) e = none_first (test x.0) x.1 (new x.1) (lookup test xs) (lookup test (map (λ (y : K × V). (y.0, new y.1)) xs)) e (none_mapped test new xs)
+  none_mapped test new (x ∷ xs) e =
+      none_first (test x.0) x.1 (new x.1) (lookup test xs) (lookup test (map (λ (y : K × V). (y.0, new y.1)) xs)) e (none_mapped test new xs)
 
   pub alone_mapped : (new : V → V) (es : List (K × V)) → AloneKeys es → AloneKeys (map (λ (e : K × V). (e.0, new e.1)) es)
   alone_mapped new [] f = tt
@@ -135,7 +137,8 @@ module _ {K V : Type 0} (cmp : K → K → Ordering) (total : IsTotalOrder cmp) 
       go true below = f.1
       go false below = (none_removed at (is_at (cmp x.0)) xs f.0, below)
 
-  none_inserted : (q k : K) (v : V) (es : List (K × V)) → is_at (cmp q) k ≡ false → lookup (is_at (cmp q)) es ≡ None → lookup (is_at (cmp q)) (insert_entry cmp es k v) ≡ None
+  none_inserted : (q k : K) (v : V) (es : List (K × V)) → is_at (cmp q) k ≡ false → lookup (is_at (cmp q)) es ≡ None
+      → lookup (is_at (cmp q)) (insert_entry cmp es k v) ≡ None
   none_inserted q k v [] away none = ap (λ (b : Bool). cond b (Some v) None) away
   none_inserted q k v (e ∷ es) away none = go (cmp k e.0) (none_inserted q k v es away)
     where
@@ -166,7 +169,8 @@ module _ {K V : Type 0} (cmp : K → K → Ordering) (total : IsTotalOrder cmp) 
       go (Some u) e = alone_set (is_at (cmp k)) es v f
 
   -- what is found once one is removed was found before
-  pub found_removed : (n q : K) (es : List (K × V)) (v : V) → AloneKeys es → lookup (is_at (cmp q)) (remove_entry (is_at (cmp n)) es) ≡ Some v → lookup (is_at (cmp q)) es ≡ Some v
+  pub found_removed : (n q : K) (es : List (K × V)) (v : V) → AloneKeys es → lookup (is_at (cmp q)) (remove_entry (is_at (cmp n)) es) ≡ Some v
+      → lookup (is_at (cmp q)) es ≡ Some v
   found_removed n q [] v f h = h
   found_removed n q (e ∷ es) v f h = go (is_at (cmp n) e.0) (found_removed n q es v f.1) h
     where
@@ -188,7 +192,8 @@ module _ {K V : Type 0} (cmp : K → K → Ordering) (total : IsTotalOrder cmp) 
       go false below g = first (is_at (cmp q) e.0) below g
 
 -- other values at the same keys
-pub found_mapped : {K V : Type 0} (test : K → Bool) (new : V → V) (es : List (K × V)) → lookup test (map (λ (e : K × V). (e.0, new e.1)) es) ≡ option_map new (lookup test es)
+pub found_mapped : {K V : Type 0} (test : K → Bool) (new : V → V) (es : List (K × V)) → lookup test (map (λ (e : K × V). (e.0, new e.1)) es)
+    ≡ option_map new (lookup test es)
 found_mapped test new [] = refl
 found_mapped {K} {V} test new (e ∷ es) = go (test e.0) (found_mapped test new es)
   where

@@ -23,32 +23,32 @@ use Rattle.hir_base.specs.contracts.macro_kind.MacroIdPartialEq.TheImpl as makro
 use Rattle.hir_base.specs.contracts.macro_kind.MacroLocPartialEq.TheImpl as macro_loc
 use Rattle.hir_base.specs.contracts.macro_kind.ProcMacroLocPartialEq.TheImpl as proc_macro_loc
 use Rattle.hir_base.specs.contracts.macro_kind.ProcMacroStyle.{the_type as proc_macro_styles}
-use Rattle.hir_base.specs.declared.ast_id.BlockId.{BlockId}
-use Rattle.hir_base.specs.declared.ast_id.HirFileId.{HirFileId}
-use Rattle.hir_base.specs.declared.ast_id.HirFileId.TheVariants as files
-use Rattle.hir_base.specs.declared.ast_id.SyntaxId.{SyntaxId}
-use Rattle.hir_base.specs.declared.builtin_type.BuiltinType.{BuiltinType}
-use Rattle.hir_base.specs.declared.builtin_type.BuiltinType.TheVariants as builtins
 use Rattle.hir_base.specs.declared.ids.AdtId.{AdtId}
-use Rattle.hir_base.specs.declared.ids.AdtId.TheVariants as adts
+use Rattle.hir_base.specs.declared.ast_id.BlockId.{BlockId}
+use Rattle.hir_base.specs.declared.builtin_type.BuiltinType.{BuiltinType}
 use Rattle.hir_base.specs.declared.ids.EnumId.{EnumId}
+use Rattle.hir_base.specs.declared.ast_id.HirFileId.{HirFileId}
 use Rattle.hir_base.specs.declared.ids.ItemContainerId.{ItemContainerId}
-use Rattle.hir_base.specs.declared.ids.ItemContainerId.TheVariants as containers
 use Rattle.hir_base.specs.declared.ids.ItemLoc.{ItemLoc}
-use Rattle.hir_base.specs.declared.ids.ModuleDefId.{ModuleDefId}
-use Rattle.hir_base.specs.declared.ids.ModuleDefId.TheVariants as definitions
-use Rattle.hir_base.specs.declared.ids.ModuleId.{ModuleId}
 use Rattle.hir_base.specs.declared.macro_kind.MacroCallStyles.{MacroCallStyles}
 use Rattle.hir_base.specs.declared.macro_kind.MacroExpander.{MacroExpander}
-use Rattle.hir_base.specs.declared.macro_kind.MacroExpander.TheVariants as expanders
 use Rattle.hir_base.specs.declared.macro_kind.MacroId.{MacroId}
-use Rattle.hir_base.specs.declared.macro_kind.MacroId.TheVariants as macros
 use Rattle.hir_base.specs.declared.macro_kind.MacroLoc.{MacroLoc}
+use Rattle.hir_base.specs.declared.ids.ModuleDefId.{ModuleDefId}
+use Rattle.hir_base.specs.declared.ids.ModuleId.{ModuleId}
 use Rattle.hir_base.specs.declared.macro_kind.ProcMacroLoc.{ProcMacroLoc}
+use Rattle.hir_base.specs.declared.ast_id.SyntaxId.{SyntaxId}
+use Rattle.hir_base.specs.declared.ast_id.HirFileId.TheVariants as files
+use Rattle.hir_base.specs.declared.builtin_type.BuiltinType.TheVariants as builtins
+use Rattle.hir_base.specs.declared.ids.AdtId.TheVariants as adts
+use Rattle.hir_base.specs.declared.ids.ItemContainerId.TheVariants as containers
+use Rattle.hir_base.specs.declared.ids.ModuleDefId.TheVariants as definitions
+use Rattle.hir_base.specs.declared.macro_kind.MacroExpander.TheVariants as expanders
+use Rattle.hir_base.specs.declared.macro_kind.MacroId.TheVariants as macros
 use Rattle.hir_item_tree.specs.contracts.raw_visibility.VisibilityExplicitness.{the_type as ways_of_writing}
 use Rattle.hir_scope.specs.declared.item_in_ns.ItemInNs.{ItemInNs}
-use Rattle.hir_scope.specs.declared.item_in_ns.ItemInNs.TheVariants as in_ns
 use Rattle.hir_scope.specs.declared.visibility.Visibility.{Visibility}
+use Rattle.hir_scope.specs.declared.item_in_ns.ItemInNs.TheVariants as in_ns
 use Rattle.hir_scope.specs.declared.visibility.Visibility.TheVariants.{Module, PubCrate, Public}
 use Rattle.hir_glob_imports.specs.Moves.{same_bound, same_def, same_vis}
 use Rattle.hir_glob_imports.specs.declared.edge.Bound.{Bound}
@@ -104,7 +104,8 @@ module _ (container file block id : Bool) (e : (container && (file && (block && 
   id_so = second_so block id (second_so file (block && id) behind_container)
 
 exact_loc : {C : Type 0} (eq : C → C → Bool) → ((x y : C) → eq x y ≡ true → x ≡ y) → (a b : ItemLoc C)
-    → (eq a.container b.container && (hir_file.ghosts.eq a.file_id b.file_id && (option_eq block_id.ghosts.eq a.block b.block && syntax.ghosts.eq a.id b.id))) ≡ true → a ≡ b
+    → (eq a.container b.container && (hir_file.ghosts.eq a.file_id b.file_id && (option_eq block_id.ghosts.eq a.block b.block && syntax.ghosts.eq a.id b.id)))
+    ≡ true → a ≡ b
 exact_loc eq exact a b e =
     let same_container = eq a.container b.container in
     let same_file = hir_file.ghosts.eq a.file_id b.file_id in
@@ -118,7 +119,8 @@ exact_loc eq exact a b e =
     }
 
 exact_in_module : (a b : ItemLoc ModuleId)
-    → (module_id.ghosts.eq a.container b.container && (hir_file.ghosts.eq a.file_id b.file_id && (option_eq block_id.ghosts.eq a.block b.block && syntax.ghosts.eq a.id b.id))) ≡ true → a ≡ b
+    → (module_id.ghosts.eq a.container b.container &&
+    (hir_file.ghosts.eq a.file_id b.file_id && (option_eq block_id.ghosts.eq a.block b.block && syntax.ghosts.eq a.id b.id))) ≡ true → a ≡ b
 exact_in_module a b e = exact_loc module_id.ghosts.eq exact_module a b e
 
 exact_container : (a b : ItemContainerId) → container.ghosts.eq a b ≡ true → a ≡ b
@@ -129,7 +131,8 @@ exact_container (containers.TraitId a) (containers.TraitId b) e = λ i. containe
 exact_container a b e = absurd (true≢false (sym e))
 
 exact_in_container : (a b : ItemLoc ItemContainerId)
-    → (container.ghosts.eq a.container b.container && (hir_file.ghosts.eq a.file_id b.file_id && (option_eq block_id.ghosts.eq a.block b.block && syntax.ghosts.eq a.id b.id))) ≡ true → a ≡ b
+    → (container.ghosts.eq a.container b.container &&
+    (hir_file.ghosts.eq a.file_id b.file_id && (option_eq block_id.ghosts.eq a.block b.block && syntax.ghosts.eq a.id b.id))) ≡ true → a ≡ b
 exact_in_container a b e = exact_loc container.ghosts.eq exact_container a b e
 
 -- ---- definitions
@@ -251,7 +254,8 @@ exact_item (in_ns.Macros a) (in_ns.Macros b) e = ap in_ns.Macros (exact_macro a 
 exact_item a b e = absurd (true≢false (sym e))
 
 pub exact_visibility : (a b : Visibility) → same_vis a b ≡ true → a ≡ b
-exact_visibility (Module m d) (Module n f) e = λ i. Module (exact_module m n (first_so _ _ e) i) (same_true ways_of_writing (search rules) d f (second_so (module_id.ghosts.eq m n) _ e) i)
+exact_visibility (Module m d) (Module n f) e =
+    λ i. Module (exact_module m n (first_so _ _ e) i) (same_true ways_of_writing (search rules) d f (second_so (module_id.ghosts.eq m n) _ e) i)
 exact_visibility (PubCrate c) (PubCrate d) e = λ i. PubCrate (record { 0 = same_nat c.0 d.0 e i })
 exact_visibility Public Public e = refl
 exact_visibility a b e = absurd (true≢false (sym e))

@@ -1,9 +1,9 @@
 -- The file that is found for a module is what is seen at its key, and so is what a call expands to.
 use Rattle.std.proofs.Common.{◌≡◌, ◌∙◌, List, [], ◌∷◌, ◌++◌, Option, Some, None, refl, sym, ap, subst, arith, Contains}
 use Rattle.std.specs.Option.{option_to_list}
-use Rattle.hir_base.specs.declared.ast_id.FileId.{FileId}
-use Rattle.hir_base.specs.declared.edition.Edition.{Edition}
 use Rattle.hir_base.specs.declared.ids.Crate.{Crate}
+use Rattle.hir_base.specs.declared.edition.Edition.{Edition}
+use Rattle.hir_base.specs.declared.ast_id.FileId.{FileId}
 use Rattle.hir_base.specs.declared.macro_kind.MacroId.{MacroId}
 use Rattle.hir_base.specs.declared.macro_kind.MacroId.TheVariants as macros
 use Rattle.hir_tables.specs.Tables.{TablesValue}
@@ -20,7 +20,8 @@ use Rattle.hir_collector_rules.proofs.ModuleFiles.{found_at}
 
 module _ (tables : TablesValue) (w : Workspace) (finished : Maps) (krate : Crate) (edition : Edition) where
   pub found_seen : (absent : List Tried) (found : Option Tried) (f : ModuleFile) → module_file found ≡ Some f
-      → Sees (environment tables w) finished (file_readings krate edition (absent ++ option_to_list found)) → (tree_at tables w (file_key krate edition f.id)).tree ≡ f.tree
+      → Sees (environment tables w) finished (file_readings krate edition (absent ++ option_to_list found))
+      → (tree_at tables w (file_key krate edition f.id)).tree ≡ f.tree
   found_seen absent None f e sees = absurd cc
   found_seen [] (Some t) f e sees =
       let at = found_at t f e in
@@ -37,7 +38,8 @@ module _ (tables : TablesValue) (w : Workspace) (finished : Maps) (krate : Crate
 
 -- so is the tree of what a call expands to
 module _ (tables : TablesValue) (w : Workspace) (finished : Maps) (krate : Crate) (d : MacroDirective) where
-  pub expansion_seen : (makro : MacroId) (x : Expanding) → Sees (environment tables w) finished (text_readings makro x.text ++ expansion_readings krate d x) → tree_at tables w (call_key krate x.id) ≡ x.tree
+  pub expansion_seen : (makro : MacroId) (x : Expanding) → Sees (environment tables w) finished (text_readings makro x.text ++ expansion_readings krate d x)
+      → tree_at tables w (call_key krate x.id) ≡ x.tree
   expansion_seen (macros.Macro2Id id) x sees = ap (λ (l : Look). seen_tree l (seen_of absent_source)) sees.1.1.1.0
   expansion_seen (macros.MacroRulesId id) x sees = ap (λ (l : Look). seen_tree l (seen_of absent_source)) sees.1.1.1.0
   expansion_seen (macros.ProcMacroId id) x sees = ap (λ (l : Look). seen_tree l (seen_of absent_source)) sees.1.1.0

@@ -7,11 +7,11 @@ use Rattle.hir_tables.specs.Tables.{TablesValue}
 use Rattle.hir_def_map_rules.specs.Overlay.{Maps}
 use Rattle.hir_def_map_rules.specs.State.{Map}
 use Rattle.hir_glob_imports.specs.declared.edge.Edge.{Edge}
-use Rattle.hir_import_resolution.specs.Directives.{TakenValue, glob_of, is_untaken, way_of}
+use Rattle.hir_import_resolution.specs.Directives.{TakenValue, glob_of, is_untaken}
 use Rattle.hir_import_resolution.specs.declared.directive.ImportDirective.{ImportDirective}
-use Rattle.hir_collector_rules.specs.declared.macro_directive.MacroDirective.{MacroDirective}
 use Rattle.hir_collector_rules.specs.declared.source_database.Key.{Key}
-use Rattle.hir_collector_rules.specs.Derivation.{CollectedValue, Ends, leftover_among}
+use Rattle.hir_collector_rules.specs.declared.macro_directive.MacroDirective.{MacroDirective}
+use Rattle.hir_collector_rules.specs.Derivation.{CollectedValue, Ends, leftover_among, told_of}
 use Rattle.hir_collector_rules.specs.Keys.{map_keys}
 use Rattle.hir_collector_rules.specs.Start.{Beginning, begin_of, holders_by, krate_of, read_by}
 use Rattle.hir_collector_rules.specs.Workspace.{Workspace, transitive_dependencies_in}
@@ -29,7 +29,7 @@ use Rattle.hir_def_collector_laws.proofs.Written.{AreAsked, IsAllWritten, IsOfGl
 record IsLeftOf (rs : List ImportDirective) (way : ImportOrExternCrate) : Type 0 where
   directive : ImportDirective
   among : Contains rs directive
-  is : way_of directive.source ≡ way
+  is : told_of directive.source ≡ way
 
 left_of : (rs : List ImportDirective) (ts : List TakenValue) (way : ImportOrExternCrate) → Contains (leftover_among rs ts) way → IsLeftOf rs way
 left_of [] ts way (n, below, is) = absurd (omega arith)
@@ -39,7 +39,8 @@ left_of (r ∷ rs) (t ∷ ts) way h = go (is_untaken t) (λ c. left_of rs ts way
     behind : IsLeftOf rs way → IsLeftOf (r ∷ rs) way
     behind p = record { directive = p.directive; among = later r rs p.directive p.among; is = p.is }
 
-    go : (b : Bool) → (Contains (leftover_among rs ts) way → IsLeftOf rs way) → Contains (cond b (way_of r.source ∷ leftover_among rs ts) (leftover_among rs ts)) way → IsLeftOf (r ∷ rs) way
+    go : (b : Bool) → (Contains (leftover_among rs ts) way → IsLeftOf rs way)
+        → Contains (cond b (told_of r.source ∷ leftover_among rs ts) (leftover_among rs ts)) way → IsLeftOf (r ∷ rs) way
     go true others (zero, below, is) = record { directive = r; among = at_first r rs; is = is }
     go true others (suc n, below, is) = behind (others (n, omega (arith, below), is))
     go false others c = behind (others c)
@@ -54,13 +55,17 @@ module _ (tables : TablesValue) (w : Workspace) (finished : Maps) (from : Beginn
   answer_here = ap (λ (id : MapId). id.krate) e.own
 
   pub answer_asked : AreAsked tables w from answer e.last
-  answer_asked key h = subst (λ (ks : List Key). Contains ks key) (sym e.asked_is) (Contains-append_left e.last.core.asked (map_keys (transitive_dependencies_in w (krate_of from.start))) key h)
+  answer_asked key h =
+      subst (λ (ks : List Key). Contains ks key) (sym e.asked_is)
+      (Contains-append_left e.last.core.asked (map_keys (transitive_dependencies_in w (krate_of from.start))) key h)
 
   same_crate : (begin_of tables w finished from).core.map.crate_data ≡ answer.map.crate_data
   same_crate = sym (ap (λ (m : Map). m.crate_data) e.map_is ∙ same_data e.last.core ∙ data-Steps e.derived)
 
   pub first_written : IsAllWritten tables w from answer (begin_of tables w finished from)
-  first_written = written-start tables w from answer (read_by w finished from.start) (holders_by finished from.start) answer_here e.own same_crate (λ key h. answer_asked key (still_asked e.derived key h))
+  first_written =
+      written-start tables w from answer (read_by w finished from.start) (holders_by finished from.start) answer_here e.own same_crate
+      (λ key h. answer_asked key (still_asked e.derived key h))
 
   written : IsAllWritten tables w from answer e.last
   written = written-Steps tables w from answer answer_here e.derived answer_asked first_written
@@ -73,15 +78,18 @@ module _ (tables : TablesValue) (w : Workspace) (finished : Maps) (from : Beginn
   call_there d h =
       let same : length answer.map.modules ≡ length e.last.core.map.modules = ap (λ (m : Map). length m.modules) e.map_is ∙ same_length e.last.core in
       let below : d.site.home < length e.last.core.map.modules =
-      call_home (length e.last.core.map.modules) e.last.core.calls d (in_range-Steps e.derived (in_range-start tables w (read_by w finished from.start) (holders_by finished from.start) from)).calls h in
+      call_home (length e.last.core.map.modules) e.last.core.calls d
+      (in_range-Steps e.derived (in_range-start tables w (read_by w finished from.start) (holders_by finished from.start) from)).calls h in
       (call_among tables w from answer e.last.core.calls d written.calls h, omega (arith, same, below))
 
-  pub leftover_written : (way : ImportOrExternCrate) → Contains answer.leftover way → HasImport tables w from answer (λ r. way_of r.source ≡ way)
+  pub leftover_written : (way : ImportOrExternCrate) → Contains answer.leftover way → HasImport tables w from answer (λ r. told_of r.source ≡ way)
   leftover_written way h =
-      let p : IsLeftOf e.last.core.reached way = left_of e.last.core.reached e.last.core.taken way (subst (λ (ways : List ImportOrExternCrate). Contains ways way) e.leftover_is h) in
+      let p : IsLeftOf e.last.core.reached way = left_of e.last.core.reached e.last.core.taken way
+      (subst (λ (ways : List ImportOrExternCrate). Contains ways way) e.leftover_is h) in
       record { directive = p.directive; is_import = import_written p.directive p.among; is_such = p.is }
 
-  pub glob_written : (edge : Edge) → Contains e.last.core.globs.edges edge → HasImport tables w from answer (λ r. (glob_of r.source ≡ Some edge.id) × (r.home ≡ edge.importer))
+  pub glob_written : (edge : Edge) → Contains e.last.core.globs.edges edge → HasImport tables w from answer (λ r. (glob_of r.source ≡ Some edge.id)
+      × (r.home ≡ edge.importer))
   glob_written edge h =
       let p : IsOfGlob tables w from answer e.last.core.reached edge = written.globs edge h in
       record { directive = p.directive; is_import = import_written p.directive p.among; is_such = (p.is_glob, p.into) }

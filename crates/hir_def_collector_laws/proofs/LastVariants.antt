@@ -18,7 +18,8 @@ use Rattle.hir_collector_rules.proofs.Bound.{cmp_itself}
 module _ (id : EnumId) (name : List ℕ) where
   -- one more variant: its name stands for it, and another for what it stood for
   at_name-with_variant : (known : Variants) (item : VariantItem)
-      → at_name (with_variant id known item) name ≡ option_or (option_map (variant_of id) (cond (is_at (slice_cmp nat_cmp name) item.name) (Some item) None)) (at_name known name)
+      → at_name (with_variant id known item) name ≡ option_or (option_map (variant_of id) (cond (is_at (slice_cmp nat_cmp name) item.name) (Some item) None))
+      (at_name known name)
   at_name-with_variant known item = go (slice_cmp nat_cmp name item.name) refl
     where
       other : (o : Ordering) → slice_cmp nat_cmp name item.name ≡ o → o ≢ Equal → name ≢ item.name

@@ -38,4 +38,5 @@ pub mod SourcedMacros
 pub mod SourcedState
 pub mod SourcedEnded
 pub mod Sourced
+pub mod KnownSources
 pub mod BlockKeys

@@ -1,16 +1,18 @@
 -- What changes add to the lists of modules, and what they leave of modules.
-use Rattle.std.proofs.Common.{◌≡◌, ◌∙◌, ◌<◌, ◌+◌, ℕ, zero, suc, Bool, true, false, cond, List, [], ◌∷◌, ◌++◌, length, map as list_map, slice_get, Option, None, Some, refl, sym, ap, subst, arith, append-nil, append_assoc}
+use Rattle.std.proofs.Common.{◌≡◌, ◌∙◌, ◌<◌, ◌+◌, ℕ, zero, suc, Bool, true, false, cond, List, [], ◌∷◌, ◌++◌, length, map as list_map, slice_get, Option, None}
+use Rattle.std.proofs.Common.{Some, refl, sym, ap, subst, arith, append-nil, append_assoc}
 use Rattle.hir_base.specs.declared.ast_id.AstId.{AstId}
-use Rattle.hir_base.specs.declared.ids.ModuleDefId.{ModuleDefId}
-use Rattle.hir_base.specs.declared.ids.ModuleId.{ModuleId}
 use Rattle.hir_base.specs.declared.macro_kind.MacroExpander.{MacroExpander}
 use Rattle.hir_base.specs.declared.macro_kind.MacroId.{MacroId}
+use Rattle.hir_base.specs.declared.ids.ModuleDefId.{ModuleDefId}
+use Rattle.hir_base.specs.declared.ids.ModuleId.{ModuleId}
 use Rattle.hir_item_tree.specs.KeptForest.{Head}
 use Rattle.hir_scope.specs.PerNs.{macros_only}
 use Rattle.hir_scope.specs.Scope.{ScopeValue}
 use Rattle.hir_scope.specs.declared.visibility.Visibility.TheVariants as visibilities
 use Rattle.hir_def_map_rules.specs.Declaration.{listed}
-use Rattle.hir_def_map_rules.specs.State.{Map, ModuleValue, changed_at, module_at, new_id, new_module, numbered, with_child, with_module, with_module_scope, with_scope}
+use Rattle.hir_def_map_rules.specs.State.{Map, ModuleValue, changed_at, module_at, new_id, new_module, numbered, with_child, with_module, with_module_scope}
+use Rattle.hir_def_map_rules.specs.State.{with_scope}
 use Rattle.hir_def_map_rules.specs.Overlay.{Maps}
 use Rattle.hir_def_map_rules.specs.declared.declaration.Declaration.{Declaration as Listing}
 use Rattle.hir_def_map_rules.specs.declared.declaration.Declaration.TheVariants as listings
@@ -18,13 +20,16 @@ use Rattle.hir_def_map_rules.specs.declared.derive_helpers.DeriveHelper.{DeriveH
 use Rattle.hir_def_map_rules.proofs.Grown.{length-changed}
 use Rattle.hir_def_map_rules.proofs.StaysWellFormed.{length-made}
 use Rattle.hir_import_resolution.specs.Changes.{Change as ImportChange, pushes}
+use Rattle.hir_collector_rules.specs.declared.exported.ExportedFunction.{ExportedFunction}
 use Rattle.hir_collector_rules.specs.declared.macro_directive.MacroDirective.{MacroDirective}
 use Rattle.hir_collector_rules.specs.Causes.{declarations_of}
-use Rattle.hir_collector_rules.specs.Changes.{Change, lists, makes, gives_variants, begins_paths, reaches, awaits, ends, settles, changes_imports, adds_textual, takes_textual, defines, describes, helps, lists_derive, exports, uses_macros, tells, goes_on, act, perform, with_builtin_derive}
+use Rattle.hir_collector_rules.specs.Changes.{Change, lists, makes, gives_variants, begins_paths, reaches, awaits, ends, settles, changes_imports, adds_textual}
+use Rattle.hir_collector_rules.specs.Changes.{takes_textual, defines, describes, helps, lists_derive, notes, exports, uses_macros, tells, goes_on, act, perform}
+use Rattle.hir_collector_rules.specs.Changes.{with_builtin_derive}
+use Rattle.hir_collector_rules.specs.Invocations.{with_invocation}
 use Rattle.hir_collector_rules.specs.ItemIds.{module_id}
 use Rattle.hir_collector_rules.specs.Macros.{is_exported}
 use Rattle.hir_collector_rules.specs.Reports.{is_unimplemented, unimplemented_macro}
-use Rattle.hir_collector_rules.specs.declared.exported.ExportedFunction.{ExportedFunction}
 use Rattle.hir_collector_rules.specs.Ended.{ended, exporting_scope, without_function, without_functions}
 use Rattle.hir_collector_rules.specs.Keys.{Environment}
 use Rattle.hir_collector_rules.specs.State.{Core, State, import_state}
@@ -40,7 +45,8 @@ use Rattle.hir_def_collector_laws.proofs.Ended.{ended_by}
 -- ---- what is listed
 
 -- a change of one module that leaves its list
-unlisted : (ms : List ModuleValue) (at : ℕ) (change : ModuleValue → ModuleValue) → ((m : ModuleValue) → (change m).scope.declarations ≡ m.scope.declarations) → (k : ℕ)
+unlisted : (ms : List ModuleValue) (at : ℕ) (change : ModuleValue → ModuleValue) → ((m : ModuleValue) → (change m).scope.declarations ≡ m.scope.declarations)
+    → (k : ℕ)
     → declarations_of (slice_get (changed_at ms at change) k) ≡ declarations_of (slice_get ms k)
 unlisted [] at change keeps k = refl
 unlisted (m ∷ ms) zero change keeps zero = keeps m
@@ -50,7 +56,8 @@ unlisted (m ∷ ms) (suc at) change keeps (suc k) = unlisted ms at change keeps 
 
 -- one more definition
 listed_at : (ms : List ModuleValue) (home : ℕ) (def : ModuleDefId) (k : ℕ) → k < length ms
-    → declarations_of (slice_get (changed_at ms home (with_module_scope (listed (listings.Def def)))) k) ≡ declarations_of (slice_get ms k) ++ at_home home k (def ∷ [])
+    → declarations_of (slice_get (changed_at ms home (with_module_scope (listed (listings.Def def)))) k) ≡ declarations_of (slice_get ms k) ++ at_home home k
+    (def ∷ [])
 listed_at [] home def k low = absurd (omega arith)
 listed_at (m ∷ ms) zero def zero low = refl
 listed_at (m ∷ ms) zero def (suc k) low = sym (append-nil (declarations_of (slice_get ms k)))
@@ -59,33 +66,12 @@ listed_at (m ∷ ms) (suc home) def (suc k) low = listed_at ms home def k (omega
 
 abbrev pub added_by : ℕ → Listing → ℕ → List ModuleDefId
 added_by home (listings.Def def) k = at_home home k (def ∷ [])
-added_by home (listings.Use use_) k = []
-added_by home (listings.ExternCrate extern_crate) k = []
-added_by home (listings.Impl imp is_trait_impl) k = []
-added_by home (listings.ExternBlock extern_block) k = []
-added_by home (listings.UnnamedConst konst) k = []
+added_by home other k = []
 
 -- what a change adds to the list of a module
 abbrev pub added : Change → ℕ → List ModuleDefId
 added (lists home d) k = added_by home d k
-added (makes home name origin visibility) k = []
-added (gives_variants id variants) k = []
-added (begins_paths r) k = []
-added (reaches rs) k = []
-added (awaits calls) k = []
-added (ends i fate) k = []
-added settles k = []
-added (changes_imports c) k = []
-added (adds_textual home name makro) k = []
-added (takes_textual home from_) k = []
-added (defines node makro) k = []
-added (describes makro what) k = []
-added (helps node helper) k = []
-added (lists_derive home imp) k = []
-added (exports f makro) k = []
-added (uses_macros macros by) k = []
-added (tells d) k = []
-added (goes_on tasks) k = []
+added other k = []
 
 abbrev pub all_added : List Change → ℕ → List ModuleDefId
 all_added [] k = []
@@ -118,25 +104,15 @@ added-act s (makes home name origin visibility) k low =
     let ms : List ModuleValue = s.core.map.modules in
     let changed : List ModuleValue = changed_at ms home (with_child name (new_id s.core.map)) in
     let as_long : length changed ≡ length ms = length-changed ms home (with_child name (new_id s.core.map)) in
-    same_list (declarations_of (module_at s.core.map k)) (ap declarations_of (get_left changed _ k (omega (arith, as_long))) ∙ unlisted ms home (with_child name (new_id s.core.map)) (λ m. refl) k)
-added-act s (gives_variants id variants) k low = same_list (declarations_of (module_at s.core.map k)) refl
-added-act s (begins_paths r) k low = same_list (declarations_of (module_at s.core.map k)) refl
-added-act s (reaches rs) k low = same_list (declarations_of (module_at s.core.map k)) refl
-added-act s (awaits calls) k low = same_list (declarations_of (module_at s.core.map k)) refl
-added-act s (ends i fate) k low = same_list (declarations_of (module_at s.core.map k)) refl
-added-act s settles k low = same_list (declarations_of (module_at s.core.map k)) refl
+    same_list (declarations_of (module_at s.core.map k)) (ap declarations_of (get_left changed _ k (omega (arith, as_long))) ∙ unlisted ms home
+    (with_child name (new_id s.core.map)) (λ m. refl) k)
 added-act s (changes_imports c) k low =
     ap (λ (m : Map). declarations_of (module_at m k)) (map_after (import_state s) c) ∙ added-edited s.core.map (edit_of (import_state s) c) k
 added-act s (adds_textual home name makro) k low = added-scope s.core.map home _ (λ x. refl) k
 added-act s (takes_textual home from_) k low = added-scope s.core.map home _ (λ x. refl) k
-added-act s (defines node makro) k low = same_list (declarations_of (module_at s.core.map k)) refl
-added-act s (describes makro what) k low = same_list (declarations_of (module_at s.core.map k)) refl
-added-act s (helps node helper) k low = same_list (declarations_of (module_at s.core.map k)) refl
 added-act s (lists_derive home imp) k low = added-scope s.core.map home (with_builtin_derive imp) (λ x. refl) k
-added-act s (exports f makro) k low = same_list (declarations_of (module_at s.core.map k)) refl
-added-act s (uses_macros macros by) k low = same_list (declarations_of (module_at s.core.map k)) refl
-added-act s (tells d) k low = same_list (declarations_of (module_at s.core.map k)) refl
-added-act s (goes_on tasks) k low = same_list (declarations_of (module_at s.core.map k)) refl
+added-act s (notes home invocation) k low = added-scope s.core.map home (with_invocation invocation) (λ x. refl) k
+added-act s other k low = same_list (declarations_of (module_at s.core.map k)) refl
 
 pub added-perform : (cs : List Change) (s : State) (k : ℕ) → k < length s.core.map.modules
     → declarations_of (module_at (perform s cs).core.map k) ≡ declarations_of (module_at s.core.map k) ++ all_added cs k
@@ -155,7 +131,8 @@ pub macro_unlisted : (head : Head) (name : List ℕ) (makro : MacroId) (at : Mod
     → all_added (exporting head name makro ++ reporting at node expander) k ≡ []
 macro_unlisted head name makro at node expander k = go (is_exported head.attributes) (is_unimplemented expander)
   where
-    go : (exported unimplemented : Bool) → all_added (cond exported (changes_imports (pushes 0 (Some name) (macros_only makro visibilities.Public None) None) ∷ []) []
+    go : (exported unimplemented : Bool) → all_added
+        (cond exported (changes_imports (pushes 0 (Some name) (macros_only makro visibilities.Public None) None) ∷ []) []
         ++ cond unimplemented (tells (unimplemented_macro at node) ∷ []) []) k ≡ []
     go true true = refl
     go true false = refl
@@ -178,39 +155,24 @@ pub bringing_unlisted : (node : AstId) (helpers : List DeriveHelper) (k : ℕ) �
 bringing_unlisted node [] k = refl
 bringing_unlisted node (h ∷ hs) k = bringing_unlisted node hs k
 
-pub expanding_unlisted : (node : AstId) (helpers : List DeriveHelper) (at : ModuleId) (d : MacroDirective) (error : Option (List ℕ)) (k : ℕ) → all_added (bringing node helpers ++ failing at d error) k ≡ []
+pub expanding_unlisted : (node : AstId) (helpers : List DeriveHelper) (at : ModuleId) (d : MacroDirective) (error : Option (List ℕ)) (k : ℕ)
+    → all_added (bringing node helpers ++ failing at d error) k ≡ []
 expanding_unlisted node [] at d error k = failing_unlisted at d error k
 expanding_unlisted node (h ∷ hs) at d error k = expanding_unlisted node hs at d error k
 
 -- ---- how many modules there are
 
 abbrev pub made_by : Change → ℕ
-made_by (lists home d) = 0
 made_by (makes home name origin visibility) = 1
-made_by (gives_variants id variants) = 0
-made_by (begins_paths r) = 0
-made_by (reaches rs) = 0
-made_by (awaits calls) = 0
-made_by (ends i fate) = 0
-made_by settles = 0
-made_by (changes_imports c) = 0
-made_by (adds_textual home name makro) = 0
-made_by (takes_textual home from_) = 0
-made_by (defines node makro) = 0
-made_by (describes makro what) = 0
-made_by (helps node helper) = 0
-made_by (lists_derive home imp) = 0
-made_by (exports f makro) = 0
-made_by (uses_macros macros by) = 0
-made_by (tells d) = 0
-made_by (goes_on tasks) = 0
+made_by other = 0
 
 abbrev pub all_made : List Change → ℕ
 all_made [] = 0
 all_made (c ∷ cs) = made_by c + all_made cs
 
 length-scope : (m : Map) (at : ℕ) (change : ScopeValue → ScopeValue) → length (with_scope m at change).modules ≡ length m.modules + 0
-length-scope m at change = let same : length (with_scope m at change).modules ≡ length m.modules = length-changed m.modules at (with_module_scope change) in omega arith
+length-scope m at change =
+    let same : length (with_scope m at change).modules ≡ length m.modules = length-changed m.modules at (with_module_scope change) in omega arith
 
 length-edited : (m : Map) (o : Option (ℕ × Edit)) → length (edited m o).modules ≡ length m.modules + 0
 length-edited m None = omega arith
@@ -219,23 +181,12 @@ length-edited m (Some e) = length-scope m e.0 (edit (numbered m.id e.0) e.1)
 length-act : (s : State) (c : Change) → length (act s c).core.map.modules ≡ length s.core.map.modules + made_by c
 length-act s (lists home d) = length-scope s.core.map home (listed d)
 length-act s (makes home name origin visibility) = length-made s.core.map home name (new_module origin visibility (Some (module_id s.core.map home)))
-length-act s (gives_variants id variants) = omega arith
-length-act s (begins_paths r) = omega arith
-length-act s (reaches rs) = omega arith
-length-act s (awaits calls) = omega arith
-length-act s (ends i fate) = omega arith
-length-act s settles = omega arith
 length-act s (changes_imports c) = ap (λ (m : Map). length m.modules) (map_after (import_state s) c) ∙ length-edited s.core.map (edit_of (import_state s) c)
 length-act s (adds_textual home name makro) = length-scope s.core.map home _
 length-act s (takes_textual home from_) = length-scope s.core.map home _
-length-act s (defines node makro) = omega arith
-length-act s (describes makro what) = omega arith
-length-act s (helps node helper) = omega arith
 length-act s (lists_derive home imp) = length-scope s.core.map home (with_builtin_derive imp)
-length-act s (exports f makro) = omega arith
-length-act s (uses_macros macros by) = omega arith
-length-act s (tells d) = omega arith
-length-act s (goes_on tasks) = omega arith
+length-act s (notes home invocation) = length-scope s.core.map home (with_invocation invocation)
+length-act s other = omega arith
 
 pub length-perform : (cs : List Change) (s : State) → length (perform s cs).core.map.modules ≡ length s.core.map.modules + all_made cs
 length-perform [] s = omega arith
@@ -245,10 +196,12 @@ pub nothing_made : (cs : List ImportChange) → all_made (list_map changes_impor
 nothing_made [] = refl
 nothing_made (c ∷ cs) = omega (arith, nothing_made cs)
 
-pub macro_makes_none : (head : Head) (name : List ℕ) (makro : MacroId) (at : ModuleId) (node : AstId) (expander : MacroExpander) → all_made (exporting head name makro ++ reporting at node expander) ≡ 0
+pub macro_makes_none : (head : Head) (name : List ℕ) (makro : MacroId) (at : ModuleId) (node : AstId) (expander : MacroExpander)
+    → all_made (exporting head name makro ++ reporting at node expander) ≡ 0
 macro_makes_none head name makro at node expander = go (is_exported head.attributes) (is_unimplemented expander)
   where
-    go : (exported unimplemented : Bool) → all_made (cond exported (changes_imports (pushes 0 (Some name) (macros_only makro visibilities.Public None) None) ∷ []) []
+    go : (exported unimplemented : Bool) → all_made
+        (cond exported (changes_imports (pushes 0 (Some name) (macros_only makro visibilities.Public None) None) ∷ []) []
         ++ cond unimplemented (tells (unimplemented_macro at node) ∷ []) []) ≡ 0
     go true true = refl
     go true false = refl
@@ -270,7 +223,8 @@ pub bringing_makes_none : (node : AstId) (helpers : List DeriveHelper) → all_m
 bringing_makes_none node [] = refl
 bringing_makes_none node (h ∷ hs) = omega (arith, bringing_makes_none node hs)
 
-pub expanding_makes_none : (node : AstId) (helpers : List DeriveHelper) (at : ModuleId) (d : MacroDirective) (error : Option (List ℕ)) → all_made (bringing node helpers ++ failing at d error) ≡ 0
+pub expanding_makes_none : (node : AstId) (helpers : List DeriveHelper) (at : ModuleId) (d : MacroDirective) (error : Option (List ℕ))
+    → all_made (bringing node helpers ++ failing at d error) ≡ 0
 expanding_makes_none node [] at d error = failing_makes_none at d error
 expanding_makes_none node (h ∷ hs) at d error = omega (arith, expanding_makes_none node hs at d error)
 
@@ -279,7 +233,8 @@ pub macro_agenda : (t : State) (head : Head) (name : List ℕ) (makro : MacroId)
     → (perform t (exporting head name makro ++ reporting at node expander)).agenda ≡ t.agenda
 macro_agenda t head name makro at node expander = go (is_exported head.attributes) (is_unimplemented expander)
   where
-    go : (exported unimplemented : Bool) → (perform t (cond exported (changes_imports (pushes 0 (Some name) (macros_only makro visibilities.Public None) None) ∷ []) []
+    go : (exported unimplemented : Bool) → (perform t
+        (cond exported (changes_imports (pushes 0 (Some name) (macros_only makro visibilities.Public None) None) ∷ []) []
         ++ cond unimplemented (tells (unimplemented_macro at node) ∷ []) [])).agenda ≡ t.agenda
     go true true = refl
     go true false = refl
@@ -318,12 +273,19 @@ pub record StaysAt (o : Option ModuleValue) (v : ModuleValue) : Type 0 where
 abbrev pub Stays : Map → Map → Type 0
 Stays old new = (k : ℕ) (v : ModuleValue) → module_at old k ≡ Some v → StaysAt (module_at new k) v
 
-stays_changed : (ms : List ModuleValue) (at : ℕ) (change : ModuleValue → ModuleValue) → ((m : ModuleValue) → (change m).origin ≡ m.origin) → ((m : ModuleValue) → (change m).parent ≡ m.parent)
+stays_changed : (ms : List ModuleValue) (at : ℕ) (change : ModuleValue → ModuleValue) → ((m : ModuleValue) → (change m).origin ≡ m.origin)
+    → ((m : ModuleValue) → (change m).parent ≡ m.parent)
     → (k : ℕ) (v : ModuleValue) → slice_get ms k ≡ Some v → StaysAt (slice_get (changed_at ms at change) k) v
 stays_changed [] at change origin parent k v e = absurd (let no : ⊥ = cc in no)
 stays_changed (m ∷ ms) zero change origin parent zero v e =
     let same : m ≡ v = cc in
-    record { value = change m; there = refl; origin = origin m ∙ ap (λ (x : ModuleValue). x.origin) same; parent = parent m ∙ ap (λ (x : ModuleValue). x.parent) same }
+    record {
+      value = change m;
+      there = refl;
+      origin = origin m ∙ ap (λ (x : ModuleValue). x.origin) same;
+      parent = parent m ∙ ap (λ (x : ModuleValue). x.parent)
+          same;
+    }
 stays_changed (m ∷ ms) zero change origin parent (suc k) v e = record { value = v; there = e; origin = refl; parent = refl }
 stays_changed (m ∷ ms) (suc at) change origin parent zero v e = record { value = v; there = e; origin = refl; parent = refl }
 stays_changed (m ∷ ms) (suc at) change origin parent (suc k) v e = stays_changed ms at change origin parent k v e
@@ -348,23 +310,19 @@ Stays-act s (lists home d) = Stays-scope s.core.map home (listed d)
 Stays-act s (makes home name origin visibility) = λ k v e.
     stays_longer (changed_at s.core.map.modules home (with_child name (new_id s.core.map))) _ k v
     (stays_changed s.core.map.modules home (with_child name (new_id s.core.map)) (λ x. refl) (λ x. refl) k v e)
-Stays-act s (gives_variants id variants) = λ k v e. record { value = v; there = e; origin = refl; parent = refl }
 Stays-act s (begins_paths r) = Stays-same s.core.map
 Stays-act s (reaches rs) = Stays-same s.core.map
 Stays-act s (awaits calls) = Stays-same s.core.map
 Stays-act s (ends i fate) = Stays-same s.core.map
 Stays-act s settles = Stays-same s.core.map
-Stays-act s (changes_imports c) = subst (λ (m : Map). Stays s.core.map m) (sym (map_after (import_state s) c)) (Stays-edited s.core.map (edit_of (import_state s) c))
+Stays-act s (changes_imports c) =
+    subst (λ (m : Map). Stays s.core.map m) (sym (map_after (import_state s) c)) (Stays-edited s.core.map (edit_of (import_state s) c))
 Stays-act s (adds_textual home name makro) = Stays-scope s.core.map home _
 Stays-act s (takes_textual home from_) = Stays-scope s.core.map home _
-Stays-act s (defines node makro) = λ k v e. record { value = v; there = e; origin = refl; parent = refl }
-Stays-act s (describes makro what) = λ k v e. record { value = v; there = e; origin = refl; parent = refl }
-Stays-act s (helps node helper) = λ k v e. record { value = v; there = e; origin = refl; parent = refl }
 Stays-act s (lists_derive home imp) = Stays-scope s.core.map home (with_builtin_derive imp)
-Stays-act s (exports f makro) = λ k v e. record { value = v; there = e; origin = refl; parent = refl }
-Stays-act s (uses_macros macros by) = λ k v e. record { value = v; there = e; origin = refl; parent = refl }
-Stays-act s (tells d) = λ k v e. record { value = v; there = e; origin = refl; parent = refl }
+Stays-act s (notes home invocation) = Stays-scope s.core.map home (with_invocation invocation)
 Stays-act s (goes_on tasks) = Stays-same s.core.map
+Stays-act s other = λ k v e. record { value = v; there = e; origin = refl; parent = refl }
 
 pub Stays-trans : (a b c : Map) → Stays a b → Stays b c → Stays a c
 Stays-trans a b c p q k v e =
@@ -414,24 +372,7 @@ Stays-ended c = ended_by c (λ (m : Map). Stays c.map m) (Stays-same c.map) (Sta
 
 proc-act : (s : State) (c : Change) → (act s c).core.is_proc_macro ≡ s.core.is_proc_macro
 proc-act s (lists home d) = refl
-proc-act s (makes home name origin visibility) = refl
-proc-act s (gives_variants id variants) = refl
-proc-act s (begins_paths r) = refl
-proc-act s (reaches rs) = refl
-proc-act s (awaits calls) = refl
-proc-act s (ends i fate) = refl
-proc-act s settles = refl
-proc-act s (changes_imports c) = refl
-proc-act s (adds_textual home name makro) = refl
-proc-act s (takes_textual home from_) = refl
-proc-act s (defines node makro) = refl
-proc-act s (describes makro what) = refl
-proc-act s (helps node helper) = refl
-proc-act s (lists_derive home imp) = refl
-proc-act s (exports f makro) = refl
-proc-act s (uses_macros macros by) = refl
-proc-act s (tells d) = refl
-proc-act s (goes_on tasks) = refl
+proc-act s other = refl
 
 proc-perform : (cs : List Change) (s : State) → (perform s cs).core.is_proc_macro ≡ s.core.is_proc_macro
 proc-perform [] s = refl

@@ -12,4 +12,5 @@ used_joined prelude (e ∷ es) others by = used_joined (with_name prelude e.0 (e
 
 pub used_append : (m : Map) (macros others : List (List ℕ × MacroId)) (by : Option ExternCrateId)
     → with_macros_used m (macros ++ others) by ≡ with_macros_used (with_macros_used m macros by) others by
-used_append m macros others by = ap (λ (prelude : List (List ℕ × (MacroId × Option ExternCrateId))). record m { macro_use_prelude = prelude }) (used_joined m.macro_use_prelude macros others by)
+used_append m macros others by = ap (λ (prelude : List (List ℕ × (MacroId × Option ExternCrateId))). record m { macro_use_prelude = prelude })
+    (used_joined m.macro_use_prelude macros others by)

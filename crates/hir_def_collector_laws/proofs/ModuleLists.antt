@@ -7,7 +7,8 @@ pub data IsChanged (ms : List ModuleValue) (at : ℕ) (change : ModuleValue → 
   changed_one : (old : ModuleValue) → number ≡ at → slice_get ms number ≡ Some old → m ≡ change old → IsChanged ms at change number m
   other_one : number ≢ at → slice_get ms number ≡ Some m → IsChanged ms at change number m
 
-pub changed-at : (ms : List ModuleValue) (at : ℕ) (change : ModuleValue → ModuleValue) (number : ℕ) (m : ModuleValue) → slice_get (changed_at ms at change) number ≡ Some m → IsChanged ms at change number m
+pub changed-at : (ms : List ModuleValue) (at : ℕ) (change : ModuleValue → ModuleValue) (number : ℕ) (m : ModuleValue) → slice_get (changed_at ms at change)
+    number ≡ Some m → IsChanged ms at change number m
 changed-at [] at change number m e = absurd (let no : ⊥ = cc in no)
 changed-at (x ∷ xs) zero change zero m e = let same : change x ≡ m = cc in changed_one x refl refl (sym same)
 changed-at (x ∷ xs) zero change (suc number) m e = other_one (λ f. omega arith) e
@@ -23,7 +24,8 @@ pub data IsOfLonger (ms : List ModuleValue) (new : ModuleValue) (number : ℕ) (
   older : slice_get ms number ≡ Some m → IsOfLonger ms new number m
   newest : m ≡ new → IsOfLonger ms new number m
 
-pub of_longer : (ms : List ModuleValue) (new : ModuleValue) (number : ℕ) (m : ModuleValue) → slice_get (ms ++ new ∷ []) number ≡ Some m → IsOfLonger ms new number m
+pub of_longer : (ms : List ModuleValue) (new : ModuleValue) (number : ℕ) (m : ModuleValue) → slice_get (ms ++ new ∷ []) number ≡ Some m
+    → IsOfLonger ms new number m
 of_longer [] new zero m e = newest (let same : new ≡ m = cc in sym same)
 of_longer [] new (suc number) m e = absurd (let no : ⊥ = cc in no)
 of_longer (x ∷ xs) new zero m e = older e

@@ -1,5 +1,6 @@
 -- Each module of a run's map lists what its items declare, and what expansions in it do.
-use Rattle.std.proofs.Common.{◌≡◌, ◌∙◌, ◌<◌, inl, inr, ℕ, zero, suc, List, [], ◌∷◌, ◌++◌, length, slice_get, Bool, true, false, None, Some, refl, sym, ap, subst, arith, Contains, append-nil}
+use Rattle.std.proofs.Common.{◌≡◌, ◌∙◌, ◌<◌, inl, inr, ℕ, zero, suc, List, [], ◌∷◌, ◌++◌, length, slice_get, Bool, true, false, None, Some, refl, sym, ap}
+use Rattle.std.proofs.Common.{subst, arith, Contains, append-nil}
 use Rattle.std.proofs.lemmas.List.Elements.{Contains-append_right}
 use Rattle.std.specs.Prelude.{if◌then◌else◌}
 use Rattle.hir_base.specs.declared.ast_id.AstId.{AstId}
@@ -15,21 +16,26 @@ use Rattle.hir_def_map_rules.specs.Overlay.{Maps}
 use Rattle.hir_def_map_rules.specs.State.{CrateData, Map, module_at, new_module}
 use Rattle.hir_def_map_rules.specs.declared.diagnostics.DefDiagnostic.{DefDiagnostic}
 use Rattle.hir_collector_rules.specs.declared.macro_directive.Fate.TheVariants.{GivenUp, Handled}
+use Rattle.hir_collector_rules.specs.declared.source_database.Key.{Key}
 use Rattle.hir_collector_rules.specs.declared.macro_directive.MacroDirective.{MacroDirective}
 use Rattle.hir_collector_rules.specs.declared.macro_directive.MacroDirectiveKind.{MacroDirectiveKind}
+use Rattle.hir_collector_rules.specs.declared.site.Site.{Site}
 use Rattle.hir_collector_rules.specs.declared.macro_directive.MacroDirectiveKind.TheVariants.{Attr, Derive, FnLike}
 use Rattle.hir_collector_rules.specs.Attributes.{is_always_passed}
-use Rattle.hir_collector_rules.specs.declared.site.Site.{Site}
-use Rattle.hir_collector_rules.specs.declared.source_database.Key.{Key}
 use Rattle.hir_collector_rules.specs.declared.source_database.Key.TheVariants as keys
 use Rattle.hir_collector_rules.specs.Causes.{declarations_of}
 use Rattle.hir_collector_rules.specs.Derivation.{CollectedValue, leftover_reports}
 use Rattle.hir_collector_rules.specs.Ended.{ended}
 use Rattle.hir_collector_rules.specs.Keys.{environment}
 use Rattle.hir_collector_rules.specs.Reports.{with_diagnostics}
-use Rattle.hir_collector_rules.specs.Start.{Beginning, holders_by, is_declared, krate_of, origin_of, read_by, root_site, root_tree, start_of, tree_visits, root_visibility}
+use Rattle.hir_collector_rules.specs.Start.{Beginning, holders_by, is_declared, krate_of, origin_of, read_by, root_site, root_tree, start_of, tree_visits}
+use Rattle.hir_collector_rules.specs.Start.{root_visibility}
 use Rattle.hir_collector_rules.specs.State.{Core, State, Task, visits_over}
-use Rattle.hir_collector_rules.specs.Steps.{Rule, drops_item, awaits_attribute, lists_derives, faults_derive, exports_macro, reaches_call, rests, expands_call, drops_call, drops_reached, derives_builtin, skips_attribute, falls_back, defines_rules, defines_macro, closes_module, declares_item, declares_enum, lists_constant, lists_impl, opens_module, opens_file, drops_file, misses_file, enters_block, reaches_imports, reaches_crate, resolves_imports, May, Step, Steps, acts, after, asking, keys_read, more, none, reads}
+use Rattle.hir_collector_rules.specs.Steps.{Rule, drops_item, awaits_attribute, lists_derives, faults_derive, exports_macro, reaches_call, rests, expands_call}
+use Rattle.hir_collector_rules.specs.Steps.{drops_call, drops_reached, derives_builtin, skips_attribute, falls_back, defines_rules, defines_macro}
+use Rattle.hir_collector_rules.specs.Steps.{closes_module, declares_item, declares_enum, lists_constant, lists_impl, opens_module, opens_file, drops_file}
+use Rattle.hir_collector_rules.specs.Steps.{misses_file, enters_block, reaches_imports, reaches_crate, resolves_imports, May, Step, Steps, acts, after, asking}
+use Rattle.hir_collector_rules.specs.Steps.{keys_read, more, none, reads}
 use Rattle.hir_collector_rules.specs.Workspace.{Workspace}
 use Rattle.hir_collector_rules.proofs.Asks.{still_asked-Step}
 use Rattle.hir_collector_rules.proofs.Changes.{asked-Step}
@@ -54,39 +60,17 @@ use Rattle.hir_def_collector_laws.proofs.Quiet.{IsQuiet, NoCallNext, call_apart,
 use Rattle.hir_def_collector_laws.proofs.Written.{AreAsked, IsAllWritten, written-Steps}
 
 -- a rule brings nothing to a module where no call waits
-quiet_from : (tools : List (List ℕ)) (finished : Maps) (s : State) (k : ℕ) → IsQuiet tools k s → (r : Rule) → May finished s r → (defs : List ModuleDefId) (es : List Expansion)
+quiet_from : (tools : List (List ℕ)) (finished : Maps) (s : State) (k : ℕ) → IsQuiet tools k s → (r : Rule) → May finished s r
+    → (defs : List ModuleDefId) (es : List Expansion)
     → expanded_in (from_rule r defs es) k ≡ expanded_in es k
-quiet_from tools finished s k p (drops_item v report rest) may defs es = refl
-quiet_from tools finished s k p (declares_item v d rest) may defs es = refl
-quiet_from tools finished s k p (declares_enum site head name found rest) may defs es = refl
-quiet_from tools finished s k p (lists_constant site head rest) may defs es = refl
-quiet_from tools finished s k p (lists_impl site head of_trait rest) may defs es = refl
-quiet_from tools finished s k p (opens_module site head name items rest) may defs es = refl
-quiet_from tools finished s k p (opens_file site head name search file rest) may defs es = refl
-quiet_from tools finished s k p (drops_file site head name search report rest) may defs es = refl
-quiet_from tools finished s k p (misses_file site head name search report rest) may defs es = refl
-quiet_from tools finished s k p (enters_block site head items rest) may defs es = refl
-quiet_from tools finished s k p (reaches_imports site head tree rest) may defs es = refl
-quiet_from tools finished s k p (reaches_crate site head name alias rest) may defs es = refl
-quiet_from tools finished s k p (defines_rules site head name expander helpers rest) may defs es = refl
-quiet_from tools finished s k p (defines_macro site head name expander helpers rest) may defs es = refl
-quiet_from tools finished s k p (closes_module parent child rest) may defs es = refl
-quiet_from tools finished s k p (awaits_attribute v a w rest) may defs es = refl
-quiet_from tools finished s k p (lists_derives v at a adt paths rest) may defs es = refl
-quiet_from tools finished s k p (faults_derive v at report rest) may defs es = refl
-quiet_from tools finished s k p (exports_macro site head name d e rest) may defs es = refl
-quiet_from tools finished s k p (reaches_call site head path rest) may defs es = refl
-quiet_from tools finished s k p rests may defs es = refl
 quiet_from tools finished s k p (expands_call i d makro x) may defs es =
-    ap (λ (xs : List ModuleDefId). xs ++ expanded_in es k) (at_home-other d.site.home k defs (call_apart k s.core.calls i d p.calls may.called.due.waiting.call))
-quiet_from tools finished s k p (drops_call i d) may defs es = refl
-quiet_from tools finished s k p (drops_reached i d makro) may defs es = refl
-quiet_from tools finished s k p (derives_builtin i d makro imp) may defs es = refl
+    ap (λ (xs : List ModuleDefId). xs ++ expanded_in es k)
+    (at_home-other d.site.home k defs (call_apart k s.core.calls i d p.calls may.called.due.waiting.call))
 quiet_from tools finished s k p (skips_attribute i d w item) may defs es =
     ap (λ (xs : List ModuleDefId). xs ++ expanded_in es k) (at_home-other d.site.home k defs (call_apart k s.core.calls i d p.calls may.due.waiting.call))
 quiet_from tools finished s k p (falls_back i d w item) may defs es =
     ap (λ (xs : List ModuleDefId). xs ++ expanded_in es k) (at_home-other d.site.home k defs (call_apart k s.core.calls i d p.calls may.waiting.call))
-quiet_from tools finished s k p (resolves_imports rule) may defs es = refl
+quiet_from tools finished s k p other may defs es = refl
 
 module _ (tables : TablesValue) (w : Workspace) (finished : Maps) (from : Beginning) (answer : CollectedValue) (end : Core) where
   -- what comes of a state, in the end
@@ -98,7 +82,8 @@ module _ (tables : TablesValue) (w : Workspace) (finished : Maps) (from : Beginn
     done : AreDone end answer.map es s
     proc : s.core.is_proc_macro ≡ end.is_proc_macro
 
-  among_later : (ds es : List MacroDirective) → ((i : ℕ) (d : MacroDirective) → slice_get ds i ≡ Some d → slice_get es i ≡ Some d) → (d : MacroDirective) → Contains ds d → Contains es d
+  among_later : (ds es : List MacroDirective) → ((i : ℕ) (d : MacroDirective) → slice_get ds i ≡ Some d → slice_get es i ≡ Some d) → (d : MacroDirective)
+      → Contains ds d → Contains es d
   among_later ds es stays d h = let at = placed ds d h in standing es at.0 d (stays at.0 d at.1)
     where
       placed : (xs : List MacroDirective) (x : MacroDirective) → Contains xs x → (i : ℕ) × (slice_get xs i ≡ Some x)
@@ -106,14 +91,17 @@ module _ (tables : TablesValue) (w : Workspace) (finished : Maps) (from : Beginn
       placed (y ∷ ys) x (zero, below, is) = (0, ap (λ (z : MacroDirective). Some z) is)
       placed (y ∷ ys) x (suc n, below, is) = let later = placed ys x (n, omega (arith, below), is) in (suc later.0, later.1)
 
-  back_Step : {old new : State} → IsInRange old → IsAllWritten tables w from answer old → AreAsked tables w from answer new → Step (environment tables w) finished old new → Comes new → Comes old
+  back_Step : {old new : State} → IsInRange old → IsAllWritten tables w from answer old → AreAsked tables w from answer new
+      → Step (environment tables w) finished old new → Comes new → Comes old
   back_Step {old = old} inside f asked step q =
       let read : (key : TreeKey) → Contains (keys_read (reads old step.rule)) (keys.Tree key) → Contains answer.asked (keys.Tree key) =
-      λ key h. asked (keys.Tree key) (subst (λ (ks : List Key). Contains ks (keys.Tree key)) (sym (asked-Step step)) (Contains-append_right old.core.asked (keys_read (reads old step.rule)) (keys.Tree key) h)) in
+      λ key h. asked (keys.Tree key) (subst (λ (ks : List Key). Contains ks (keys.Tree key)) (sym (asked-Step step))
+      (Contains-append_right old.core.asked (keys_read (reads old step.rule)) (keys.Tree key) h)) in
       let now : IsAhead tables w finished from answer end q.es (after finished old step.rule).core.map (after finished old step.rule).agenda =
       subst (λ (t : State). IsAhead tables w finished from answer end q.es t.core.map t.agenda) step.is q.ahead in
       let same : old.core.map.crate_data ≡ answer.map.crate_data = sym (data-perform (acts finished old step.rule) (asking old step.rule)) ∙ now.crate_data in
-      let stay : StayHelpers old.core.map answer.map = λ node path h. now.helpers node path (StayHelpers-perform (acts finished old step.rule) (asking old step.rule) node path h) in
+      let stay : StayHelpers old.core.map answer.map = λ node path h. now.helpers node path
+      (StayHelpers-perform (acts finished old step.rule) (asking old step.rule) node path h) in
       let proc : old.core.is_proc_macro ≡ end.is_proc_macro = sym (proc-Step step) ∙ q.proc in
       let kept : (d : MacroDirective) → Contains (after finished old step.rule).core.calls d → Contains end.calls d =
       subst (λ (t : State). (d : MacroDirective) → Contains t.core.calls d → Contains end.calls d) step.is (λ d h. among_later _ end.calls q.done.stays d h) in
@@ -126,12 +114,14 @@ module _ (tables : TablesValue) (w : Workspace) (finished : Maps) (from : Beginn
         ahead = sooner.ahead;
         quiet = λ k low p.
             quiet_from answer.map.crate_data.registered_tools finished old k p step.rule step.may sooner.defs q.es
-            ∙ q.quiet k (omega (arith, low, (Grows-Step step).longer)) (quiet-Step answer.map.crate_data.registered_tools k (ap (λ (c : CrateData). c.registered_tools) same) low step p);
+            ∙ q.quiet k (omega (arith, low, (Grows-Step step).longer))
+            (quiet-Step answer.map.crate_data.registered_tools k (ap (λ (c : CrateData). c.registered_tools) same) low step p);
         done = done-Step end answer.map sooner.defs q.es inside (ap (λ (c : CrateData). c.recursion_limit) same) step q.done;
         proc = proc;
       }
 
-  back_Steps : {begun last : State} → answer.map.id.krate ≡ krate_of from.start → IsInRange begun → IsAllWritten tables w from answer begun → AreAsked tables w from answer last
+  back_Steps : {begun last : State} → answer.map.id.krate ≡ krate_of from.start → IsInRange begun → IsAllWritten tables w from answer begun
+      → AreAsked tables w from answer last
       → Steps (environment tables w) finished begun last → Comes last → Comes begun
   back_Steps here inside f asked none q = q
   back_Steps here inside f asked (more old new before step) q =
@@ -140,7 +130,8 @@ module _ (tables : TablesValue) (w : Workspace) (finished : Maps) (from : Beginn
 
   -- ---- the end
 
-  at_end : (c : Core) (ds : List DefDiagnostic) (vs : List Task) → answer.map ≡ with_diagnostics (ended c) ds → vs ≡ [] → IsAhead tables w finished from answer end [] c.map vs
+  at_end : (c : Core) (ds : List DefDiagnostic) (vs : List Task) → answer.map ≡ with_diagnostics (ended c) ds → vs ≡ [] → IsAhead tables w finished from answer
+      end [] c.map vs
   at_end c ds vs e over = subst (λ (xs : List Task). IsAhead tables w finished from answer end [] c.map xs) (sym over) (record {
     id = sym (ap (λ (x : Map). x.id) e ∙ same_id c);
     crate_data = sym (ap (λ (x : Map). x.crate_data) e ∙ same_data c);
@@ -193,14 +184,21 @@ module _ (tables : TablesValue) (w : Workspace) (finished : Maps) (from : Beginn
     items = items_of from.tree (root_tree tables w from)
 
     at : IsAhead tables w finished from answer end q.es (start_of tables w finished holders from).core.map (visits_over site items)
-    at = subst (λ (vs : List Task). IsAhead tables w finished from answer end q.es (start_of tables w finished holders from).core.map vs) (same_visits site (root_tree tables w from)) q.ahead
+    at =
+        subst (λ (vs : List Task). IsAhead tables w finished from answer end q.es (start_of tables w finished holders from).core.map vs)
+        (same_visits site (root_tree tables w from)) q.ahead
 
-    holds : Holds tables w finished from answer end (expanded_in q.es) q.es (length (start_of tables w finished holders from).core.map.modules) (visits_over site items) at.listed
+    holds : Holds tables w finished from answer end (expanded_in q.es) q.es (length (start_of tables w finished holders from).core.map.modules)
+        (visits_over site items) at.listed
     holds = at.holds (expanded_in q.es) (λ k past. refl)
 
     root_quiet : HaveNoCall answer.map.crate_data.registered_tools items → expanded_in q.es 0 ≡ []
     root_quiet none_called =
-        q.quiet 0 (omega arith) (record { visits = subst (λ (vs : List Task). NoCallNext answer.map.crate_data.registered_tools 0 vs) (sym (same_visits site (root_tree tables w from))) (quiet_of answer.map.crate_data.registered_tools 0 site items (λ here. none_called)); calls = tt })
+        q.quiet 0 (omega arith) (record {
+          visits = subst (λ (vs : List Task). NoCallNext answer.map.crate_data.registered_tools 0 vs)
+              (sym (same_visits site (root_tree tables w from))) (quiet_of answer.map.crate_data.registered_tools 0 site items (λ here. none_called));
+          calls = tt;
+        })
 
     root_lists : ListsItsItems tables w finished from answer end (expanded_in q.es) 0
     root_lists =
@@ -226,7 +224,8 @@ module _ (tables : TablesValue) (w : Workspace) (finished : Maps) (from : Beginn
     lists_at zero h = root_lists
     lists_at (suc n) h = holds.modules (suc n) (omega arith) h
 
-    all_given_up : (i : ℕ) (d : MacroDirective) → slice_get end.calls i ≡ Some d → slice_get end.fates i ≡ Some GivenUp → (e : Expansion) × Contains q.es e × (e.call ≡ d)
+    all_given_up : (i : ℕ) (d : MacroDirective) → slice_get end.calls i ≡ Some d → slice_get end.fates i ≡ Some GivenUp → (e : Expansion) × Contains q.es e
+        × (e.call ≡ d)
     all_given_up i d there given_up = elim (q.done.given_up i given_up) as (λ _. (e : Expansion) × Contains q.es e × (e.call ≡ d)) [
       | inl early ↦ let gone : None ≡ Some GivenUp = early in absurd (let no : ⊥ = cc in no)
       | inr later ↦ later d there
@@ -243,7 +242,8 @@ module _ (tables : TablesValue) (w : Workspace) (finished : Maps) (from : Beginn
 
 -- where nothing is written that waits, nothing was expanded, and nothing went on
 module _ (tables : TablesValue) (w : Workspace) (answer : CollectedValue) (without : NoCallIsWritten tables w answer) where
-  none_with : (site : Site) (node : AstId) (id : AttrId) (i : KeptItem) (a : Numbered) → HasAttributeAt tables w answer site node id i a → is_always_passed answer.map.crate_data.registered_tools a ≡ true
+  none_with : (site : Site) (node : AstId) (id : AttrId) (i : KeptItem) (a : Numbered) → HasAttributeAt tables w answer site node id i a
+      → is_always_passed answer.map.crate_data.registered_tools a ≡ true
   none_with site node id i a at = without.no_attribute (key_of answer site.tree) i at.written at.enabled a at.has
 
   no_call_by : (d : MacroDirective) (kind : MacroDirectiveKind) → IsCallBy tables w answer d kind → ⊥
@@ -263,7 +263,8 @@ module _ (tables : TablesValue) (w : Workspace) (answer : CollectedValue) (witho
       let no : ⊥ = cc in
       no
 
-  none_expanded : (finished : Maps) (last : Core) (besides : ℕ → List ModuleDefId) (es : List Expansion) → ((e : Expansion) → Contains es e → IsExpansion tables w finished answer last besides e) → es ≡ []
+  none_expanded : (finished : Maps) (last : Core) (besides : ℕ → List ModuleDefId) (es : List Expansion)
+      → ((e : Expansion) → Contains es e → IsExpansion tables w finished answer last besides e) → es ≡ []
   none_expanded finished last besides [] each = refl
   none_expanded finished last besides (e ∷ es) each = absurd (go (each e (at_first e es)))
     where
@@ -275,7 +276,8 @@ pub modules_list_their_items : ModulesListTheirItems
 modules_list_their_items tables w finished from answer e =
     let seen : Maps = read_by w finished from.start in
     lists_all tables w seen from answer e.last.core (holders_by finished from.start)
-    (back_Steps tables w seen from answer e.last.core (answer_here tables w finished from answer e) (in_range-start tables w seen (holders_by finished from.start) from)
+    (back_Steps tables w seen from answer e.last.core (answer_here tables w finished from answer e)
+    (in_range-start tables w seen (holders_by finished from.start) from)
     (first_written tables w finished from answer e) (answer_asked tables w finished from answer e) e.derived
     (comes_end tables w seen from answer e.last.core e.last (leftover_reports e.last.core) e.map_is e.visited refl))
 
@@ -283,4 +285,5 @@ pub modules_list_their_items_alone : ModulesListTheirItemsAlone
 modules_list_their_items_alone tables w finished from answer e no_call number low =
     let seen : Maps = read_by w finished from.start in
     let all : ListsAll tables w seen from answer e.last.core = modules_list_their_items tables w finished from answer e in
-    subst (λ (es : List Expansion). ListsItsItems tables w seen from answer e.last.core (expanded_in es) number) (none_expanded tables w answer no_call seen e.last.core (expanded_in all.expansions) all.expansions all.each) (all.modules number low)
+    subst (λ (es : List Expansion). ListsItsItems tables w seen from answer e.last.core (expanded_in es) number)
+    (none_expanded tables w answer no_call seen e.last.core (expanded_in all.expansions) all.expansions all.each) (all.modules number low)

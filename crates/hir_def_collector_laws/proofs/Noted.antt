@@ -1,5 +1,6 @@
 -- Where a glob brought what a name stands for, it is noted along which edge: in a list of names.
-use Rattle.std.proofs.Common.{◌≡◌, ◌≢◌, ◌∙◌, ℕ, zero, suc, Bool, true, false, cond, List, [], ◌∷◌, ◌++◌, Option, None, Some, is_some, option_and_then, slice_get, slice_set, if◌then◌else◌, refl, sym, ap, subst, true≢false}
+use Rattle.std.proofs.Common.{◌≡◌, ◌≢◌, ◌∙◌, ℕ, zero, suc, Bool, true, false, cond, List, [], ◌∷◌, ◌++◌, Option, None, Some, is_some, option_and_then}
+use Rattle.std.proofs.Common.{slice_get, slice_set, if◌then◌else◌, refl, sym, ap, subst, true≢false}
 use Rattle.std.specs.BTreeMap.{insert_entry, is_at}
 use Rattle.std.specs.Cmp.Lexicographic.{slice_cmp}
 use Rattle.std.specs.Map.{set_value}
@@ -23,8 +24,8 @@ use Rattle.hir_glob_imports.specs.Waves.{Records, adds, edge_with_vis, stays, wi
 use Rattle.hir_glob_imports.specs.declared.edge.Brought.{Brought}
 use Rattle.hir_glob_imports.specs.declared.edge.Edge.{Edge}
 use Rattle.hir_glob_imports.specs.declared.edge.Key.{Key}
-use Rattle.hir_glob_imports.specs.declared.edge.Key.TheVariants.{Types, Values, Macros}
 use Rattle.hir_glob_imports.specs.declared.edge.Slot.{Slot}
+use Rattle.hir_glob_imports.specs.declared.edge.Key.TheVariants.{Types, Values, Macros}
 use Rattle.hir_glob_imports.proofs.Exact.{exact_slot}
 use Rattle.hir_glob_imports.proofs.Settling.{same_itself}
 use Rattle.hir_import_resolution.specs.Changes.{forgotten, forgotten_in}
@@ -87,11 +88,13 @@ modules_apart home number a b ne = slots_apart (slot_at home a) (slot_at number 
 pub keys_apart : (home number : ℕ) (a b : Key) → a ≢ b → same_slot (slot_at home a) (slot_at number b) ≡ false
 keys_apart home number a b ne = slots_apart (slot_at home a) (slot_at number b) (λ e. ne (ap (λ (s : Slot). s.key) e))
 
-pub unforgotten : (home : ℕ) (key : Key) (binds : Bool) (brought : BroughtBy) (s : Slot) → same_slot (slot_at home key) s ≡ false → forgotten_in home key binds brought s ≡ brought s
+pub unforgotten : (home : ℕ) (key : Key) (binds : Bool) (brought : BroughtBy) (s : Slot) → same_slot (slot_at home key) s ≡ false
+    → forgotten_in home key binds brought s ≡ brought s
 unforgotten home key true brought s e = ap (λ (b : Bool). if b then None else brought s) e
 unforgotten home key false brought s e = refl
 
-forgotten_alike : (home : ℕ) (key : Key) (binds : Bool) (one other : BroughtBy) (s : Slot) → one s ≡ other s → forgotten_in home key binds one s ≡ forgotten_in home key binds other s
+forgotten_alike : (home : ℕ) (key : Key) (binds : Bool) (one other : BroughtBy) (s : Slot) → one s ≡ other s → forgotten_in home key binds one s
+    ≡ forgotten_in home key binds other s
 forgotten_alike home key true one other s e = ap (λ (o : Option Brought). if same_slot (slot_at home key) s then None else o) e
 forgotten_alike home key false one other s e = e
 
@@ -102,22 +105,31 @@ module _ (home : ℕ) (name : List ℕ) (items : PerNs) (brought : BroughtBy) (n
   abbrev pub values_forgotten : BroughtBy
   values_forgotten = forgotten_in home (Values name) (is_some items.values) types_forgotten
 
-  pub forgot_types : forgotten home name items brought (slot_at number (Types n)) ≡ forgotten_in home (Types name) (is_some items.types) brought (slot_at number (Types n))
+  pub forgot_types : forgotten home name items brought (slot_at number (Types n)) ≡ forgotten_in home (Types name) (is_some items.types) brought
+      (slot_at number (Types n))
   forgot_types =
-      unforgotten home (Macros name) (is_some items.macros) values_forgotten (slot_at number (Types n)) (keys_apart home number (Macros name) (Types n) (λ e. let no : ⊥ = cc in no))
-      ∙ unforgotten home (Values name) (is_some items.values) types_forgotten (slot_at number (Types n)) (keys_apart home number (Values name) (Types n) (λ e. let no : ⊥ = cc in no))
+      unforgotten home (Macros name) (is_some items.macros) values_forgotten (slot_at number (Types n))
+      (keys_apart home number (Macros name) (Types n) (λ e. let no : ⊥ = cc in no))
+      ∙ unforgotten home (Values name) (is_some items.values) types_forgotten (slot_at number (Types n))
+      (keys_apart home number (Values name) (Types n) (λ e. let no : ⊥ = cc in no))
 
-  pub forgot_values : forgotten home name items brought (slot_at number (Values n)) ≡ forgotten_in home (Values name) (is_some items.values) brought (slot_at number (Values n))
+  pub forgot_values : forgotten home name items brought (slot_at number (Values n)) ≡ forgotten_in home (Values name) (is_some items.values) brought
+      (slot_at number (Values n))
   forgot_values =
-      unforgotten home (Macros name) (is_some items.macros) values_forgotten (slot_at number (Values n)) (keys_apart home number (Macros name) (Values n) (λ e. let no : ⊥ = cc in no))
+      unforgotten home (Macros name) (is_some items.macros) values_forgotten (slot_at number (Values n))
+      (keys_apart home number (Macros name) (Values n) (λ e. let no : ⊥ = cc in no))
       ∙ forgotten_alike home (Values name) (is_some items.values) types_forgotten brought (slot_at number (Values n))
-      (unforgotten home (Types name) (is_some items.types) brought (slot_at number (Values n)) (keys_apart home number (Types name) (Values n) (λ e. let no : ⊥ = cc in no)))
+      (unforgotten home (Types name) (is_some items.types) brought (slot_at number (Values n))
+      (keys_apart home number (Types name) (Values n) (λ e. let no : ⊥ = cc in no)))
 
-  pub forgot_macros : forgotten home name items brought (slot_at number (Macros n)) ≡ forgotten_in home (Macros name) (is_some items.macros) brought (slot_at number (Macros n))
+  pub forgot_macros : forgotten home name items brought (slot_at number (Macros n)) ≡ forgotten_in home (Macros name) (is_some items.macros) brought
+      (slot_at number (Macros n))
   forgot_macros =
       forgotten_alike home (Macros name) (is_some items.macros) values_forgotten brought (slot_at number (Macros n))
-      (unforgotten home (Values name) (is_some items.values) types_forgotten (slot_at number (Macros n)) (keys_apart home number (Values name) (Macros n) (λ e. let no : ⊥ = cc in no))
-      ∙ unforgotten home (Types name) (is_some items.types) brought (slot_at number (Macros n)) (keys_apart home number (Types name) (Macros n) (λ e. let no : ⊥ = cc in no)))
+      (unforgotten home (Values name) (is_some items.values) types_forgotten (slot_at number (Macros n))
+      (keys_apart home number (Values name) (Macros n) (λ e. let no : ⊥ = cc in no))
+      ∙ unforgotten home (Types name) (is_some items.types) brought (slot_at number (Macros n))
+      (keys_apart home number (Types name) (Macros n) (λ e. let no : ⊥ = cc in no)))
 
 -- ---- a note
 
@@ -130,7 +142,8 @@ abbrev pub IsAsOpen : Visibility → Visibility → Type 0
 IsAsOpen old new = (within : Option Crate) → is_open_in within old ≡ true → is_open_in within new ≡ true
 
 -- a recorded edge of the glob into the module brought what stands in a slot, with this visibility, and its place is one of those that globs brought
-pub record HasNote (own : MapId) (places : List Place) (brought : BroughtBy) (edges : List Edge) (number : ℕ) (key : Key) (name : List ℕ) (id : GlobId) (vis : Visibility) : Type 0 where
+pub record HasNote (own : MapId) (places : List Place) (brought : BroughtBy) (edges : List Edge) (number : ℕ) (key : Key) (name : List ℕ) (id : GlobId)
+    (vis : Visibility) : Type 0 where
   pub edge : Edge
   pub last : Brought
   pub noted : brought (slot_at number key) ≡ Some last
@@ -141,13 +154,16 @@ pub record HasNote (own : MapId) (places : List Place) (brought : BroughtBy) (ed
   pub given : GivesAll last vis
 
 -- a note stays where what it says does
-pub record Stays (own : MapId) (places places' : List Place) (brought brought' : BroughtBy) (edges edges' : List Edge) (number : ℕ) (key : Key) (name : List ℕ) : Type 0 where
+pub record Stays (own : MapId) (places places' : List Place) (brought brought' : BroughtBy) (edges edges' : List Edge) (number : ℕ) (key : Key)
+    (name : List ℕ) : Type 0 where
   pub noted : brought' (slot_at number key) ≡ brought (slot_at number key)
   pub placed : has_place places (place_at own number name) ≡ true → has_place places' (place_at own number name) ≡ true
   pub recorded : KeepsEdges edges edges'
 
-pub note_stays : {own : MapId} {places places' : List Place} {brought brought' : BroughtBy} {edges edges' : List Edge} {number : ℕ} {key : Key} {name : List ℕ} {id : GlobId} {vis : Visibility}
-    → Stays own places places' brought brought' edges edges' number key name → HasNote own places brought edges number key name id vis → HasNote own places' brought' edges' number key name id vis
+pub note_stays : {own : MapId} {places places' : List Place} {brought brought' : BroughtBy} {edges edges' : List Edge} {number : ℕ} {key : Key} {name : List ℕ}
+    {id : GlobId} {vis : Visibility}
+    → Stays own places places' brought brought' edges edges' number key name → HasNote own places brought edges number key name id vis
+    → HasNote own places' brought' edges' number key name id vis
 note_stays {edges' = edges'} kept note =
     let still : IsStillAt edges' note.last.edge note.edge = kept.recorded note.last.edge note.edge note.recorded in
     record {
@@ -162,9 +178,11 @@ note_stays {edges' = edges'} kept note =
     }
 
 -- an edge that brought what stands in a slot brings it again
-pub noted_anew : (own : MapId) (places : List Place) (brought : BroughtBy) (edges : List Edge) (number : ℕ) (key : Key) (name : List ℕ) (id : GlobId) (old new : Visibility) (last now : Brought)
+pub noted_anew : (own : MapId) (places : List Place) (brought : BroughtBy) (edges : List Edge) (number : ℕ) (key : Key) (name : List ℕ) (id : GlobId)
+    (old new : Visibility) (last now : Brought)
     → brought (slot_at number key) ≡ Some last → last.edge ≡ now.edge → GivesAll now new
-    → HasNote own places brought edges number key name id old → HasNote own places (with_brought brought (slot_at number key) (Some now)) edges number key name id new
+    → HasNote own places brought edges number key name id old → HasNote own places (with_brought brought (slot_at number key) (Some now)) edges number key name
+    id new
 noted_anew own places brought edges number key name id old new last now was same given note =
     let known : Some last ≡ Some note.last = sym was ∙ note.noted in
     let is_last : last ≡ note.last = cc in
@@ -180,7 +198,8 @@ noted_anew own places brought edges number key name id old new last now was same
     }
 
 -- another edge raises who may see it
-pub note_raised : {own : MapId} {places : List Place} {brought : BroughtBy} {edges : List Edge} {number : ℕ} {key : Key} {name : List ℕ} {id : GlobId} {old : Visibility} (new : Visibility)
+pub note_raised : {own : MapId} {places : List Place} {brought : BroughtBy} {edges : List Edge} {number : ℕ} {key : Key} {name : List ℕ} {id : GlobId}
+    {old : Visibility} (new : Visibility)
     → IsAsOpen old new → HasNote own places brought edges number key name id old → HasNote own places brought edges number key name id new
 note_raised new wider note = record {
   edge = note.edge;
@@ -199,7 +218,8 @@ note_raised new wider note = record {
 module _ {D I : Type 0} (new : Item D I → Item D I) (items : List (List ℕ × Item D I)) (name : List ℕ) where
   set_is_entry : (i : Item D I) → item_at items name ≡ Some i → rewritten new items name (Some i) ≡ with_entry (slice_cmp nat_cmp) items name (new i)
   set_is_entry i e =
-      sym (ap (λ (b : Bool). cond b (set_value (is_at (slice_cmp nat_cmp name)) items (new i)) (insert_entry (slice_cmp nat_cmp) items name (new i))) (ap is_some e))
+      sym (ap (λ (b : Bool). cond b (set_value (is_at (slice_cmp nat_cmp name)) items (new i)) (insert_entry (slice_cmp nat_cmp) items name (new i)))
+      (ap is_some e))
 
   anew_here : (i : Item D I) → item_at items name ≡ Some i → item_at (rewritten new items name (item_at items name)) name ≡ Some (new i)
   anew_here i e =
@@ -221,7 +241,8 @@ module _ {D I : Type 0} (glob : I → Option GlobId) (at : List ℕ → Key) whe
       (name : List ℕ) (item : Item D I) (id : GlobId) → item_at items name ≡ Some item → option_and_then glob item.import ≡ Some id
       → HasNote own places brought edges number (at name) name id item.vis
 
-  written_other : (items : List (List ℕ × Item D I)) (name other : List ℕ) (c : Option (Candidate D I)) → other ≢ name → item_at (written_items name c items) other ≡ item_at items other
+  written_other : (items : List (List ℕ × Item D I)) (name other : List ℕ) (c : Option (Candidate D I)) → other ≢ name → item_at (written_items name c items)
+      other ≡ item_at items other
   written_other items name other None ne = refl
   written_other items name other (Some c) ne = item_at-with_entry_other items name c.push.item other ne
 
@@ -240,9 +261,11 @@ module _ {D I : Type 0} (glob : I → Option GlobId) (at : List ℕ → Key) whe
     -- where other names are as they were, it is enough to know what comes of the name itself
     module _ (places' : List Place) (brought' : BroughtBy) (after : List (List ℕ × Item D I))
         (other_places : (q : Place) → q ≢ here → has_place places q ≡ true → has_place places' q ≡ true)
-        (other_slots : (n : List ℕ) → same_slot (slot_at home (at name)) (slot_at home (at n)) ≡ false → brought' (slot_at home (at n)) ≡ brought (slot_at home (at n)))
+        (other_slots : (n : List ℕ) → same_slot (slot_at home (at name)) (slot_at home (at n)) ≡ false → brought' (slot_at home (at n))
+        ≡ brought (slot_at home (at n)))
         (other_items : (n : List ℕ) → n ≢ name → item_at after n ≡ item_at items n) where
-      by_name : ((item : Item D I) (id : GlobId) → item_at after name ≡ Some item → option_and_then glob item.import ≡ Some id → HasNote own places' brought' edges home (at name) name id item.vis)
+      by_name : ((item : Item D I) (id : GlobId) → item_at after name ≡ Some item → option_and_then glob item.import ≡ Some id → HasNote own places' brought'
+          edges home (at name) name id item.vis)
           → AreNotedIn own places brought edges home items → AreNotedIn own places' brought' edges home after
       by_name at_name f n item id e g = go (same_slot (slot_at home (at name)) (slot_at home (at n))) refl
         where
@@ -285,14 +308,17 @@ module _ {D I : Type 0} (glob : I → Option GlobId) (at : List ℕ → Key) whe
     IsExplicit (Some c) = (c.push.is_glob ≡ false) × (option_and_then glob c.push.item.import ≡ None)
 
     -- it takes the place of what a glob brought
-    taken_anyway : (push : Push D I) (b : Item D I) (globbed : Bool) → push.is_glob ≡ false → globbed ≡ true → takes_slot same_def same_import globbed (Some b) push ≡ true
+    taken_anyway : (push : Push D I) (b : Item D I) (globbed : Bool) → push.is_glob ≡ false → globbed ≡ true → takes_slot same_def same_import globbed (Some b)
+        push ≡ true
     taken_anyway push b false e g = absurd (true≢false (sym g))
     taken_anyway push b true e g = rw e refl
 
-    explicit_item : (c : Candidate D I) → IsExplicit (Some c) → AreNotedIn own places brought edges home items → glob_by glob (item_at (items_after (Some c)) name) ≡ None
+    explicit_item : (c : Candidate D I) → IsExplicit (Some c) → AreNotedIn own places brought edges home items
+        → glob_by glob (item_at (items_after (Some c)) name) ≡ None
     explicit_item c explicit f = go (takes_slot same_def same_import (has_place places here) (item_at items name) c.push) refl
       where
-        left : (o : Option (Item D I)) → item_at items name ≡ o → takes_slot same_def same_import (has_place places here) o c.push ≡ false → glob_by glob o ≡ None
+        left : (o : Option (Item D I)) → item_at items name ≡ o → takes_slot same_def same_import (has_place places here) o c.push ≡ false → glob_by glob o
+            ≡ None
         left None e t = refl
         left (Some b) e t = on (option_and_then glob b.import) refl
           where
@@ -306,7 +332,8 @@ module _ {D I : Type 0} (glob : I → Option GlobId) (at : List ℕ → Key) whe
         go false t = left (item_at items name) refl t
 
     explicit_name : (c : Option (Candidate D I)) (binds : Bool) (brought' : BroughtBy) → IsExplicit c → (c ≡ None → binds ≡ false)
-        → brought' (slot_at home (at name)) ≡ forgotten_in home (at name) binds brought (slot_at home (at name)) → AreNotedIn own places brought edges home items
+        → brought' (slot_at home (at name)) ≡ forgotten_in home (at name) binds brought (slot_at home (at name)) → AreNotedIn own places brought edges home
+        items
         → (item : Item D I) (id : GlobId) → item_at (items_after c) name ≡ Some item → option_and_then glob item.import ≡ Some id
         → HasNote own (places_after c) brought' edges home (at name) name id item.vis
     explicit_name None binds brought' explicit binds_not is f item id e g =
@@ -334,15 +361,18 @@ module _ {D I : Type 0} (glob : I → Option GlobId) (at : List ℕ → Key) whe
     abbrev pub brought_now : Brought → BroughtBy
     brought_now now = with_brought brought (slot_at home (at name)) (Some now)
 
-    other_brought : (now : Brought) (n : List ℕ) → same_slot (slot_at home (at name)) (slot_at home (at n)) ≡ false → brought_now now (slot_at home (at n)) ≡ brought (slot_at home (at n))
+    other_brought : (now : Brought) (n : List ℕ) → same_slot (slot_at home (at name)) (slot_at home (at n)) ≡ false → brought_now now (slot_at home (at n))
+        ≡ brought (slot_at home (at n))
     other_brought now n s = ap (λ (b : Bool). if b then Some now else brought (slot_at home (at n))) s
 
-    copied_name : (c : Candidate D I) (e : Edge) (now : Brought) → c.push.is_glob ≡ true → option_and_then glob c.push.item.import ≡ Some e.id → GivesAll now c.push.item.vis
+    copied_name : (c : Candidate D I) (e : Edge) (now : Brought) → c.push.is_glob ≡ true → option_and_then glob c.push.item.import ≡ Some e.id
+        → GivesAll now c.push.item.vis
         → item_at items name ≡ None → slice_get edges now.edge ≡ Some e → e.importer ≡ home
         → (item : Item D I) (id : GlobId) → item_at (items_after (Some c)) name ≡ Some item → option_and_then glob item.import ≡ Some id
         → HasNote own (places_after (Some c)) (brought_now now) edges home (at name) name id item.vis
     copied_name c e now globbed brings given vacant recorded into item id is by =
-        let takes_it : taken same_def same_import items places here (Some c) ≡ Some c = ap (λ (o : Option (Item D I)). cond (takes_slot same_def same_import (has_place places here) o c.push) (Some c) None) vacant in
+        let takes_it : taken same_def same_import items places here (Some c)
+        ≡ Some c = ap (λ (o : Option (Item D I)). cond (takes_slot same_def same_import (has_place places here) o c.push) (Some c) None) vacant in
         let stands : item_at (items_after (Some c)) name ≡ Some c.push.item =
         ap (λ (o : Option (Candidate D I)). item_at (written_items name o items) name) takes_it ∙ item_at-with_entry items name c.push.item in
         let known : Some c.push.item ≡ Some item = sym stands ∙ is in
@@ -363,23 +393,27 @@ module _ {D I : Type 0} (glob : I → Option GlobId) (at : List ℕ → Key) whe
         }
 
     -- what a glob brings to a vacant slot is noted
-    pub copied_here : (c : Candidate D I) (e : Edge) (now : Brought) → c.push.is_glob ≡ true → option_and_then glob c.push.item.import ≡ Some e.id → GivesAll now c.push.item.vis
+    pub copied_here : (c : Candidate D I) (e : Edge) (now : Brought) → c.push.is_glob ≡ true → option_and_then glob c.push.item.import ≡ Some e.id
+        → GivesAll now c.push.item.vis
         → item_at items name ≡ None → slice_get edges now.edge ≡ Some e → e.importer ≡ home
         → AreNotedIn own places brought edges home items → AreNotedIn own (places_after (Some c)) (brought_now now) edges home (items_after (Some c))
     copied_here c e now globbed brings given vacant recorded into f =
-        by_name (places_after (Some c)) (brought_now now) (items_after (Some c)) (still_placed (taken same_def same_import items places here (Some c))) (other_brought now) (other_written (Some c))
+        by_name (places_after (Some c)) (brought_now now) (items_after (Some c)) (still_placed (taken same_def same_import items places here (Some c)))
+        (other_brought now) (other_written (Some c))
         (copied_name c e now globbed brings given vacant recorded into) f
 
     -- ---- an item is written anew
 
     module _ (new : Item D I → Item D I) (keeps : (i : Item D I) → (new i).import ≡ i.import) (brought' : BroughtBy)
-        (other_slots : (n : List ℕ) → same_slot (slot_at home (at name)) (slot_at home (at n)) ≡ false → brought' (slot_at home (at n)) ≡ brought (slot_at home (at n)))
+        (other_slots : (n : List ℕ) → same_slot (slot_at home (at name)) (slot_at home (at n)) ≡ false → brought' (slot_at home (at n))
+        ≡ brought (slot_at home (at n)))
         (renoted : (i : Item D I) (id : GlobId) → item_at items name ≡ Some i → HasNote own places brought edges home (at name) name id i.vis
         → HasNote own places brought' edges home (at name) name id (new i).vis) where
       abbrev after_rewriting : List (List ℕ × Item D I)
       after_rewriting = rewritten new items name (item_at items name)
 
-      rewritten_name : AreNotedIn own places brought edges home items → (item : Item D I) (id : GlobId) → item_at after_rewriting name ≡ Some item → option_and_then glob item.import ≡ Some id
+      rewritten_name : AreNotedIn own places brought edges home items → (item : Item D I) (id : GlobId) → item_at after_rewriting name ≡ Some item
+          → option_and_then glob item.import ≡ Some id
           → HasNote own places brought' edges home (at name) name id item.vis
       rewritten_name f item id e g = go (item_at items name) refl
         where

@@ -1,12 +1,13 @@
 -- Where a glob brought what a name stands for, it is noted along which edge: in each scope of a map.
-use Rattle.std.proofs.Common.{◌≡◌, ◌≢◌, ◌∙◌, ℕ, Bool, true, false, cond, List, [], ◌∷◌, ◌++◌, Option, None, Some, is_some, option_and_then, slice_get, if◌then◌else◌, refl, sym, ap, subst, true≢false}
+use Rattle.std.proofs.Common.{◌≡◌, ◌≢◌, ◌∙◌, ℕ, Bool, true, false, cond, List, [], ◌∷◌, ◌++◌, Option, None, Some, is_some, option_and_then, slice_get}
+use Rattle.std.proofs.Common.{if◌then◌else◌, refl, sym, ap, subst, true≢false}
 use Rattle.hir_base.specs.contracts.ids.ModuleDefIdPartialEq.TheImpl as module_def
 use Rattle.hir_base.specs.contracts.macro_kind.MacroIdPartialEq.TheImpl as makro
+use Rattle.hir_base.specs.declared.macro_kind.MacroId.{MacroId}
 use Rattle.hir_base.specs.declared.ids.MapId.{MapId}
 use Rattle.hir_base.specs.declared.ids.ModuleDefId.{ModuleDefId}
-use Rattle.hir_base.specs.declared.ids.ModuleDefId.TheVariants as definitions
 use Rattle.hir_base.specs.declared.ids.TraitId.{TraitId}
-use Rattle.hir_base.specs.declared.macro_kind.MacroId.{MacroId}
+use Rattle.hir_base.specs.declared.ids.ModuleDefId.TheVariants as definitions
 use Rattle.hir_scope.specs.contracts.imports.ImportOrExternCratePartialEq.TheImpl as item_import
 use Rattle.hir_scope.specs.contracts.imports.ImportOrGlobPartialEq.TheImpl as glob_import
 use Rattle.hir_scope.specs.Bindings.{Candidate, macro_candidate, type_candidate, value_candidate, with_item_definition, with_item_visibility, written_places}
@@ -19,11 +20,11 @@ use Rattle.hir_scope.specs.Scope.{ScopeValue, empty_scope}
 use Rattle.hir_scope.specs.Scope.Push.{pushed_globs, pushed_scope, taken_macro, taken_type, taken_value}
 use Rattle.hir_scope.specs.declared.imports.ImportOrDef.TheVariants as reached
 use Rattle.hir_scope.specs.declared.imports.ImportOrExternCrate.{ImportOrExternCrate}
-use Rattle.hir_scope.specs.declared.imports.ImportOrExternCrate.TheVariants as ways
 use Rattle.hir_scope.specs.declared.imports.ImportOrGlob.{ImportOrGlob}
-use Rattle.hir_scope.specs.declared.imports.ImportOrGlob.TheVariants as value_ways
 use Rattle.hir_scope.specs.declared.per_ns.PerNs.{PerNs}
 use Rattle.hir_scope.specs.declared.visibility.Visibility.{Visibility}
+use Rattle.hir_scope.specs.declared.imports.ImportOrExternCrate.TheVariants as ways
+use Rattle.hir_scope.specs.declared.imports.ImportOrGlob.TheVariants as value_ways
 use Rattle.hir_scope.proofs.Pushes.{pushed-macros, pushed-types, pushed-values}
 use Rattle.hir_def_map_rules.specs.Declaration.{listed}
 use Rattle.hir_def_map_rules.specs.State.{ModuleValue, changed_at, globs_in, place_at, pushed_module, with_module_scope}
@@ -39,7 +40,9 @@ use Rattle.hir_import_resolution.specs.Changes.{forgotten}
 use Rattle.hir_import_resolution.specs.Names.{with_macro, with_macro_vis, with_type, with_type_vis, with_value, with_value_vis}
 use Rattle.hir_def_collector_laws.specs.Globs.{glob_of_value}
 use Rattle.hir_def_collector_laws.proofs.ModuleLists.{IsChanged, IsOfLonger, changed-at, changed_one, newest, of_longer, older, other_one}
-use Rattle.hir_def_collector_laws.proofs.Noted.{AreNotedIn, GivesAll, IsAsOpen, IsExplicit, KeepsEdges, copied_here, explicit_here, forgot_macros, forgot_types, forgot_values, keeps_all, keys_apart, modules_apart, note_raised, note_stays, noted_anew, rewritten_here, types_forgotten, unforgotten, values_forgotten}
+use Rattle.hir_def_collector_laws.proofs.Noted.{AreNotedIn, GivesAll, IsAsOpen, IsExplicit, KeepsEdges, copied_here, explicit_here, forgot_macros, forgot_types}
+use Rattle.hir_def_collector_laws.proofs.Noted.{forgot_values, keeps_all, keys_apart, modules_apart, note_raised, note_stays, noted_anew, rewritten_here}
+use Rattle.hir_def_collector_laws.proofs.Noted.{types_forgotten, unforgotten, values_forgotten}
 use Rattle.hir_def_collector_laws.proofs.Places.{still_with, still_without}
 
 -- ---- a scope
@@ -52,11 +55,7 @@ pub record HasSameNames (old new : ScopeValue) : Type 0 where
 
 pub same_listed : (d : Listing) (s : ScopeValue) → HasSameNames s (listed d s)
 same_listed (listings.Def def) s = record { types = refl; values = refl; macros = refl }
-same_listed (listings.Use use_) s = record { types = refl; values = refl; macros = refl }
-same_listed (listings.ExternCrate extern_crate) s = record { types = refl; values = refl; macros = refl }
-same_listed (listings.Impl imp is_trait_impl) s = record { types = refl; values = refl; macros = refl }
-same_listed (listings.ExternBlock extern_block) s = record { types = refl; values = refl; macros = refl }
-same_listed (listings.UnnamedConst konst) s = record { types = refl; values = refl; macros = refl }
+same_listed other s = record { types = refl; values = refl; macros = refl }
 
 -- each name of a scope that a glob brought has its note
 pub record IsNotedScope (own : MapId) (globs : GlobNames) (brought : BroughtBy) (edges : List Edge) (number : ℕ) (s : ScopeValue) : Type 0 where
@@ -67,9 +66,15 @@ pub record IsNotedScope (own : MapId) (globs : GlobNames) (brought : BroughtBy) 
 noted_same : {own : MapId} {globs : GlobNames} {brought : BroughtBy} {edges : List Edge} {number : ℕ} {old new : ScopeValue}
     → HasSameNames old new → IsNotedScope own globs brought edges number old → IsNotedScope own globs brought edges number new
 noted_same {own = own} {globs = globs} {brought = brought} {edges = edges} {number = number} same f = record {
-  types = subst (λ (xs : List (List ℕ × Item ModuleDefId ImportOrExternCrate)). AreNotedIn glob_of Types own globs.types brought edges number xs) (sym same.types) f.types;
-  values = subst (λ (xs : List (List ℕ × Item ModuleDefId ImportOrGlob)). AreNotedIn glob_of_value Values own globs.values brought edges number xs) (sym same.values) f.values;
-  macros = subst (λ (xs : List (List ℕ × Item MacroId ImportOrExternCrate)). AreNotedIn glob_of Macros own globs.macros brought edges number xs) (sym same.macros) f.macros;
+  types =
+      subst (λ (xs : List (List ℕ × Item ModuleDefId ImportOrExternCrate)). AreNotedIn glob_of Types own globs.types brought edges number xs) (sym same.types)
+      f.types;
+  values =
+      subst (λ (xs : List (List ℕ × Item ModuleDefId ImportOrGlob)). AreNotedIn glob_of_value Values own globs.values brought edges number xs) (sym same.values)
+      f.values;
+  macros =
+      subst (λ (xs : List (List ℕ × Item MacroId ImportOrExternCrate)). AreNotedIn glob_of Macros own globs.macros brought edges number xs) (sym same.macros)
+      f.macros;
 }
 
 -- ---- modules
@@ -79,7 +84,8 @@ pub record AreNoted (own : MapId) (globs : GlobNames) (brought : BroughtBy) (edg
 
 -- one scope changes, and of other modules nothing else is noted
 module _ (own : MapId) (globs : GlobNames) (brought brought' : BroughtBy) (edges : List Edge) (ms : List ModuleValue) (at : ℕ) (change : ModuleValue → ModuleValue)
-    (at_home : (old : ModuleValue) → slice_get ms at ≡ Some old → IsNotedScope own globs brought edges at old.scope → IsNotedScope own globs brought' edges at (change old).scope)
+    (at_home : (old : ModuleValue) → slice_get ms at ≡ Some old → IsNotedScope own globs brought edges at old.scope → IsNotedScope own globs brought' edges at
+    (change old).scope)
     (elsewhere : (number : ℕ) → number ≢ at → (key : Key) → brought' (slot_at number key) ≡ brought (slot_at number key)) where
   pub noted_changed : AreNoted own globs brought edges ms → AreNoted own globs brought' edges (changed_at ms at change)
   noted_changed f = record { each = λ number m e. go number m (changed-at ms at change number m e) }
@@ -92,14 +98,19 @@ module _ (own : MapId) (globs : GlobNames) (brought brought' : BroughtBy) (edges
       go number m (other_one ne there) =
           let s : IsNotedScope own globs brought edges number m.scope = f.each number m there in
           record {
-            types = λ n i id e g. note_stays (record { noted = elsewhere number ne (Types n); placed = λ h. h; recorded = keeps_all edges }) (s.types n i id e g);
-            values = λ n i id e g. note_stays (record { noted = elsewhere number ne (Values n); placed = λ h. h; recorded = keeps_all edges }) (s.values n i id e g);
-            macros = λ n i id e g. note_stays (record { noted = elsewhere number ne (Macros n); placed = λ h. h; recorded = keeps_all edges }) (s.macros n i id e g);
+            types =
+                λ n i id e g. note_stays (record { noted = elsewhere number ne (Types n); placed = λ h. h; recorded = keeps_all edges }) (s.types n i id e g);
+            values =
+                λ n i id e g. note_stays (record { noted = elsewhere number ne (Values n); placed = λ h. h; recorded = keeps_all edges }) (s.values n i id e g);
+            macros =
+                λ n i id e g. note_stays (record { noted = elsewhere number ne (Macros n); placed = λ h. h; recorded = keeps_all edges }) (s.macros n i id e g);
           }
 
 -- names stand for what they did
-pub noted_rescoped : {own : MapId} {globs : GlobNames} {brought : BroughtBy} {edges : List Edge} (ms : List ModuleValue) (at : ℕ) (change : ModuleValue → ModuleValue)
-    → ((m : ModuleValue) → HasSameNames m.scope (change m).scope) → AreNoted own globs brought edges ms → AreNoted own globs brought edges (changed_at ms at change)
+pub noted_rescoped : {own : MapId} {globs : GlobNames} {brought : BroughtBy} {edges : List Edge} (ms : List ModuleValue) (at : ℕ)
+    (change : ModuleValue → ModuleValue)
+    → ((m : ModuleValue) → HasSameNames m.scope (change m).scope) → AreNoted own globs brought edges ms → AreNoted own globs brought edges
+    (changed_at ms at change)
 noted_rescoped {own = own} {globs = globs} {brought = brought} {edges = edges} ms at change same f =
     noted_changed own globs brought brought edges ms at change (λ old there g. noted_same (same old) g) (λ number ne key. refl) f
 
@@ -112,14 +123,17 @@ noted_empty own globs brought edges number = record {
 }
 
 -- one more module binds nothing
-pub noted_longer : {own : MapId} {globs : GlobNames} {brought : BroughtBy} {edges : List Edge} (ms : List ModuleValue) (new : ModuleValue) → new.scope ≡ empty_scope
+pub noted_longer : {own : MapId} {globs : GlobNames} {brought : BroughtBy} {edges : List Edge} (ms : List ModuleValue) (new : ModuleValue) → new.scope
+    ≡ empty_scope
     → AreNoted own globs brought edges ms → AreNoted own globs brought edges (ms ++ new ∷ [])
-noted_longer {own = own} {globs = globs} {brought = brought} {edges = edges} ms new empty f = record { each = λ number m e. go number m (of_longer ms new number m e) }
+noted_longer {own = own} {globs = globs} {brought = brought} {edges = edges} ms new empty f =
+    record { each = λ number m e. go number m (of_longer ms new number m e) }
   where
     go : (number : ℕ) (m : ModuleValue) → IsOfLonger ms new number m → IsNotedScope own globs brought edges number m.scope
     go number m (older h) = f.each number m h
     go number m (newest h) =
-        subst (λ (s : ScopeValue). IsNotedScope own globs brought edges number s) (sym (ap (λ (v : ModuleValue). v.scope) h ∙ empty)) (noted_empty own globs brought edges number)
+        subst (λ (s : ScopeValue). IsNotedScope own globs brought edges number s) (sym (ap (λ (v : ModuleValue). v.scope) h ∙ empty))
+        (noted_empty own globs brought edges number)
 
 -- globs are recorded
 pub noted_recorded : (own : MapId) (globs : GlobNames) (brought : BroughtBy) (old new : List Edge) (ms : List ModuleValue) → KeepsEdges old new
@@ -135,19 +149,33 @@ noted_recorded own globs brought old new ms keeps f = record {
 }
 
 -- it's forgotten who brought a trait without a name
-pub noted_traits : (own : MapId) (globs : GlobNames) (brought : BroughtBy) (edges : List Edge) (ms : List ModuleValue) (home : ℕ) (id : TraitId) (by : Option Brought)
+pub noted_traits : (own : MapId) (globs : GlobNames) (brought : BroughtBy) (edges : List Edge) (ms : List ModuleValue) (home : ℕ) (id : TraitId)
+    (by : Option Brought)
     → AreNoted own globs brought edges ms → AreNoted own globs (with_brought brought (slot_at home (Unnamed id)) by) edges ms
 noted_traits own globs brought edges ms home trait by f = record {
   each = λ number m e.
       let s : IsNotedScope own globs brought edges number m.scope = f.each number m e in
       record {
-        types = λ name i id e g. note_stays (record { noted = apart number (Types name) (λ h. let no : ⊥ = cc in no); placed = λ h. h; recorded = keeps_all edges }) (s.types name i id e g);
-        values = λ name i id e g. note_stays (record { noted = apart number (Values name) (λ h. let no : ⊥ = cc in no); placed = λ h. h; recorded = keeps_all edges }) (s.values name i id e g);
-        macros = λ name i id e g. note_stays (record { noted = apart number (Macros name) (λ h. let no : ⊥ = cc in no); placed = λ h. h; recorded = keeps_all edges }) (s.macros name i id e g);
+        types =
+            λ name i id e g. note_stays (record { noted = apart number (Types name) (λ h. let no : ⊥ = cc in no); placed = λ h. h; recorded = keeps_all edges })
+            (s.types name i id e g);
+        values =
+            λ name i id e g. note_stays (record {
+              noted = apart number (Values name) (λ h. let no : ⊥ = cc in no);
+              placed = λ h. h;
+              recorded = keeps_all edges;
+            }) (s.values name i id e g);
+        macros =
+            λ name i id e g. note_stays (record {
+              noted = apart number (Macros name) (λ h. let no : ⊥ = cc in no);
+              placed = λ h. h;
+              recorded = keeps_all edges;
+            }) (s.macros name i id e g);
       };
 }
   where
-    apart : (number : ℕ) (key : Key) → Unnamed trait ≢ key → with_brought brought (slot_at home (Unnamed trait)) by (slot_at number key) ≡ brought (slot_at number key)
+    apart : (number : ℕ) (key : Key) → Unnamed trait ≢ key → with_brought brought (slot_at home (Unnamed trait)) by (slot_at number key)
+        ≡ brought (slot_at number key)
     apart number key ne = ap (λ (b : Bool). if b then by else brought (slot_at number key)) (keys_apart home number (Unnamed trait) key ne)
 
 -- ---- pushes
@@ -188,7 +216,8 @@ module _ (own : MapId) (globs : GlobNames) (brought : BroughtBy) (edges : List E
     type_explicit s (Some i) = (explicit, explicit_way by explicit)
 
     value_explicit : (s : ScopeValue) (o : Option (Item ModuleDefId ImportOrGlob))
-        → IsExplicit glob_of_value Values module_def.ghosts.eq glob_import.ghosts.eq one_value own home name globs.values brought edges s.values (value_candidate o by)
+        → IsExplicit glob_of_value Values module_def.ghosts.eq glob_import.ghosts.eq one_value own home name globs.values brought edges s.values
+        (value_candidate o by)
     value_explicit s None = tt
     value_explicit s (Some i) = (explicit, explicit_value by explicit)
 
@@ -209,19 +238,29 @@ module _ (own : MapId) (globs : GlobNames) (brought : BroughtBy) (edges : List E
     no_macro None e = refl
     no_macro (Some i) e = absurd (let no : ⊥ = cc in no)
 
-    pushed_here : (s : ScopeValue) → IsNotedScope own globs brought edges home s → IsNotedScope own (pushed_globs s at_name items by globs) brought_after edges home (pushed_scope globs at_name items by s)
+    pushed_here : (s : ScopeValue) → IsNotedScope own globs brought edges home s → IsNotedScope own (pushed_globs s at_name items by globs) brought_after edges
+        home (pushed_scope globs at_name items by s)
     pushed_here s f = record {
-      types = subst (λ (xs : List (List ℕ × Item ModuleDefId ImportOrExternCrate)). AreNotedIn glob_of Types own (pushed_globs s at_name items by globs).types brought_after edges home xs)
+      types =
+          subst (λ (xs : List (List ℕ × Item ModuleDefId ImportOrExternCrate)). AreNotedIn glob_of Types own (pushed_globs s at_name items by globs).types
+          brought_after edges home xs)
           (sym (pushed-types s globs at_name by items))
-          (explicit_here glob_of Types module_def.ghosts.eq item_import.ghosts.eq one_type own home name globs.types brought edges s.types (type_candidate items.types by)
+          (explicit_here glob_of Types module_def.ghosts.eq item_import.ghosts.eq one_type own home name globs.types brought edges s.types
+          (type_candidate items.types by)
           (is_some items.types) brought_after (type_explicit s items.types) (no_type items.types) (forgot_types home name items brought home) f.types);
-      values = subst (λ (xs : List (List ℕ × Item ModuleDefId ImportOrGlob)). AreNotedIn glob_of_value Values own (pushed_globs s at_name items by globs).values brought_after edges home xs)
+      values =
+          subst (λ (xs : List (List ℕ × Item ModuleDefId ImportOrGlob)). AreNotedIn glob_of_value Values own (pushed_globs s at_name items by globs).values
+          brought_after edges home xs)
           (sym (pushed-values s globs at_name by items))
-          (explicit_here glob_of_value Values module_def.ghosts.eq glob_import.ghosts.eq one_value own home name globs.values brought edges s.values (value_candidate items.values by)
+          (explicit_here glob_of_value Values module_def.ghosts.eq glob_import.ghosts.eq one_value own home name globs.values brought edges s.values
+          (value_candidate items.values by)
           (is_some items.values) brought_after (value_explicit s items.values) (no_value items.values) (forgot_values home name items brought home) f.values);
-      macros = subst (λ (xs : List (List ℕ × Item MacroId ImportOrExternCrate)). AreNotedIn glob_of Macros own (pushed_globs s at_name items by globs).macros brought_after edges home xs)
+      macros =
+          subst (λ (xs : List (List ℕ × Item MacroId ImportOrExternCrate)). AreNotedIn glob_of Macros own (pushed_globs s at_name items by globs).macros
+          brought_after edges home xs)
           (sym (pushed-macros s globs at_name by items))
-          (explicit_here glob_of Macros makro.ghosts.eq item_import.ghosts.eq one_macro own home name globs.macros brought edges s.macros (macro_candidate items.macros by)
+          (explicit_here glob_of Macros makro.ghosts.eq item_import.ghosts.eq one_macro own home name globs.macros brought edges s.macros
+          (macro_candidate items.macros by)
           (is_some items.macros) brought_after (macro_explicit s items.macros) (no_macro items.macros) (forgot_macros home name items brought home) f.macros);
     }
 
@@ -253,18 +292,36 @@ module _ (own : MapId) (globs : GlobNames) (brought : BroughtBy) (edges : List E
   other_place number n ne e = ne (ap (λ (q : Place). q.0.index) e)
 
   -- its names keep their notes, where nothing else is noted of them
-  pushed_there : (o : Option ModuleValue) (brought' : BroughtBy) (number : ℕ) → number ≢ home → ((key : Key) → brought' (slot_at number key) ≡ brought (slot_at number key))
+  pushed_there : (o : Option ModuleValue) (brought' : BroughtBy) (number : ℕ) → number ≢ home
+      → ((key : Key) → brought' (slot_at number key) ≡ brought (slot_at number key))
       → (s : ScopeValue) → IsNotedScope own globs brought edges number s → IsNotedScope own (globs_in o globs at_name items by) brought' edges number s
   pushed_there o brought' number ne same s f = record {
-    types = λ n i id e g. note_stays (record { noted = same (Types n); placed = still_types (place_at own number n) (other_place number n ne) o; recorded = keeps_all edges }) (f.types n i id e g);
-    values = λ n i id e g. note_stays (record { noted = same (Values n); placed = still_values (place_at own number n) (other_place number n ne) o; recorded = keeps_all edges }) (f.values n i id e g);
-    macros = λ n i id e g. note_stays (record { noted = same (Macros n); placed = still_macros (place_at own number n) (other_place number n ne) o; recorded = keeps_all edges }) (f.macros n i id e g);
+    types =
+        λ n i id e g. note_stays (record {
+          noted = same (Types n);
+          placed = still_types (place_at own number n) (other_place number n ne) o;
+          recorded = keeps_all edges;
+        }) (f.types n i id e g);
+    values =
+        λ n i id e g. note_stays (record {
+          noted = same (Values n);
+          placed = still_values (place_at own number n) (other_place number n ne) o;
+          recorded = keeps_all edges;
+        }) (f.values n i id e g);
+    macros =
+        λ n i id e g. note_stays (record {
+          noted = same (Macros n);
+          placed = still_macros (place_at own number n) (other_place number n ne) o;
+          recorded = keeps_all edges;
+        }) (f.macros n i id e g);
   }
 
   forgotten_there : (number : ℕ) → number ≢ home → (key : Key) → brought_after (slot_at number key) ≡ brought (slot_at number key)
   forgotten_there number ne key =
-      unforgotten home (Macros name) (is_some items.macros) (values_forgotten home name items brought number name) (slot_at number key) (modules_apart home number (Macros name) key ne)
-      ∙ unforgotten home (Values name) (is_some items.values) (types_forgotten home name items brought number name) (slot_at number key) (modules_apart home number (Values name) key ne)
+      unforgotten home (Macros name) (is_some items.macros) (values_forgotten home name items brought number name) (slot_at number key)
+      (modules_apart home number (Macros name) key ne)
+      ∙ unforgotten home (Values name) (is_some items.values) (types_forgotten home name items brought number name) (slot_at number key)
+      (modules_apart home number (Values name) key ne)
       ∙ unforgotten home (Types name) (is_some items.types) brought (slot_at number key) (modules_apart home number (Types name) key ne)
 
   -- ---- the modules of a map
@@ -282,10 +339,12 @@ module _ (own : MapId) (globs : GlobNames) (brought : BroughtBy) (edges : List E
             → IsNotedScope own (globs_in (slice_get ms home) globs at_name items by) brought' edges number m.scope
         go number m (changed_one old here there is) =
             let at : slice_get ms home ≡ Some old = subst (λ (k : ℕ). slice_get ms k ≡ Some old) here there in
-            let now : IsNotedScope own (globs_in (Some old) globs at_name items by) brought' edges home (pushed_scope globs at_name items by old.scope) = at_home old at (f.each home old at) in
+            let now : IsNotedScope own (globs_in (Some old) globs at_name items by) brought' edges home (pushed_scope globs at_name items by old.scope) =
+            at_home old at (f.each home old at) in
             subst (λ (k : ℕ). IsNotedScope own (globs_in (slice_get ms home) globs at_name items by) brought' edges k m.scope) (sym here)
             (subst (λ (v : ModuleValue). IsNotedScope own (globs_in (slice_get ms home) globs at_name items by) brought' edges home v.scope) (sym is)
-            (subst (λ (o : Option ModuleValue). IsNotedScope own (globs_in o globs at_name items by) brought' edges home (pushed_scope globs at_name items by old.scope)) (sym at) now))
+            (subst (λ (o : Option ModuleValue). IsNotedScope own (globs_in o globs at_name items by) brought' edges home
+            (pushed_scope globs at_name items by old.scope)) (sym at) now))
         go number m (other_one ne there) = pushed_there (slice_get ms home) brought' number ne (elsewhere number ne) m.scope (f.each number m there)
 
   -- a declaration or an import pushes
@@ -307,7 +366,8 @@ module _ (brought : BroughtBy) (now : Brought) (home : ℕ) where
   elsewhere one number ne key = ap (λ (b : Bool). if b then Some now else brought (slot_at number key)) (modules_apart home number one key ne)
 
   -- another name of the module
-  another : (at : List ℕ → Key) (name n : List ℕ) → same_slot (slot_at home (at name)) (slot_at home (at n)) ≡ false → brought_at (at name) (slot_at home (at n)) ≡ brought (slot_at home (at n))
+  another : (at : List ℕ → Key) (name n : List ℕ) → same_slot (slot_at home (at name)) (slot_at home (at n)) ≡ false
+      → brought_at (at name) (slot_at home (at n)) ≡ brought (slot_at home (at n))
   another at name n s = ap (λ (b : Bool). if b then Some now else brought (slot_at home (at n))) s
 
   -- names of other namespaces of the module keep their notes
@@ -316,10 +376,12 @@ module _ (brought : BroughtBy) (now : Brought) (home : ℕ) where
     types_beside ne n i id e g = note_stays (record { noted = beside one (Types n) (ne n); placed = λ h. h; recorded = keeps_all edges }) (f.types n i id e g)
 
     values_beside : ((n : List ℕ) → one ≢ Values n) → AreNotedIn glob_of_value Values own globs.values (brought_at one) edges home s.values
-    values_beside ne n i id e g = note_stays (record { noted = beside one (Values n) (ne n); placed = λ h. h; recorded = keeps_all edges }) (f.values n i id e g)
+    values_beside ne n i id e g =
+        note_stays (record { noted = beside one (Values n) (ne n); placed = λ h. h; recorded = keeps_all edges }) (f.values n i id e g)
 
     macros_beside : ((n : List ℕ) → one ≢ Macros n) → AreNotedIn glob_of Macros own globs.macros (brought_at one) edges home s.macros
-    macros_beside ne n i id e g = note_stays (record { noted = beside one (Macros n) (ne n); placed = λ h. h; recorded = keeps_all edges }) (f.macros n i id e g)
+    macros_beside ne n i id e g =
+        note_stays (record { noted = beside one (Macros n) (ne n); placed = λ h. h; recorded = keeps_all edges }) (f.macros n i id e g)
 
 -- ---- a glob pushes
 
@@ -329,51 +391,65 @@ module _ (own : MapId) (globs : GlobNames) (brought : BroughtBy) (edges : List E
   globs_name = place_at own home name
 
   copied_type : (def : ModuleDefId) (s : ScopeValue) → item_at s.types name ≡ None → IsNotedScope own globs brought edges home s
-      → IsNotedScope own (pushed_globs s globs_name (types_only def vis None) (Some (ways.Glob e.id)) globs) (brought_at brought now home (Types name)) edges home
+      → IsNotedScope own (pushed_globs s globs_name (types_only def vis None) (Some (ways.Glob e.id)) globs) (brought_at brought now home (Types name)) edges
+      home
       (pushed_scope globs globs_name (types_only def vis None) (Some (ways.Glob e.id)) s)
   copied_type def s vacant f = record {
     types = copied_here glob_of Types module_def.ghosts.eq item_import.ghosts.eq one_type own home name globs.types brought edges s.types
-        (record { push = record { item = record { def = def; vis = vis; import = Some (ways.Glob e.id) }; is_glob = true }; source = reached.Def def }) e now refl refl given vacant recorded into f.types;
+        (record { push = record { item = record { def = def; vis = vis; import = Some (ways.Glob e.id) }; is_glob = true }; source = reached.Def def }) e now
+        refl refl given vacant recorded into f.types;
     values = values_beside brought now home own globs edges s f (Types name) (λ n h. let no : ⊥ = cc in no);
     macros = macros_beside brought now home own globs edges s f (Types name) (λ n h. let no : ⊥ = cc in no);
   }
 
   copied_value : (def : ModuleDefId) (s : ScopeValue) → item_at s.values name ≡ None → IsNotedScope own globs brought edges home s
-      → IsNotedScope own (pushed_globs s globs_name (values_only def vis None) (Some (ways.Glob e.id)) globs) (brought_at brought now home (Values name)) edges home
+      → IsNotedScope own (pushed_globs s globs_name (values_only def vis None) (Some (ways.Glob e.id)) globs) (brought_at brought now home (Values name)) edges
+      home
       (pushed_scope globs globs_name (values_only def vis None) (Some (ways.Glob e.id)) s)
   copied_value def s vacant f = record {
     types = types_beside brought now home own globs edges s f (Values name) (λ n h. let no : ⊥ = cc in no);
     values = copied_here glob_of_value Values module_def.ghosts.eq glob_import.ghosts.eq one_value own home name globs.values brought edges s.values
-        (record { push = record { item = record { def = def; vis = vis; import = Some (value_ways.Glob e.id) }; is_glob = true }; source = reached.Def def }) e now refl refl given vacant recorded into f.values;
+        (record { push = record { item = record { def = def; vis = vis; import = Some (value_ways.Glob e.id) }; is_glob = true }; source = reached.Def def }) e
+        now refl refl given vacant recorded into f.values;
     macros = macros_beside brought now home own globs edges s f (Values name) (λ n h. let no : ⊥ = cc in no);
   }
 
   copied_macro : (def : MacroId) (s : ScopeValue) → item_at s.macros name ≡ None → IsNotedScope own globs brought edges home s
-      → IsNotedScope own (pushed_globs s globs_name (macros_only def vis None) (Some (ways.Glob e.id)) globs) (brought_at brought now home (Macros name)) edges home
+      → IsNotedScope own (pushed_globs s globs_name (macros_only def vis None) (Some (ways.Glob e.id)) globs) (brought_at brought now home (Macros name)) edges
+      home
       (pushed_scope globs globs_name (macros_only def vis None) (Some (ways.Glob e.id)) s)
   copied_macro def s vacant f = record {
     types = types_beside brought now home own globs edges s f (Macros name) (λ n h. let no : ⊥ = cc in no);
     values = values_beside brought now home own globs edges s f (Macros name) (λ n h. let no : ⊥ = cc in no);
     macros = copied_here glob_of Macros makro.ghosts.eq item_import.ghosts.eq one_macro own home name globs.macros brought edges s.macros
-        (record { push = record { item = record { def = def; vis = vis; import = Some (ways.Glob e.id) }; is_glob = true }; source = reached.Def (definitions.MacroId def) }) e now refl refl given vacant recorded into f.macros;
+        (record {
+          push = record { item = record { def = def; vis = vis; import = Some (ways.Glob e.id) }; is_glob = true };
+          source = reached.Def (definitions.MacroId def);
+        }) e now refl refl given vacant recorded into f.macros;
   }
 
-  pub noted_type : (def : ModuleDefId) (ms : List ModuleValue) → ((old : ModuleValue) → slice_get ms home ≡ Some old → item_at old.scope.types name ≡ None) → AreNoted own globs brought edges ms
-      → AreNoted own (globs_in (slice_get ms home) globs globs_name (types_only def vis None) (Some (ways.Glob e.id))) (brought_at brought now home (Types name)) edges
+  pub noted_type : (def : ModuleDefId) (ms : List ModuleValue) → ((old : ModuleValue) → slice_get ms home ≡ Some old → item_at old.scope.types name ≡ None)
+      → AreNoted own globs brought edges ms
+      → AreNoted own (globs_in (slice_get ms home) globs globs_name (types_only def vis None) (Some (ways.Glob e.id)))
+      (brought_at brought now home (Types name)) edges
       (changed_at ms home (pushed_module globs globs_name (types_only def vis None) (Some (ways.Glob e.id))))
   noted_type def ms vacant f =
       noted_pushed own globs brought edges home name (types_only def vis None) (Some (ways.Glob e.id)) ms (brought_at brought now home (Types name))
       (λ old at g. copied_type def old.scope (vacant old at) g) (elsewhere brought now home (Types name)) f
 
-  pub noted_value : (def : ModuleDefId) (ms : List ModuleValue) → ((old : ModuleValue) → slice_get ms home ≡ Some old → item_at old.scope.values name ≡ None) → AreNoted own globs brought edges ms
-      → AreNoted own (globs_in (slice_get ms home) globs globs_name (values_only def vis None) (Some (ways.Glob e.id))) (brought_at brought now home (Values name)) edges
+  pub noted_value : (def : ModuleDefId) (ms : List ModuleValue) → ((old : ModuleValue) → slice_get ms home ≡ Some old → item_at old.scope.values name ≡ None)
+      → AreNoted own globs brought edges ms
+      → AreNoted own (globs_in (slice_get ms home) globs globs_name (values_only def vis None) (Some (ways.Glob e.id)))
+      (brought_at brought now home (Values name)) edges
       (changed_at ms home (pushed_module globs globs_name (values_only def vis None) (Some (ways.Glob e.id))))
   noted_value def ms vacant f =
       noted_pushed own globs brought edges home name (values_only def vis None) (Some (ways.Glob e.id)) ms (brought_at brought now home (Values name))
       (λ old at g. copied_value def old.scope (vacant old at) g) (elsewhere brought now home (Values name)) f
 
-  pub noted_macro : (def : MacroId) (ms : List ModuleValue) → ((old : ModuleValue) → slice_get ms home ≡ Some old → item_at old.scope.macros name ≡ None) → AreNoted own globs brought edges ms
-      → AreNoted own (globs_in (slice_get ms home) globs globs_name (macros_only def vis None) (Some (ways.Glob e.id))) (brought_at brought now home (Macros name)) edges
+  pub noted_macro : (def : MacroId) (ms : List ModuleValue) → ((old : ModuleValue) → slice_get ms home ≡ Some old → item_at old.scope.macros name ≡ None)
+      → AreNoted own globs brought edges ms
+      → AreNoted own (globs_in (slice_get ms home) globs globs_name (macros_only def vis None) (Some (ways.Glob e.id)))
+      (brought_at brought now home (Macros name)) edges
       (changed_at ms home (pushed_module globs globs_name (macros_only def vis None) (Some (ways.Glob e.id))))
   noted_macro def ms vacant f =
       noted_pushed own globs brought edges home name (macros_only def vis None) (Some (ways.Glob e.id)) ms (brought_at brought now home (Macros name))
@@ -386,7 +462,9 @@ module _ (own : MapId) (globs : GlobNames) (brought : BroughtBy) (edges : List E
   followed_type : (def : ModuleDefId) → brought (slot_at home (Types name)) ≡ Some last → (s : ScopeValue) → IsNotedScope own globs brought edges home s
       → IsNotedScope own globs (brought_at brought now home (Types name)) edges home (with_type name def vis s)
   followed_type def was s g = record {
-    types = rewritten_here glob_of Types module_def.ghosts.eq item_import.ghosts.eq one_type own home name globs.types brought edges s.types (with_item_definition def vis) (λ i. refl)
+    types =
+        rewritten_here glob_of Types module_def.ghosts.eq item_import.ghosts.eq one_type own home name globs.types brought edges s.types
+        (with_item_definition def vis) (λ i. refl)
         (brought_at brought now home (Types name)) (another brought now home Types name)
         (λ i id h note. noted_anew own globs.types brought edges home (Types name) name id i.vis vis last now was same given note) g.types;
     values = values_beside brought now home own globs edges s g (Types name) (λ n h. let no : ⊥ = cc in no);
@@ -397,7 +475,9 @@ module _ (own : MapId) (globs : GlobNames) (brought : BroughtBy) (edges : List E
       → IsNotedScope own globs (brought_at brought now home (Values name)) edges home (with_value name def vis s)
   followed_value def was s g = record {
     types = types_beside brought now home own globs edges s g (Values name) (λ n h. let no : ⊥ = cc in no);
-    values = rewritten_here glob_of_value Values module_def.ghosts.eq glob_import.ghosts.eq one_value own home name globs.values brought edges s.values (with_item_definition def vis) (λ i. refl)
+    values =
+        rewritten_here glob_of_value Values module_def.ghosts.eq glob_import.ghosts.eq one_value own home name globs.values brought edges s.values
+        (with_item_definition def vis) (λ i. refl)
         (brought_at brought now home (Values name)) (another brought now home Values name)
         (λ i id h note. noted_anew own globs.values brought edges home (Values name) name id i.vis vis last now was same given note) g.values;
     macros = macros_beside brought now home own globs edges s g (Values name) (λ n h. let no : ⊥ = cc in no);
@@ -408,7 +488,9 @@ module _ (own : MapId) (globs : GlobNames) (brought : BroughtBy) (edges : List E
   followed_macro def was s g = record {
     types = types_beside brought now home own globs edges s g (Macros name) (λ n h. let no : ⊥ = cc in no);
     values = values_beside brought now home own globs edges s g (Macros name) (λ n h. let no : ⊥ = cc in no);
-    macros = rewritten_here glob_of Macros makro.ghosts.eq item_import.ghosts.eq one_macro own home name globs.macros brought edges s.macros (with_item_definition def vis) (λ i. refl)
+    macros =
+        rewritten_here glob_of Macros makro.ghosts.eq item_import.ghosts.eq one_macro own home name globs.macros brought edges s.macros
+        (with_item_definition def vis) (λ i. refl)
         (brought_at brought now home (Macros name)) (another brought now home Macros name)
         (λ i id h note. noted_anew own globs.macros brought edges home (Macros name) name id i.vis vis last now was same given note) g.macros;
   }
@@ -438,39 +520,54 @@ module _ (own : MapId) (globs : GlobNames) (brought : BroughtBy) (edges : List E
   abbrev pub IsWider : {D I : Type 0} → List (List ℕ × Item D I) → Type 0
   IsWider {D} {I} items = (i : Item D I) → item_at items name ≡ Some i → IsAsOpen i.vis vis
 
-  raised_type : (s : ScopeValue) → IsWider s.types → IsNotedScope own globs brought edges home s → IsNotedScope own globs brought edges home (with_type_vis name vis s)
+  raised_type : (s : ScopeValue) → IsWider s.types → IsNotedScope own globs brought edges home s → IsNotedScope own globs brought edges home
+      (with_type_vis name vis s)
   raised_type s wider g = record {
-    types = rewritten_here glob_of Types module_def.ghosts.eq item_import.ghosts.eq one_type own home name globs.types brought edges s.types (with_item_visibility vis) (λ i. refl)
+    types =
+        rewritten_here glob_of Types module_def.ghosts.eq item_import.ghosts.eq one_type own home name globs.types brought edges s.types
+        (with_item_visibility vis) (λ i. refl)
         brought (λ n t. refl) (λ i id h note. note_raised vis (wider i h) note) g.types;
     values = g.values;
     macros = g.macros;
   }
 
-  raised_value : (s : ScopeValue) → IsWider s.values → IsNotedScope own globs brought edges home s → IsNotedScope own globs brought edges home (with_value_vis name vis s)
+  raised_value : (s : ScopeValue) → IsWider s.values → IsNotedScope own globs brought edges home s → IsNotedScope own globs brought edges home
+      (with_value_vis name vis s)
   raised_value s wider g = record {
     types = g.types;
-    values = rewritten_here glob_of_value Values module_def.ghosts.eq glob_import.ghosts.eq one_value own home name globs.values brought edges s.values (with_item_visibility vis) (λ i. refl)
+    values =
+        rewritten_here glob_of_value Values module_def.ghosts.eq glob_import.ghosts.eq one_value own home name globs.values brought edges s.values
+        (with_item_visibility vis) (λ i. refl)
         brought (λ n t. refl) (λ i id h note. note_raised vis (wider i h) note) g.values;
     macros = g.macros;
   }
 
-  raised_macro : (s : ScopeValue) → IsWider s.macros → IsNotedScope own globs brought edges home s → IsNotedScope own globs brought edges home (with_macro_vis name vis s)
+  raised_macro : (s : ScopeValue) → IsWider s.macros → IsNotedScope own globs brought edges home s → IsNotedScope own globs brought edges home
+      (with_macro_vis name vis s)
   raised_macro s wider g = record {
     types = g.types;
     values = g.values;
-    macros = rewritten_here glob_of Macros makro.ghosts.eq item_import.ghosts.eq one_macro own home name globs.macros brought edges s.macros (with_item_visibility vis) (λ i. refl)
+    macros =
+        rewritten_here glob_of Macros makro.ghosts.eq item_import.ghosts.eq one_macro own home name globs.macros brought edges s.macros
+        (with_item_visibility vis) (λ i. refl)
         brought (λ n t. refl) (λ i id h note. note_raised vis (wider i h) note) g.macros;
   }
 
   module _ (ms : List ModuleValue) (f : AreNoted own globs brought edges ms) where
-    pub noted_raised_type : ((old : ModuleValue) → slice_get ms home ≡ Some old → IsWider old.scope.types) → AreNoted own globs brought edges (changed_at ms home (with_module_scope (with_type_vis name vis)))
+    pub noted_raised_type : ((old : ModuleValue) → slice_get ms home ≡ Some old → IsWider old.scope.types) → AreNoted own globs brought edges
+        (changed_at ms home (with_module_scope (with_type_vis name vis)))
     noted_raised_type wider =
-        noted_changed own globs brought brought edges ms home (with_module_scope (with_type_vis name vis)) (λ old there g. raised_type old.scope (wider old there) g) (λ number ne key. refl) f
+        noted_changed own globs brought brought edges ms home (with_module_scope (with_type_vis name vis))
+        (λ old there g. raised_type old.scope (wider old there) g) (λ number ne key. refl) f
 
-    pub noted_raised_value : ((old : ModuleValue) → slice_get ms home ≡ Some old → IsWider old.scope.values) → AreNoted own globs brought edges (changed_at ms home (with_module_scope (with_value_vis name vis)))
+    pub noted_raised_value : ((old : ModuleValue) → slice_get ms home ≡ Some old → IsWider old.scope.values) → AreNoted own globs brought edges
+        (changed_at ms home (with_module_scope (with_value_vis name vis)))
     noted_raised_value wider =
-        noted_changed own globs brought brought edges ms home (with_module_scope (with_value_vis name vis)) (λ old there g. raised_value old.scope (wider old there) g) (λ number ne key. refl) f
+        noted_changed own globs brought brought edges ms home (with_module_scope (with_value_vis name vis))
+        (λ old there g. raised_value old.scope (wider old there) g) (λ number ne key. refl) f
 
-    pub noted_raised_macro : ((old : ModuleValue) → slice_get ms home ≡ Some old → IsWider old.scope.macros) → AreNoted own globs brought edges (changed_at ms home (with_module_scope (with_macro_vis name vis)))
+    pub noted_raised_macro : ((old : ModuleValue) → slice_get ms home ≡ Some old → IsWider old.scope.macros) → AreNoted own globs brought edges
+        (changed_at ms home (with_module_scope (with_macro_vis name vis)))
     noted_raised_macro wider =
-        noted_changed own globs brought brought edges ms home (with_module_scope (with_macro_vis name vis)) (λ old there g. raised_macro old.scope (wider old there) g) (λ number ne key. refl) f
+        noted_changed own globs brought brought edges ms home (with_module_scope (with_macro_vis name vis))
+        (λ old there g. raised_macro old.scope (wider old there) g) (λ number ne key. refl) f

@@ -1,13 +1,16 @@
 -- A module in which no call is to be visited, and none waits, stays so: no expansion declares anything in it.
-use Rattle.std.proofs.Common.{◌≡◌, ◌≢◌, ◌<◌, ◌||◌, ◌+◌, ℕ, zero, suc, Bool, true, false, List, [], ◌∷◌, ◌++◌, length, slice_get, Option, None, Some, sym, subst, arith, append_assoc}
+use Rattle.std.proofs.Common.{◌≡◌, ◌≢◌, ◌<◌, ◌||◌, ◌+◌, ℕ, zero, suc, Bool, true, false, List, [], ◌∷◌, ◌++◌, length, slice_get, Option, None, Some, sym, subst}
+use Rattle.std.proofs.Common.{arith, append_assoc}
 use Rattle.hir_base.specs.ModPath.{Path}
+use Rattle.hir_base.specs.declared.ids.AdtId.{AdtId}
 use Rattle.hir_base.specs.declared.ast_id.AstId.{AstId}
 use Rattle.hir_base.specs.declared.ast_id.AttrId.{AttrId}
-use Rattle.hir_base.specs.declared.ids.AdtId.{AdtId}
 use Rattle.hir_use_tree.specs.UseTree.{count_of}
 use Rattle.hir_item_tree.specs.Collected.{Numbered, is_enabled}
 use Rattle.hir_item_tree.specs.Kinds.{item_head}
-use Rattle.hir_item_tree.specs.KeptForest.{Head, KeptForest, KeptItem, constant, enumeration, extern_block, extern_crate, function, holder, implementation, import, inline_module, item, leaf, macro_call, macro_def, macro_rules, no_items, outline_module, static_item, structure, trait_item, type_alias, union_structure}
+use Rattle.hir_item_tree.specs.KeptForest.{Head, KeptForest, KeptItem, constant, enumeration, extern_block, extern_crate, function, holder, implementation}
+use Rattle.hir_item_tree.specs.KeptForest.{import, inline_module, item, leaf, macro_call, macro_def, macro_rules, no_items, outline_module, static_item}
+use Rattle.hir_item_tree.specs.KeptForest.{structure, trait_item, type_alias, union_structure}
 use Rattle.hir_mod_dir.specs.Directory.{Directory}
 use Rattle.hir_mod_dir.specs.ModuleFiles.{inline_directory}
 use Rattle.hir_def_map_rules.specs.Overlay.{Maps}
@@ -16,11 +19,16 @@ use Rattle.hir_collector_rules.specs.declared.macro_directive.MacroDirective.{Ma
 use Rattle.hir_collector_rules.specs.declared.site.Site.{Site}
 use Rattle.hir_collector_rules.specs.Attributes.{AreAlwaysPassed, attr_id, is_always_passed, is_passed, item_node}
 use Rattle.hir_collector_rules.specs.Calls.{call_site, error_of}
-use Rattle.hir_collector_rules.specs.Changes.{Change, lists, makes, gives_variants, begins_paths, reaches, awaits, ends, settles, changes_imports, adds_textual, takes_textual, defines, describes, helps, lists_derive, exports, uses_macros, tells, goes_on, act}
+use Rattle.hir_collector_rules.specs.Changes.{Change, lists, makes, gives_variants, begins_paths, reaches, awaits, ends, settles, changes_imports, adds_textual}
+use Rattle.hir_collector_rules.specs.Changes.{takes_textual, defines, describes, helps, lists_derive, notes, exports, uses_macros, tells, goes_on, act}
 use Rattle.hir_collector_rules.specs.Keys.{Environment}
 use Rattle.hir_collector_rules.specs.Macros.{is_macro_use}
 use Rattle.hir_collector_rules.specs.State.{State, Task, Visit, visits, closes, import_state, visits_over}
-use Rattle.hir_collector_rules.specs.Steps.{Rule, drops_item, awaits_attribute, lists_derives, faults_derive, exports_macro, reaches_call, rests, expands_call, drops_call, drops_reached, derives_builtin, skips_attribute, falls_back, defines_rules, defines_macro, closes_module, closing, declares_item, declares_enum, lists_constant, lists_impl, opens_module, opens_file, drops_file, misses_file, enters_block, reaches_imports, reaches_crate, resolves_imports, HasAttribute, May, Step, acts, asking, derives_from, inside_block, inside_file, inside_module, path_of, visits_inside}
+use Rattle.hir_collector_rules.specs.Steps.{Rule, drops_item, awaits_attribute, lists_derives, faults_derive, exports_macro, reaches_call, rests, expands_call}
+use Rattle.hir_collector_rules.specs.Steps.{drops_call, drops_reached, derives_builtin, skips_attribute, falls_back, defines_rules, defines_macro}
+use Rattle.hir_collector_rules.specs.Steps.{closes_module, closing, declares_item, declares_enum, lists_constant, lists_impl, opens_module, opens_file}
+use Rattle.hir_collector_rules.specs.Steps.{drops_file, misses_file, enters_block, reaches_imports, reaches_crate, resolves_imports, HasAttribute, May, Step}
+use Rattle.hir_collector_rules.specs.Steps.{acts, asking, derives_from, inside_block, inside_file, inside_module, path_of, visits_inside}
 use Rattle.hir_collector_rules.proofs.Changes.{AllFine, all_fine, fine_bringing, fine_expanding, fine_macro, fine_reporting, perform_keeps}
 use Rattle.hir_collector_rules.proofs.InRange.{CallsBelow, VisitsBelow}
 use Rattle.hir_def_collector_laws.specs.Declares.{HasNoCall, HaveNoCall}
@@ -62,7 +70,8 @@ call_apart k (x ∷ xs) zero d f e = let same : x ≡ d = cc in subst (λ (y : M
 call_apart k (x ∷ xs) (suc i) d f e = call_apart k xs i d f.1 e
 
 -- visits of one site come before others
-quiet_before : (tools : List (List ℕ)) (k : ℕ) (s : Site) (is : KeptForest) (rest : List Task) → (s.home ≡ k → HaveNoCall tools is) → NoCallNext tools k rest → NoCallNext tools k (visits_over s is ++ rest)
+quiet_before : (tools : List (List ℕ)) (k : ℕ) (s : Site) (is : KeptForest) (rest : List Task) → (s.home ≡ k → HaveNoCall tools is) → NoCallNext tools k rest
+    → NoCallNext tools k (visits_over s is ++ rest)
 quiet_before tools k s no_items rest f g = g
 quiet_before tools k s (item i is) rest f g = (λ e. (f e).0, quiet_before tools k s is rest (λ e. (f e).1) g)
 
@@ -70,63 +79,34 @@ pub quiet_of : (tools : List (List ℕ)) (k : ℕ) (s : Site) (is : KeptForest) 
 quiet_of tools k s no_items f = tt
 quiet_of tools k s (item i is) f = (λ e. (f e).0, quiet_of tools k s is (λ e. (f e).1))
 
-quiet_closing : (tools : List (List ℕ)) (k : ℕ) (marked : Bool) (parent child : ℕ) (rest : List Task) → NoCallNext tools k rest → NoCallNext tools k (closing marked parent child ++ rest)
+quiet_closing : (tools : List (List ℕ)) (k : ℕ) (marked : Bool) (parent child : ℕ) (rest : List Task) → NoCallNext tools k rest
+    → NoCallNext tools k (closing marked parent child ++ rest)
 quiet_closing tools k true parent child rest f = f
 quiet_closing tools k false parent child rest f = f
 
-pub quiet_closed : (tools : List (List ℕ)) (k : ℕ) (s : Site) (is : KeptForest) (marked : Bool) (parent child : ℕ) (rest : List Task) → (s.home ≡ k → HaveNoCall tools is) → NoCallNext tools k rest
+pub quiet_closed : (tools : List (List ℕ)) (k : ℕ) (s : Site) (is : KeptForest) (marked : Bool) (parent child : ℕ) (rest : List Task)
+    → (s.home ≡ k → HaveNoCall tools is) → NoCallNext tools k rest
     → NoCallNext tools k ((visits_over s is ++ closing marked parent child) ++ rest)
 quiet_closed tools k s is marked parent child rest f g =
     subst (NoCallNext tools k) (sym (append_assoc (visits_over s is) (closing marked parent child) rest))
     (quiet_before tools k s is (closing marked parent child ++ rest) f (quiet_closing tools k marked parent child rest g))
 
-quiet_next : (tools : List (List ℕ)) (k : ℕ) (ts : List Task) (v : Visit) (rest : List Task) → NoCallNext tools k ts → ts ≡ visits v ∷ rest → (v.site.home ≡ k → HasNoCall tools v.item) × NoCallNext tools k rest
+quiet_next : (tools : List (List ℕ)) (k : ℕ) (ts : List Task) (v : Visit) (rest : List Task) → NoCallNext tools k ts → ts ≡ visits v ∷ rest
+    → (v.site.home ≡ k → HasNoCall tools v.item) × NoCallNext tools k rest
 quiet_next tools k ts v rest f e = subst (NoCallNext tools k) e f
 
 -- ---- changes
 
 module _ (tools : List (List ℕ)) (k : ℕ) where
   abbrev StaysQuiet : State → Change → Type 0
-  StaysQuiet s (lists home d) = Unit {0}
-  StaysQuiet s (makes home name origin visibility) = Unit {0}
-  StaysQuiet s (gives_variants id variants) = Unit {0}
-  StaysQuiet s (begins_paths r) = Unit {0}
-  StaysQuiet s (reaches rs) = Unit {0}
   StaysQuiet s (awaits calls) = NoCallIn k calls
-  StaysQuiet s (ends i fate) = Unit {0}
-  StaysQuiet s settles = Unit {0}
-  StaysQuiet s (changes_imports c) = Unit {0}
-  StaysQuiet s (adds_textual home name makro) = Unit {0}
-  StaysQuiet s (takes_textual home from_) = Unit {0}
-  StaysQuiet s (defines node makro) = Unit {0}
-  StaysQuiet s (describes makro what) = Unit {0}
-  StaysQuiet s (helps node helper) = Unit {0}
-  StaysQuiet s (lists_derive home imp) = Unit {0}
-  StaysQuiet s (exports f makro) = Unit {0}
-  StaysQuiet s (uses_macros macros by) = Unit {0}
-  StaysQuiet s (tells d) = Unit {0}
   StaysQuiet s (goes_on vs) = NoCallNext tools k vs
+  StaysQuiet s other = Unit {0}
 
   quiet-act : (s : State) (c : Change) → IsQuiet tools k s → StaysQuiet s c → IsQuiet tools k (act s c)
-  quiet-act s (lists home d) p fine = record { visits = p.visits; calls = p.calls }
-  quiet-act s (makes home name origin visibility) p fine = record { visits = p.visits; calls = p.calls }
-  quiet-act s (gives_variants id variants) p fine = record { visits = p.visits; calls = p.calls }
-  quiet-act s (begins_paths r) p fine = record { visits = p.visits; calls = p.calls }
-  quiet-act s (reaches rs) p fine = record { visits = p.visits; calls = p.calls }
   quiet-act s (awaits calls) p fine = record { visits = p.visits; calls = calls_joined k s.core.calls calls p.calls fine }
-  quiet-act s (ends i fate) p fine = record { visits = p.visits; calls = p.calls }
-  quiet-act s settles p fine = record { visits = p.visits; calls = p.calls }
-  quiet-act s (changes_imports c) p fine = record { visits = p.visits; calls = p.calls }
-  quiet-act s (adds_textual home name makro) p fine = record { visits = p.visits; calls = p.calls }
-  quiet-act s (takes_textual home from_) p fine = record { visits = p.visits; calls = p.calls }
-  quiet-act s (defines node makro) p fine = record { visits = p.visits; calls = p.calls }
-  quiet-act s (describes makro what) p fine = record { visits = p.visits; calls = p.calls }
-  quiet-act s (helps node helper) p fine = record { visits = p.visits; calls = p.calls }
-  quiet-act s (lists_derive home imp) p fine = record { visits = p.visits; calls = p.calls }
-  quiet-act s (exports f makro) p fine = record { visits = p.visits; calls = p.calls }
-  quiet-act s (uses_macros macros by) p fine = record { visits = p.visits; calls = p.calls }
-  quiet-act s (tells d) p fine = record { visits = p.visits; calls = p.calls }
   quiet-act s (goes_on vs) p fine = record { visits = fine; calls = p.calls }
+  quiet-act s other p fine = record { visits = p.visits; calls = p.calls }
 
   -- ---- rules
 
@@ -141,10 +121,12 @@ module _ (tools : List (List ℕ)) (k : ℕ) where
     new_module : (is : KeptForest) → length s.core.map.modules ≡ k → HaveNoCall tools is
     new_module is e = absurd (let no : ⊥ = omega (arith, low, e) in no)
 
-    module_inside : (site : Site) (head : Head) (o : Option Directory) (items : KeptForest) (rest : List Task) → NoCallNext tools k rest → NoCallNext tools k (visits_inside s.core.map site head o items ++ rest)
+    module_inside : (site : Site) (head : Head) (o : Option Directory) (items : KeptForest) (rest : List Task) → NoCallNext tools k rest
+        → NoCallNext tools k (visits_inside s.core.map site head o items ++ rest)
     module_inside site head None items rest f = f
     module_inside site head (Some dir) items rest f =
-        quiet_closed tools k (inside_module s.core.map site dir) items (is_macro_use head.attributes) site.home (length s.core.map.modules) rest (new_module items) f
+        quiet_closed tools k (inside_module s.core.map site dir) items (is_macro_use head.attributes) site.home (length s.core.map.modules) rest
+        (new_module items) f
 
     -- an item for whose attribute something is looked up isn't one of these
     looks_up : (i : KeptItem) → is_enabled (item_head i).attributes ≡ true → HasNoCall tools i → AreAlwaysPassed tools (item_head i).attributes.attributes
@@ -177,7 +159,8 @@ module _ (tools : List (List ℕ)) (k : ℕ) where
         let no : ⊥ = cc in
         no
 
-    derives_apart : (site : Site) (node : AstId) (attr : AttrId) (adt : AdtId) → site.home ≢ k → (index : ℕ) (paths : List Path) → NoCallIn k (derives_from site node attr adt index paths)
+    derives_apart : (site : Site) (node : AstId) (attr : AttrId) (adt : AdtId) → site.home ≢ k → (index : ℕ) (paths : List Path)
+        → NoCallIn k (derives_from site node attr adt index paths)
     derives_apart site node attr adt apart index [] = tt
     derives_apart site node attr adt apart index (path ∷ paths) = (apart, derives_apart site node attr adt apart (count_of (index + 1)) paths)
 
@@ -190,7 +173,8 @@ module _ (tools : List (List ℕ)) (k : ℕ) where
     quiet_rule (opens_module site head name items rest) may =
         (tt, (tt, (module_inside site head (inline_directory site.dir name (path_of head)) items rest (left _ rest may.next), (tt, (tt, tt)))))
     quiet_rule (opens_file site head name search file rest) may =
-        let quiet = quiet_closed tools k (inside_file s.core.map file) file.tree.items (is_macro_use head.attributes || is_macro_use file.tree.attributes) site.home (length s.core.map.modules) rest
+        let quiet = quiet_closed tools k (inside_file s.core.map file) file.tree.items (is_macro_use head.attributes || is_macro_use file.tree.attributes)
+        site.home (length s.core.map.modules) rest
         (new_module file.tree.items) (left _ rest may.looks.here.next) in
         (tt, (tt, (quiet, (tt, (tt, tt)))))
     quiet_rule (drops_file site head name search report rest) may = (left _ rest may.looks.here.next, (tt, tt))
@@ -199,13 +183,15 @@ module _ (tools : List (List ℕ)) (k : ℕ) where
         (quiet_before tools k (inside_block s.core.map site head) items rest (λ e. (next _ rest may.next e).1 may.enabled) (left _ rest may.next), (tt, tt))
     quiet_rule (reaches_imports site head tree rest) may = (left _ rest may.next, (tt, (tt, tt)))
     quiet_rule (reaches_crate site head name alias rest) may = (left _ rest may.next, (tt, (tt, (tt, (tt, tt)))))
-    quiet_rule (defines_rules site head name expander helpers rest) may = (left _ rest may.next, (tt, (tt, (tt, fine_macro StaysQuiet _ _ expander (λ t. tt) head name _ (λ t. tt) _))))
-    quiet_rule (defines_macro site head name expander helpers rest) may = (left _ rest may.next, (tt, (tt, (tt, (tt, fine_reporting StaysQuiet _ _ expander (λ t. tt) _)))))
+    quiet_rule (defines_rules site head name expander helpers rest) may =
+        (left _ rest may.next, (tt, (tt, (tt, fine_macro StaysQuiet _ _ expander (λ t. tt) head name _ (λ t. tt) _))))
+    quiet_rule (defines_macro site head name expander helpers rest) may =
+        (left _ rest may.next, (tt, (tt, (tt, (tt, fine_reporting StaysQuiet _ _ expander (λ t. tt) _)))))
     quiet_rule (closes_module parent child rest) may = (subst (NoCallNext tools k) may p.visits, (tt, tt))
     quiet_rule (awaits_attribute v a k_ rest) may = (left v rest may.has.on.next, ((λ e. attribute_apart v rest may.at a may.has e, tt), tt))
-    quiet_rule (lists_derives v at a adt paths rest) may =
+    quiet_rule (lists_derives v at a adt paths call rest) may =
         let apart : v.site.home ≢ k = λ e. attribute_apart v rest at a may.has e in
-        ((λ e. absurd (apart e), left v rest may.has.on.next), (derives_apart v.site (item_node v.site v.item) (attr_id a) adt apart 0 paths, tt))
+        ((λ e. absurd (apart e), left v rest may.has.on.next), (derives_apart v.site (item_node v.site v.item) (attr_id a) adt apart 0 paths, (tt, tt)))
     quiet_rule (faults_derive v at report rest) may = ((λ e. absurd (attribute_apart v rest at may.attribute may.has e), left v rest may.has.on.next), (tt, tt))
     quiet_rule (exports_macro site head name d e rest) may = (left _ rest may.here.next, (tt, (tt, (tt, (tt, (tt, (tt, tt)))))))
     quiet_rule (reaches_call site head path rest) may =
@@ -218,11 +204,16 @@ module _ (tools : List (List ℕ)) (k : ℕ) where
         (left _ rest may.next, ((apart, tt), tt))
     quiet_rule rests may = (tt, tt)
     quiet_rule (expands_call i d makro x) may =
-        let apart : d.site.home ≢ k = call_apart k s.core.calls i d p.calls may.called.due.waiting.call in
-        (tt, (quiet_of tools k (call_site d x.id) x.tree.tree.items (λ e. absurd (apart e)), fine_expanding StaysQuiet _ (λ t helper. tt) _ _ d (error_of x.there) (λ t text. tt) _))
+        let apart : d.site.home ≢ k = call_apart k s.core.calls i d p.calls may.called.due.waiting.call in (
+          tt,
+          (
+            quiet_of tools k (call_site d x.id) x.tree.tree.items (λ e. absurd (apart e)),
+            (tt, fine_expanding StaysQuiet _ (λ t helper. tt) _ _ d (error_of x.there) (λ t text. tt) _),
+          ),
+        )
     quiet_rule (drops_call i d) may = (tt, tt)
     quiet_rule (drops_reached i d makro) may = (tt, fine_bringing StaysQuiet _ (λ t helper. tt) _ _)
-    quiet_rule (derives_builtin i d makro imp) may = (tt, (tt, fine_bringing StaysQuiet _ (λ t helper. tt) _ _))
+    quiet_rule (derives_builtin i d makro imp) may = (tt, (tt, (tt, fine_bringing StaysQuiet _ (λ t helper. tt) _ _)))
     quiet_rule (skips_attribute i d k_ waited) may =
         let apart : d.site.home ≢ k = call_apart k s.core.calls i d p.calls may.due.waiting.call in
         (tt, ((λ e. absurd (apart e), tt), tt))
@@ -233,7 +224,9 @@ module _ (tools : List (List ℕ)) (k : ℕ) where
 
   -- ---- steps
 
-  pub quiet-Step : {env : Environment} {finished : Maps} {old new : State} → old.core.map.crate_data.registered_tools ≡ tools → k < length old.core.map.modules → Step env finished old new → IsQuiet tools k old → IsQuiet tools k new
+  pub quiet-Step : {env : Environment} {finished : Maps} {old new : State} → old.core.map.crate_data.registered_tools ≡ tools → k < length old.core.map.modules
+      → Step env finished old new → IsQuiet tools k old → IsQuiet tools k new
   quiet-Step {finished = finished} {old = old} same low step p =
-      let done = perform_keeps (IsQuiet tools k) StaysQuiet quiet-act (acts finished old step.rule) (asking old step.rule) (record { visits = p.visits; calls = p.calls }) (quiet_rule finished old same p low step.rule step.may) in
+      let done = perform_keeps (IsQuiet tools k) StaysQuiet quiet-act (acts finished old step.rule) (asking old step.rule)
+      (record { visits = p.visits; calls = p.calls }) (quiet_rule finished old same p low step.rule step.may) in
       subst (IsQuiet tools k) (sym step.is) (record { visits = done.visits; calls = done.calls })

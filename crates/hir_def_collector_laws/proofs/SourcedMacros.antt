@@ -1,5 +1,6 @@
 -- Macros that are clear of a test of sources leave a map clear of it.
-use Rattle.std.specs.Prelude.{◌≡◌, ◌||◌, ℕ, Bool, true, false, List, [], ◌∷◌, codes, is_none, Option, None, Some, cond, if◌then◌else◌, option_and_then, option_map}
+use Rattle.std.specs.Prelude.{◌≡◌, ◌||◌, ℕ, Bool, true, false, List, [], ◌∷◌, codes, is_none, Option, None, Some, cond, if◌then◌else◌, option_and_then}
+use Rattle.std.specs.Prelude.{option_map}
 use Rattle.std.specs.BTreeMap.{is_at}
 use Rattle.std.specs.Cmp.Lexicographic.{slice_cmp}
 use Rattle.std.specs.List.{list_any}
@@ -7,9 +8,9 @@ use Rattle.std.specs.Ordering.{nat_cmp}
 use Rattle.std.proofs.Common.{refl}
 use Rattle.hir_base.specs.declared.ids.Crate.{Crate}
 use Rattle.hir_base.specs.declared.ids.ExternCrateId.{ExternCrateId}
+use Rattle.hir_base.specs.declared.macro_kind.MacroId.{MacroId}
 use Rattle.hir_base.specs.declared.ids.ModuleId.{ModuleId}
 use Rattle.hir_base.specs.declared.ids.UseId.{UseId}
-use Rattle.hir_base.specs.declared.macro_kind.MacroId.{MacroId}
 use Rattle.hir_item_tree.specs.Collected.{Numbered}
 use Rattle.hir_item_tree.specs.KeptForest.{Head}
 use Rattle.hir_item_tree.specs.declared.shape.ExternCrateName.{ExternCrateName}
@@ -23,14 +24,16 @@ use Rattle.hir_scope.specs.Scope.{ScopeValue}
 use Rattle.hir_scope.specs.declared.imports.ImportOrExternCrate.{ImportOrExternCrate}
 use Rattle.hir_def_map_rules.specs.Overlay.{Maps, Placed}
 use Rattle.hir_def_map_rules.specs.References.{crate_map}
-use Rattle.hir_def_map_rules.specs.Sources.{HoldsNowhere, HoldsNowhereIn, SourceTest, on_extern, on_import, on_legacy_in, on_macro, on_macro_item, on_macro_use, on_macros_in, on_some, on_values, on_visibility}
+use Rattle.hir_def_map_rules.specs.Sources.{HoldsNowhere, HoldsNowhereIn, SourceTest, on_extern, on_import, on_legacy_in, on_macro, on_macro_item, on_macro_use}
+use Rattle.hir_def_map_rules.specs.Sources.{on_macros_in, on_some, on_values, on_visibility}
 use Rattle.hir_def_map_rules.specs.State.{Map, ModuleValue, module_at, scope_at, with_name, with_scope}
 use Rattle.hir_def_map_rules.proofs.NoneOf.{neither, none_at, none_found, none_inserted, not_first, not_second}
 use Rattle.hir_def_map_rules.proofs.StaysSourced.{HoldsNowhereIn-scope}
 use Rattle.hir_import_resolution.specs.Visibilities.{is_public}
 use Rattle.hir_collector_rules.specs.CrateTop.{listed_under}
 use Rattle.hir_collector_rules.specs.Imports.{dependency_named}
-use Rattle.hir_collector_rules.specs.Macros.{macros_beside, macros_brought, other_scope, public_among, public_at, public_in, public_named, public_one, root_scope, textual_at, textual_in, wanted_in, wants_all, with_macros_used, with_used}
+use Rattle.hir_collector_rules.specs.Macros.{macros_beside, macros_brought, other_scope, public_among, public_at, public_in, public_named, public_one}
+use Rattle.hir_collector_rules.specs.Macros.{root_scope, textual_at, textual_in, wanted_in, wants_all, with_macros_used, with_used}
 use Rattle.hir_collector_rules.specs.declared.source_database.Dependency.{Dependency}
 use Rattle.hir_collector_rules.proofs.Lists.{none_joined}
 
@@ -40,16 +43,19 @@ module _ (t : SourceTest) where
   abbrev pub on_textual : TextualMacro → Bool
   on_textual x = on_macro t x.makro
 
-  pub textual_more : (ms : List TextualMacro) (name : List ℕ) (makro : MacroId) → list_any on_textual ms ≡ false → on_macro t makro ≡ false → list_any on_textual (with_macro ms name makro) ≡ false
+  pub textual_more : (ms : List TextualMacro) (name : List ℕ) (makro : MacroId) → list_any on_textual ms ≡ false → on_macro t makro ≡ false
+      → list_any on_textual (with_macro ms name makro) ≡ false
   textual_more [] name makro f g = neither (on_macro t makro) false g refl
   textual_more (m ∷ ms) name makro f g = go (textual_more ms name makro (not_second (on_textual m) (list_any on_textual ms) f) g) (is_before name m.name)
     where
-      go : list_any on_textual (with_macro ms name makro) ≡ false → (b : Bool) → list_any on_textual (if b then record { name = name; makro = makro } ∷ m ∷ ms else m ∷ with_macro ms name makro) ≡ false
+      go : list_any on_textual (with_macro ms name makro) ≡ false → (b : Bool) → list_any on_textual (if b then record { name = name; makro = makro } ∷ m ∷ ms
+          else m ∷ with_macro ms name makro) ≡ false
       go behind true = neither (on_macro t makro) (list_any on_textual (m ∷ ms)) g f
       go behind false = neither (on_textual m) (list_any on_textual (with_macro ms name makro)) (not_first (on_textual m) (list_any on_textual ms) f) behind
 
   -- a change of what is in textual scope in a module
-  pub textual_changed : (m : Map) (home : ℕ) (change : List TextualMacro → List TextualMacro) → ((ms : List TextualMacro) → list_any on_textual ms ≡ false → list_any on_textual (change ms) ≡ false)
+  pub textual_changed : (m : Map) (home : ℕ) (change : List TextualMacro → List TextualMacro) → ((ms : List TextualMacro) → list_any on_textual ms ≡ false
+      → list_any on_textual (change ms) ≡ false)
       → HoldsNowhereIn t m → HoldsNowhereIn t (with_scope m home (λ (s : ScopeValue). record s { legacy_macros = change s.legacy_macros }))
   textual_changed m home change keeps f =
       HoldsNowhereIn-scope t m home (λ (s : ScopeValue). record s { legacy_macros = change s.legacy_macros })
@@ -64,7 +70,8 @@ module _ (t : SourceTest) where
 
   -- ---- macros that are used
 
-  prelude_clear : (prelude : List (List ℕ × (MacroId × Option ExternCrateId))) (macros : List (List ℕ × MacroId)) (by : Option ExternCrateId) → on_values (on_macro t) macros ≡ false → on_extern t by ≡ false
+  prelude_clear : (prelude : List (List ℕ × (MacroId × Option ExternCrateId))) (macros : List (List ℕ × MacroId)) (by : Option ExternCrateId)
+      → on_values (on_macro t) macros ≡ false → on_extern t by ≡ false
       → on_values (on_macro_use t) prelude ≡ false → on_values (on_macro_use t) (with_used prelude macros by) ≡ false
   prelude_clear prelude [] by clear own f = f
   prelude_clear prelude (e ∷ es) by clear own f =
@@ -72,7 +79,8 @@ module _ (t : SourceTest) where
       (none_inserted (on_macro_use t) (slice_cmp nat_cmp) prelude e.0 (e.1, by) f
       (neither (on_macro t e.1) (on_extern t by) (not_first (on_macro t e.1) (on_values (on_macro t) es) clear) own))
 
-  pub used_clear : (m : Map) (macros : List (List ℕ × MacroId)) (by : Option ExternCrateId) → on_values (on_macro t) macros ≡ false → on_extern t by ≡ false → HoldsNowhereIn t m
+  pub used_clear : (m : Map) (macros : List (List ℕ × MacroId)) (by : Option ExternCrateId) → on_values (on_macro t) macros ≡ false → on_extern t by ≡ false
+      → HoldsNowhereIn t m
       → HoldsNowhereIn t (with_macros_used m macros by)
   used_clear m macros by clear own f = record {
     origins = f.origins;
@@ -91,23 +99,28 @@ module _ (t : SourceTest) where
       go true = neither (on_macro t i.def) false (not_first (on_macro t i.def) (on_visibility t i.vis || on_some (on_import t) i.import) f) refl
       go false = refl
 
-  among_clear : (es : List (List ℕ × Item MacroId ImportOrExternCrate)) → on_values (on_macro_item t) es ≡ false → on_values (on_macro t) (public_among es) ≡ false
+  among_clear : (es : List (List ℕ × Item MacroId ImportOrExternCrate)) → on_values (on_macro_item t) es ≡ false → on_values (on_macro t) (public_among es)
+      ≡ false
   among_clear [] f = refl
   among_clear (e ∷ es) f =
-      none_joined (λ (x : List ℕ × MacroId). on_macro t x.1) (public_one e.0 e.1) (public_among es) (one_clear e.0 e.1 (not_first (on_macro_item t e.1) (on_values (on_macro_item t) es) f))
+      none_joined (λ (x : List ℕ × MacroId). on_macro t x.1) (public_one e.0 e.1) (public_among es)
+      (one_clear e.0 e.1 (not_first (on_macro_item t e.1) (on_values (on_macro_item t) es) f))
       (among_clear es (not_second (on_macro_item t e.1) (on_values (on_macro_item t) es) f))
 
-  named_clear : (es : List (List ℕ × Item MacroId ImportOrExternCrate)) → on_values (on_macro_item t) es ≡ false → (name : List ℕ) → on_values (on_macro t) (public_named name (item_at es name)) ≡ false
+  named_clear : (es : List (List ℕ × Item MacroId ImportOrExternCrate)) → on_values (on_macro_item t) es ≡ false → (name : List ℕ)
+      → on_values (on_macro t) (public_named name (item_at es name)) ≡ false
   named_clear es f name = go (item_at es name) refl
     where
       go : (o : Option (Item MacroId ImportOrExternCrate)) → item_at es name ≡ o → on_values (on_macro t) (public_named name o) ≡ false
       go None e = refl
       go (Some i) e = one_clear name i (none_found (on_macro_item t) (is_at (slice_cmp nat_cmp name)) es i f e)
 
-  at_clear : (es : List (List ℕ × Item MacroId ImportOrExternCrate)) → on_values (on_macro_item t) es ≡ false → (names : List (List ℕ)) → on_values (on_macro t) (public_at es names) ≡ false
+  at_clear : (es : List (List ℕ × Item MacroId ImportOrExternCrate)) → on_values (on_macro_item t) es ≡ false → (names : List (List ℕ))
+      → on_values (on_macro t) (public_at es names) ≡ false
   at_clear es f [] = refl
   at_clear es f (name ∷ names) =
-      none_joined (λ (x : List ℕ × MacroId). on_macro t x.1) (public_named name (item_at es name)) (public_at es names) (named_clear es f name) (at_clear es f names)
+      none_joined (λ (x : List ℕ × MacroId). on_macro t x.1) (public_named name (item_at es name)) (public_at es names) (named_clear es f name)
+      (at_clear es f names)
 
   -- so are those of a scope that binds no macro of which the test holds
   abbrev MacrosAreClear : Option ScopeValue → Type 0
@@ -134,7 +147,8 @@ module _ (t : SourceTest) where
         bound m f None e = tt
         bound m f (Some x) e = none_at (on_macros_in t) m.modules f.macros 0 x e
 
-        go : (o : Option Placed) → finished (crate_map krate) ≡ o → MacrosAreClear (option_and_then (λ (m : Map). scope_at m 0) (option_map (λ (p : Placed). p.map) o))
+        go : (o : Option Placed) → finished (crate_map krate) ≡ o
+            → MacrosAreClear (option_and_then (λ (m : Map). scope_at m 0) (option_map (λ (p : Placed). p.map) o))
         go None e = tt
         go (Some p) e = bound p.map (nowhere (crate_map krate) p e) (module_at p.map 0) refl
 
@@ -147,7 +161,8 @@ module _ (t : SourceTest) where
         go (Some krate) = root_clear krate
 
     -- what an `extern crate` brings, and what comes with a prelude module
-    pub brought_macros_clear : (m : Map) (ds : List Dependency) (head : Head) (name : ExternCrateName) → on_values (on_macro t) (macros_brought finished m ds head name) ≡ false
+    pub brought_macros_clear : (m : Map) (ds : List Dependency) (head : Head) (name : ExternCrateName)
+        → on_values (on_macro t) (macros_brought finished m ds head name) ≡ false
     brought_macros_clear m ds head name = go (is_none m.id.block)
       where
         go : (b : Bool) → on_values (on_macro t) (cond b (wanted_in head.attributes.attributes (other_scope finished ds name)) []) ≡ false

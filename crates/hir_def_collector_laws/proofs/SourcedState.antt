@@ -57,10 +57,12 @@ some_at (x ∷ xs) [] low k e = absurd (omega arith)
 some_at (x ∷ xs) (y ∷ ys) low zero e = refl
 some_at (x ∷ xs) (y ∷ ys) low (suc k) e = some_at xs ys (omega arith) k e
 
-pub stays_longer : (finished : Maps) (old new : Map) → new.id ≡ old.id → length old.modules ≤ length new.modules → (m : ModuleId) → ModuleIsThere (overlay finished old) m
+pub stays_longer : (finished : Maps) (old new : Map) → new.id ≡ old.id → length old.modules ≤ length new.modules → (m : ModuleId)
+    → ModuleIsThere (overlay finished old) m
     → ModuleIsThere (overlay finished new) m
 stays_longer finished old new same longer m e =
-    ap (λ (id : MapId). is_some (option_and_then (λ (p : Placed). module_at p.map m.index) (cond (map_id.ghosts.eq m.map id) (Some (placed_in finished new)) (finished m.map)))) same
+    ap (λ (id : MapId). is_some (option_and_then (λ (p : Placed). module_at p.map m.index) (cond (map_id.ghosts.eq m.map id) (Some (placed_in finished new))
+    (finished m.map)))) same
     ∙ go (map_id.ghosts.eq m.map old.id) e
   where
     go : (b : Bool) → is_some (option_and_then (λ (p : Placed). module_at p.map m.index) (cond b (Some (placed_in finished old)) (finished m.map))) ≡ true
@@ -68,5 +70,6 @@ stays_longer finished old new same longer m e =
     go true f = some_at old.modules new.modules longer m.index f
     go false f = f
 
-pub stays_there : (finished : Maps) (old new : Map) → new.id ≡ old.id → Grows old new → (m : ModuleId) → ModuleIsThere (overlay finished old) m → ModuleIsThere (overlay finished new) m
+pub stays_there : (finished : Maps) (old new : Map) → new.id ≡ old.id → Grows old new → (m : ModuleId) → ModuleIsThere (overlay finished old) m
+    → ModuleIsThere (overlay finished new) m
 stays_there finished old new same grows m e = stays_longer finished old new same grows.longer m e

@@ -1,15 +1,16 @@
 -- Visibilities of whose modules a test fails.
-use Rattle.std.specs.Prelude.{◌≡◌, ◌||◌, ◌&&◌, ℕ, zero, suc, List, [], ◌∷◌, Bool, true, false, Option, None, Some, cond, if◌then◌else◌, not, option_and_then, option_map, slice_set, unwrap_or}
+use Rattle.std.specs.Prelude.{◌≡◌, ◌||◌, ◌&&◌, ℕ, zero, suc, List, [], ◌∷◌, Bool, true, false, Option, None, Some, cond, if◌then◌else◌, not, option_and_then}
+use Rattle.std.specs.Prelude.{option_map, slice_set, unwrap_or}
 use Rattle.std.specs.List.{list_any}
 use Rattle.std.proofs.Common.{ap, refl, subst, sym}
-use Rattle.hir_base.specs.declared.ids.ModuleDefId.{ModuleDefId}
-use Rattle.hir_base.specs.declared.ids.ModuleDefId.TheVariants as definitions
-use Rattle.hir_base.specs.declared.ids.ModuleId.{ModuleId}
 use Rattle.hir_base.specs.declared.macro_kind.MacroId.{MacroId}
-use Rattle.hir_item_tree.specs.declared.raw_visibility.RawVisibility.{RawVisibility}
-use Rattle.hir_item_tree.specs.declared.raw_visibility.RawVisibility.TheVariants as raws
-use Rattle.hir_item_tree.specs.declared.raw_visibility.VisibilityExplicitness.{VisibilityExplicitness}
+use Rattle.hir_base.specs.declared.ids.ModuleDefId.{ModuleDefId}
+use Rattle.hir_base.specs.declared.ids.ModuleId.{ModuleId}
+use Rattle.hir_base.specs.declared.ids.ModuleDefId.TheVariants as definitions
 use Rattle.hir_item_tree.specs.declared.shape.FieldsShape.{FieldsShape}
+use Rattle.hir_item_tree.specs.declared.raw_visibility.RawVisibility.{RawVisibility}
+use Rattle.hir_item_tree.specs.declared.raw_visibility.VisibilityExplicitness.{VisibilityExplicitness}
+use Rattle.hir_item_tree.specs.declared.raw_visibility.RawVisibility.TheVariants as raws
 use Rattle.hir_item_tree.specs.declared.shape.FieldsShape.TheVariants.{Record, Tuple, Unit as UnitShape}
 use Rattle.hir_scope.specs.ModuleTree.{is_at_or_above, same_crate, same_map, same_module}
 use Rattle.hir_scope.specs.PerNs.{Item}
@@ -61,7 +62,8 @@ module _ (test : Reference → Bool) where
   module _ (finished : Maps) (m : Map) where
     -- ---- the lesser and the greater of two
 
-    lower : (above : ModuleId → List ModuleId) (x : ModuleId) (d : VisibilityExplicitness) (y : ModuleId) (e : VisibilityExplicitness) → test (named.Module x) ≡ false → test (named.Module y) ≡ false
+    lower : (above : ModuleId → List ModuleId) (x : ModuleId) (d : VisibilityExplicitness) (y : ModuleId) (e : VisibilityExplicitness) → test (named.Module x)
+        ≡ false → test (named.Module y) ≡ false
         → on_some on_vis (lower_of above m.id x d y e) ≡ false
     lower above x d y e f g = go (same_module x y) (both_in m.id x y) (is_at_or_above above y x) (is_at_or_above above x y)
       where
@@ -73,7 +75,8 @@ module _ (test : Reference → Bool) where
         go false true false true = g
         go false true false false = refl
 
-    upper : (above : ModuleId → List ModuleId) (x : ModuleId) (d : VisibilityExplicitness) (y : ModuleId) (e : VisibilityExplicitness) → test (named.Module x) ≡ false → test (named.Module y) ≡ false
+    upper : (above : ModuleId → List ModuleId) (x : ModuleId) (d : VisibilityExplicitness) (y : ModuleId) (e : VisibilityExplicitness) → test (named.Module x)
+        ≡ false → test (named.Module y) ≡ false
         → on_some on_vis (upper_of above m.id x d y e) ≡ false
     upper above x d y e f g = go (same_module x y) (both_in m.id x y) (is_at_or_above above y x) (is_at_or_above above x y)
       where
@@ -110,10 +113,12 @@ module _ (test : Reference → Bool) where
 
     -- ---- constructors
 
-    meet : (least : Visibility) (vs : List Visibility) → on_vis least ≡ false → list_any on_vis vs ≡ false → on_some on_vis (meet_of finished m least vs) ≡ false
+    meet : (least : Visibility) (vs : List Visibility) → on_vis least ≡ false → list_any on_vis vs ≡ false → on_some on_vis (meet_of finished m least vs)
+        ≡ false
     meet least [] f g = f
     meet least (v ∷ vs) f g =
-        go (λ next h. meet next vs h (not_second (on_vis v) (list_any on_vis vs) g)) (lesser_in finished m least v) (lesser least v f (not_first (on_vis v) (list_any on_vis vs) g))
+        go (λ next h. meet next vs h (not_second (on_vis v) (list_any on_vis vs) g)) (lesser_in finished m least v)
+        (lesser least v f (not_first (on_vis v) (list_any on_vis vs) g))
       where
         go : ((next : Visibility) → on_vis next ≡ false → on_some on_vis (meet_of finished m next vs) ≡ false)
             → (o : Option Visibility) → on_some on_vis o ≡ false → on_some on_vis (option_and_then (λ next. meet_of finished m next vs) o) ≡ false
@@ -128,13 +133,17 @@ module _ (test : Reference → Bool) where
 
     -- ---- what an import brings
 
-    brought_fails : {I : Type 0} (own : Visibility) (i : Item ModuleDefId I) → on_vis own ≡ false → test_item test i ≡ false → test_item test (brought finished m own i) ≡ false
+    brought_fails : {I : Type 0} (own : Visibility) (i : Item ModuleDefId I) → on_vis own ≡ false → test_item test i ≡ false
+        → test_item test (brought finished m own i) ≡ false
     brought_fails own i f h =
         let d = test_of test (reference_to i.def) in
-        neither d (on_vis (unwrap_or (lesser_in finished m own i.vis) own)) (not_first d (on_vis i.vis) h) (lesser_or own i.vis f (not_second d (on_vis i.vis) h))
+        neither d (on_vis (unwrap_or (lesser_in finished m own i.vis) own)) (not_first d (on_vis i.vis) h)
+        (lesser_or own i.vis f (not_second d (on_vis i.vis) h))
 
-    pub imported_fails : (own : Visibility) (alone : Bool) (items : PerNs) → on_vis own ≡ false → Fails test items → Fails test (imported finished m own alone items)
-    imported_fails own alone items f g = record { types = types items.types g.types; values = values items.values g.values; macros = macros items.macros g.macros }
+    pub imported_fails : (own : Visibility) (alone : Bool) (items : PerNs) → on_vis own ≡ false → Fails test items
+        → Fails test (imported finished m own alone items)
+    imported_fails own alone items f g =
+        record { types = types items.types g.types; values = values items.values g.values; macros = macros items.macros g.macros }
       where
         types : (o : Option (Item ModuleDefId ImportOrExternCrate)) → FailsAtItem test o → FailsAtItem test (option_map (brought_type finished m own alone) o)
         types None h = tt
@@ -161,7 +170,8 @@ module _ (test : Reference → Bool) where
   none_written : (p : Edge → Bool) (es : List Edge) (j : ℕ) (e : Edge) → list_any p es ≡ false → p e ≡ false → list_any p (slice_set es j e) ≡ false
   none_written p [] j e f g = f
   none_written p (x ∷ xs) zero e f g = neither (p e) (list_any p xs) g (not_second (p x) (list_any p xs) f)
-  none_written p (x ∷ xs) (suc j) e f g = neither (p x) (list_any p (slice_set xs j e)) (not_first (p x) (list_any p xs) f) (none_written p xs j e (not_second (p x) (list_any p xs) f) g)
+  none_written p (x ∷ xs) (suc j) e f g =
+      neither (p x) (list_any p (slice_set xs j e)) (not_first (p x) (list_any p xs) f) (none_written p xs j e (not_second (p x) (list_any p xs) f) g)
 
   wider_is : (vis : Visibility) (o : Option Visibility) (wide : Visibility) → on_some on_vis o ≡ false → wider_of vis o ≡ Some wide → on_vis wide ≡ false
   wider_is vis None wide f e = absurd cc
@@ -171,7 +181,8 @@ module _ (test : Reference → Bool) where
       go true h = absurd cc
       go false h = let same : x ≡ wide = cc in subst (λ (v : Visibility). on_vis v ≡ false) same f
 
-  pub recorded_fail : (v : View) (old new : List Edge) (e : Edge) → ((a b : Visibility) → on_vis a ≡ false → on_vis b ≡ false → on_some on_vis (v.greater a b) ≡ false)
+  pub recorded_fail : (v : View) (old new : List Edge) (e : Edge) → ((a b : Visibility) → on_vis a ≡ false → on_vis b ≡ false → on_some on_vis (v.greater a b)
+      ≡ false)
       → list_any on_edge old ≡ false → on_edge e ≡ false → Records v old new e → list_any on_edge new ≡ false
   recorded_fail v old new e greater f g (widens j d wide at ends w is) =
       let here : on_edge d ≡ false = none_at on_edge old f j d at in
@@ -179,7 +190,8 @@ module _ (test : Reference → Bool) where
       let of_e = test_of test (target_reference e.source) in
       let seen : on_vis wide ≡ false =
       wider_is d.vis (v.greater d.vis e.vis) wide (greater d.vis e.vis (not_second of_d (on_vis d.vis) here) (not_second of_e (on_vis e.vis) g)) w in
-      subst (λ (es : List Edge). list_any on_edge es ≡ false) (sym is) (none_written on_edge old j (edge_with_vis d wide) f (neither of_d (on_vis wide) (not_first of_d (on_vis d.vis) here) seen))
+      subst (λ (es : List Edge). list_any on_edge es ≡ false) (sym is)
+      (none_written on_edge old j (edge_with_vis d wide) f (neither of_d (on_vis wide) (not_first of_d (on_vis d.vis) here) seen))
   recorded_fail v old new e greater f g (stays j d at ends w is) = subst (λ (es : List Edge). list_any on_edge es ≡ false) (sym is) f
   recorded_fail v old new e greater f g (adds none is) = subst (λ (es : List Edge). list_any on_edge es ≡ false) (sym is) (none_more on_edge old e f g)
 
@@ -218,7 +230,8 @@ module _ (paths : PathsLeadToWhatIsThere) (maps : Maps) (closed : IsClosed maps)
       by_def (definitions.BuiltinType x) g = refl
       by_def (definitions.MacroId x) g = refl
 
-      by_type : (o : Option (Item ModuleDefId ImportOrExternCrate)) → FailsAtItem (is_missing maps) o → VisibilityIsThere maps (unwrap_or (type_seen false at.map e o) visibilities.Public)
+      by_type : (o : Option (Item ModuleDefId ImportOrExternCrate)) → FailsAtItem (is_missing maps) o
+          → VisibilityIsThere maps (unwrap_or (type_seen false at.map e o) visibilities.Public)
       by_type None g = refl
       by_type (Some i) g = by_def i.def (not_first (test_of (is_missing maps) (reference_to i.def)) (test_visibility (is_missing maps) i.vis) g)
 
@@ -227,7 +240,8 @@ module _ (paths : PathsLeadToWhatIsThere) (maps : Maps) (closed : IsClosed maps)
       by_stop (Some i) = refl
 
 -- in a module of a map beside finished ones
-pub visible_there : PathsLeadToWhatIsThere → (finished : Maps) (m : Map) (local : Local) → IsClosed (overlay finished m) → LocalIsThere (overlay finished m) local → (at : ModuleId)
+pub visible_there : PathsLeadToWhatIsThere → (finished : Maps) (m : Map) (local : Local) → IsClosed (overlay finished m) → LocalIsThere (overlay finished m)
+    local → (at : ModuleId)
     → ModuleIsThere (overlay finished m) at → (raw : RawVisibility) → VisibilityIsThere (overlay finished m) (visibility_in finished local m at raw)
 unfolding visibility_in
 visible_there paths finished m local closed begins at here raw = written_there paths (overlay finished m) closed local begins at here raw

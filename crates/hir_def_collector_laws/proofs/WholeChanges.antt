@@ -1,5 +1,6 @@
 -- What one change leaves of a map that names only what is there.
-use Rattle.std.specs.Prelude.{◌≡◌, ◌==◌, ◌&&◌, ℕ, ◌<◌, List, [], ◌∷◌, ◌++◌, length, Bool, true, false, not, is_none, is_some, Option, None, Some, cond, map as list_map, option_map}
+use Rattle.std.specs.Prelude.{◌≡◌, ◌==◌, ◌&&◌, ℕ, ◌<◌, List, [], ◌∷◌, ◌++◌, length, Bool, true, false, not, is_none, is_some, Option, None, Some, cond}
+use Rattle.std.specs.Prelude.{map as list_map, option_map}
 use Rattle.std.specs.List.{list_any}
 use mathlib.Core.Bool.{true≢false}
 use Rattle.std.proofs.Common.{ap, refl, subst, sym, ◌∙◌}
@@ -8,24 +9,25 @@ use Rattle.std.specs.Cmp.Lexicographic.{pointwise}
 use Rattle.hir_base.specs.declared.ast_id.AstId.{AstId}
 use Rattle.hir_base.specs.declared.ids.Crate.{Crate}
 use Rattle.hir_base.specs.declared.ids.ExternCrateId.{ExternCrateId}
-use Rattle.hir_base.specs.declared.ids.ModuleId.{ModuleId}
+use Rattle.hir_base.specs.declared.macro_kind.MacroId.{MacroId}
 use Rattle.hir_base.specs.declared.ids.ModuleDefId.{ModuleDefId}
-use Rattle.hir_base.specs.declared.ids.ModuleDefId.TheVariants as definitions
+use Rattle.hir_base.specs.declared.ids.ModuleId.{ModuleId}
 use Rattle.hir_base.specs.declared.ids.TraitId.{TraitId}
 use Rattle.hir_base.specs.declared.ids.UseId.{UseId}
-use Rattle.hir_base.specs.declared.macro_kind.MacroId.{MacroId}
-use Rattle.hir_item_tree.specs.KeptForest.{Head, Leaf, KeptItem, leaf, holder, import, extern_crate, function, structure, union_structure, enumeration, constant, static_item, trait_item, implementation, type_alias, outline_module, macro_call, macro_rules, macro_def}
+use Rattle.hir_base.specs.declared.ids.ModuleDefId.TheVariants as definitions
+use Rattle.hir_item_tree.specs.KeptForest.{Head, Leaf, KeptItem, leaf, holder, import, extern_crate, function, structure, union_structure, enumeration}
+use Rattle.hir_item_tree.specs.KeptForest.{constant, static_item, trait_item, implementation, type_alias, outline_module, macro_call, macro_rules, macro_def}
 use Rattle.hir_use_tree.specs.declared.imports.Import.{Import}
 use Rattle.hir_use_tree.specs.declared.imports.ImportKind.{ImportKind}
 use Rattle.hir_use_tree.specs.declared.imports.ImportKind.TheVariants as import_kinds
 use Rattle.hir_item_tree.specs.declared.raw_visibility.RawVisibility.{RawVisibility}
 use Rattle.hir_scope.specs.declared.imports.ImportId.{ImportId}
+use Rattle.hir_scope.specs.declared.per_ns.PerNs.{PerNs}
+use Rattle.hir_scope.specs.declared.visibility.Visibility.{Visibility}
 use Rattle.hir_textual_scope.specs.Macros.{with_macro}
 use Rattle.hir_textual_scope.specs.declared.textual_scope.TextualMacro.{TextualMacro}
 use Rattle.hir_scope.specs.Scope.{ScopeValue}
 use Rattle.hir_scope.specs.PerNs.{Item, macros_only}
-use Rattle.hir_scope.specs.declared.per_ns.PerNs.{PerNs}
-use Rattle.hir_scope.specs.declared.visibility.Visibility.{Visibility}
 use Rattle.hir_def_map_rules.specs.declared.diagnostics.DefDiagnostic.{DefDiagnostic}
 use Rattle.hir_def_map_rules.specs.declared.reference.Reference.{Reference}
 use Rattle.hir_def_map_rules.specs.declared.reference.Reference.TheVariants as named
@@ -40,20 +42,22 @@ use Rattle.hir_def_map_rules.specs.WellFormed.{AreWellFormed, HasNoDanglingExter
 use Rattle.hir_def_map_rules.proofs.WellFormed.{HasNoDanglingExtern-more, IsClosed-well_formed, HasNoDanglingReference-more, none_missing}
 use Rattle.hir_def_map_rules.specs.Declaration.{listed}
 use Rattle.hir_def_map_rules.specs.Macros.{with_derive_helper, with_exported, with_macro_data, with_macro_def}
-use Rattle.hir_def_map_rules.specs.References.{crate_map, is_missing, reference_to, test_crate, test_of, any_reference_in, are_variants_of, test_visibility, visibility_reference}
+use Rattle.hir_def_map_rules.specs.References.{crate_map, is_missing, reference_to, test_crate, test_of, any_reference_in, are_variants_of, test_visibility}
+use Rattle.hir_def_map_rules.specs.References.{visibility_reference}
 use Rattle.hir_def_map_rules.specs.Scoping.{Resolution}
 use Rattle.hir_def_map_rules.specs.Scoping.Start.{crate_root}
 use Rattle.hir_def_map_rules.specs.State.{Local, Map, ModuleValue, module_at, numbered, with_scope}
 use Rattle.hir_def_map_rules.specs.Overlay.{Maps, overlay}
-use Rattle.hir_def_map_rules.proofs.StaysWellFormed.{Extends-grown, Extends-made, Extends-scope, HasNoDanglingReference-listed, HasNoDanglingReference-made, Extends-enum, HasNoDanglingReference-enum, HasNoDanglingReference-scope}
+use Rattle.hir_def_map_rules.proofs.StaysWellFormed.{Extends-grown, Extends-made, Extends-scope, HasNoDanglingReference-listed, HasNoDanglingReference-made}
+use Rattle.hir_def_map_rules.proofs.StaysWellFormed.{Extends-enum, HasNoDanglingReference-enum, HasNoDanglingReference-scope}
 use Rattle.hir_collector_rules.specs.declared.declaration.Declaration.{Declaration}
+use Rattle.hir_collector_rules.specs.declared.source_database.Dependency.{Dependency}
+use Rattle.hir_glob_imports.specs.declared.edge.Bound.{Bound}
 use Rattle.hir_glob_imports.specs.declared.edge.Edge.{Edge}
 use Rattle.hir_glob_imports.specs.Rules.{brings, copies, follows, raises}
-use Rattle.hir_glob_imports.specs.declared.edge.Bound.{Bound}
+use Rattle.hir_import_resolution.specs.declared.directive.ImportDirective.{ImportDirective}
 use Rattle.hir_import_resolution.specs.declared.directive.ImportSource.{ImportSource}
 use Rattle.hir_import_resolution.specs.declared.directive.ImportSource.TheVariants as sources
-use Rattle.hir_import_resolution.specs.declared.directive.ImportDirective.{ImportDirective}
-use Rattle.hir_collector_rules.specs.declared.source_database.Dependency.{Dependency}
 use Rattle.hir_collector_rules.specs.State.{State, Visit, import_state}
 use Rattle.hir_collector_rules.specs.ItemIds.{module_id}
 use Rattle.hir_collector_rules.specs.Items.{constructor_of, declared_by, declared_by_leaf, declared_struct, declared_type, own_visibility, declared_value}
@@ -63,7 +67,10 @@ use Rattle.hir_import_resolution.specs.Changes.{act as act_on_imports, along, ke
 use Rattle.hir_import_resolution.specs.Names.{trait_vis}
 use Rattle.hir_import_resolution.specs.State.{ImportState}
 use Rattle.hir_collector_rules.specs.Imports.{extern_by, reached_import}
-use Rattle.hir_collector_rules.specs.Changes.{Change, lists, makes, gives_variants, begins_paths, reaches, awaits, ends, settles, changes_imports, adds_textual, takes_textual, defines, describes, helps, lists_derive, exports, uses_macros, tells, goes_on, act, on_map, with_builtin_derive}
+use Rattle.hir_collector_rules.specs.Changes.{Change, lists, makes, gives_variants, begins_paths, reaches, awaits, ends, settles, changes_imports, adds_textual}
+use Rattle.hir_collector_rules.specs.Changes.{takes_textual, defines, describes, helps, lists_derive, notes, exports, uses_macros, tells, goes_on, act, on_map}
+use Rattle.hir_collector_rules.specs.Changes.{with_builtin_derive}
+use Rattle.hir_collector_rules.specs.Invocations.{with_invocation}
 use Rattle.hir_collector_rules.specs.Macros.{textual_at, with_macros_used, with_used}
 use Rattle.hir_collector_rules.proofs.Lists.{none_joined}
 use Rattle.hir_collector_rules.proofs.ImportEdits.{Edit, edit, edit_of, edited, imports_after, local_after, map_after}
@@ -100,7 +107,8 @@ pub record NamesWhatIsThere (finished : Maps) (s : State) : Type 0 where
 -- ---- crates
 
 -- the imports of a `use` item name no crate
-pub uses_name_none : (test : Reference → Bool) (home : ℕ) (by : UseId) (vis : RawVisibility) (is : List Import) → list_any (test_import test) (list_map (reached_import home by vis) is) ≡ false
+pub uses_name_none : (test : Reference → Bool) (home : ℕ) (by : UseId) (vis : RawVisibility) (is : List Import)
+    → list_any (test_import test) (list_map (reached_import home by vis) is) ≡ false
 uses_name_none test home by vis [] = refl
 uses_name_none test home by vis (i ∷ is) = uses_name_none test home by vis is
 
@@ -115,7 +123,8 @@ seen_still one other grown vis g = still_there one other grown (visibility_refer
 pub items_still : (one other : Maps) → Extends one other → (items : PerNs) → AreThere one items → AreThere other items
 items_still one other grown items g = Fails-weaker (is_missing one) (is_missing other) (none_missing one other grown) items g
 
-edges_more : (one other : Maps) → Extends one other → (es : List Edge) → list_any (on_edge (is_missing one)) es ≡ false → list_any (on_edge (is_missing other)) es ≡ false
+edges_more : (one other : Maps) → Extends one other → (es : List Edge) → list_any (on_edge (is_missing one)) es ≡ false → list_any (on_edge (is_missing other))
+    es ≡ false
 edges_more one other grown es g = none_of_less (on_edge (is_missing one)) (on_edge (is_missing other)) each es g
   where
     each : (e : Edge) → on_edge (is_missing one) e ≡ false → on_edge (is_missing other) e ≡ false
@@ -126,7 +135,8 @@ edges_more one other grown es g = none_of_less (on_edge (is_missing one)) (on_ed
         (still_there one other grown (target_reference e.source) (not_first from seen h)) (seen_still one other grown e.vis (not_second from seen h))
 
 -- a crate whose map is there has its root there
-pub root_stands : (finished : Maps) → AreWellFormed finished → (c : Crate) → test_crate (is_missing finished) c ≡ false → is_missing finished (named.Module (crate_root c)) ≡ false
+pub root_stands : (finished : Maps) → AreWellFormed finished → (c : Crate) → test_crate (is_missing finished) c ≡ false
+    → is_missing finished (named.Module (crate_root c)) ≡ false
 root_stands finished whole c g = ap not ((IsClosed-well_formed finished whole).roots (crate_map c) (shown (is_some (finished (crate_map c))) g))
   where
     shown : (b : Bool) → not b ≡ false → b ≡ true
@@ -136,11 +146,15 @@ root_stands finished whole c g = ap not ((IsClosed-well_formed finished whole).r
 -- ---- what items bind
 
 -- a type, a value or a macro that is declared alone
-pub type_there : (maps : Maps) (def : ModuleDefId) (vis : Visibility) → test_of (is_missing maps) (reference_to def) ≡ false → VisibilityIsThere maps vis → AreThere maps (declared_type def vis)
-type_there maps def vis f g = record { types = neither (test_of (is_missing maps) (reference_to def)) (test_visibility (is_missing maps) vis) f g; values = tt; macros = tt }
+pub type_there : (maps : Maps) (def : ModuleDefId) (vis : Visibility) → test_of (is_missing maps) (reference_to def) ≡ false → VisibilityIsThere maps vis
+    → AreThere maps (declared_type def vis)
+type_there maps def vis f g =
+    record { types = neither (test_of (is_missing maps) (reference_to def)) (test_visibility (is_missing maps) vis) f g; values = tt; macros = tt }
 
-pub value_there : (maps : Maps) (def : ModuleDefId) (vis : Visibility) → test_of (is_missing maps) (reference_to def) ≡ false → VisibilityIsThere maps vis → AreThere maps (declared_value def vis)
-value_there maps def vis f g = record { types = tt; values = neither (test_of (is_missing maps) (reference_to def)) (test_visibility (is_missing maps) vis) f g; macros = tt }
+pub value_there : (maps : Maps) (def : ModuleDefId) (vis : Visibility) → test_of (is_missing maps) (reference_to def) ≡ false → VisibilityIsThere maps vis
+    → AreThere maps (declared_value def vis)
+value_there maps def vis f g =
+    record { types = tt; values = neither (test_of (is_missing maps) (reference_to def)) (test_visibility (is_missing maps) vis) f g; macros = tt }
 
 pub macro_there : (maps : Maps) (def : MacroId) (vis : Visibility) → VisibilityIsThere maps vis → AreThere maps (macros_only def vis None)
 macro_there maps def vis g = record { types = tt; values = tt; macros = g }
@@ -153,13 +167,15 @@ module _ (finished maps : Maps) (local : Local) (m : Map) (v : Visit) (d : Decla
   own_seen : (h : Head) → VisibilityIsThere maps (own_visibility finished local m v.site h)
   own_seen h = seen h.visibility
 
-  all_seen : (raws : List RawVisibility) → list_any (test_visibility (is_missing maps)) (list_map (visibility_in finished local m (module_id m v.site.home)) raws) ≡ false
+  all_seen : (raws : List RawVisibility) → list_any (test_visibility (is_missing maps)) (list_map (visibility_in finished local m (module_id m v.site.home))
+      raws) ≡ false
   all_seen [] = refl
   all_seen (raw ∷ raws) =
       neither (test_visibility (is_missing maps) (visibility_in finished local m (module_id m v.site.home) raw))
       (list_any (test_visibility (is_missing maps)) (list_map (visibility_in finished local m (module_id m v.site.home)) raws)) (seen raw) (all_seen raws)
 
-  struct_there : (def : ModuleDefId) → test_of (is_missing maps) (reference_to def) ≡ false → (vis : Visibility) → VisibilityIsThere maps vis → (c : Option Visibility)
+  struct_there : (def : ModuleDefId) → test_of (is_missing maps) (reference_to def) ≡ false → (vis : Visibility) → VisibilityIsThere maps vis
+      → (c : Option Visibility)
       → on_some (test_visibility (is_missing maps)) c ≡ false → AreThere maps (declared_struct def vis c)
   struct_there def f vis g None h = type_there maps def vis f g
   struct_there def f vis g (Some c) h = record {
@@ -175,7 +191,8 @@ module _ (finished maps : Maps) (local : Local) (m : Map) (v : Visit) (d : Decla
   declared_leaf_there h (structure name shape fields) f =
       let own : Visibility = own_visibility finished local m v.site h in
       let seen_by = list_map (visibility_in finished local m (module_id m v.site.home)) fields in
-      shown _ (struct_there _ refl own (own_seen h) (constructor_of finished m own shape seen_by) (constructor_fails (is_missing maps) finished m own shape seen_by (own_seen h) (all_seen fields))) f
+      shown _ (struct_there _ refl own (own_seen h) (constructor_of finished m own shape seen_by)
+      (constructor_fails (is_missing maps) finished m own shape seen_by (own_seen h) (all_seen fields))) f
   declared_leaf_there h (union_structure name fields) f = shown _ (type_there maps _ (own_visibility finished local m v.site h) refl (own_seen h)) f
   declared_leaf_there h (enumeration name) f = absurd cc
   declared_leaf_there h (constant None) f = absurd cc
@@ -209,7 +226,8 @@ module _ (maps : Maps) where
   answered_there import_kinds.TypeOnly answer f = f
   answered_there import_kinds.Glob answer f = Fails-nothing (is_missing maps)
 
-  pub sourced_there : (source : ImportSource) (answer : Resolution) → test_of (is_missing maps) (root_named (crate_of source)) ≡ false → AreThere maps answer.resolved_def
+  pub sourced_there : (source : ImportSource) (answer : Resolution) → test_of (is_missing maps) (root_named (crate_of source)) ≡ false
+      → AreThere maps answer.resolved_def
       → AreThere maps (answer_by_source source answer).resolved_def
   sourced_there (sources.Use id kind) answer g f = answered_there kind answer f
   sourced_there (sources.ExternCrate id None) answer g f = Fails-nothing (is_missing maps)
@@ -222,38 +240,25 @@ BoundIsThere maps (Some b) = DefIsThere maps b.def × VisibilityIsThere maps b.v
 
 -- so it is of globs that are recorded
 abbrev EdgesAreThere : Maps → ImportChange → Type 0
-EdgesAreThere maps (pushes home name items source) = Unit {0}
-EdgesAreThere maps (keeps_trait finished home id vis by) = Unit {0}
-EdgesAreThere maps (takes i taken) = Unit {0}
 EdgesAreThere maps (records edges) = list_any (on_edge (is_missing maps)) edges ≡ false
-EdgesAreThere maps (along finished a) = Unit {0}
+EdgesAreThere maps other = Unit {0}
 
 -- ---- changes
 
 -- what a change brings is there
 abbrev pub BringsWhatIsThere : Maps → State → Change → Type 0
-BringsWhatIsThere finished s (lists home d) = Unit {0}
-BringsWhatIsThere finished s (makes home name origin visibility) = (home < length s.core.map.modules) × VisibilityIsThere (overlay finished s.core.map) visibility
+BringsWhatIsThere finished s (makes home name origin visibility) =
+    (home < length s.core.map.modules) × VisibilityIsThere (overlay finished s.core.map) visibility
 BringsWhatIsThere finished s (gives_variants id variants) = are_variants_of id variants ≡ true
 BringsWhatIsThere finished s (begins_paths r) = test_import (is_missing (overlay finished s.core.map)) r ≡ false
 BringsWhatIsThere finished s (reaches rs) = list_any (test_import (is_missing (overlay finished s.core.map))) rs ≡ false
-BringsWhatIsThere finished s (awaits calls) = Unit {0}
-BringsWhatIsThere finished s (ends i fate) = Unit {0}
-BringsWhatIsThere finished s settles = Unit {0}
-BringsWhatIsThere finished s (changes_imports c) = EditsWhatIsThere (overlay finished s.core.map) (edit_of (import_state s) c) × EdgesAreThere (overlay finished s.core.map) c
-BringsWhatIsThere finished s (adds_textual home name makro) = Unit {0}
-BringsWhatIsThere finished s (takes_textual home from) = Unit {0}
-BringsWhatIsThere finished s (defines node makro) = Unit {0}
-BringsWhatIsThere finished s (describes makro what) = Unit {0}
-BringsWhatIsThere finished s (helps node helper) = Unit {0}
-BringsWhatIsThere finished s (lists_derive home imp) = Unit {0}
-BringsWhatIsThere finished s (exports f makro) = Unit {0}
-BringsWhatIsThere finished s (uses_macros macros by) = Unit {0}
-BringsWhatIsThere finished s (tells d) = Unit {0}
-BringsWhatIsThere finished s (goes_on vs) = Unit {0}
+BringsWhatIsThere finished s (changes_imports c) =
+    EditsWhatIsThere (overlay finished s.core.map) (edit_of (import_state s) c) × EdgesAreThere (overlay finished s.core.map) c
+BringsWhatIsThere finished s other = Unit {0}
 
 -- another map, in which what was there stays there
-with_larger : (finished : Maps) (s : State) (m : Map) → m.id ≡ s.core.map.id → Extends (overlay finished s.core.map) (overlay finished m) → HasNoDanglingReference (overlay finished m) m
+with_larger : (finished : Maps) (s : State) (m : Map) → m.id ≡ s.core.map.id → Extends (overlay finished s.core.map) (overlay finished m)
+    → HasNoDanglingReference (overlay finished m) m
     → NamesWhatIsThere finished s → NamesWhatIsThere finished (on_map s m)
 with_larger finished s m same grown names f = record {
   apart = ap finished same ∙ f.apart;
@@ -270,10 +275,12 @@ with_larger finished s m same grown names f = record {
 abbrev pub beside : Map → List (AstId × MacroId) → List (List ℕ × (MacroId × Option ExternCrateId)) → List DefDiagnostic → Map
 beside m ids used ds = record m { macro_ids = ids; macro_use_prelude = used; diagnostics = ds }
 
-pub Extends-beside : (finished : Maps) (m : Map) (ids : List (AstId × MacroId)) (used : List (List ℕ × (MacroId × Option ExternCrateId))) (ds : List DefDiagnostic) → Extends (overlay finished m) (overlay finished (beside m ids used ds))
+pub Extends-beside : (finished : Maps) (m : Map) (ids : List (AstId × MacroId)) (used : List (List ℕ × (MacroId × Option ExternCrateId)))
+    (ds : List DefDiagnostic) → Extends (overlay finished m) (overlay finished (beside m ids used ds))
 Extends-beside finished m ids used ds = Extends-grown finished m (beside m ids used ds) refl (λ k e. e) (λ e t. t)
 
-NamesOnly-beside : (finished : Maps) (m : Map) (ids : List (AstId × MacroId)) (used : List (List ℕ × (MacroId × Option ExternCrateId))) (ds : List DefDiagnostic)
+NamesOnly-beside : (finished : Maps) (m : Map) (ids : List (AstId × MacroId)) (used : List (List ℕ × (MacroId × Option ExternCrateId)))
+    (ds : List DefDiagnostic)
     → HasNoDanglingReference (overlay finished m) m → HasNoDanglingReference (overlay finished (beside m ids used ds)) (beside m ids used ds)
 NamesOnly-beside finished m ids used ds f =
     let new : Map = beside m ids used ds in
@@ -296,7 +303,8 @@ beside_of m o = record m { macro_ids = o.macro_ids; macro_data = o.macro_data; d
 pub Extends-beside_of : (finished : Maps) (m o : Map) → Extends (overlay finished m) (overlay finished (beside_of m o))
 Extends-beside_of finished m o = Extends-grown finished m (beside_of m o) refl (λ k e. e) (λ e t. t)
 
-pub NamesOnly-beside_of : (finished : Maps) (m o : Map) → HasNoDanglingReference (overlay finished m) m → HasNoDanglingReference (overlay finished (beside_of m o)) (beside_of m o)
+pub NamesOnly-beside_of : (finished : Maps) (m o : Map) → HasNoDanglingReference (overlay finished m) m
+    → HasNoDanglingReference (overlay finished (beside_of m o)) (beside_of m o)
 NamesOnly-beside_of finished m o f =
     let new : Map = beside_of m o in
     HasNoDanglingReference-more (overlay finished m) (overlay finished new) (Extends-beside_of finished m o) new (record {
@@ -314,10 +322,12 @@ NamesOnly-beside_of finished m o f =
 pub Extends-reported : (finished : Maps) (m : Map) (ds : List DefDiagnostic) → Extends (overlay finished m) (overlay finished (record m { diagnostics = ds }))
 Extends-reported finished m ds = Extends-beside finished m m.macro_ids m.macro_use_prelude ds
 
-pub NamesOnly-reported : (finished : Maps) (m : Map) (ds : List DefDiagnostic) → HasNoDanglingReference (overlay finished m) m → HasNoDanglingReference (overlay finished (record m { diagnostics = ds })) (record m { diagnostics = ds })
+pub NamesOnly-reported : (finished : Maps) (m : Map) (ds : List DefDiagnostic) → HasNoDanglingReference (overlay finished m) m
+    → HasNoDanglingReference (overlay finished (record m { diagnostics = ds })) (record m { diagnostics = ds })
 NamesOnly-reported finished m ds = NamesOnly-beside finished m m.macro_ids m.macro_use_prelude ds
 
-pub Extends-used : (finished : Maps) (m : Map) (macros : List (List ℕ × MacroId)) (by : Option ExternCrateId) → Extends (overlay finished m) (overlay finished (with_macros_used m macros by))
+pub Extends-used : (finished : Maps) (m : Map) (macros : List (List ℕ × MacroId)) (by : Option ExternCrateId) → Extends (overlay finished m)
+    (overlay finished (with_macros_used m macros by))
 Extends-used finished m macros by = Extends-beside finished m m.macro_ids (with_used m.macro_use_prelude macros by) m.diagnostics
 
 pub NamesOnly-used : (finished : Maps) (m : Map) (macros : List (List ℕ × MacroId)) (by : Option ExternCrateId) → HasNoDanglingReference (overlay finished m) m
@@ -331,9 +341,11 @@ extern_there finished m local (sources.Use id kind) name f g = f
 extern_there finished m local (sources.ExternCrate id None) name f g = f
 extern_there finished m local (sources.ExternCrate id (Some c)) None f g = f
 extern_there finished m local (sources.ExternCrate id (Some c)) (Some name) f g =
-    none_inserted_last (λ (x : ModuleId × Option ExternCrateId). is_missing (overlay finished m) (named.Module x.0)) (pointwise nat_eq) local name (crate_root c, Some id) f g
+    none_inserted_last (λ (x : ModuleId × Option ExternCrateId). is_missing (overlay finished m) (named.Module x.0)) (pointwise nat_eq) local name
+    (crate_root c, Some id) f g
 
-begins_after : (finished : Maps) (m : Map) (b : Bool) (local other : Local) → HasNoDanglingExtern (overlay finished m) local → HasNoDanglingExtern (overlay finished m) other → HasNoDanglingExtern (overlay finished m) (cond b local other)
+begins_after : (finished : Maps) (m : Map) (b : Bool) (local other : Local) → HasNoDanglingExtern (overlay finished m) local
+    → HasNoDanglingExtern (overlay finished m) other → HasNoDanglingExtern (overlay finished m) (cond b local other)
 begins_after finished m true local other f g = f
 begins_after finished m false local other f g = g
 
@@ -343,7 +355,8 @@ Extends-edited finished m None = λ n there. there
 Extends-edited finished m (Some e) = Extends-scope finished m e.0 (edit (numbered m.id e.0) e.1)
 
 -- the globs that are recorded after a change
-edges_after : (maps : Maps) (i : ImportState) (c : ImportChange) → list_any (on_edge (is_missing maps)) i.edges ≡ false → EdgesAreThere maps c → list_any (on_edge (is_missing maps)) (act_on_imports i c).edges ≡ false
+edges_after : (maps : Maps) (i : ImportState) (c : ImportChange) → list_any (on_edge (is_missing maps)) i.edges ≡ false → EdgesAreThere maps c
+    → list_any (on_edge (is_missing maps)) (act_on_imports i c).edges ≡ false
 edges_after maps i (pushes home None items source) f fine = f
 edges_after maps i (pushes home (Some name) items source) f fine = f
 edges_after maps i (keeps_trait finished home None vis by) f fine = f
@@ -356,37 +369,46 @@ edges_after maps i (along finished (follows slot of vis)) f fine = f
 edges_after maps i (along finished (raises slot vis)) f fine = f
 
 -- who may see a trait without a name
-pub trait_seen : (maps : Maps) (m : Map) → HasNoDanglingReference maps m → (at : ℕ) (id : TraitId) → on_some (test_visibility (is_missing maps)) (trait_vis (module_at m at) id) ≡ false
+pub trait_seen : (maps : Maps) (m : Map) → HasNoDanglingReference maps m → (at : ℕ) (id : TraitId) → on_some (test_visibility (is_missing maps))
+    (trait_vis (module_at m at) id) ≡ false
 trait_seen maps m f at id = go (module_at m at) refl
   where
-    found : (v : ModuleValue) → any_reference_in (is_missing maps) v ≡ false → (o : Option (Item (Unit {0}) ImportId)) → lookup (trait_id.ghosts.eq id) v.scope.unnamed_traits ≡ o
+    found : (v : ModuleValue) → any_reference_in (is_missing maps) v ≡ false → (o : Option (Item (Unit {0}) ImportId)) → lookup (trait_id.ghosts.eq id)
+        v.scope.unnamed_traits ≡ o
         → on_some (test_visibility (is_missing maps)) (option_map (λ (i : Item (Unit {0}) ImportId). i.vis) o) ≡ false
     found v g None e = refl
-    found v g (Some i) e = none_found (λ (x : Item (Unit {0}) ImportId). test_visibility (is_missing maps) x.vis) (trait_id.ghosts.eq id) v.scope.unnamed_traits i
+    found v g (Some i) e =
+        none_found (λ (x : Item (Unit {0}) ImportId). test_visibility (is_missing maps) x.vis) (trait_id.ghosts.eq id) v.scope.unnamed_traits i
         (scope_parts (is_missing maps) v.scope (module_parts (is_missing maps) v g).scope).traits e
 
     go : (o : Option ModuleValue) → module_at m at ≡ o → on_some (test_visibility (is_missing maps)) (trait_vis o id) ≡ false
     go None e = refl
-    go (Some v) e = found v (none_at (any_reference_in (is_missing maps)) m.modules f.modules at v e) (lookup (trait_id.ghosts.eq id) v.scope.unnamed_traits) refl
+    go (Some v) e =
+        found v (none_at (any_reference_in (is_missing maps)) m.modules f.modules at v e) (lookup (trait_id.ghosts.eq id) v.scope.unnamed_traits) refl
 
 -- a scope that names what is there
-names-edited : (finished : Maps) (s : State) (o : Option (ℕ × Edit)) → EditsWhatIsThere (overlay finished s.core.map) o → NamesWhatIsThere finished s → NamesWhatIsThere finished (on_map s (edited s.core.map o))
-names-edited finished s None fine f = record { apart = f.apart; names = f.names; begins = f.begins; crates = f.crates; dependencies = f.dependencies; edges = f.edges }
+names-edited : (finished : Maps) (s : State) (o : Option (ℕ × Edit)) → EditsWhatIsThere (overlay finished s.core.map) o → NamesWhatIsThere finished s
+    → NamesWhatIsThere finished (on_map s (edited s.core.map o))
+names-edited finished s None fine f =
+    record { apart = f.apart; names = f.names; begins = f.begins; crates = f.crates; dependencies = f.dependencies; edges = f.edges }
 names-edited finished s (Some e) fine f =
-    with_larger finished s _ refl (Extends-scope finished s.core.map e.0 (edit (numbered s.core.map.id e.0) e.1)) (names-edit finished s.core.map e.0 e.1 fine f.names) f
+    with_larger finished s _ refl (Extends-scope finished s.core.map e.0 (edit (numbered s.core.map.id e.0) e.1))
+    (names-edit finished s.core.map e.0 e.1 fine f.names) f
 
 -- what is in textual scope is neither a module nor an enum
 names-textual : (finished : Maps) (s : State) (home : ℕ) (change : List TextualMacro → List TextualMacro) → NamesWhatIsThere finished s
     → NamesWhatIsThere finished (on_map s (with_scope s.core.map home (λ (x : ScopeValue). record x { legacy_macros = change x.legacy_macros })))
 names-textual finished s home change f =
     let edit_ : ScopeValue → ScopeValue = λ x. record x { legacy_macros = change x.legacy_macros } in
-    with_larger finished s _ refl (Extends-scope finished s.core.map home edit_) (HasNoDanglingReference-scope finished s.core.map home edit_ (λ x g. g) f.names) f
+    with_larger finished s _ refl (Extends-scope finished s.core.map home edit_) (HasNoDanglingReference-scope finished s.core.map home edit_ (λ x g. g)
+    f.names) f
 
 pub names-act : (finished : Maps) (s : State) (c : Change) → NamesWhatIsThere finished s → BringsWhatIsThere finished s c → NamesWhatIsThere finished (act s c)
 names-act finished s (lists home d) f fine =
     with_larger finished s _ refl (Extends-scope finished s.core.map home (listed d)) (HasNoDanglingReference-listed finished s.core.map home d f.names) f
 names-act finished s (makes home name origin visibility) f fine =
-    with_larger finished s _ refl (Extends-made finished s.core.map home fine.0 name origin visibility) (HasNoDanglingReference-made finished s.core.map home fine.0 name origin visibility fine.1 f.names) f
+    with_larger finished s _ refl (Extends-made finished s.core.map home fine.0 name origin visibility)
+    (HasNoDanglingReference-made finished s.core.map home fine.0 name origin visibility fine.1 f.names) f
 names-act finished s (gives_variants id variants) f fine =
     with_larger finished s _ refl (Extends-enum finished s.core.map id variants) (HasNoDanglingReference-enum finished s.core.map id variants fine f.names) f
 names-act finished s (begins_paths r) f fine = record {
@@ -406,9 +428,6 @@ names-act finished s (reaches rs) f fine = record {
   dependencies = f.dependencies;
   edges = f.edges;
 }
-names-act finished s (awaits calls) f fine = record { apart = f.apart; names = f.names; begins = f.begins; crates = f.crates; dependencies = f.dependencies; edges = f.edges }
-names-act finished s (ends i fate) f fine = record { apart = f.apart; names = f.names; begins = f.begins; crates = f.crates; dependencies = f.dependencies; edges = f.edges }
-names-act finished s settles f fine = record { apart = f.apart; names = f.names; begins = f.begins; crates = f.crates; dependencies = f.dependencies; edges = f.edges }
 names-act finished s (changes_imports c) f fine =
     let i : ImportState = import_state s in
     let m : Map = edited s.core.map (edit_of i c) in
@@ -421,17 +440,20 @@ names-act finished s (changes_imports c) f fine =
           subst (λ (l : Local). HasNoDanglingExtern (overlay finished (act_on_imports i c).map) l) (sym (local_after i c))
           (subst (λ (x : Map). HasNoDanglingExtern (overlay finished x) s.core.local) (sym (map_after i c)) more.begins);
       crates =
-          subst (λ (rs : List ImportDirective). list_any (test_import (is_missing (overlay finished (act_on_imports i c).map))) rs ≡ false) (sym (imports_after i c))
+          subst (λ (rs : List ImportDirective). list_any (test_import (is_missing (overlay finished (act_on_imports i c).map))) rs ≡ false)
+          (sym (imports_after i c))
           (subst (λ (x : Map). list_any (test_import (is_missing (overlay finished x))) s.core.reached ≡ false) (sym (map_after i c)) more.crates);
       dependencies = more.dependencies;
       edges =
           subst (λ (x : Map). list_any (on_edge (is_missing (overlay finished x))) (act_on_imports i c).edges ≡ false) (sym (map_after i c))
-          (edges_more (overlay finished s.core.map) (overlay finished m) grown (act_on_imports i c).edges (edges_after (overlay finished s.core.map) i c f.edges fine.1));
+          (edges_more (overlay finished s.core.map) (overlay finished m) grown (act_on_imports i c).edges
+          (edges_after (overlay finished s.core.map) i c f.edges fine.1));
     }
 names-act finished s (adds_textual home name makro) f fine = names-textual finished s home (λ ms. with_macro ms name makro) f
 names-act finished s (takes_textual home from) f fine = names-textual finished s home (λ _. textual_at s.core.map from) f
 names-act finished s (defines node makro) f fine =
-    with_larger finished s _ refl (Extends-beside finished s.core.map (with_macro_def s.core.map node makro).macro_ids s.core.map.macro_use_prelude s.core.map.diagnostics)
+    with_larger finished s _ refl (Extends-beside finished s.core.map (with_macro_def s.core.map node makro).macro_ids s.core.map.macro_use_prelude
+    s.core.map.diagnostics)
     (NamesOnly-beside finished s.core.map (with_macro_def s.core.map node makro).macro_ids s.core.map.macro_use_prelude s.core.map.diagnostics f.names) f
 names-act finished s (describes makro what) f fine =
     let new : Map = with_macro_data s.core.map makro what in
@@ -440,13 +462,20 @@ names-act finished s (helps node helper) f fine =
     let new : Map = with_derive_helper s.core.map node helper in
     with_larger finished s new refl (Extends-beside_of finished s.core.map new) (NamesOnly-beside_of finished s.core.map new f.names) f
 names-act finished s (lists_derive home imp) f fine =
-    with_larger finished s _ refl (Extends-scope finished s.core.map home (with_builtin_derive imp)) (HasNoDanglingReference-scope finished s.core.map home (with_builtin_derive imp) (λ x g. g) f.names) f
+    with_larger finished s _ refl (Extends-scope finished s.core.map home (with_builtin_derive imp))
+    (HasNoDanglingReference-scope finished s.core.map home (with_builtin_derive imp) (λ x g. g) f.names) f
+names-act finished s (notes home invocation) f fine =
+    with_larger finished s _ refl (Extends-scope finished s.core.map home (with_invocation invocation))
+    (HasNoDanglingReference-scope finished s.core.map home (with_invocation invocation) (λ x g. g) f.names) f
 names-act finished s (exports x makro) f fine =
     let new : Map = with_exported s.core.map x.id makro in
-    let noted : NamesWhatIsThere finished (on_map s new) = with_larger finished s new refl (Extends-beside_of finished s.core.map new) (NamesOnly-beside_of finished s.core.map new f.names) f in
+    let noted : NamesWhatIsThere finished (on_map s new) = with_larger finished s new refl (Extends-beside_of finished s.core.map new)
+    (NamesOnly-beside_of finished s.core.map new f.names) f in
     record { apart = noted.apart; names = noted.names; begins = noted.begins; crates = noted.crates; dependencies = noted.dependencies; edges = noted.edges }
 names-act finished s (uses_macros macros by) f fine =
     with_larger finished s _ refl (Extends-used finished s.core.map macros by) (NamesOnly-used finished s.core.map macros by f.names) f
 names-act finished s (tells d) f fine =
-    with_larger finished s _ refl (Extends-reported finished s.core.map (s.core.map.diagnostics ++ d ∷ [])) (NamesOnly-reported finished s.core.map (s.core.map.diagnostics ++ d ∷ []) f.names) f
-names-act finished s (goes_on vs) f fine = record { apart = f.apart; names = f.names; begins = f.begins; crates = f.crates; dependencies = f.dependencies; edges = f.edges }
+    with_larger finished s _ refl (Extends-reported finished s.core.map (s.core.map.diagnostics ++ d ∷ []))
+    (NamesOnly-reported finished s.core.map (s.core.map.diagnostics ++ d ∷ []) f.names) f
+names-act finished s other f fine =
+    record { apart = f.apart; names = f.names; begins = f.begins; crates = f.crates; dependencies = f.dependencies; edges = f.edges }

@@ -2,8 +2,8 @@
 use Rattle.std.specs.Prelude.{ℕ, Bool, List, [], Option, None, Some}
 use Rattle.hir_scope.specs.Scope.{ScopeValue}
 use Rattle.hir_scope.specs.declared.item_in_ns.ItemInNs.{ItemInNs}
-use Rattle.hir_scope.specs.declared.item_in_ns.ItemInNs.TheVariants as in_ns
 use Rattle.hir_scope.specs.declared.visibility.Visibility.{Visibility}
+use Rattle.hir_scope.specs.declared.item_in_ns.ItemInNs.TheVariants as in_ns
 use Rattle.hir_def_map_rules.proofs.StaysWellFormed.{HasNoDanglingReference-pushed, HasNoDanglingReference-scope}
 use Rattle.hir_def_map_rules.specs.Closed.{AreThere, IsThere, VisibilityIsThere}
 use Rattle.hir_def_map_rules.specs.Overlay.{Maps, overlay}
@@ -42,12 +42,17 @@ module _ (finished : Maps) (map : Map) (at : ℕ) where
   missing n = is_missing (overlay finished map) n
 
   abbrev Keeps : (ScopeValue → ScopeValue) → Type 0
-  Keeps change = HasNoDanglingReference (overlay finished map) map → HasNoDanglingReference (overlay finished (with_scope map at change)) (with_scope map at change)
+  Keeps change =
+      HasNoDanglingReference (overlay finished map) map → HasNoDanglingReference (overlay finished (with_scope map at change)) (with_scope map at change)
 
-  redefined_keeps : (name : List ℕ) (def : ItemInNs) (vis : Visibility) → DefIsThere (overlay finished map) def → VisibilityIsThere (overlay finished map) vis → Keeps (redefined name def vis)
-  redefined_keeps name (in_ns.Types def) vis there seen f = HasNoDanglingReference-scope finished map at (redefined name (in_ns.Types def) vis) (type_keeps missing name vis seen def there) f
-  redefined_keeps name (in_ns.Values def) vis there seen f = HasNoDanglingReference-scope finished map at (redefined name (in_ns.Values def) vis) (value_keeps missing name vis seen def there) f
-  redefined_keeps name (in_ns.Macros def) vis there seen f = HasNoDanglingReference-scope finished map at (redefined name (in_ns.Macros def) vis) (macro_keeps missing name vis seen def) f
+  redefined_keeps : (name : List ℕ) (def : ItemInNs) (vis : Visibility) → DefIsThere (overlay finished map) def → VisibilityIsThere (overlay finished map) vis
+      → Keeps (redefined name def vis)
+  redefined_keeps name (in_ns.Types def) vis there seen f =
+      HasNoDanglingReference-scope finished map at (redefined name (in_ns.Types def) vis) (type_keeps missing name vis seen def there) f
+  redefined_keeps name (in_ns.Values def) vis there seen f =
+      HasNoDanglingReference-scope finished map at (redefined name (in_ns.Values def) vis) (value_keeps missing name vis seen def there) f
+  redefined_keeps name (in_ns.Macros def) vis there seen f =
+      HasNoDanglingReference-scope finished map at (redefined name (in_ns.Macros def) vis) (macro_keeps missing name vis seen def) f
 
   revised_keeps : (key : Key) (vis : Visibility) → VisibilityIsThere (overlay finished map) vis → Keeps (revised key vis)
   revised_keeps (Types name) vis seen f = HasNoDanglingReference-scope finished map at (revised (Types name) vis) (type_vis_keeps missing name vis seen) f
@@ -58,6 +63,7 @@ module _ (finished : Maps) (map : Map) (at : ℕ) where
   pub names-edit : (e : Edit) → EditIsThere (overlay finished map) e → HasNoDanglingReference (overlay finished map) map
       → HasNoDanglingReference (overlay finished (with_scope map at (edit (numbered map.id at) e))) (with_scope map at (edit (numbered map.id at) e))
   names-edit (pushes_to globs name items import) there f = HasNoDanglingReference-pushed finished map at globs name items import there f
-  names-edit (keeps_unnamed id vis import) there f = HasNoDanglingReference-scope finished map at (with_trait id vis import) (trait_keeps missing [] vis there id import) f
+  names-edit (keeps_unnamed id vis import) there f =
+      HasNoDanglingReference-scope finished map at (with_trait id vis import) (trait_keeps missing [] vis there id import) f
   names-edit (redefines name def vis) there f = redefined_keeps name def vis there.0 there.1 f
   names-edit (revises key vis) there f = revised_keeps key vis there f

@@ -7,11 +7,11 @@ use Rattle.std.specs.Map.{remove_entry}
 use Rattle.std.specs.Ordering.{nat_cmp}
 use Rattle.hir_base.specs.declared.ids.Crate.{Crate}
 use Rattle.hir_base.specs.declared.ids.FunctionId.{FunctionId}
+use Rattle.hir_base.specs.declared.macro_kind.MacroId.{MacroId}
 use Rattle.hir_base.specs.declared.ids.ModuleDefId.{ModuleDefId}
+use Rattle.hir_base.specs.declared.ids.TraitId.{TraitId}
 use Rattle.hir_base.specs.declared.ids.ModuleDefId.TheVariants as definitions
 use Rattle.hir_base.specs.contracts.ids.ModuleDefIdPartialEq.TheImpl as module_def
-use Rattle.hir_base.specs.declared.ids.TraitId.{TraitId}
-use Rattle.hir_base.specs.declared.macro_kind.MacroId.{MacroId}
 use Rattle.hir_base.specs.declared.macro_kind.MacroId.TheVariants as macros
 use Rattle.hir_scope.specs.PerNs.{Item}
 use Rattle.hir_scope.specs.Scope.{ScopeValue}
@@ -57,7 +57,8 @@ module _ (test : Reference → Bool) where
   seen_before krate (macros.Macro2Id id) import vis f = refl
   seen_before krate (macros.MacroRulesId id) import vis f = refl
 
-  none_censored_macros : (krate : Crate) (es : List (List ℕ × Item MacroId ImportOrExternCrate)) → list_any (test_macro test) es ≡ false → list_any (test_macro test) (censored_macros krate es) ≡ false
+  none_censored_macros : (krate : Crate) (es : List (List ℕ × Item MacroId ImportOrExternCrate)) → list_any (test_macro test) es ≡ false
+      → list_any (test_macro test) (censored_macros krate es) ≡ false
   none_censored_macros krate [] f = refl
   none_censored_macros krate (e ∷ es) f =
       neither (test_visibility test (censored_macro krate e.1).vis) (list_any (test_macro test) (censored_macros krate es))
@@ -65,7 +66,8 @@ module _ (test : Reference → Bool) where
       (none_censored_macros krate es (not_second (test_macro test e) (list_any (test_macro test) es) f))
 
   -- a scope that others see less of
-  pub scope_censored : (krate : Crate) (scope : ScopeValue) → any_reference_in_scope test scope ≡ false → any_reference_in_scope test (censored_scope krate scope) ≡ false
+  pub scope_censored : (krate : Crate) (scope : ScopeValue) → any_reference_in_scope test scope ≡ false
+      → any_reference_in_scope test (censored_scope krate scope) ≡ false
   scope_censored krate scope f =
       let parts : FailsInScope test scope = scope_parts test scope f in
       scope_whole test (censored_scope krate scope) (record {
@@ -84,7 +86,8 @@ module _ (test : Reference → Bool) where
       go true below = not_second (p e) (list_any p es) f
       go false below = neither (p e) (list_any p (remove_entry at es)) (not_first (p e) (list_any p es) f) below
 
-  scope_without : (name : List ℕ) (f : FunctionId) (scope : ScopeValue) → any_reference_in_scope test scope ≡ false → any_reference_in_scope test (without_function name f scope) ≡ false
+  scope_without : (name : List ℕ) (f : FunctionId) (scope : ScopeValue) → any_reference_in_scope test scope ≡ false
+      → any_reference_in_scope test (without_function name f scope) ≡ false
   scope_without name f scope none =
       let parts : FailsInScope test scope = scope_parts test scope none in
       scope_whole test (without_function name f scope) (record {
@@ -97,15 +100,18 @@ module _ (test : Reference → Bool) where
       on_value : List ℕ × Item ModuleDefId ImportOrGlob → Bool
       on_value e = test_item test e.1
 
-      go : (b : Bool) → list_any on_value scope.values ≡ false → list_any on_value (cond b (remove_entry (is_at (slice_cmp nat_cmp name)) scope.values) scope.values) ≡ false
+      go : (b : Bool) → list_any on_value scope.values ≡ false
+          → list_any on_value (cond b (remove_entry (is_at (slice_cmp nat_cmp name)) scope.values) scope.values) ≡ false
       go true f = none_removed on_value (is_at (slice_cmp nat_cmp name)) scope.values f
       go false f = f
 
-  scope_without_all : (fs : List ExportedFunction) (scope : ScopeValue) → any_reference_in_scope test scope ≡ false → any_reference_in_scope test (without_functions fs scope) ≡ false
+  scope_without_all : (fs : List ExportedFunction) (scope : ScopeValue) → any_reference_in_scope test scope ≡ false
+      → any_reference_in_scope test (without_functions fs scope) ≡ false
   scope_without_all [] scope none = none
   scope_without_all (f ∷ fs) scope none = scope_without_all fs (without_function f.name f.id scope) (scope_without f.name f.id scope none)
 
-  pub scope_exporting : (krate : Crate) (fs : List ExportedFunction) (scope : ScopeValue) → any_reference_in_scope test scope ≡ false → any_reference_in_scope test (exporting_scope krate fs scope) ≡ false
+  pub scope_exporting : (krate : Crate) (fs : List ExportedFunction) (scope : ScopeValue) → any_reference_in_scope test scope ≡ false
+      → any_reference_in_scope test (exporting_scope krate fs scope) ≡ false
   scope_exporting krate fs scope none = scope_censored krate (without_functions fs scope) (scope_without_all fs scope none)
 
 -- the map that a run leaves has what its core's has
@@ -120,7 +126,8 @@ module _ (finished : Maps) (c : Core) where
   pub HasNoDanglingReference-ended : HasNoDanglingReference (overlay finished c.map) c.map → HasNoDanglingReference (overlay finished (ended c)) (ended c)
   HasNoDanglingReference-ended f = go c.is_proc_macro
     where
-      go : (b : Bool) → HasNoDanglingReference (overlay finished (cond b (with_scope c.map 0 (exporting_scope c.map.id.krate c.exported)) c.map)) (cond b (with_scope c.map 0 (exporting_scope c.map.id.krate c.exported)) c.map)
+      go : (b : Bool) → HasNoDanglingReference (overlay finished (cond b (with_scope c.map 0 (exporting_scope c.map.id.krate c.exported)) c.map))
+          (cond b (with_scope c.map 0 (exporting_scope c.map.id.krate c.exported)) c.map)
       go true = HasNoDanglingReference-scope finished c.map 0 (exporting_scope c.map.id.krate c.exported)
           (λ scope none. scope_exporting (is_missing (overlay finished c.map)) c.map.id.krate c.exported scope none) f
       go false = f

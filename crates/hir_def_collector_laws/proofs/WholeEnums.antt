@@ -50,7 +50,8 @@ module _ (finished : Maps) (map : Map) (id : EnumId) (variants : Variants) where
   -- an enum of the map itself is there
   pub enum_there : map_id.ghosts.eq id.loc.container.map map.id ≡ true → is_missing (overlay finished grown) (named.Enum id) ≡ false
   enum_there own =
-      ap (λ (b : Bool). not (is_some (option_and_then (λ (p : Placed). variants_at p.map id) (cond b (Some (placed_in finished grown)) (finished id.loc.container.map))))) own
+      ap (λ (b : Bool). not (is_some (option_and_then (λ (p : Placed). variants_at p.map id)
+      (cond b (Some (placed_in finished grown)) (finished id.loc.container.map))))) own
       ∙ ap not (now_there enum_order.ghosts.cmp enum_total map.enums id variants)
 
 -- ---- the variants that are listed are the enum's
@@ -58,7 +59,8 @@ module _ (finished : Maps) (map : Map) (id : EnumId) (variants : Variants) where
 own_itself : (id : EnumId) → enum_id.ghosts.eq id id ≡ true
 own_itself id = enum_ties id id ∙ ap is_eq (tied_itself enum_total id)
 
-all_inserted : {K V : Type 0} (p : V → Bool) (cmp : K → K → Ordering) (es : List (K × V)) (k : K) (v : V) → list_all (λ (e : K × V). p e.1) es ≡ true → p v ≡ true
+all_inserted : {K V : Type 0} (p : V → Bool) (cmp : K → K → Ordering) (es : List (K × V)) (k : K) (v : V) → list_all (λ (e : K × V). p e.1) es ≡ true → p v
+    ≡ true
     → list_all (λ (e : K × V). p e.1) (insert_entry cmp es k v) ≡ true
 all_inserted p cmp [] k v f g = both (p v) true g refl
 all_inserted {K} {V} p cmp (e ∷ es) k v f g =
@@ -69,7 +71,8 @@ all_inserted {K} {V} p cmp (e ∷ es) k v f g =
         → list_all (λ (x : K × V). p x.1) (match_ordering o ((k, v) ∷ e ∷ es) ((e.0, v) ∷ es) (e ∷ insert_entry cmp es k v)) ≡ true
     go Less later below = both (p v) (list_all (λ (x : K × V). p x.1) (e ∷ es)) g f
     go Equal later below = both (p v) (list_all (λ (x : K × V). p x.1) es) g later
-    go Greater later below = both (p e.1) (list_all (λ (x : K × V). p x.1) (insert_entry cmp es k v)) (first_so (p e.1) (list_all (λ (x : K × V). p x.1) es) f) below
+    go Greater later below =
+        both (p e.1) (list_all (λ (x : K × V). p x.1) (insert_entry cmp es k v)) (first_so (p e.1) (list_all (λ (x : K × V). p x.1) es) f) below
 
 pub own_variants : (id : EnumId) (found : Option (List VariantItem)) → are_variants_of id (variants_of id found) ≡ true
 own_variants id None = refl
@@ -77,4 +80,6 @@ own_variants id (Some items) = go [] items refl
   where
     go : (vs : Variants) (items : List VariantItem) → are_variants_of id vs ≡ true → are_variants_of id (fold (with_variant id) vs items) ≡ true
     go vs [] f = f
-    go vs (i ∷ is) f = go (with_variant id vs i) is (all_inserted (λ (v : EnumVariant). enum_id.ghosts.eq v.id.parent id) (slice_cmp nat_cmp) vs i.name (variant_of id i) f (own_itself id))
+    go vs (i ∷ is) f =
+        go (with_variant id vs i) is (all_inserted (λ (v : EnumVariant). enum_id.ghosts.eq v.id.parent id) (slice_cmp nat_cmp) vs i.name (variant_of id i) f
+        (own_itself id))

@@ -1,20 +1,23 @@
 -- Each import and each call of a run is written in a tree that was asked for.
-use Rattle.std.proofs.Common.{◌≡◌, ◌∙◌, ◌<◌, ◌||◌, ◌+◌, ℕ, zero, suc, slice_get, List, [], ◌∷◌, ◌++◌, length, Bool, true, false, is_some, Option, None, Some, map as list_map, inl, inr, refl, sym, ap, subst, arith, append_assoc, Contains}
+use Rattle.std.proofs.Common.{◌≡◌, ◌∙◌, ◌<◌, ◌||◌, ◌+◌, ℕ, zero, suc, slice_get, List, [], ◌∷◌, ◌++◌, length, Bool, true, false, is_some, Option, None, Some}
+use Rattle.std.proofs.Common.{map as list_map, inl, inr, refl, sym, ap, subst, arith, append_assoc, Contains}
 use Rattle.std.proofs.lemmas.List.Elements.{Contains-append_cases, Contains-append_left, Contains-append_right}
 use Rattle.hir_base.specs.ModPath.{Path}
+use Rattle.hir_base.specs.declared.ids.AdtId.{AdtId}
 use Rattle.hir_base.specs.declared.ast_id.AstId.{AstId}
 use Rattle.hir_base.specs.declared.ast_id.AttrId.{AttrId}
 use Rattle.hir_base.specs.declared.ast_id.BlockId.{BlockId}
-use Rattle.hir_base.specs.declared.ids.AdtId.{AdtId}
 use Rattle.hir_base.specs.declared.ids.Crate.{Crate}
+use Rattle.hir_base.specs.declared.macro_kind.MacroId.{MacroId}
 use Rattle.hir_base.specs.declared.ids.MapId.{MapId}
 use Rattle.hir_base.specs.declared.ids.ModuleId.{ModuleId}
 use Rattle.hir_base.specs.declared.ids.UseId.{UseId}
-use Rattle.hir_base.specs.declared.macro_kind.MacroId.{MacroId}
 use Rattle.hir_item_tree.specs.Collected.{Numbered, is_enabled}
 use Rattle.hir_item_tree.specs.Imports.{imports_of}
 use Rattle.hir_item_tree.specs.ItemTree.{Tree}
-use Rattle.hir_item_tree.specs.KeptForest.{Head, Holder, KeptItem, KeptForest, Leaf, constant, enumeration, extern_crate, function, holder, implementation, import, inline_module, item, leaf, macro_call, macro_def, macro_rules, no_items, outline_module, static_item, structure, trait_item, type_alias, union_structure}
+use Rattle.hir_item_tree.specs.KeptForest.{Head, Holder, KeptItem, KeptForest, Leaf, constant, enumeration, extern_crate, function, holder, implementation}
+use Rattle.hir_item_tree.specs.KeptForest.{import, inline_module, item, leaf, macro_call, macro_def, macro_rules, no_items, outline_module, static_item}
+use Rattle.hir_item_tree.specs.KeptForest.{structure, trait_item, type_alias, union_structure}
 use Rattle.hir_item_tree.specs.Kinds.{item_head}
 use Rattle.hir_use_tree.specs.UseTree.{count_of}
 use Rattle.hir_item_tree.specs.UseTree.{UseTree}
@@ -36,17 +39,18 @@ use Rattle.hir_import_resolution.specs.Changes.{Change as ImportChange, along, k
 use Rattle.hir_import_resolution.specs.Directives.{glob_of}
 use Rattle.hir_import_resolution.specs.Rules.{Rule as ImportRule, May as MayImport, acts as import_acts, goes_along, takes_glob, takes_import}
 use Rattle.hir_import_resolution.specs.declared.directive.ImportDirective.{ImportDirective}
-use Rattle.hir_collector_rules.specs.declared.macro_directive.MacroDirective.{MacroDirective}
-use Rattle.hir_collector_rules.specs.declared.macro_directive.MacroDirectiveKind.{MacroDirectiveKind}
-use Rattle.hir_collector_rules.specs.declared.macro_directive.MacroDirectiveKind.TheVariants.{Attr, Derive, FnLike}
-use Rattle.hir_collector_rules.specs.declared.macro_directive.WaitingItem.{WaitingItem}
-use Rattle.hir_collector_rules.specs.declared.site.Site.{Site}
 use Rattle.hir_collector_rules.specs.declared.source_database.Dependency.{Dependency}
 use Rattle.hir_collector_rules.specs.declared.source_database.Key.{Key}
+use Rattle.hir_collector_rules.specs.declared.macro_directive.MacroDirective.{MacroDirective}
+use Rattle.hir_collector_rules.specs.declared.macro_directive.MacroDirectiveKind.{MacroDirectiveKind}
+use Rattle.hir_collector_rules.specs.declared.site.Site.{Site}
+use Rattle.hir_collector_rules.specs.declared.macro_directive.WaitingItem.{WaitingItem}
+use Rattle.hir_collector_rules.specs.declared.macro_directive.MacroDirectiveKind.TheVariants.{Attr, Derive, FnLike}
 use Rattle.hir_collector_rules.specs.declared.source_database.Key.TheVariants as keys
 use Rattle.hir_collector_rules.specs.Attributes.{adt_by, adt_of, attr_id, is_always_passed, is_derive, item_node, paths_in}
 use Rattle.hir_collector_rules.specs.Calls.{Expanding, call_key, call_site, call_tree, error_of, expansion_readings, item_in, item_kept, text_readings}
-use Rattle.hir_collector_rules.specs.Changes.{Change, lists, makes, gives_variants, begins_paths, reaches, awaits, ends, settles, changes_imports, adds_textual, takes_textual, defines, describes, helps, lists_derive, exports, uses_macros, tells, goes_on, act}
+use Rattle.hir_collector_rules.specs.Changes.{Change, lists, makes, gives_variants, begins_paths, reaches, awaits, ends, settles, changes_imports, adds_textual}
+use Rattle.hir_collector_rules.specs.Changes.{takes_textual, defines, describes, helps, lists_derive, notes, exports, uses_macros, tells, goes_on, act}
 use Rattle.hir_collector_rules.specs.Derivation.{CollectedValue}
 use Rattle.hir_collector_rules.specs.Imports.{crate_import, crate_named, reached_import}
 use Rattle.hir_collector_rules.specs.Keys.{environment, tree_at}
@@ -54,7 +58,12 @@ use Rattle.hir_collector_rules.specs.Macros.{is_macro_use}
 use Rattle.hir_collector_rules.specs.ModuleFiles.{ModuleFile, Search, file_key, file_tree}
 use Rattle.hir_collector_rules.specs.Start.{Beginning, is_declared, krate_of, root_key, root_site, root_tree, start_of, tree_visits}
 use Rattle.hir_collector_rules.specs.State.{State, Task, Visit, visits, closes, import_state, visits_over}
-use Rattle.hir_collector_rules.specs.Steps.{Rule, drops_item, awaits_attribute, lists_derives, faults_derive, exports_macro, reaches_call, rests, expands_call, drops_call, drops_reached, derives_builtin, skips_attribute, falls_back, defines_rules, defines_macro, closes_module, closing, declares_item, declares_enum, lists_constant, lists_impl, opens_module, opens_file, drops_file, misses_file, enters_block, reaches_imports, reaches_crate, resolves_imports, HasAttribute, IsItemOf, May, Opens, Sees, Step, Steps, acts, asking, derives_from, inside_block, inside_file, inside_module, keys_read, more, none, path_of, reads, search_readings, visits_in_file, visits_inside}
+use Rattle.hir_collector_rules.specs.Steps.{Rule, drops_item, awaits_attribute, lists_derives, faults_derive, exports_macro, reaches_call, rests, expands_call}
+use Rattle.hir_collector_rules.specs.Steps.{drops_call, drops_reached, derives_builtin, skips_attribute, falls_back, defines_rules, defines_macro}
+use Rattle.hir_collector_rules.specs.Steps.{closes_module, closing, declares_item, declares_enum, lists_constant, lists_impl, opens_module, opens_file}
+use Rattle.hir_collector_rules.specs.Steps.{drops_file, misses_file, enters_block, reaches_imports, reaches_crate, resolves_imports, HasAttribute, IsItemOf}
+use Rattle.hir_collector_rules.specs.Steps.{May, Opens, Sees, Step, Steps, acts, asking, derives_from, inside_block, inside_file, inside_module, keys_read}
+use Rattle.hir_collector_rules.specs.Steps.{more, none, path_of, reads, search_readings, visits_in_file, visits_inside}
 use Rattle.hir_collector_rules.specs.Workspace.{TreeLook, Workspace, dependencies_in}
 use Rattle.hir_collector_rules.proofs.Asks.{only, still_asked-Step}
 use Rattle.hir_collector_rules.proofs.Changes.{AllFine, Keeps, Keeps-act, asked-Step, fine_bringing, fine_expanding, fine_macro, fine_reporting, perform_keeps}
@@ -73,18 +82,7 @@ same_adt_by : (m n : Map) → m.id ≡ n.id → (s : Site) (h : Head) (l : Leaf)
 same_adt_by m n e s h (structure name shape fields) = ap (λ (x : MapId). adt_by (record m { id = x }) s h (structure name shape fields)) e
 same_adt_by m n e s h (union_structure name fields) = ap (λ (x : MapId). adt_by (record m { id = x }) s h (union_structure name fields)) e
 same_adt_by m n e s h (enumeration name) = ap (λ (x : MapId). adt_by (record m { id = x }) s h (enumeration name)) e
-same_adt_by m n e s h (import tree) = refl
-same_adt_by m n e s h (extern_crate name alias) = refl
-same_adt_by m n e s h (function name) = refl
-same_adt_by m n e s h (constant name) = refl
-same_adt_by m n e s h (static_item name) = refl
-same_adt_by m n e s h (trait_item name) = refl
-same_adt_by m n e s h (implementation of_trait) = refl
-same_adt_by m n e s h (type_alias name) = refl
-same_adt_by m n e s h (outline_module name) = refl
-same_adt_by m n e s h (macro_call path) = refl
-same_adt_by m n e s h (macro_rules name expander helpers) = refl
-same_adt_by m n e s h (macro_def name expander helpers) = refl
+same_adt_by m n e s h other = refl
 
 same_adt : (m n : Map) → m.id ≡ n.id → (s : Site) (i : KeptItem) → adt_of m s i ≡ adt_of n s i
 same_adt m n e s (leaf head l) = same_adt_by m n e s head l
@@ -92,7 +90,8 @@ same_adt m n e s (holder head k items) = refl
 
 -- ---- items in items
 
-deeper : {head : Head} {kind : Holder} {items : KeptForest} {i : KeptItem} → is_enabled head.attributes ≡ true → IsIn i items → (all : KeptForest) → IsIn (holder head kind items) all → IsIn i all
+deeper : {head : Head} {kind : Holder} {items : KeptForest} {i : KeptItem} → is_enabled head.attributes ≡ true → IsIn i items → (all : KeptForest)
+    → IsIn (holder head kind items) all → IsIn i all
 deeper {head = head} {kind = kind} {items = items} on p all (first others) = inside head kind items others on p
 deeper on p all (behind before others q) = behind before others (deeper on p others q)
 deeper on p all (inside h k is others e q) = inside h k is others e (deeper on p is q)
@@ -144,7 +143,8 @@ module _ (tables : TablesValue) (w : Workspace) (from : Beginning) (answer : Col
 
   -- ---- lists
 
-  placed_before : (s : Site) (is : KeptForest) (rest : List Task) → ((i : KeptItem) → IsIn i is → Placed own s.tree i) → ArePlaced rest → ArePlaced (visits_over s is ++ rest)
+  placed_before : (s : Site) (is : KeptForest) (rest : List Task) → ((i : KeptItem) → IsIn i is → Placed own s.tree i) → ArePlaced rest
+      → ArePlaced (visits_over s is ++ rest)
   placed_before s no_items rest all f = f
   placed_before s (item i is) rest all f = (all i (first is), placed_before s is rest (λ j h. all j (behind i is h)) f)
 
@@ -160,13 +160,15 @@ module _ (tables : TablesValue) (w : Workspace) (from : Beginning) (answer : Col
   placed_closing true parent child rest f = f
   placed_closing false parent child rest f = f
 
-  placed_closed : (s : Site) (is : KeptForest) (marked : Bool) (parent child : ℕ) (rest : List Task) → ((i : KeptItem) → IsIn i is → Placed own s.tree i) → ArePlaced rest
+  placed_closed : (s : Site) (is : KeptForest) (marked : Bool) (parent child : ℕ) (rest : List Task) → ((i : KeptItem) → IsIn i is → Placed own s.tree i)
+      → ArePlaced rest
       → ArePlaced ((visits_over s is ++ closing marked parent child) ++ rest)
   placed_closed s is marked parent child rest all f =
       subst ArePlaced (sym (append_assoc (visits_over s is) (closing marked parent child) rest))
       (placed_before s is (closing marked parent child ++ rest) all (placed_closing marked parent child rest f))
 
-  placed_inside : {head : Head} {kind : Holder} {items : KeptForest} (tree : TreeId) → is_enabled head.attributes ≡ true → Placed own tree (holder head kind items) → (i : KeptItem) → IsIn i items → Placed own tree i
+  placed_inside : {head : Head} {kind : Holder} {items : KeptForest} (tree : TreeId) → is_enabled head.attributes ≡ true
+      → Placed own tree (holder head kind items) → (i : KeptItem) → IsIn i items → Placed own tree i
   placed_inside tree on p i h = record { key_asked = p.key_asked; top = p.top; within = deeper on h (tree_at tables w (key_in own tree)).tree.items p.within }
 
   imports_joined : (rs ts : List ImportDirective) → AreImports rs → AreImports ts → AreImports (rs ++ ts)
@@ -193,7 +195,8 @@ module _ (tables : TablesValue) (w : Workspace) (from : Beginning) (answer : Col
     abbrev use_in : MapId → UseId
     use_in id = record { loc = record { container = numbered id site.home; file_id = site.tree.file; block = site.tree.block; id = head.id } }
 
-    leaves : (tree : UseTree) → Placed own site.tree (leaf head (import tree)) → (is : List Import) → ((i : Import) → Contains is i → Contains (imports_of tree) i)
+    leaves : (tree : UseTree) → Placed own site.tree (leaf head (import tree)) → (is : List Import)
+        → ((i : Import) → Contains is i → Contains (imports_of tree) i)
         → AreImports (list_map (reached_import site.home (use_in own) head.visibility) is)
     leaves tree p [] all = tt
     leaves tree p (i ∷ is) all = (
@@ -217,12 +220,16 @@ module _ (tables : TablesValue) (w : Workspace) (from : Beginning) (answer : Col
       leaves tree p is (λ j h. all j (later i is j h)),
     )
 
-    all_leaves : (id : MapId) → id ≡ own → (tree : UseTree) → Placed own site.tree (leaf head (import tree)) → AreImports (list_map (reached_import site.home (use_in id) head.visibility) (imports_of tree))
+    all_leaves : (id : MapId) → id ≡ own → (tree : UseTree) → Placed own site.tree (leaf head (import tree))
+        → AreImports (list_map (reached_import site.home (use_in id) head.visibility) (imports_of tree))
     all_leaves id e tree p =
-        subst (λ (x : MapId). AreImports (list_map (reached_import site.home (use_in x) head.visibility) (imports_of tree))) (sym e) (leaves tree p (imports_of tree) (λ i h. h))
+        subst (λ (x : MapId). AreImports (list_map (reached_import site.home (use_in x) head.visibility) (imports_of tree))) (sym e)
+        (leaves tree p (imports_of tree) (λ i h. h))
 
-    one_crate : (m : Map) → m.id ≡ own → own.krate ≡ krate_of from.start → (name : ExternCrateName) (alias : Option ImportAlias) → Placed own site.tree (leaf head (extern_crate name alias))
-        → (dependencies : List Dependency) → dependencies ≡ dependencies_in w (krate_of from.start) → IsImport tables w from answer (crate_import m dependencies site head name alias)
+    one_crate : (m : Map) → m.id ≡ own → own.krate ≡ krate_of from.start → (name : ExternCrateName) (alias : Option ImportAlias)
+        → Placed own site.tree (leaf head (extern_crate name alias))
+        → (dependencies : List Dependency) → dependencies ≡ dependencies_in w (krate_of from.start) → IsImport tables w from answer
+        (crate_import m dependencies site head name alias)
     one_crate m e here name alias p dependencies same =
         subst (λ (id : MapId). IsImport tables w from answer (crate_import (record m { id = id }) dependencies site head name alias)) (sym e) (record {
           of_source = record {
@@ -234,15 +241,19 @@ module _ (tables : TablesValue) (w : Workspace) (from : Beginning) (answer : Col
             module_is = refl;
             path = refl;
             visibility = refl;
-            names = ap (λ (k : Crate). crate_named k (dependencies_in w (krate_of from.start)) name) (sym here) ∙ ap (λ (ds : List Dependency). crate_named own.krate ds name) (sym same);
+            names =
+                ap (λ (k : Crate). crate_named k (dependencies_in w (krate_of from.start)) name) (sym here) ∙ ap
+                (λ (ds : List Dependency). crate_named own.krate ds name) (sym same);
           };
         })
 
   -- ---- derives of one item
 
   -- each path that a derive lists is at its place
-  derives_written : (site : Site) (node : AstId) (id : AttrId) (adt : AdtId) (i : KeptItem) (a : Numbered) → HasAttributeAt tables w answer site node id i a → is_derive a ≡ true
-      → adt_of answer.map site i ≡ Some adt → (paths : List Path) → paths_in a.meta.input ≡ Some paths → (index place : ℕ) → index ≡ count_of place → (left : List Path)
+  derives_written : (site : Site) (node : AstId) (id : AttrId) (adt : AdtId) (i : KeptItem) (a : Numbered) → HasAttributeAt tables w answer site node id i a
+      → is_derive a ≡ true
+      → adt_of answer.map site i ≡ Some adt → (paths : List Path) → paths_in a.meta.input ≡ Some paths → (index place : ℕ) → index ≡ count_of place
+      → (left : List Path)
       → ((n : ℕ) (path : Path) → slice_get left n ≡ Some path → slice_get paths (place + n) ≡ Some path) → AreCalls (derives_from site node id adt index left)
   derives_written site node id adt i a at derives target paths listed index place counted [] all = tt
   derives_written site node id adt i a at derives target paths listed index place counted (path ∷ left) all = (
@@ -268,32 +279,15 @@ module _ (tables : TablesValue) (w : Workspace) (from : Beginning) (answer : Col
 
   -- what comes next and what is found is written
   abbrev IsFineImport : State → ImportChange → Type 0
-  IsFineImport s (pushes home name items source) = Unit {0}
-  IsFineImport s (keeps_trait finished home id vis by) = Unit {0}
-  IsFineImport s (takes i t) = Unit {0}
   IsFineImport s (records edges) = AreOfGlobs s.core.reached edges
-  IsFineImport s (along finished a) = Unit {0}
+  IsFineImport s other = Unit {0}
 
   abbrev IsFine : State → Change → Type 0
-  IsFine s (lists home d) = Unit {0}
-  IsFine s (makes home name origin visibility) = Unit {0}
-  IsFine s (gives_variants id variants) = Unit {0}
-  IsFine s (begins_paths r) = Unit {0}
   IsFine s (reaches rs) = AreImports rs
   IsFine s (awaits calls) = AreCalls calls
-  IsFine s (ends i fate) = Unit {0}
-  IsFine s settles = Unit {0}
   IsFine s (changes_imports c) = IsFineImport s c
-  IsFine s (adds_textual home name makro) = Unit {0}
-  IsFine s (takes_textual home from_) = Unit {0}
-  IsFine s (defines node makro) = Unit {0}
-  IsFine s (describes makro what) = Unit {0}
-  IsFine s (helps node helper) = Unit {0}
-  IsFine s (lists_derive home imp) = Unit {0}
-  IsFine s (exports f makro) = Unit {0}
-  IsFine s (uses_macros macros by) = Unit {0}
-  IsFine s (tells d) = Unit {0}
   IsFine s (goes_on vs) = ArePlaced vs
+  IsFine s other = Unit {0}
 
   more_imports : (rs ts : List ImportDirective) (edges : List Edge) → AreOfGlobs rs edges → AreOfGlobs (rs ++ ts) edges
   more_imports rs ts edges f edge h =
@@ -301,7 +295,8 @@ module _ (tables : TablesValue) (w : Workspace) (from : Beginning) (answer : Col
       record { directive = g.directive; among = Contains-append_left rs ts g.directive g.among; is_glob = g.is_glob; into = g.into }
 
   -- a change of what isn't spoken of here
-  same_but : (s t : State) → Keeps s t → t.agenda ≡ s.agenda → t.core.reached ≡ s.core.reached → t.core.globs.edges ≡ s.core.globs.edges → t.core.calls ≡ s.core.calls → IsAllWritten s → IsAllWritten t
+  same_but : (s t : State) → Keeps s t → t.agenda ≡ s.agenda → t.core.reached ≡ s.core.reached → t.core.globs.edges ≡ s.core.globs.edges → t.core.calls
+      ≡ s.core.calls → IsAllWritten s → IsAllWritten t
   same_but s t keeps agenda reached edges calls f = record {
     id = keeps.id ∙ f.id;
     crate_data = keeps.crate_data ∙ f.crate_data;
@@ -314,13 +309,24 @@ module _ (tables : TablesValue) (w : Workspace) (from : Beginning) (answer : Col
 
   written-imports : (s : State) (c : ImportChange) → IsAllWritten s → IsFineImport s c → IsAllWritten (act s (changes_imports c))
   written-imports s (pushes home None items source) f fine = same_but s _ (Keeps-act s (changes_imports (pushes home None items source))) refl refl refl refl f
-  written-imports s (pushes home (Some name) items source) f fine = same_but s _ (Keeps-act s (changes_imports (pushes home (Some name) items source))) refl refl refl refl f
-  written-imports s (keeps_trait finished home None vis by) f fine = same_but s _ (Keeps-act s (changes_imports (keeps_trait finished home None vis by))) refl refl refl refl f
-  written-imports s (keeps_trait finished home (Some id) vis by) f fine = same_but s _ (Keeps-act s (changes_imports (keeps_trait finished home (Some id) vis by))) refl refl refl refl f
+  written-imports s (pushes home (Some name) items source) f fine =
+      same_but s _ (Keeps-act s (changes_imports (pushes home (Some name) items source))) refl refl refl refl f
+  written-imports s (keeps_trait finished home None vis by) f fine =
+      same_but s _ (Keeps-act s (changes_imports (keeps_trait finished home None vis by))) refl refl refl refl f
+  written-imports s (keeps_trait finished home (Some id) vis by) f fine =
+      same_but s _ (Keeps-act s (changes_imports (keeps_trait finished home (Some id) vis by))) refl refl refl refl f
   written-imports s (takes i t) f fine = same_but s _ (Keeps-act s (changes_imports (takes i t))) refl refl refl refl f
   written-imports s (records edges) f fine =
       let keeps : Keeps s (act s (changes_imports (records edges))) = Keeps-act s (changes_imports (records edges)) in
-      record { id = keeps.id ∙ f.id; crate_data = keeps.crate_data ∙ f.crate_data; dependencies = keeps.dependencies ∙ f.dependencies; visits = f.visits; imports = f.imports; calls = f.calls; globs = fine }
+      record {
+        id = keeps.id ∙ f.id;
+        crate_data = keeps.crate_data ∙ f.crate_data;
+        dependencies = keeps.dependencies ∙ f.dependencies;
+        visits = f.visits;
+        imports = f.imports;
+        calls = f.calls;
+        globs = fine;
+      }
   written-imports s (along finished a) f fine =
       same_but s _ (Keeps-act s (changes_imports (along finished a))) refl (imports_after (import_state s) (along finished a)) (edges_along finished a) refl f
     where
@@ -362,10 +368,12 @@ module _ (tables : TablesValue) (w : Workspace) (from : Beginning) (answer : Col
   written-act s (describes makro what) f fine = same_but s _ (Keeps-act s (describes makro what)) refl refl refl refl f
   written-act s (helps node helper) f fine = same_but s _ (Keeps-act s (helps node helper)) refl refl refl refl f
   written-act s (lists_derive home imp) f fine = same_but s _ (Keeps-act s (lists_derive home imp)) refl refl refl refl f
+  written-act s (notes home invocation) f fine = same_but s _ (Keeps-act s (notes home invocation)) refl refl refl refl f
   written-act s (exports function_of makro) f fine = same_but s _ (Keeps-act s (exports function_of makro)) refl refl refl refl f
   written-act s (uses_macros macros by) f fine = same_but s _ (Keeps-act s (uses_macros macros by)) refl refl refl refl f
   written-act s (tells d) f fine = same_but s _ (Keeps-act s (tells d)) refl refl refl refl f
-  written-act s (goes_on vs) f fine = record { id = f.id; crate_data = f.crate_data; dependencies = f.dependencies; visits = fine; imports = f.imports; calls = f.calls; globs = f.globs }
+  written-act s (goes_on vs) f fine =
+      record { id = f.id; crate_data = f.crate_data; dependencies = f.dependencies; visits = fine; imports = f.imports; calls = f.calls; globs = f.globs }
 
   -- ---- rules
 
@@ -378,20 +386,24 @@ module _ (tables : TablesValue) (w : Workspace) (from : Beginning) (answer : Col
     left v rest e = (placed_next s.agenda v rest f.visits e).1
 
     -- the items of a module that is written where it is declared
-    module_inside : (site : Site) (head : Head) (name : List ℕ) (items : KeptForest) (rest : List Task) (dir : Option Directory) → is_enabled head.attributes ≡ true
+    module_inside : (site : Site) (head : Head) (name : List ℕ) (items : KeptForest) (rest : List Task) (dir : Option Directory) → is_enabled head.attributes
+        ≡ true
         → Placed own site.tree (holder head (inline_module name) items) → ArePlaced rest → ArePlaced (visits_inside s.core.map site head dir items ++ rest)
     module_inside site head name items rest None on p g = g
     module_inside site head name items rest (Some dir) on p g =
-        placed_closed (inside_module s.core.map site dir) items (is_macro_use head.attributes) site.home (length s.core.map.modules) rest (placed_inside site.tree on p) g
+        placed_closed (inside_module s.core.map site dir) items (is_macro_use head.attributes) site.home (length s.core.map.modules) rest
+        (placed_inside site.tree on p) g
 
     -- those of a file
     file_inside : (site : Site) (head : Head) (name : List ℕ) (search : Search) (file : ModuleFile) (rest : List Task) → Opens s site head name search file rest
-        → Sees (environment tables w) finished (search_readings s.core.map search) → ((key : TreeKey) → Contains (keys_read (search_readings s.core.map search)) (keys.Tree key) → Contains answer.asked (keys.Tree key))
+        → Sees (environment tables w) finished (search_readings s.core.map search)
+        → ((key : TreeKey) → Contains (keys_read (search_readings s.core.map search)) (keys.Tree key) → Contains answer.asked (keys.Tree key))
         → (i : KeptItem) → IsIn i file.tree.items → Placed own (file_tree s.core.map.crate_data.edition file.id) i
     file_inside site head name search file rest may sees read i h =
         let m : Map = s.core.map in
         let key : TreeKey = file_key m.id.krate m.crate_data.edition file.id in
-        let is : (tree_at tables w key).tree ≡ file.tree = found_seen tables w finished m.id.krate m.crate_data.edition search.absent search.found file may.found sees in
+        let is : (tree_at tables w key).tree ≡ file.tree = found_seen tables w finished m.id.krate m.crate_data.edition search.absent search.found file
+        may.found sees in
         subst (λ (id : MapId). Placed id (file_tree m.crate_data.edition file.id) i) f.id
         (record {
           key_asked = read key (found_read m.id.krate m.crate_data.edition search.absent search.found file may.found);
@@ -400,8 +412,10 @@ module _ (tables : TablesValue) (w : Workspace) (from : Beginning) (answer : Col
         })
 
     -- those to which a call expands
-    call_inside : (d : MacroDirective) (makro : MacroId) (x : Expanding) → Sees (environment tables w) finished (text_readings makro x.text ++ expansion_readings s.core.map.id.krate d x)
-        → ((key : TreeKey) → Contains (keys_read (text_readings makro x.text ++ expansion_readings s.core.map.id.krate d x)) (keys.Tree key) → Contains answer.asked (keys.Tree key))
+    call_inside : (d : MacroDirective) (makro : MacroId) (x : Expanding) → Sees (environment tables w) finished
+        (text_readings makro x.text ++ expansion_readings s.core.map.id.krate d x)
+        → ((key : TreeKey) → Contains (keys_read (text_readings makro x.text ++ expansion_readings s.core.map.id.krate d x)) (keys.Tree key)
+        → Contains answer.asked (keys.Tree key))
         → (i : KeptItem) → IsIn i x.tree.tree.items → Placed own (call_tree x.id) i
     call_inside d makro x sees read i h =
         let krate : Crate = s.core.map.id.krate in
@@ -414,7 +428,8 @@ module _ (tables : TablesValue) (w : Workspace) (from : Beginning) (answer : Col
         })
 
     -- an attribute of the next item for which something is looked up
-    attribute_there : (v : Visit) (rest : List Task) (at : ℕ) (a : Numbered) → HasAttribute s v at a rest → HasAttributeAt tables w answer v.site (item_node v.site v.item) (attr_id a) v.item a
+    attribute_there : (v : Visit) (rest : List Task) (at : ℕ) (a : Numbered) → HasAttribute s v at a rest → HasAttributeAt tables w answer v.site
+        (item_node v.site v.item) (attr_id a) v.item a
     attribute_there v rest at a has =
         let found : IsLookedUp s.core.map (item_node v.site v.item) (item_head v.item).attributes.attributes v.done at a =
         looked_up s.core.map (item_node v.site v.item) (item_head v.item).attributes.attributes v.done at a has.active in
@@ -424,7 +439,9 @@ module _ (tables : TablesValue) (w : Workspace) (from : Beginning) (answer : Col
           node_is = refl;
           has = found.among;
           number = refl;
-          unpassed = subst (λ (c : CrateData). is_always_passed c.registered_tools a ≡ false) f.crate_data (not_always s.core.map (item_node v.site v.item) a found.unpassed);
+          unpassed =
+              subst (λ (c : CrateData). is_always_passed c.registered_tools a ≡ false) f.crate_data
+              (not_always s.core.map (item_node v.site v.item) a found.unpassed);
         }
 
     -- an item that waits is written where it waits
@@ -451,7 +468,8 @@ module _ (tables : TablesValue) (w : Workspace) (from : Beginning) (answer : Col
           | inl old ↦ f.globs edge old
           | inr now ↦
               let before : IsOfGlob s.core.reached d = f.globs d (standing s.core.globs.edges j d at) in
-              subst (λ (x : Edge). IsOfGlob s.core.reached x) now (record { directive = before.directive; among = before.among; is_glob = before.is_glob; into = before.into })
+              subst (λ (x : Edge). IsOfGlob s.core.reached x) now
+              (record { directive = before.directive; among = before.among; is_glob = before.is_glob; into = before.into })
         ]
     recorded new e g (stays j d at apart by is) edge h = f.globs edge (subst (λ (xs : List Edge). Contains xs edge) is h)
     recorded new e g (adds apart is) edge h =
@@ -460,7 +478,8 @@ module _ (tables : TablesValue) (w : Workspace) (from : Beginning) (answer : Col
           | inr now ↦ subst (λ (x : Edge). IsOfGlob s.core.reached x) (only e edge now) g
         ]
 
-    imports_fine : (rule : ImportRule) → MayImport finished (import_state s) rule → AllFine IsFine s (list_map changes_imports (import_acts finished (import_state s) rule))
+    imports_fine : (rule : ImportRule) → MayImport finished (import_state s) rule
+        → AllFine IsFine s (list_map changes_imports (import_acts finished (import_state s) rule))
     imports_fine (takes_import i r t) may = (tt, (tt, (tt, tt)))
     imports_fine (takes_glob i r t by target edges) may = (
       tt,
@@ -472,51 +491,114 @@ module _ (tables : TablesValue) (w : Workspace) (from : Beginning) (answer : Col
     imports_fine (goes_along rule) may = along_fine _ s
 
     all_fine : (r : Rule) → May finished s r → Sees (environment tables w) finished (reads s r)
-        → ((key : TreeKey) → Contains (keys_read (reads s r)) (keys.Tree key) → Contains answer.asked (keys.Tree key)) → AllFine IsFine (asking s r) (acts finished s r)
+        → ((key : TreeKey) → Contains (keys_read (reads s r)) (keys.Tree key) → Contains answer.asked (keys.Tree key))
+        → AllFine IsFine (asking s r) (acts finished s r)
     all_fine (drops_item v report rest) may sees read = (left v rest may.next, (tt, tt))
     all_fine (declares_item v d rest) may sees read = (left _ rest may.here.next, (tt, (tt, tt)))
     all_fine (declares_enum site head name found rest) may sees read = (left _ rest may.next, (tt, (tt, (tt, tt))))
     all_fine (lists_constant site head rest) may sees read = (left _ rest may.next, (tt, tt))
     all_fine (lists_impl site head of_trait rest) may sees read = (left _ rest may.next, (tt, tt))
-    all_fine (opens_module site head name items rest) may sees read =
-        (tt, (tt, (module_inside site head name items rest (inline_directory site.dir name (path_of head)) may.enabled (next _ rest may.next) (left _ rest may.next), (tt, (tt, tt)))))
+    all_fine (opens_module site head name items rest) may sees read = (
+      tt,
+      (
+        tt,
+        (
+          module_inside site head name items rest (inline_directory site.dir name (path_of head)) may.enabled (next _ rest may.next)
+              (left _ rest may.next),
+          (tt, (tt, tt)),
+        ),
+      ),
+    )
     all_fine (opens_file site head name search file rest) may sees read =
         let placed : ArePlaced (visits_in_file s.core.map site head file ++ rest) =
-        placed_closed (inside_file s.core.map file) file.tree.items (is_macro_use head.attributes || is_macro_use file.tree.attributes) site.home (length s.core.map.modules) rest
+        placed_closed (inside_file s.core.map file) file.tree.items (is_macro_use head.attributes || is_macro_use file.tree.attributes) site.home
+        (length s.core.map.modules) rest
         (file_inside site head name search file rest may sees read) (left _ rest may.looks.here.next) in
         (tt, (tt, (placed, (tt, (tt, tt)))))
     all_fine (drops_file site head name search report rest) may sees read = (left _ rest may.looks.here.next, (tt, tt))
     all_fine (misses_file site head name search report rest) may sees read = (tt, (tt, (left _ rest may.looks.here.next, (tt, (tt, (tt, tt))))))
-    all_fine (enters_block site head items rest) may sees read =
-        (placed_before (inside_block s.core.map site head) items rest (placed_inside site.tree may.enabled (next _ rest may.next)) (left _ rest may.next), (tt, tt))
+    all_fine (enters_block site head items rest) may sees read = (
+      placed_before (inside_block s.core.map site head) items rest (placed_inside site.tree may.enabled (next _ rest may.next)) (left _ rest may.next),
+      (tt, tt),
+    )
     all_fine (reaches_imports site head tree rest) may sees read =
         (left _ rest may.next, (all_leaves site head may.enabled s.core.map.id f.id tree (next _ rest may.next), (tt, tt)))
-    all_fine (reaches_crate site head name alias rest) may sees read =
-        (left _ rest may.next, (tt, (tt, ((one_crate site head may.enabled s.core.map f.id here name alias (next _ rest may.next) s.core.dependencies f.dependencies, tt), (tt, tt)))))
-    all_fine (defines_rules site head name expander helpers rest) may sees read = (left _ rest may.next, (tt, (tt, (tt, fine_macro IsFine _ _ expander (λ t. tt) head name _ (λ t. tt) _))))
-    all_fine (defines_macro site head name expander helpers rest) may sees read = (left _ rest may.next, (tt, (tt, (tt, (tt, fine_reporting IsFine _ _ expander (λ t. tt) _)))))
+    all_fine (reaches_crate site head name alias rest) may sees read = (
+      left _ rest may.next,
+      (
+        tt,
+        (
+          tt,
+          (
+            (
+              one_crate site head may.enabled s.core.map f.id here name alias (next _ rest may.next) s.core.dependencies
+                  f.dependencies,
+              tt,
+            ),
+            (tt, tt),
+          ),
+        ),
+      ),
+    )
+    all_fine (defines_rules site head name expander helpers rest) may sees read =
+        (left _ rest may.next, (tt, (tt, (tt, fine_macro IsFine _ _ expander (λ t. tt) head name _ (λ t. tt) _))))
+    all_fine (defines_macro site head name expander helpers rest) may sees read =
+        (left _ rest may.next, (tt, (tt, (tt, (tt, fine_reporting IsFine _ _ expander (λ t. tt) _)))))
     all_fine (closes_module parent child rest) may sees read = (subst ArePlaced may f.visits, (tt, tt))
     all_fine (awaits_attribute v a k rest) may sees read =
-        let at : HasAttributeAt tables w answer v.site (item_node v.site v.item) (attr_id a) v.item a = attribute_there v rest may.at a may.has in
-        (left v rest may.has.on.next, ((record { by = record { item = v.item; kept = may.kept; attribute = a; at = at; looked_up = may.looked_up; path_is = refl } }, tt), tt))
-    all_fine (lists_derives v at a adt paths rest) may sees read =
+        let at : HasAttributeAt tables w answer v.site (item_node v.site v.item) (attr_id a) v.item a = attribute_there v rest may.at a may.has in (
+          left v rest may.has.on.next,
+          (
+            (
+              record {
+                by = record {
+                  item = v.item;
+                  kept = may.kept;
+                  attribute = a;
+                  at = at;
+                  looked_up = may.looked_up;
+                  path_is = refl;
+                };
+              },
+              tt,
+            ),
+            tt,
+          ),
+        )
+    all_fine (lists_derives v at a adt paths call rest) may sees read =
         let here : HasAttributeAt tables w answer v.site (item_node v.site v.item) (attr_id a) v.item a = attribute_there v rest at a may.has in
         let target : adt_of answer.map v.site v.item ≡ Some adt = sym (same_adt s.core.map answer.map f.id v.site v.item) ∙ may.target in (
           (next v rest may.has.on.next, left v rest may.has.on.next),
-          (derives_written v.site (item_node v.site v.item) (attr_id a) adt v.item a here may.derives target paths may.lists 0 0 refl paths (λ n path e. subst (λ (k : ℕ). slice_get paths k ≡ Some path) (omega arith) e), tt),
+          (
+            derives_written v.site (item_node v.site v.item) (attr_id a) adt v.item a here may.derives target paths may.lists 0 0 refl paths
+                (λ n path e. subst (λ (k : ℕ). slice_get paths k ≡ Some path) (omega arith) e),
+            (tt, tt),
+          ),
         )
     all_fine (faults_derive v at report rest) may sees read = ((next v rest may.has.on.next, left v rest may.has.on.next), (tt, tt))
     all_fine (exports_macro site head name d e rest) may sees read = (left _ rest may.here.next, (tt, (tt, (tt, (tt, (tt, (tt, tt)))))))
-    all_fine (reaches_call site head path rest) may sees read =
-        (left _ rest may.next, ((record { by = record { head = head; path = path; written = next _ rest may.next; enabled = may.enabled; is = refl } }, tt), tt))
+    all_fine (reaches_call site head path rest) may sees read = (
+      left _ rest may.next,
+      (
+        (record { by = record { head = head; path = path; written = next _ rest may.next; enabled = may.enabled; is = refl } }, tt),
+        tt,
+      ),
+    )
     all_fine rests may sees read = (tt, tt)
-    all_fine (expands_call i d makro x) may sees read =
-        (tt, (placed_visits (call_site d x.id) x.tree.tree.items (call_inside d makro x sees read), fine_expanding IsFine _ (λ t helper. tt) _ _ d (error_of x.there) (λ t text. tt) _))
+    all_fine (expands_call i d makro x) may sees read = (
+      tt,
+      (
+        placed_visits (call_site d x.id) x.tree.tree.items (call_inside d makro x sees read),
+        (tt, fine_expanding IsFine _ (λ t helper. tt) _ _ d (error_of x.there) (λ t text. tt) _),
+      ),
+    )
     all_fine (drops_call i d) may sees read = (tt, tt)
     all_fine (drops_reached i d makro) may sees read = (tt, fine_bringing IsFine _ (λ t helper. tt) _ _)
-    all_fine (derives_builtin i d makro imp) may sees read = (tt, (tt, fine_bringing IsFine _ (λ t helper. tt) _ _))
-    all_fine (skips_attribute i d k waited) may sees read = (tt, ((item_placed d k waited may.of (call_among s.core.calls d f.calls (standing s.core.calls i d may.due.waiting.call)), tt), tt))
-    all_fine (falls_back i d k waited) may sees read = (tt, (tt, ((item_placed d k waited may.of (call_among s.core.calls d f.calls (standing s.core.calls i d may.waiting.call)), tt), tt)))
+    all_fine (derives_builtin i d makro imp) may sees read = (tt, (tt, (tt, fine_bringing IsFine _ (λ t helper. tt) _ _)))
+    all_fine (skips_attribute i d k waited) may sees read =
+        (tt, ((item_placed d k waited may.of (call_among s.core.calls d f.calls (standing s.core.calls i d may.due.waiting.call)), tt), tt))
+    all_fine (falls_back i d k waited) may sees read =
+        (tt, (tt, ((item_placed d k waited may.of (call_among s.core.calls d f.calls (standing s.core.calls i d may.waiting.call)), tt), tt)))
     all_fine (resolves_imports rule) may sees read = imports_fine rule may
 
   -- ---- steps
@@ -525,23 +607,45 @@ module _ (tables : TablesValue) (w : Workspace) (from : Beginning) (answer : Col
   abbrev pub AreAsked : State → Type 0
   AreAsked s = (key : Key) → Contains s.core.asked key → Contains answer.asked key
 
-  written-Step : {finished : Maps} {old new : State} → own.krate ≡ krate_of from.start → Step (environment tables w) finished old new → AreAsked new → IsAllWritten old → IsAllWritten new
+  written-Step : {finished : Maps} {old new : State} → own.krate ≡ krate_of from.start → Step (environment tables w) finished old new → AreAsked new
+      → IsAllWritten old → IsAllWritten new
   written-Step {finished = finished} {old = old} here step asked f =
       let read : (key : TreeKey) → Contains (keys_read (reads old step.rule)) (keys.Tree key) → Contains answer.asked (keys.Tree key) =
-      λ key h. asked (keys.Tree key) (subst (λ (ks : List Key). Contains ks (keys.Tree key)) (sym (asked-Step step)) (Contains-append_right old.core.asked (keys_read (reads old step.rule)) (keys.Tree key) h)) in
-      let begun : IsAllWritten (asking old step.rule) = record { id = f.id; crate_data = f.crate_data; dependencies = f.dependencies; visits = f.visits; imports = f.imports; calls = f.calls; globs = f.globs } in
-      let done = perform_keeps IsAllWritten IsFine written-act (acts finished old step.rule) (asking old step.rule) begun (all_fine here finished old f step.rule step.may step.sees read) in
-      subst IsAllWritten (sym step.is) (record { id = done.id; crate_data = done.crate_data; dependencies = done.dependencies; visits = done.visits; imports = done.imports; calls = done.calls; globs = done.globs })
+      λ key h. asked (keys.Tree key) (subst (λ (ks : List Key). Contains ks (keys.Tree key)) (sym (asked-Step step))
+      (Contains-append_right old.core.asked (keys_read (reads old step.rule)) (keys.Tree key) h)) in
+      let begun : IsAllWritten (asking old step.rule) = record {
+        id = f.id;
+        crate_data = f.crate_data;
+        dependencies = f.dependencies;
+        visits = f.visits;
+        imports = f.imports;
+        calls = f.calls;
+        globs = f.globs;
+      } in
+      let done = perform_keeps IsAllWritten IsFine written-act (acts finished old step.rule) (asking old step.rule) begun
+      (all_fine here finished old f step.rule step.may step.sees read) in
+      subst IsAllWritten (sym step.is) (record {
+        id = done.id;
+        crate_data = done.crate_data;
+        dependencies = done.dependencies;
+        visits = done.visits;
+        imports = done.imports;
+        calls = done.calls;
+        globs = done.globs;
+      })
 
-  pub written-Steps : {finished : Maps} {first_state last : State} → own.krate ≡ krate_of from.start → Steps (environment tables w) finished first_state last → AreAsked last → IsAllWritten first_state → IsAllWritten last
+  pub written-Steps : {finished : Maps} {first_state last : State} → own.krate ≡ krate_of from.start → Steps (environment tables w) finished first_state last
+      → AreAsked last → IsAllWritten first_state → IsAllWritten last
   written-Steps here none asked f = f
   written-Steps here (more old new before step) asked f =
       written-Step here step asked (written-Steps here before (λ key h. asked key (still_asked-Step step key h)) f)
 
   -- ---- where a run begins
 
-  pub written-start : (finished : Maps) (holders : List ModuleId) → own.krate ≡ krate_of from.start → own ≡ (start_of tables w finished holders from).core.map.id
-      → (start_of tables w finished holders from).core.map.crate_data ≡ answer.map.crate_data → AreAsked (start_of tables w finished holders from) → IsAllWritten (start_of tables w finished holders from)
+  pub written-start : (finished : Maps) (holders : List ModuleId) → own.krate ≡ krate_of from.start → own
+      ≡ (start_of tables w finished holders from).core.map.id
+      → (start_of tables w finished holders from).core.map.crate_data ≡ answer.map.crate_data → AreAsked (start_of tables w finished holders from)
+      → IsAllWritten (start_of tables w finished holders from)
   written-start finished holders here same same_crate asked = record {
     id = sym same;
     crate_data = same_crate;

@@ -1,12 +1,14 @@
 -- Which definitions do items declare in the module in which they are written?
 use Rattle.std.specs.Prelude.{◌≡◌, ◌<◌, ◌⊎◌, ℕ, Bool, true, false, List, [], ◌∷◌, ◌++◌, Option, None, Some, Contains, drop}
 use Rattle.hir_base.specs.declared.ast_id.AstId.{AstId}
-use Rattle.hir_base.specs.declared.ids.AdtId.TheVariants as adts
 use Rattle.hir_base.specs.declared.ids.ModuleDefId.{ModuleDefId}
+use Rattle.hir_base.specs.declared.ids.AdtId.TheVariants as adts
 use Rattle.hir_base.specs.declared.ids.ModuleDefId.TheVariants as definitions
 use Rattle.hir_base.specs.declared.macro_kind.MacroId.TheVariants.{ProcMacroId}
 use Rattle.hir_item_tree.specs.Collected.{Numbered, is_enabled}
-use Rattle.hir_item_tree.specs.KeptForest.{Head, Holder, KeptForest, KeptItem, Leaf, constant, enumeration, extern_block, extern_crate, function, holder, implementation, import, inline_module, item, leaf, macro_call, macro_def, macro_rules, no_items, outline_module, static_item, structure, trait_item, type_alias, union_structure}
+use Rattle.hir_item_tree.specs.KeptForest.{Head, Holder, KeptForest, KeptItem, Leaf, constant, enumeration, extern_block, extern_crate, function, holder}
+use Rattle.hir_item_tree.specs.KeptForest.{implementation, import, inline_module, item, leaf, macro_call, macro_def, macro_rules, no_items, outline_module}
+use Rattle.hir_item_tree.specs.KeptForest.{static_item, structure, trait_item, type_alias, union_structure}
 use Rattle.hir_item_tree.specs.Kinds.{item_head}
 use Rattle.hir_mod_dir.specs.Directory.{Directory}
 use Rattle.hir_mod_dir.specs.ModuleFiles.{candidates_of, inline_directory}
@@ -16,8 +18,8 @@ use Rattle.hir_def_map_rules.specs.State.{Map, ModuleValue, module_at, numbered}
 use Rattle.hir_def_map_rules.specs.declared.origin.ModuleOrigin.{ModuleOrigin}
 use Rattle.hir_collector_rules.specs.declared.exported.Export.{Export}
 use Rattle.hir_collector_rules.specs.declared.macro_directive.MacroDirective.{MacroDirective}
-use Rattle.hir_collector_rules.specs.declared.macro_directive.WaitingItem.{WaitingItem}
 use Rattle.hir_collector_rules.specs.declared.site.Site.{Site}
+use Rattle.hir_collector_rules.specs.declared.macro_directive.WaitingItem.{WaitingItem}
 use Rattle.hir_collector_rules.specs.Attributes.{AreAlwaysPassed, export_at, is_derive, is_passed, item_node, proc_macro_id}
 use Rattle.hir_collector_rules.specs.Calls.{item_kept, waiting_item}
 use Rattle.hir_collector_rules.specs.Causes.{declarations_of}
@@ -37,7 +39,8 @@ macro_exported m s h (Some e) = definitions.MacroId (ProcMacroId (proc_macro_id 
 
 -- the definitions that an item of a site is, modules aside, in a crate that is a procedural macro's or not: one, and behind a function the macro that it exports
 abbrev pub definitions_of : Bool → Map → Site → Head → Leaf → List ModuleDefId
-definitions_of is_proc_macro m s h (function name) = definitions.FunctionId (function_id m s h.id) ∷ macro_exported m s h (export_at is_proc_macro m s (leaf h (function name)))
+definitions_of is_proc_macro m s h (function name) =
+    definitions.FunctionId (function_id m s h.id) ∷ macro_exported m s h (export_at is_proc_macro m s (leaf h (function name)))
 definitions_of is_proc_macro m s h (structure name shape fields) = definitions.AdtId (adts.StructId (struct_id m s h.id)) ∷ []
 definitions_of is_proc_macro m s h (union_structure name fields) = definitions.AdtId (adts.UnionId (union_id m s h.id)) ∷ []
 definitions_of is_proc_macro m s h (enumeration name) = definitions.AdtId (adts.EnumId (enum_id m s h.id)) ∷ []
@@ -114,7 +117,8 @@ pub record ListsFirst (m : Map) (more : ℕ → List ModuleDefId) (number : ℕ)
   pub alone : HaveNoCall m.crate_data.registered_tools items → more number ≡ []
 
 -- `mod name { .. }` declares a module
-pub record DeclaresInline (m : Map) (more : ℕ → List ModuleDefId) (s : Site) (head : Head) (name : List ℕ) (items : KeptForest) (inside : Site → List ModuleDefId → Type 0) (defs : List ModuleDefId) : Type 0 where
+pub record DeclaresInline (m : Map) (more : ℕ → List ModuleDefId) (s : Site) (head : Head) (name : List ℕ) (items : KeptForest)
+    (inside : Site → List ModuleDefId → Type 0) (defs : List ModuleDefId) : Type 0 where
   pub number : ℕ
   pub made : IsModuleOf m s (inline_origin s.tree head.id) number
   pub is : defs ≡ module_alone m number
@@ -123,23 +127,28 @@ pub record DeclaresInline (m : Map) (more : ℕ → List ModuleDefId) (s : Site)
   pub deep : inline_directory s.dir name (path_of head) ≡ None → declarations_of (module_at m number) ≡ []
 
 -- the file of `mod name;` was looked for so, in what the workspace has
-pub record IsLookedFor (tables : TablesValue) (w : Workspace) (finished : Maps) (answer : CollectedValue) (s : Site) (head : Head) (name : List ℕ) (search : Search) : Type 0 where
+pub record IsLookedFor (tables : TablesValue) (w : Workspace) (finished : Maps) (answer : CollectedValue) (s : Site) (head : Head) (name : List ℕ)
+    (search : Search) : Type 0 where
   pub tries : IsSearch (candidates_of s.dir name (path_of head)) search
   pub numbers : IsNumbered tables s.file search
   pub sees : Sees (environment tables w) finished (search_readings answer.map search)
 
 -- `mod name;` declares a module too
-pub data DeclaresFile (tables : TablesValue) (w : Workspace) (finished : Maps) (answer : CollectedValue) (s : Site) (head : Head) (name : List ℕ) (defs : List ModuleDefId) : Type 0 where
+pub data DeclaresFile (tables : TablesValue) (w : Workspace) (finished : Maps) (answer : CollectedValue) (s : Site) (head : Head) (name : List ℕ)
+    (defs : List ModuleDefId) : Type 0 where
   -- one whose items are in the file that is found
-  of_file : (search : Search) → IsLookedFor tables w finished answer s head name search → (file : ModuleFile) → module_file search.found ≡ Some file → is_enabled file.tree.attributes ≡ true
+  of_file : (search : Search) → IsLookedFor tables w finished answer s head name search → (file : ModuleFile) → module_file search.found ≡ Some file
+      → is_enabled file.tree.attributes ≡ true
       → (number : ℕ) → IsModuleOf answer.map s (file_origin s.tree head.id answer.map.crate_data.edition file) number → defs ≡ module_alone answer.map number
       → DeclaresFile tables w finished answer s head name defs
   -- or one without items, where none is found or it is too deep
   without_file : (search : Search) → IsLookedFor tables w finished answer s head name search → module_file search.found ≡ None
-      → (number : ℕ) → IsModuleOf answer.map s (inline_origin s.tree head.id) number → defs ≡ module_alone answer.map number → declarations_of (module_at answer.map number) ≡ []
+      → (number : ℕ) → IsModuleOf answer.map s (inline_origin s.tree head.id) number → defs ≡ module_alone answer.map number
+      → declarations_of (module_at answer.map number) ≡ []
       → DeclaresFile tables w finished answer s head name defs
   -- or none, where the file that is found is disabled at its top
-  disabled_file : (search : Search) → IsLookedFor tables w finished answer s head name search → (file : ModuleFile) → module_file search.found ≡ Some file → is_enabled file.tree.attributes ≡ false
+  disabled_file : (search : Search) → IsLookedFor tables w finished answer s head name search → (file : ModuleFile) → module_file search.found ≡ Some file
+      → is_enabled file.tree.attributes ≡ false
       → defs ≡ [] → DeclaresFile tables w finished answer s head name defs
 
 -- an item that holds no others
@@ -149,7 +158,8 @@ LeafDeclares tables w finished answer last s head l defs = defs ≡ definitions_
 
 -- an item that holds others, where this is what those declare at a site: the items of an extern block are of the module
 -- that holds the block
-abbrev pub HolderDeclares : CollectedValue → (ℕ → List ModuleDefId) → Site → Head → Holder → KeptForest → (Site → List ModuleDefId → Type 0) → List ModuleDefId → Type 0
+abbrev pub HolderDeclares : CollectedValue → (ℕ → List ModuleDefId) → Site → Head → Holder → KeptForest → (Site → List ModuleDefId → Type 0) → List ModuleDefId
+    → Type 0
 HolderDeclares answer more s head extern_block items inside defs = inside (inside_block answer.map s head) defs
 HolderDeclares answer more s head (inline_module name) items inside defs = DeclaresInline answer.map more s head name items inside defs
 
@@ -178,4 +188,5 @@ abbrev mutual
   pub Declares : TablesValue → Workspace → Maps → CollectedValue → Core → (ℕ → List ModuleDefId) → KeptForest → Site → List ModuleDefId → Type 0
   Declares tables w finished answer last more no_items s defs = defs ≡ []
   Declares tables w finished answer last more (item i is) s defs =
-      (own : List ModuleDefId) × (others : List ModuleDefId) × DeclaresOne tables w finished answer last more i 0 s own × Declares tables w finished answer last more is s others × (defs ≡ own ++ others)
+      (own : List ModuleDefId) × (others : List ModuleDefId) × DeclaresOne tables w finished answer last more i 0 s own × Declares tables w finished answer last
+      more is s others × (defs ≡ own ++ others)

@@ -29,5 +29,6 @@ pub record IsToldOfItem (tables : TablesValue) (w : Workspace) (answer : Collect
 
 -- so does each diagnostic of a run's map
 abbrev pub DiagnosticsAreOfItems : Type 0
-DiagnosticsAreOfItems = (tables : TablesValue) (w : Workspace) (finished : Maps) (from : Beginning) (answer : CollectedValue) → Ends tables w finished from answer
+DiagnosticsAreOfItems =
+    (tables : TablesValue) (w : Workspace) (finished : Maps) (from : Beginning) (answer : CollectedValue) → Ends tables w finished from answer
     → (d : DefDiagnostic) → Contains answer.map.diagnostics d → IsToldOfItem tables w answer (diagnostic_view d)

@@ -93,13 +93,15 @@ pub record IsAsShown (v : View) (s : State) (number : ℕ) (key : Key) (id : Glo
   -- if the source shows the module anything now, the edge saw just this, and then had the visibility that it has now
   pub now : (b : Bound) → shown v by.edge key ≡ Some b → WasSeen by.last by.edge b
   -- where all may see that, or all of a crate, and the edge lets them, they may see this
-  pub kept_open : (b : Bound) → shown v by.edge key ≡ Some b → (within : Option Crate) → is_open_in within b.vis ≡ true → is_open_in within by.edge.vis ≡ true → is_open_in within bound.vis ≡ true
+  pub kept_open : (b : Bound) → shown v by.edge key ≡ Some b → (within : Option Crate) → is_open_in within b.vis ≡ true → is_open_in within by.edge.vis ≡ true
+      → is_open_in within bound.vis ≡ true
   -- no other edge that shows the same definition would give it a greater visibility
   pub widest : (other : Edge) (b : Bound) → AlsoShows v s number key by.place bound other b
       → (wide : Visibility) → v.greater bound.vis (brought_vis v other b) ≡ Some wide → wide ≡ bound.vis
 
 -- each name that a glob brought in a run is what the glob's source shows now
 abbrev pub GlobsBringWhatIsShown : Type 0
-GlobsBringWhatIsShown = (tables : TablesValue) (w : Workspace) (finished : Maps) (from : Beginning) (answer : CollectedValue) → (ends : Ends tables w finished from answer)
+GlobsBringWhatIsShown =
+    (tables : TablesValue) (w : Workspace) (finished : Maps) (from : Beginning) (answer : CollectedValue) → (ends : Ends tables w finished from answer)
     → (number : ℕ) (key : Key) (id : GlobId) → glob_at (entry_at answer.map number) key ≡ Some id
     → IsAsShown (view_in (read_by w finished from.start) ends.last) ends.last number key id

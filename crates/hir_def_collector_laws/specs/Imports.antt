@@ -2,10 +2,10 @@
 use Rattle.std.specs.Prelude.{◌≡◌, ℕ, true, List, Option, None, Some, IsSome, Contains}
 use Rattle.hir_base.specs.declared.ids.Crate.{Crate}
 use Rattle.hir_base.specs.declared.ids.ExternCrateId.{ExternCrateId}
+use Rattle.hir_base.specs.declared.macro_kind.MacroId.{MacroId}
 use Rattle.hir_base.specs.declared.ids.ModuleDefId.{ModuleDefId}
 use Rattle.hir_base.specs.declared.ids.TraitId.{TraitId}
 use Rattle.hir_base.specs.declared.ids.UseId.{UseId}
-use Rattle.hir_base.specs.declared.macro_kind.MacroId.{MacroId}
 use Rattle.hir_item_tree.specs.Collected.{is_enabled}
 use Rattle.hir_item_tree.specs.Imports.{imports_of}
 use Rattle.hir_item_tree.specs.KeptForest.{Head, leaf, import, extern_crate}
@@ -13,15 +13,15 @@ use Rattle.hir_item_tree.specs.UseTree.{UseTree}
 use Rattle.hir_item_tree.specs.declared.shape.ExternCrateName.{ExternCrateName}
 use Rattle.hir_item_tree.specs.declared.tree_id.TreeKey.{TreeKey}
 use Rattle.hir_use_tree.specs.declared.imports.Import.{Import}
-use Rattle.hir_use_tree.specs.declared.imports.ImportAlias.TheVariants.{Underscore}
 use Rattle.hir_use_tree.specs.declared.imports.ImportKind.{ImportKind}
+use Rattle.hir_use_tree.specs.declared.imports.ImportAlias.TheVariants.{Underscore}
 use Rattle.hir_scope.specs.declared.imports.ImportId.{ImportId}
 use Rattle.hir_scope.specs.declared.imports.ImportOrExternCrate.{ImportOrExternCrate}
-use Rattle.hir_scope.specs.declared.imports.ImportOrExternCrate.TheVariants as ways
 use Rattle.hir_scope.specs.declared.imports.ImportOrGlob.{ImportOrGlob}
+use Rattle.hir_scope.specs.declared.per_ns.PerNs.{PerNs}
+use Rattle.hir_scope.specs.declared.imports.ImportOrExternCrate.TheVariants as ways
 use Rattle.hir_scope.specs.declared.imports.ImportOrGlob.TheVariants as value_ways
 use Rattle.hir_scope.specs.PerNs.{Item}
-use Rattle.hir_scope.specs.declared.per_ns.PerNs.{PerNs}
 use Rattle.hir_def_map_rules.specs.Overlay.{Maps}
 use Rattle.hir_def_map_rules.specs.State.{ModuleValue, entry_at, module_at, numbered}
 use Rattle.hir_glob_imports.specs.declared.edge.Edge.{Edge}
@@ -30,7 +30,7 @@ use Rattle.hir_import_resolution.specs.declared.directive.ImportSource.{ImportSo
 use Rattle.hir_import_resolution.specs.declared.directive.ImportSource.TheVariants as sources
 use Rattle.hir_import_resolution.specs.Directives.{glob_of, way_of}
 use Rattle.hir_tables.specs.Tables.{TablesValue}
-use Rattle.hir_collector_rules.specs.Derivation.{CollectedValue, Ends}
+use Rattle.hir_collector_rules.specs.Derivation.{CollectedValue, Ends, told_of}
 use Rattle.hir_collector_rules.specs.Imports.{crate_named, path_of_crate}
 use Rattle.hir_collector_rules.specs.Start.{Beginning, krate_of}
 use Rattle.hir_collector_rules.specs.Workspace.{Workspace, dependencies_in}
@@ -63,7 +63,8 @@ pub record IsLeaf (tables : TablesValue) (w : Workspace) (answer : CollectedValu
   pub visibility : head.visibility ≡ r.visibility
 
 -- an import is an `extern crate` item
-pub record IsExternCrate (tables : TablesValue) (w : Workspace) (from : Beginning) (answer : CollectedValue) (r : ImportDirective) (id : ExternCrateId) (krate : Option Crate) : Type 0 where
+pub record IsExternCrate (tables : TablesValue) (w : Workspace) (from : Beginning) (answer : CollectedValue) (r : ImportDirective) (id : ExternCrateId)
+    (krate : Option Crate) : Type 0 where
   -- the item is enabled, and stands in the import's module
   pub head : Head
   pub name : ExternCrateName
@@ -98,12 +99,14 @@ pub record HasImport (tables : TablesValue) (w : Workspace) (from : Beginning) (
 -- so is each that is left over
 abbrev pub LeftoversAreWritten : Type 0
 LeftoversAreWritten = (tables : TablesValue) (w : Workspace) (finished : Maps) (from : Beginning) (answer : CollectedValue) → Ends tables w finished from answer
-    → (way : ImportOrExternCrate) → Contains answer.leftover way → HasImport tables w from answer (λ r. way_of r.source ≡ way)
+    → (way : ImportOrExternCrate) → Contains answer.leftover way → HasImport tables w from answer (λ r. told_of r.source ≡ way)
 
 -- and each glob that was recorded
 abbrev pub GlobsAreWritten : Type 0
-GlobsAreWritten = (tables : TablesValue) (w : Workspace) (finished : Maps) (from : Beginning) (answer : CollectedValue) → (ends : Ends tables w finished from answer)
-    → (edge : Edge) → Contains ends.last.core.globs.edges edge → HasImport tables w from answer (λ r. (glob_of r.source ≡ Some edge.id) × (r.home ≡ edge.importer))
+GlobsAreWritten =
+    (tables : TablesValue) (w : Workspace) (finished : Maps) (from : Beginning) (answer : CollectedValue) → (ends : Ends tables w finished from answer)
+    → (edge : Edge) → Contains ends.last.core.globs.edges edge → HasImport tables w from answer (λ r. (glob_of r.source ≡ Some edge.id)
+    × (r.home ≡ edge.importer))
 
 -- ---- bindings
 
@@ -139,12 +142,15 @@ pub record IsUnderscoreImport (r : ImportDirective) (id : ImportId) : Type 0 whe
 
 -- a trait that a module has without a name is one that a `use .. as _` which is written in the module keeps, or a glob which is
 -- written there brought it
-pub record IsTraitBrought (tables : TablesValue) (w : Workspace) (from : Beginning) (answer : CollectedValue) (number : ℕ) (item : Item (Unit {0}) ImportId) : Type 0 where
+pub record IsTraitBrought (tables : TablesValue) (w : Workspace) (from : Beginning) (answer : CollectedValue) (number : ℕ)
+    (item : Item (Unit {0}) ImportId) : Type 0 where
   pub by_import : (id : ImportId) → item.import ≡ Some id → HasImport tables w from answer (λ r. IsUnderscoreImport r id × (r.home ≡ number))
   pub by_glob : item.import ≡ None → HasImport tables w from answer (λ r. IsSome (glob_of r.source) × (r.home ≡ number))
 
 -- so is each such trait of a run's map
 abbrev pub UnnamedTraitsAreWritten : Type 0
-UnnamedTraitsAreWritten = (tables : TablesValue) (w : Workspace) (finished : Maps) (from : Beginning) (answer : CollectedValue) → Ends tables w finished from answer
-    → (number : ℕ) (m : ModuleValue) → module_at answer.map number ≡ Some m → (id : TraitId) (item : Item (Unit {0}) ImportId) → Contains m.scope.unnamed_traits (id, item)
+UnnamedTraitsAreWritten =
+    (tables : TablesValue) (w : Workspace) (finished : Maps) (from : Beginning) (answer : CollectedValue) → Ends tables w finished from answer
+    → (number : ℕ) (m : ModuleValue) → module_at answer.map number ≡ Some m → (id : TraitId) (item : Item (Unit {0}) ImportId) → Contains m.scope.unnamed_traits
+    (id, item)
     → IsTraitBrought tables w from answer number item

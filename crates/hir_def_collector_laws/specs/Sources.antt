@@ -1,5 +1,5 @@
 -- Where is written what a run binds?
-use Rattle.std.specs.Prelude.{◌≡◌, false, List, Some, Contains, option_map}
+use Rattle.std.specs.Prelude.{◌≡◌, false, List, Some, Contains, is_some, not, option_map}
 use Rattle.hir_base.specs.declared.ids.ModuleId.{ModuleId}
 use Rattle.hir_def_map_rules.specs.Closed.{ModuleIsThere}
 use Rattle.hir_def_map_rules.specs.WellFormed.{AreWellFormed}
@@ -9,13 +9,15 @@ use Rattle.hir_def_map_rules.specs.Overlay.{Maps, Placed, overlay}
 use Rattle.hir_def_map_rules.specs.Scoping.Asking.{local_of}
 use Rattle.hir_item_tree.specs.declared.tree_id.TreeId.{TreeId}
 use Rattle.hir_item_tree.specs.declared.tree_id.TreeKey.{TreeKey}
-use Rattle.hir_tables.specs.Tables.{TablesValue}
+use Rattle.hir_tables.specs.Tables.{TablesValue, source_under}
+use Rattle.hir_collector_rules.specs.declared.source_database.Key.{Key}
 use Rattle.hir_collector_rules.specs.declared.start.Start.{Start}
 use Rattle.hir_collector_rules.specs.declared.start.Start.TheVariants as starts
-use Rattle.hir_collector_rules.specs.declared.source_database.Key.{Key}
 use Rattle.hir_collector_rules.specs.declared.source_database.Key.TheVariants.{Tree}
 use Rattle.hir_collector_rules.specs.Derivation.{CollectedValue, Ends}
-use Rattle.hir_collector_rules.specs.Start.{Beginning, read_by}
+use Rattle.hir_collector_rules.specs.Calls.{IsMeantAt}
+use Rattle.hir_collector_rules.specs.Start.{Beginning, read_by, root_site}
+use Rattle.hir_collector_rules.specs.UnknownSources.{MeetsUnknownSource}
 use Rattle.hir_def_collector_laws.specs.Whole.{StandsOnWhole}
 use Rattle.hir_collector_rules.specs.Workspace.{Workspace}
 
@@ -35,5 +37,18 @@ BeginsClear t finished (starts.Block krate block holder at) tree =
 abbrev pub RunsBindFromSources : Type 0
 RunsBindFromSources = (t : SourceTest) (tables : TablesValue) (w : Workspace) (finished : Maps) (from : Beginning) (answer : CollectedValue)
     → AreWellFormed (read_by w finished from.start) → StandsOnWhole w (read_by w finished from.start) from.start
-    → BeginsClear t (read_by w finished from.start) from.start from.tree → Ends tables w finished from answer → IsClearOf t (read_by w finished from.start) answer.asked answer.map
+    → BeginsClear t (read_by w finished from.start) from.start from.tree → Ends tables w finished from answer → IsClearOf t (read_by w finished from.start)
+    answer.asked answer.map
     → HoldsNowhereIn t answer.map × HoldsOfNoExtern t answer.local
+
+-- the test of what is written in a source that has no number
+abbrev pub unnumbered : TablesValue → SourceTest
+unnumbered tables = record { holder = λ file block. not (is_some (source_under tables file block)); shown = λ m. false }
+
+-- a run meets no unknown source, where the numbers of its tree mean something and the finished maps bind only what sources write that have numbers
+abbrev pub RunsMeetNoUnknownSource : Type 0
+RunsMeetNoUnknownSource = (tables : TablesValue) (w : Workspace) (finished : Maps) (from : Beginning)
+    → AreWellFormed (read_by w finished from.start) → StandsOnWhole w (read_by w finished from.start) from.start
+    → BeginsClear (unnumbered tables) (read_by w finished from.start) from.start from.tree
+    → IsMeantAt tables (root_site from.tree) → HoldsNowhere (unnumbered tables) (read_by w finished from.start)
+    → ¬ MeetsUnknownSource tables w finished from

@@ -5,8 +5,8 @@ use Rattle.hir_def_map_rules.specs.WellFormed.{AreWellFormed, HasNoDanglingExter
 use Rattle.hir_def_map_rules.specs.References.{any_own_crate, is_holder_for, is_missing, test_crate}
 use Rattle.hir_def_map_rules.specs.Overlay.{Maps, overlay}
 use Rattle.hir_tables.specs.Tables.{TablesValue}
-use Rattle.hir_collector_rules.specs.declared.start.Start.{Start}
 use Rattle.hir_collector_rules.specs.declared.source_database.Dependency.{Dependency}
+use Rattle.hir_collector_rules.specs.declared.start.Start.{Start}
 use Rattle.hir_collector_rules.specs.Derivation.{CollectedValue, Ends}
 use Rattle.hir_collector_rules.specs.Start.{Beginning, holder_of, id_of, krate_of, read_by}
 use Rattle.hir_collector_rules.specs.Workspace.{Workspace, dependencies_in, transitive_dependencies_in}
@@ -23,4 +23,5 @@ pub record StandsOnWhole (w : Workspace) (finished : Maps) (start : Start) : Typ
 abbrev pub RunsNameWhatIsThere : Type 0
 RunsNameWhatIsThere = (tables : TablesValue) (w : Workspace) (finished : Maps) (from : Beginning) (answer : CollectedValue)
     → AreWellFormed (read_by w finished from.start) → StandsOnWhole w (read_by w finished from.start) from.start → Ends tables w finished from answer
-    → HasNoDanglingReference (overlay (read_by w finished from.start) answer.map) answer.map × HasNoDanglingExtern (overlay (read_by w finished from.start) answer.map) answer.local
+    → HasNoDanglingReference (overlay (read_by w finished from.start) answer.map) answer.map
+    × HasNoDanglingExtern (overlay (read_by w finished from.start) answer.map) answer.local

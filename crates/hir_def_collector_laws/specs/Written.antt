@@ -21,7 +21,8 @@ key_of answer tree = record { krate = answer.map.id.krate; id = tree }
 pub data IsIn (i : KeptItem) : KeptForest → Type 0 where
   first : (others : KeptForest) → IsIn i (item i others)
   behind : (before : KeptItem) (others : KeptForest) → IsIn i others → IsIn i (item before others)
-  inside : (head : Head) (kind : Holder) (items others : KeptForest) → is_enabled head.attributes ≡ true → IsIn i items → IsIn i (item (holder head kind items) others)
+  inside : (head : Head) (kind : Holder) (items others : KeptForest) → is_enabled head.attributes ≡ true → IsIn i items
+      → IsIn i (item (holder head kind items) others)
 
 -- an item of a tree that was asked for; what holds the item is enabled
 pub record IsWritten (tables : TablesValue) (w : Workspace) (asked : List Key) (key : TreeKey) (i : KeptItem) : Type 0 where

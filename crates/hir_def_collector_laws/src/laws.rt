@@ -2,7 +2,7 @@
 ghost use Rattle.hir_collector_rules.specs.Enums.{LastVariantPrevails};
 ghost use Rattle.hir_collector_rules.specs.Growth.{AnswersStand, AskedKeysHaveMeaning, LooksStand};
 ghost use Rattle.hir_def_collector_laws.specs.BlockKeys.{CratesAskForNoBlock};
-ghost use Rattle.hir_def_collector_laws.specs.Sources.{RunsBindFromSources};
+ghost use Rattle.hir_def_collector_laws.specs.Sources.{RunsBindFromSources, RunsMeetNoUnknownSource};
 ghost use Rattle.hir_def_collector_laws.specs.Whole.{RunsNameWhatIsThere};
 
 use hir_def_map::laws::{paths_answer_from_sources, paths_lead_to_what_is_there};
@@ -23,6 +23,15 @@ pub fn runs_name_what_is_there()
 /// are there.
 pub fn runs_bind_from_sources()
     ensures sources { RunsBindFromSources }
+{
+    paths_lead_to_what_is_there();
+    paths_answer_from_sources();
+}
+
+/// A run meets no unknown source, where the numbers of its tree mean something and the maps beside it bind only what sources
+/// write that have numbers.
+pub fn runs_meet_no_unknown_source()
+    ensures known { RunsMeetNoUnknownSource }
 {
     paths_lead_to_what_is_there();
     paths_answer_from_sources();

@@ -23,4 +23,5 @@ config_in configs krate = option_map config_view (slice_get configs krate.0)
 
 -- the lists are the transitive dependencies of the crates
 abbrev pub AreTheirs : List Config → List (List Crate) → Type 0
-AreTheirs configs transitive = (krate : Crate) → slice_get transitive krate.0 ≡ option_map (λ _. transitive_by (config_in configs) krate) (config_in configs krate)
+AreTheirs configs transitive =
+    (krate : Crate) → slice_get transitive krate.0 ≡ option_map (λ _. transitive_by (config_in configs) krate) (config_in configs krate)

@@ -1,12 +1,14 @@
 -- What no longer waits ended on the way, and each module of a file was made there: this holds of both.
-use Rattle.std.proofs.Common.{◌≡◌, ◌≢◌, ◌<◌, ◌+◌, ◌⊎◌, inl, inr, ℕ, zero, suc, List, [], ◌∷◌, ◌++◌, length, slice_get, slice_set, Some, refl, sym, ap, subst, arith}
+use Rattle.std.proofs.Common.{◌≡◌, ◌≢◌, ◌<◌, ◌+◌, ◌⊎◌, inl, inr, ℕ, zero, suc, List, [], ◌∷◌, ◌++◌, length, slice_get, slice_set, Some, refl, sym, ap, subst}
+use Rattle.std.proofs.Common.{arith}
 use Rattle.std.proofs.lemmas.Bool.{cases_lt}
 use Rattle.hir_def_map_rules.specs.State.{new_module}
 use Rattle.hir_def_map_rules.proofs.StaysWellFormed.{length-made}
 use Rattle.hir_collector_rules.specs.declared.macro_directive.Fate.{Fate}
-use Rattle.hir_collector_rules.specs.declared.macro_directive.Fate.TheVariants.{Waits}
 use Rattle.hir_collector_rules.specs.declared.macro_directive.MacroDirective.{MacroDirective}
-use Rattle.hir_collector_rules.specs.Changes.{Change, lists, makes, gives_variants, begins_paths, reaches, awaits, ends, settles, changes_imports, adds_textual, takes_textual, defines, describes, helps, lists_derive, exports, uses_macros, tells, goes_on, act, perform}
+use Rattle.hir_collector_rules.specs.declared.macro_directive.Fate.TheVariants.{Waits}
+use Rattle.hir_collector_rules.specs.Changes.{Change, lists, makes, gives_variants, begins_paths, reaches, awaits, ends, settles, changes_imports, adds_textual}
+use Rattle.hir_collector_rules.specs.Changes.{takes_textual, defines, describes, helps, lists_derive, notes, exports, uses_macros, tells, goes_on, act, perform}
 use Rattle.hir_collector_rules.specs.ItemIds.{module_id}
 use Rattle.hir_collector_rules.specs.State.{State, all_wait}
 use Rattle.hir_collector_rules.proofs.Changes.{AllFine, perform_keeps}
@@ -45,25 +47,9 @@ module _ (Became : Fate → ℕ → Type 0) (Made : ℕ → Type 0) (old : State
 
   -- a change under which it goes on holding
   abbrev pub IsWell : State → Change → Type 0
-  IsWell s (lists home d) = Unit {0}
   IsWell s (makes home name origin visibility) = Made (length s.core.map.modules)
-  IsWell s (gives_variants id variants) = Unit {0}
-  IsWell s (begins_paths r) = Unit {0}
-  IsWell s (reaches rs) = Unit {0}
-  IsWell s (awaits calls) = Unit {0}
   IsWell s (ends i fate) = Became fate i
-  IsWell s settles = Unit {0}
-  IsWell s (changes_imports c) = Unit {0}
-  IsWell s (adds_textual home name makro) = Unit {0}
-  IsWell s (takes_textual home from_) = Unit {0}
-  IsWell s (defines node makro) = Unit {0}
-  IsWell s (describes makro what_kept) = Unit {0}
-  IsWell s (helps node helper) = Unit {0}
-  IsWell s (lists_derive home imp) = Unit {0}
-  IsWell s (exports f makro) = Unit {0}
-  IsWell s (uses_macros macros by) = Unit {0}
-  IsWell s (tells d) = Unit {0}
-  IsWell s (goes_on vs) = Unit {0}
+  IsWell s other = Unit {0}
 
   -- where no module is made
   unmade : (s : State) (c : Change) → made_by c ≡ 0 → AreKept s → (number : ℕ) → number < length (act s c).core.map.modules
@@ -84,9 +70,6 @@ module _ (Became : Fate → ℕ → Type 0) (Made : ℕ → Type 0) (old : State
           inr (subst Made (omega (arith, past, low, one_more)) fine)
     ];
   }
-  kept-act s (gives_variants id variants) p fine = record { fates = p.fates; modules = p.modules }
-  kept-act s (begins_paths r) p fine = record { fates = p.fates; modules = p.modules }
-  kept-act s (reaches rs) p fine = record { fates = p.fates; modules = p.modules }
   kept-act s (awaits calls) p fine =
       record { fates = λ what apart i h. p.fates what apart i (ended_left what apart s.core.fates calls i h); modules = p.modules }
   kept-act s (ends j fate) p fine = record {
@@ -96,18 +79,12 @@ module _ (Became : Fate → ℕ → Type 0) (Made : ℕ → Type 0) (old : State
     ];
     modules = p.modules;
   }
-  kept-act s settles p fine = record { fates = p.fates; modules = p.modules }
   kept-act s (changes_imports c) p fine = record { fates = p.fates; modules = unmade s (changes_imports c) refl p }
   kept-act s (adds_textual home name makro) p fine = record { fates = p.fates; modules = unmade s (adds_textual home name makro) refl p }
   kept-act s (takes_textual home from_) p fine = record { fates = p.fates; modules = unmade s (takes_textual home from_) refl p }
-  kept-act s (defines node makro) p fine = record { fates = p.fates; modules = p.modules }
-  kept-act s (describes makro what_kept) p fine = record { fates = p.fates; modules = p.modules }
-  kept-act s (helps node helper) p fine = record { fates = p.fates; modules = p.modules }
   kept-act s (lists_derive home imp) p fine = record { fates = p.fates; modules = unmade s (lists_derive home imp) refl p }
-  kept-act s (exports f makro) p fine = record { fates = p.fates; modules = p.modules }
-  kept-act s (uses_macros macros by) p fine = record { fates = p.fates; modules = p.modules }
-  kept-act s (tells d) p fine = record { fates = p.fates; modules = p.modules }
-  kept-act s (goes_on vs) p fine = record { fates = p.fates; modules = p.modules }
+  kept-act s (notes home invocation) p fine = record { fates = p.fates; modules = unmade s (notes home invocation) refl p }
+  kept-act s other p fine = record { fates = p.fates; modules = p.modules }
 
   pub kept-perform : (cs : List Change) (s : State) → AllFine IsWell s cs → AreKept s → AreKept (perform s cs)
   kept-perform cs s fine p = perform_keeps AreKept IsWell kept-act cs s p fine

@@ -1,9 +1,11 @@
 -- What an item declares stands for one definition, and carries no import.
 use Rattle.std.proofs.Common.{◌≡◌, ℕ, List, Option, None, Some, refl, ap, subst}
+use Rattle.hir_base.specs.declared.macro_kind.MacroId.{MacroId}
 use Rattle.hir_base.specs.declared.ids.ModuleDefId.{ModuleDefId}
 use Rattle.hir_base.specs.declared.ids.ModuleDefId.TheVariants as definitions
-use Rattle.hir_base.specs.declared.macro_kind.MacroId.{MacroId}
-use Rattle.hir_item_tree.specs.KeptForest.{Head, Holder, KeptItem, Leaf, constant, enumeration, extern_block, extern_crate, function, holder, implementation, import, inline_module, leaf, macro_call, macro_def, macro_rules, outline_module, static_item, structure, trait_item, type_alias, union_structure}
+use Rattle.hir_item_tree.specs.KeptForest.{Head, Holder, KeptItem, Leaf, constant, enumeration, extern_block, extern_crate, function, holder, implementation}
+use Rattle.hir_item_tree.specs.KeptForest.{import, inline_module, leaf, macro_call, macro_def, macro_rules, outline_module, static_item, structure, trait_item}
+use Rattle.hir_item_tree.specs.KeptForest.{type_alias, union_structure}
 use Rattle.hir_scope.specs.PerNs.{Item}
 use Rattle.hir_scope.specs.declared.imports.ImportOrExternCrate.{ImportOrExternCrate}
 use Rattle.hir_scope.specs.declared.imports.ImportOrGlob.{ImportOrGlob}
@@ -103,21 +105,10 @@ module _ (finished : Maps) (local : Local) (m : Map) (s : Site) (d : Declaration
 
   -- what the visited item declares is such
   leaf_declared : (h : Head) (l : Leaf) → declared_by_leaf finished local m s h l ≡ Some d → leaf_declares finished local m s h l ≡ Some d
-  leaf_declared h (import tree) e = e
-  leaf_declared h (extern_crate name alias) e = e
-  leaf_declared h (function name) e = e
-  leaf_declared h (structure name shape fields) e = e
-  leaf_declared h (union_structure name fields) e = e
   leaf_declared h (enumeration name) e = absurd cc
-  leaf_declared h (constant name) e = e
-  leaf_declared h (static_item name) e = e
-  leaf_declared h (trait_item name) e = e
-  leaf_declared h (implementation of_trait) e = e
-  leaf_declared h (type_alias name) e = e
   leaf_declared h (outline_module name) e = absurd cc
-  leaf_declared h (macro_call path) e = e
-  leaf_declared h (macro_rules name expander helpers) e = e
   leaf_declared h (macro_def name expander helpers) e = absurd cc
+  leaf_declared h other e = e
 
   pub declared_item : (i : KeptItem) → declared_by finished local m s i ≡ Some d → item_declares finished local m s i ≡ Some d
   declared_item (leaf h l) e = leaf_declared h l e

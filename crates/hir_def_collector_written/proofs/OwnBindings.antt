@@ -1,36 +1,41 @@
 -- Of what names stand for that no import brought, something holds where a run stands, and no glob is noted as what brought it.
 use Rattle.std.proofs.Common.{◌≡◌, ◌∙◌, ℕ, Bool, true, false, List, Option, None, Some, is_some, map as list_map, if◌then◌else◌, refl, sym, ap, subst}
-use Rattle.hir_base.specs.declared.ids.ModuleDefId.{ModuleDefId}
 use Rattle.hir_base.specs.declared.macro_kind.MacroId.{MacroId}
+use Rattle.hir_base.specs.declared.ids.ModuleDefId.{ModuleDefId}
 use Rattle.hir_scope.specs.Entries.{item_at}
 use Rattle.hir_scope.specs.PerNs.{Item, value_import}
 use Rattle.hir_scope.specs.Scope.{ScopeValue}
 use Rattle.hir_scope.specs.declared.imports.GlobId.{GlobId}
 use Rattle.hir_scope.specs.declared.imports.ImportOrExternCrate.{ImportOrExternCrate}
-use Rattle.hir_scope.specs.declared.imports.ImportOrExternCrate.TheVariants as ways
 use Rattle.hir_scope.specs.declared.imports.ImportOrGlob.{ImportOrGlob}
-use Rattle.hir_scope.specs.declared.item_in_ns.ItemInNs.TheVariants as in_ns
 use Rattle.hir_scope.specs.declared.per_ns.PerNs.{PerNs}
 use Rattle.hir_scope.specs.declared.visibility.Visibility.{Visibility}
+use Rattle.hir_scope.specs.declared.imports.ImportOrExternCrate.TheVariants as ways
+use Rattle.hir_scope.specs.declared.item_in_ns.ItemInNs.TheVariants as in_ns
 use Rattle.hir_def_map_rules.specs.Declaration.{listed}
 use Rattle.hir_def_map_rules.specs.Overlay.{Maps}
-use Rattle.hir_def_map_rules.specs.State.{Map, ModuleValue, changed_at, entry_of, module_at, new_id, new_module, numbered, place_at, pushed_module, with_child, with_module_scope}
+use Rattle.hir_def_map_rules.specs.State.{Map, ModuleValue, changed_at, entry_of, module_at, new_id, new_module, numbered, place_at, pushed_module, with_child}
+use Rattle.hir_def_map_rules.specs.State.{with_module_scope}
 use Rattle.hir_glob_imports.specs.Keys.{same_slot, slot_at}
 use Rattle.hir_glob_imports.specs.Moves.{brought_vis, may_raise}
-use Rattle.hir_glob_imports.specs.Rules.{BroughtBy, Rule as GlobRule, May as MayAlong, acts as glob_acts, brings, copies, copies_along, follows, follows_along, noted, raises, raises_along}
+use Rattle.hir_glob_imports.specs.Rules.{BroughtBy, Rule as GlobRule, May as MayAlong, acts as glob_acts, brings, copies, copies_along, follows, follows_along}
+use Rattle.hir_glob_imports.specs.Rules.{noted, raises, raises_along}
 use Rattle.hir_glob_imports.specs.View.{bound_in}
 use Rattle.hir_glob_imports.specs.declared.edge.Bound.{Bound}
 use Rattle.hir_glob_imports.specs.declared.edge.Brought.{Brought}
 use Rattle.hir_glob_imports.specs.declared.edge.Key.{Key}
-use Rattle.hir_glob_imports.specs.declared.edge.Key.TheVariants.{Types, Values, Macros, Unnamed}
 use Rattle.hir_glob_imports.specs.declared.edge.Slot.{Slot}
 use Rattle.hir_glob_imports.specs.declared.edge.Target.{Target}
+use Rattle.hir_glob_imports.specs.declared.edge.Key.TheVariants.{Types, Values, Macros, Unnamed}
 use Rattle.hir_glob_imports.proofs.Settling.{same_itself}
 use Rattle.hir_import_resolution.specs.Changes.{Change as ImportChange, along, forgotten, forgotten_in, keeps_trait, kept_vis, pushes, pushing, records, takes}
 use Rattle.hir_import_resolution.specs.Inner.ScopeLaws.{vacant_of}
 use Rattle.hir_import_resolution.specs.Names.{bound_by, bound_of, entries_of, items_by, scope_table, trait_vis, view_of, with_trait}
 use Rattle.hir_import_resolution.specs.State.{ImportState, glob_state, scopes_of}
-use Rattle.hir_collector_rules.specs.Changes.{Change, lists, makes, gives_variants, begins_paths, reaches, awaits, ends, settles, changes_imports, adds_textual, takes_textual, defines, describes, helps, lists_derive, exports, uses_macros, tells, goes_on, act, with_builtin_derive}
+use Rattle.hir_collector_rules.specs.Changes.{Change, lists, makes, gives_variants, begins_paths, reaches, awaits, ends, settles, changes_imports, adds_textual}
+use Rattle.hir_collector_rules.specs.Changes.{takes_textual, defines, describes, helps, lists_derive, notes, exports, uses_macros, tells, goes_on, act}
+use Rattle.hir_collector_rules.specs.Changes.{with_builtin_derive}
+use Rattle.hir_collector_rules.specs.Invocations.{with_invocation}
 use Rattle.hir_collector_rules.specs.ItemIds.{module_id}
 use Rattle.hir_collector_rules.specs.State.{State, import_state}
 use Rattle.hir_collector_rules.proofs.Changes.{AllFine}
@@ -38,7 +43,8 @@ use Rattle.hir_collector_rules.proofs.ImportEdits.{Edit, copy_at, copy_where, ed
 use Rattle.hir_def_collector_laws.proofs.NotedScopes.{same_listed}
 use Rattle.hir_def_collector_written.proofs.Declares.{plain}
 use Rattle.hir_def_collector_written.proofs.OwnItems.{IsOwnItem}
-use Rattle.hir_def_collector_written.proofs.OwnScopes.{AreOwnModules, HasNoOwnAt, IsAlongEdit, IsOwnPush, NoOwnIn, none_changed, none_kept, none_pushed_in, none_redefined, own_changed, own_edit, own_longer, own_noted_there, own_pushed_in, own_rescoped}
+use Rattle.hir_def_collector_written.proofs.OwnScopes.{AreOwnModules, HasNoOwnAt, IsAlongEdit, IsOwnPush, NoOwnIn, none_changed, none_kept, none_pushed_in}
+use Rattle.hir_def_collector_written.proofs.OwnScopes.{none_redefined, own_changed, own_edit, own_longer, own_noted_there, own_pushed_in, own_rescoped}
 
 -- ---- what is forgotten
 
@@ -215,25 +221,8 @@ module _ (OwnType : ℕ → List ℕ → Item ModuleDefId ImportOrExternCrate �
   IsFineImport s (along finished (raises slot vis)) = NoOwnIn s.core.map.modules slot.at slot.key
 
   abbrev pub IsFine : State → Change → Type 0
-  IsFine s (lists home d) = Unit {0}
-  IsFine s (makes home name origin visibility) = Unit {0}
-  IsFine s (gives_variants id variants) = Unit {0}
-  IsFine s (begins_paths r) = Unit {0}
-  IsFine s (reaches found) = Unit {0}
-  IsFine s (awaits calls) = Unit {0}
-  IsFine s (ends i fate) = Unit {0}
-  IsFine s settles = Unit {0}
   IsFine s (changes_imports c) = IsFineImport s c
-  IsFine s (adds_textual home name makro) = Unit {0}
-  IsFine s (takes_textual home from_) = Unit {0}
-  IsFine s (defines node makro) = Unit {0}
-  IsFine s (describes makro what) = Unit {0}
-  IsFine s (helps node helper) = Unit {0}
-  IsFine s (lists_derive home imp) = Unit {0}
-  IsFine s (exports f makro) = Unit {0}
-  IsFine s (uses_macros macros by) = Unit {0}
-  IsFine s (tells d) = Unit {0}
-  IsFine s (goes_on vs) = Unit {0}
+  IsFine s other = Unit {0}
 
   -- no glob is said any more to have brought it
   own_push : (home : ℕ) (name : List ℕ) (items : PerNs) (by : Option ImportOrExternCrate) (brought : BroughtBy) → IsFinePush home name items by
@@ -260,10 +249,8 @@ module _ (OwnType : ℕ → List ℕ → Item ModuleDefId ImportOrExternCrate �
   copies_along_edge s slot vis by (Some b) = go slot.key
     where
       go : (key : Key) → IsAlongEdit s.map.modules slot.at (copy_at s key vis by b)
-      go (Types name) = refl
-      go (Values name) = refl
-      go (Macros name) = refl
       go (Unnamed id) = tt
+      go other = refl
 
   follows_along_edge : (finished : Maps) (s : ImportState) (of : Target) (vis : Visibility) (at : ℕ) (key : Key) → NoOwnIn s.map.modules at key
       → AreAlong s.map.modules (follow_where s (slot_at at key) vis (bound_of (scopes_of finished s) of key))
@@ -354,23 +341,12 @@ module _ (OwnType : ℕ → List ℕ → Item ModuleDefId ImportOrExternCrate �
         (own_rescoped OwnType OwnValue OwnMacro s.core.globs.brought s.core.map.modules home (with_child name (new_id s.core.map))
         (λ m. record { types = refl; values = refl; macros = refl }) f.modules);
   }
-  own-act s (gives_variants id variants) f fine = record { modules = f.modules }
-  own-act s (begins_paths r) f fine = record { modules = f.modules }
-  own-act s (reaches found) f fine = record { modules = f.modules }
-  own-act s (awaits calls) f fine = record { modules = f.modules }
-  own-act s (ends i fate) f fine = record { modules = f.modules }
-  own-act s settles f fine = record { modules = f.modules }
   own-act s (changes_imports c) f fine = own-imports s c f fine
   own-act s (adds_textual home name makro) f fine = record { modules = own_scopes s home _ (λ x. refl) (λ x. refl) (λ x. refl) f }
   own-act s (takes_textual home from_) f fine = record { modules = own_scopes s home _ (λ x. refl) (λ x. refl) (λ x. refl) f }
-  own-act s (defines node makro) f fine = record { modules = f.modules }
-  own-act s (describes makro what) f fine = record { modules = f.modules }
-  own-act s (helps node helper) f fine = record { modules = f.modules }
   own-act s (lists_derive home imp) f fine = record { modules = own_scopes s home (with_builtin_derive imp) (λ x. refl) (λ x. refl) (λ x. refl) f }
-  own-act s (exports function_of makro) f fine = record { modules = f.modules }
-  own-act s (uses_macros macros by) f fine = record { modules = f.modules }
-  own-act s (tells d) f fine = record { modules = f.modules }
-  own-act s (goes_on vs) f fine = record { modules = f.modules }
+  own-act s (notes home invocation) f fine = record { modules = own_scopes s home (with_invocation invocation) (λ x. refl) (λ x. refl) (λ x. refl) f }
+  own-act s other f fine = record { modules = f.modules }
 
   -- ---- along globs
 

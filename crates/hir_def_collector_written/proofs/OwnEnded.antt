@@ -1,5 +1,6 @@
 -- From the start to the end: what names of a run's map stand for that no import brought, items declare.
-use Rattle.std.proofs.Common.{◌≡◌, ◌∙◌, ℕ, zero, suc, Bool, true, false, cond, List, [], ◌∷◌, Option, None, Some, map as list_map, slice_get, refl, sym, ap, subst, Contains}
+use Rattle.std.proofs.Common.{◌≡◌, ◌∙◌, ℕ, zero, suc, Bool, true, false, cond, List, [], ◌∷◌, Option, None, Some, map as list_map, slice_get, refl, sym, ap}
+use Rattle.std.proofs.Common.{subst, Contains}
 use Rattle.std.proofs.lemmas.Cmp.{nat_list_cmp_total}
 use Rattle.std.specs.Prelude.{option_map}
 use Rattle.std.specs.BTreeMap.{is_at}
@@ -8,10 +9,10 @@ use Rattle.std.specs.Map.{remove_entry}
 use Rattle.std.specs.Ordering.{nat_cmp}
 use Rattle.hir_base.specs.contracts.ids.ModuleDefIdPartialEq.TheImpl as module_def
 use Rattle.hir_base.specs.declared.ids.Crate.{Crate}
+use Rattle.hir_base.specs.declared.macro_kind.MacroId.{MacroId}
 use Rattle.hir_base.specs.declared.ids.MapId.{MapId}
 use Rattle.hir_base.specs.declared.ids.ModuleDefId.{ModuleDefId}
 use Rattle.hir_base.specs.declared.ids.ModuleDefId.TheVariants as definitions
-use Rattle.hir_base.specs.declared.macro_kind.MacroId.{MacroId}
 use Rattle.hir_scope.specs.Entries.{item_at}
 use Rattle.hir_scope.specs.PerNs.{Item}
 use Rattle.hir_scope.specs.Scope.{ScopeValue}

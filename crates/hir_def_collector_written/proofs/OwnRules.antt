@@ -3,14 +3,14 @@ use Rattle.std.proofs.Common.{◌≡◌, ◌∙◌, ◌<◌, ℕ, Bool, true, fa
 use Rattle.std.proofs.lemmas.List.Elements.{Contains-append_left, Contains-append_right}
 use Rattle.std.specs.Prelude.{option_map}
 use Rattle.hir_base.specs.declared.ast_id.AstId.{AstId}
-use Rattle.hir_base.specs.declared.ast_id.AstKind.TheVariants as nodes
 use Rattle.hir_base.specs.declared.ids.Crate.{Crate}
 use Rattle.hir_base.specs.declared.ids.ExternCrateId.{ExternCrateId}
-use Rattle.hir_base.specs.declared.ids.MapId.{MapId}
-use Rattle.hir_base.specs.declared.ids.ModuleDefId.{ModuleDefId}
-use Rattle.hir_base.specs.declared.ids.ModuleDefId.TheVariants as definitions
 use Rattle.hir_base.specs.declared.macro_kind.MacroExpander.{MacroExpander}
 use Rattle.hir_base.specs.declared.macro_kind.MacroId.{MacroId}
+use Rattle.hir_base.specs.declared.ids.MapId.{MapId}
+use Rattle.hir_base.specs.declared.ids.ModuleDefId.{ModuleDefId}
+use Rattle.hir_base.specs.declared.ast_id.AstKind.TheVariants as nodes
+use Rattle.hir_base.specs.declared.ids.ModuleDefId.TheVariants as definitions
 use Rattle.hir_base.specs.declared.macro_kind.MacroId.TheVariants.{ProcMacroId}
 use Rattle.hir_item_tree.specs.Collected.{is_enabled}
 use Rattle.hir_item_tree.specs.Kinds.{item_head}
@@ -25,7 +25,8 @@ use Rattle.hir_tables.specs.Tables.{TablesValue}
 use Rattle.hir_def_map_rules.specs.Overlay.{Maps}
 use Rattle.hir_def_map_rules.specs.State.{Map, module_at}
 use Rattle.hir_import_resolution.specs.Changes.{pushes, pushing}
-use Rattle.hir_import_resolution.specs.Directives.{answer_by_source, answer_of_crate, brought, kept_by, kept_of, kind_of, offered_by, path_answer, visibility_of, way_of}
+use Rattle.hir_import_resolution.specs.Directives.{answer_by_source, answer_of_crate, brought, kept_by, kept_of, kind_of, offered_by, path_answer}
+use Rattle.hir_import_resolution.specs.Directives.{visibility_of, way_of}
 use Rattle.hir_import_resolution.specs.Rules.{goes_along, takes_glob, takes_import}
 use Rattle.hir_import_resolution.specs.declared.directive.ImportDirective.{ImportDirective}
 use Rattle.hir_import_resolution.specs.declared.directive.ImportSource.{ImportSource}
@@ -43,7 +44,11 @@ use Rattle.hir_collector_rules.specs.Items.{own_visibility}
 use Rattle.hir_collector_rules.specs.Macros.{is_exported, macro_declaration}
 use Rattle.hir_collector_rules.specs.Start.{Beginning, exports_macros, krate_of, read_by}
 use Rattle.hir_collector_rules.specs.State.{State, Task, Visit, behind, visits}
-use Rattle.hir_collector_rules.specs.Steps.{Rule, drops_item, awaits_attribute, lists_derives, faults_derive, exports_macro, reaches_call, rests, expands_call, drops_call, drops_reached, derives_builtin, skips_attribute, falls_back, defines_rules, defines_macro, closes_module, declares_item, declares_enum, lists_constant, lists_impl, opens_module, opens_file, drops_file, misses_file, enters_block, reaches_imports, reaches_crate, resolves_imports, May, acts, asking, enum_declaration, exporting, module_declaration, reporting, visit}
+use Rattle.hir_collector_rules.specs.Steps.{Rule, drops_item, awaits_attribute, lists_derives, faults_derive, exports_macro, reaches_call, rests, expands_call}
+use Rattle.hir_collector_rules.specs.Steps.{drops_call, drops_reached, derives_builtin, skips_attribute, falls_back, defines_rules, defines_macro}
+use Rattle.hir_collector_rules.specs.Steps.{closes_module, declares_item, declares_enum, lists_constant, lists_impl, opens_module, opens_file, drops_file}
+use Rattle.hir_collector_rules.specs.Steps.{misses_file, enters_block, reaches_imports, reaches_crate, resolves_imports, May, acts, asking, enum_declaration}
+use Rattle.hir_collector_rules.specs.Steps.{exporting, module_declaration, reporting, visit}
 use Rattle.hir_collector_rules.specs.Workspace.{Workspace, crate_in}
 use Rattle.hir_collector_rules.proofs.Changes.{AllFine, fine-append, fine_bringing, fine_expanding, fine_reporting}
 use Rattle.hir_collector_rules.proofs.InRange.{IsInRange, next_home}
@@ -383,7 +388,7 @@ module _ (tables : TablesValue) (w : Workspace) (finished : Maps) (from : Beginn
         )
     own_rule (closes_module parent child rest) may later = (tt, (tt, tt))
     own_rule (awaits_attribute v a k rest) may later = (tt, (tt, tt))
-    own_rule (lists_derives v at a adt paths rest) may later = (tt, (tt, tt))
+    own_rule (lists_derives v at a adt paths call rest) may later = (tt, (tt, (tt, tt)))
     own_rule (faults_derive v at report rest) may later = (tt, (tt, tt))
     own_rule (exports_macro site head name d e rest) may later =
         let r : Rule = exports_macro site head name d e rest in
@@ -399,10 +404,10 @@ module _ (tables : TablesValue) (w : Workspace) (finished : Maps) (from : Beginn
         (tt, (tt, (tt, (tt, (bound, (tt, (exported, tt)))))))
     own_rule (reaches_call site head path rest) may later = (tt, (tt, tt))
     own_rule rests may later = (tt, tt)
-    own_rule (expands_call i d makro x) may later = (tt, (tt, fine_expanding Fine _ (λ t helper. tt) _ _ d (error_of x.there) (λ t text. tt) _))
+    own_rule (expands_call i d makro x) may later = (tt, (tt, (tt, fine_expanding Fine _ (λ t helper. tt) _ _ d (error_of x.there) (λ t text. tt) _)))
     own_rule (drops_call i d) may later = (tt, tt)
     own_rule (drops_reached i d makro) may later = (tt, fine_bringing Fine _ (λ t helper. tt) _ _)
-    own_rule (derives_builtin i d makro imp) may later = (tt, (tt, fine_bringing Fine _ (λ t helper. tt) _ _))
+    own_rule (derives_builtin i d makro imp) may later = (tt, (tt, (tt, fine_bringing Fine _ (λ t helper. tt) _ _)))
     own_rule (skips_attribute i d k waited) may later = (tt, (tt, tt))
     own_rule (falls_back i d k waited) may later = (tt, (tt, (tt, tt)))
     own_rule (resolves_imports (takes_import i r t)) may later = (λ n e. import_fine s r n, (tt, (tt, tt)))

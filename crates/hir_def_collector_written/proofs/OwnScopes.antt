@@ -2,11 +2,11 @@
 use Rattle.std.proofs.Common.{◌≡◌, ◌∙◌, ℕ, true, List, [], ◌∷◌, ◌++◌, Option, None, Some, slice_get, refl, sym, ap, subst}
 use Rattle.hir_base.specs.contracts.ids.ModuleDefIdPartialEq.TheImpl as module_def
 use Rattle.hir_base.specs.contracts.macro_kind.MacroIdPartialEq.TheImpl as makro
+use Rattle.hir_base.specs.declared.macro_kind.MacroId.{MacroId}
 use Rattle.hir_base.specs.declared.ids.ModuleDefId.{ModuleDefId}
-use Rattle.hir_base.specs.declared.ids.ModuleDefId.TheVariants as definitions
 use Rattle.hir_base.specs.declared.ids.ModuleId.{ModuleId}
 use Rattle.hir_base.specs.declared.ids.TraitId.{TraitId}
-use Rattle.hir_base.specs.declared.macro_kind.MacroId.{MacroId}
+use Rattle.hir_base.specs.declared.ids.ModuleDefId.TheVariants as definitions
 use Rattle.hir_scope.specs.contracts.imports.ImportOrExternCratePartialEq.TheImpl as item_import
 use Rattle.hir_scope.specs.contracts.imports.ImportOrGlobPartialEq.TheImpl as glob_import
 use Rattle.hir_scope.specs.Bindings.{macro_candidate, type_candidate, value_candidate, with_item_definition, with_item_visibility}
@@ -17,26 +17,27 @@ use Rattle.hir_scope.specs.Scope.{ScopeValue, empty_scope}
 use Rattle.hir_scope.specs.Scope.Push.{pushed_scope}
 use Rattle.hir_scope.specs.declared.imports.ImportId.{ImportId}
 use Rattle.hir_scope.specs.declared.imports.ImportOrExternCrate.{ImportOrExternCrate}
-use Rattle.hir_scope.specs.declared.imports.ImportOrExternCrate.TheVariants as ways
 use Rattle.hir_scope.specs.declared.imports.ImportOrGlob.{ImportOrGlob}
 use Rattle.hir_scope.specs.declared.item_in_ns.ItemInNs.{ItemInNs}
-use Rattle.hir_scope.specs.declared.item_in_ns.ItemInNs.TheVariants as in_ns
 use Rattle.hir_scope.specs.declared.per_ns.PerNs.{PerNs}
 use Rattle.hir_scope.specs.declared.visibility.Visibility.{Visibility}
+use Rattle.hir_scope.specs.declared.imports.ImportOrExternCrate.TheVariants as ways
+use Rattle.hir_scope.specs.declared.item_in_ns.ItemInNs.TheVariants as in_ns
 use Rattle.hir_scope.proofs.Pushes.{pushed-macros, pushed-types, pushed-values}
 use Rattle.hir_def_map_rules.specs.State.{ModuleValue, changed_at, with_module_scope}
 use Rattle.hir_glob_imports.specs.Keys.{slot_at}
 use Rattle.hir_glob_imports.specs.Rules.{BroughtBy, with_brought}
 use Rattle.hir_glob_imports.specs.declared.edge.Brought.{Brought}
 use Rattle.hir_glob_imports.specs.declared.edge.Key.{Key}
-use Rattle.hir_glob_imports.specs.declared.edge.Key.TheVariants.{Types, Values, Macros, Unnamed}
 use Rattle.hir_glob_imports.specs.declared.edge.Slot.{Slot}
+use Rattle.hir_glob_imports.specs.declared.edge.Key.TheVariants.{Types, Values, Macros, Unnamed}
 use Rattle.hir_import_resolution.specs.Names.{redefined, revised, with_trait}
 use Rattle.hir_collector_rules.proofs.ImportEdits.{Edit, edit, keeps_unnamed, pushes_to, redefines, revises}
 use Rattle.hir_def_collector_laws.proofs.ModuleLists.{IsChanged, IsOfLonger, changed-at, changed_one, newest, of_longer, older, other_one}
 use Rattle.hir_def_collector_laws.proofs.NotedScopes.{HasSameNames}
 use Rattle.hir_def_collector_written.proofs.Declares.{plain}
-use Rattle.hir_def_collector_written.proofs.OwnItems.{AreOwnItems, HasNoOwn, IsOwnItem, items_after, none_anew, none_pushed, own_anew, own_noted, own_pushed, own_unbrought}
+use Rattle.hir_def_collector_written.proofs.OwnItems.{AreOwnItems, HasNoOwn, IsOwnItem, items_after, none_anew, none_pushed, own_anew, own_noted, own_pushed}
+use Rattle.hir_def_collector_written.proofs.OwnItems.{own_unbrought}
 
 -- an import brought what stands at a key of a scope, if anything does
 abbrev pub HasNoOwnAt : ScopeValue → Key → Type 0
@@ -132,10 +133,8 @@ none_redefined name (in_ns.Macros def) vis s (Unnamed id) vacant = tt
 -- a trait without a name is none of these
 pub none_kept : (id : TraitId) (vis : Visibility) (by : Option ImportId) (s : ScopeValue) (key : Key) → HasNoOwnAt s key
     → HasNoOwnAt (with_trait id vis by s) key
-none_kept id vis by s (Types name) vacant = vacant
-none_kept id vis by s (Values name) vacant = vacant
-none_kept id vis by s (Macros name) vacant = vacant
 none_kept id vis by s (Unnamed other) vacant = tt
+none_kept id vis by s other vacant = vacant
 
 -- in the modules of a map
 pub none_changed : (ms : List ModuleValue) (at : ℕ) (change : ScopeValue → ScopeValue) (number : ℕ) (key : Key)

@@ -1,5 +1,6 @@
 -- Each `use` item that a run walks is among its imports, from the start to the end.
-use Rattle.std.proofs.Common.{◌≡◌, ◌∙◌, ◌≢◌, ◌<◌, ◌⊎◌, inl, inr, ℕ, Bool, true, false, List, [], ◌∷◌, length, slice_get, None, Some, refl, sym, ap, subst, arith, Contains, if◌then◌else◌}
+use Rattle.std.proofs.Common.{◌≡◌, ◌∙◌, ◌≢◌, ◌<◌, ◌⊎◌, inl, inr, ℕ, Bool, true, false, List, [], ◌∷◌, length, slice_get, None, Some, refl, sym, ap, subst}
+use Rattle.std.proofs.Common.{arith, Contains, if◌then◌else◌}
 use Rattle.std.proofs.lemmas.List.Elements.{Contains-append_left, Contains-append_right}
 use Rattle.hir_base.specs.declared.ast_id.AstId.{AstId}
 use Rattle.hir_base.specs.declared.ast_id.EditionedFileId.{EditionedFileId}
@@ -15,19 +16,21 @@ use Rattle.hir_def_map_rules.specs.declared.diagnostics.DefDiagnostic.{DefDiagno
 use Rattle.hir_def_map_rules.specs.declared.origin.ModuleOrigin.TheVariants as origins
 use Rattle.hir_import_resolution.specs.declared.directive.ImportDirective.{ImportDirective}
 use Rattle.hir_collector_rules.specs.declared.macro_directive.Fate.{Fate}
-use Rattle.hir_collector_rules.specs.declared.macro_directive.Fate.TheVariants.{GivenUp, Handled, Waits}
+use Rattle.hir_collector_rules.specs.declared.source_database.Key.{Key}
 use Rattle.hir_collector_rules.specs.declared.macro_directive.MacroDirective.{MacroDirective}
 use Rattle.hir_collector_rules.specs.declared.site.Site.{Site}
-use Rattle.hir_collector_rules.specs.declared.source_database.Key.{Key}
-use Rattle.hir_collector_rules.specs.declared.source_database.Key.TheVariants as keys
 use Rattle.hir_collector_rules.specs.declared.start.Start.{Start}
+use Rattle.hir_collector_rules.specs.declared.macro_directive.Fate.TheVariants.{GivenUp, Handled, Waits}
+use Rattle.hir_collector_rules.specs.declared.source_database.Key.TheVariants as keys
 use Rattle.hir_collector_rules.specs.declared.start.Start.TheVariants as starts
-use Rattle.hir_collector_rules.specs.Changes.{Change, lists, makes, gives_variants, begins_paths, reaches, awaits, ends, settles, changes_imports, adds_textual, takes_textual, defines, describes, helps, lists_derive, exports, uses_macros, tells, goes_on, act, perform}
+use Rattle.hir_collector_rules.specs.Changes.{Change, lists, makes, gives_variants, begins_paths, reaches, awaits, ends, settles, changes_imports, adds_textual}
+use Rattle.hir_collector_rules.specs.Changes.{takes_textual, defines, describes, helps, lists_derive, notes, exports, uses_macros, tells, goes_on, act, perform}
 use Rattle.hir_collector_rules.specs.Derivation.{CollectedValue, leftover_reports}
 use Rattle.hir_collector_rules.specs.Ended.{ended}
 use Rattle.hir_collector_rules.specs.Keys.{environment}
 use Rattle.hir_collector_rules.specs.Reports.{with_diagnostics}
-use Rattle.hir_collector_rules.specs.Start.{Beginning, holders_by, is_declared, origin_of, read_by, root_site, root_tree, root_visibility, start_of, tree_visits}
+use Rattle.hir_collector_rules.specs.Start.{Beginning, holders_by, is_declared, origin_of, read_by, root_site, root_tree, root_visibility, start_of}
+use Rattle.hir_collector_rules.specs.Start.{tree_visits}
 use Rattle.hir_collector_rules.specs.State.{Core, State, import_state, visits_over}
 use Rattle.hir_collector_rules.specs.Steps.{Step, Steps, acts, after, asking, keys_read, more, none, reads}
 use Rattle.hir_collector_rules.specs.Workspace.{Workspace}
@@ -49,25 +52,9 @@ use Rattle.hir_def_collector_written.proofs.Walks.{AllWalk, all_walk}
 -- ---- imports that were found stay
 
 reached-act : (s : State) (c : Change) (r : ImportDirective) → Contains s.core.reached r → Contains (act s c).core.reached r
-reached-act s (lists home d) r h = h
-reached-act s (makes home name origin visibility) r h = h
-reached-act s (gives_variants id variants) r h = h
-reached-act s (begins_paths i) r h = h
 reached-act s (reaches rs) r h = Contains-append_left s.core.reached rs r h
-reached-act s (awaits calls) r h = h
-reached-act s (ends i fate) r h = h
-reached-act s settles r h = h
 reached-act s (changes_imports c) r h = subst (λ (rs : List ImportDirective). Contains rs r) (sym (imports_after (import_state s) c)) h
-reached-act s (adds_textual home name makro) r h = h
-reached-act s (takes_textual home from_) r h = h
-reached-act s (defines node makro) r h = h
-reached-act s (describes makro what) r h = h
-reached-act s (helps node helper) r h = h
-reached-act s (lists_derive home imp) r h = h
-reached-act s (exports f makro) r h = h
-reached-act s (uses_macros macros by) r h = h
-reached-act s (tells d) r h = h
-reached-act s (goes_on vs) r h = h
+reached-act s other r h = h
 
 reached-perform : (cs : List Change) (s : State) (r : ImportDirective) → Contains s.core.reached r → Contains (perform s cs).core.reached r
 reached-perform [] s r h = h

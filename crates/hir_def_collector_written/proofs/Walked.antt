@@ -1,18 +1,20 @@
 -- Back over the steps of a run: what is to be visited is walked in the end, and so is what is expanded and goes on.
-use Rattle.std.proofs.Common.{◌≡◌, ◌∙◌, ◌≤◌, ◌||◌, ℕ, zero, suc, Bool, false, List, [], ◌∷◌, ◌++◌, length, slice_get, Option, None, Some, map as list_map, refl, sym, ap, subst, arith, Contains}
+use Rattle.std.proofs.Common.{◌≡◌, ◌∙◌, ◌≤◌, ◌||◌, ℕ, zero, suc, Bool, false, List, [], ◌∷◌, ◌++◌, length, slice_get, Option, None, Some, map as list_map, refl}
+use Rattle.std.proofs.Common.{sym, ap, subst, arith, Contains}
 use Rattle.std.proofs.lemmas.List.Elements.{Contains-append_right}
 use Rattle.either.specs.declared.Either.TheVariants as either
 use Rattle.hir_base.specs.declared.ast_id.AstId.{AstId}
-use Rattle.hir_base.specs.declared.ast_id.AstKind.TheVariants as nodes
 use Rattle.hir_base.specs.declared.ast_id.EditionedFileId.{EditionedFileId}
-use Rattle.hir_base.specs.declared.ids.MapId.{MapId}
 use Rattle.hir_base.specs.declared.macro_kind.MacroId.{MacroId}
+use Rattle.hir_base.specs.declared.ids.MapId.{MapId}
+use Rattle.hir_base.specs.declared.ast_id.AstKind.TheVariants as nodes
 use Rattle.hir_base.specs.Cfg.{Cfg}
 use Rattle.hir_item_tree.specs.Collected.{Collected, Numbered as Attribute, is_enabled, is_enabled_by}
 use Rattle.hir_item_tree.specs.Imports.{imports_of}
 use Rattle.hir_item_tree.specs.ItemTree.{Tree}
 use Rattle.hir_item_tree.specs.Kinds.{item_head}
-use Rattle.hir_item_tree.specs.KeptForest.{Head, KeptForest, KeptItem, constant, enumeration, extern_block, extern_crate, function, holder, implementation, import, inline_module, macro_call, macro_def, macro_rules, outline_module}
+use Rattle.hir_item_tree.specs.KeptForest.{Head, KeptForest, KeptItem, constant, enumeration, extern_block, extern_crate, function, holder, implementation}
+use Rattle.hir_item_tree.specs.KeptForest.{import, inline_module, macro_call, macro_def, macro_rules, outline_module}
 use Rattle.hir_item_tree.specs.UseTree.{UseTree}
 use Rattle.hir_item_tree.specs.declared.shape.ExternCrateName.{ExternCrateName}
 use Rattle.hir_item_tree.specs.declared.tree_id.TreeId.{TreeId}
@@ -31,16 +33,18 @@ use Rattle.hir_def_map_rules.specs.declared.origin.ModuleOrigin.TheVariants as o
 use Rattle.hir_import_resolution.specs.Changes.{Change as ImportChange}
 use Rattle.hir_import_resolution.specs.Rules.{acts as import_acts}
 use Rattle.hir_import_resolution.specs.declared.directive.ImportDirective.{ImportDirective}
-use Rattle.hir_collector_rules.specs.declared.macro_directive.Fate.{Fate}
-use Rattle.hir_collector_rules.specs.declared.macro_directive.Fate.TheVariants.{GivenUp, Handled, Waits}
-use Rattle.hir_collector_rules.specs.declared.macro_directive.MacroDirective.{MacroDirective}
-use Rattle.hir_collector_rules.specs.declared.macro_directive.WaitingItem.{WaitingItem}
-use Rattle.hir_collector_rules.specs.declared.site.Site.{Site}
 use Rattle.hir_collector_rules.specs.declared.source_database.Dependency.{Dependency}
+use Rattle.hir_collector_rules.specs.declared.macro_directive.Fate.{Fate}
+use Rattle.hir_collector_rules.specs.declared.macro_directive.MacroDirective.{MacroDirective}
+use Rattle.hir_collector_rules.specs.declared.site.Site.{Site}
+use Rattle.hir_collector_rules.specs.declared.macro_directive.WaitingItem.{WaitingItem}
+use Rattle.hir_collector_rules.specs.declared.macro_directive.Fate.TheVariants.{GivenUp, Handled, Waits}
 use Rattle.hir_collector_rules.specs.declared.source_database.Key.TheVariants as keys
 use Rattle.hir_collector_rules.specs.Attributes.{attr_id, item_node}
 use Rattle.hir_collector_rules.specs.Calls.{Expanding, IsNumberedCall, call_key, call_site, error_of, expansion_readings, helpers_brought, text_readings}
-use Rattle.hir_collector_rules.specs.Changes.{Change, act, adds_textual, changes_imports, defines, describes, ends, goes_on, makes, perform, takes_textual, tells}
+use Rattle.hir_collector_rules.specs.Changes.{Change, act, adds_textual, changes_imports, defines, describes, ends, goes_on, makes, notes, perform}
+use Rattle.hir_collector_rules.specs.Changes.{takes_textual, tells}
+use Rattle.hir_collector_rules.specs.Invocations.{invocation_of}
 use Rattle.hir_collector_rules.specs.Derivation.{CollectedValue}
 use Rattle.hir_collector_rules.specs.Imports.{crate_import, imports_by, reached_import}
 use Rattle.hir_collector_rules.specs.ItemIds.{macro_def_id, macro_rules_id, module_id, node_of, use_id}
@@ -49,7 +53,12 @@ use Rattle.hir_collector_rules.specs.Keys.{environment, tree_at}
 use Rattle.hir_collector_rules.specs.Macros.{is_macro_use, macro_declaration}
 use Rattle.hir_collector_rules.specs.ModuleFiles.{ModuleFile, file_key}
 use Rattle.hir_collector_rules.specs.State.{Core, State, Task, Visit, behind, import_state, visits, visits_over}
-use Rattle.hir_collector_rules.specs.Steps.{Rule, drops_item, awaits_attribute, lists_derives, faults_derive, exports_macro, reaches_call, rests, expands_call, drops_call, drops_reached, derives_builtin, skips_attribute, falls_back, defines_rules, defines_macro, closes_module, declares_item, declares_enum, lists_constant, lists_impl, opens_module, opens_file, drops_file, misses_file, enters_block, reaches_imports, reaches_crate, resolves_imports, HasAttribute, IsItemOf, May, Numbered, Sees, acts, after, asking, attribute_at, declaring, inside_block, inside_file, inside_module, keys_read, macro_data_of, module_declaration, path_of, reads, site_behind, visit, visits_in_file, visits_inside}
+use Rattle.hir_collector_rules.specs.Steps.{Rule, drops_item, awaits_attribute, lists_derives, faults_derive, exports_macro, reaches_call, rests, expands_call}
+use Rattle.hir_collector_rules.specs.Steps.{drops_call, drops_reached, derives_builtin, skips_attribute, falls_back, defines_rules, defines_macro}
+use Rattle.hir_collector_rules.specs.Steps.{closes_module, declares_item, declares_enum, lists_constant, lists_impl, opens_module, opens_file, drops_file}
+use Rattle.hir_collector_rules.specs.Steps.{misses_file, enters_block, reaches_imports, reaches_crate, resolves_imports, HasAttribute, IsItemOf, May, Numbered}
+use Rattle.hir_collector_rules.specs.Steps.{Sees, acts, after, asking, attribute_at, declaring, inside_block, inside_file, inside_module, keys_read}
+use Rattle.hir_collector_rules.specs.Steps.{macro_data_of, module_declaration, path_of, reads, site_behind, visit, visits_in_file, visits_inside}
 use Rattle.hir_collector_rules.specs.Workspace.{TreeLook, Workspace}
 use Rattle.hir_collector_rules.proofs.Changes.{AllFine, all_fine, fine_bringing, fine_expanding, fine_macro, fine_reporting}
 use Rattle.hir_def_collector_laws.specs.Declares.{IsModuleOf, site_inside}
@@ -59,7 +68,8 @@ use Rattle.hir_def_collector_laws.proofs.Listings.{Stays, StaysAt, Stays-perform
 use Rattle.hir_def_collector_laws.proofs.Passed.{looked_up}
 use Rattle.hir_def_collector_written.specs.Walked.{AreReached, Resumes, Walks, WalksFile, WalksOne, WentOn, builtin, expanded, resumed, too_deep}
 use Rattle.hir_def_collector_written.proofs.Became.{IsWell}
-use Rattle.hir_def_collector_written.proofs.Walks.{AllWalk, all_walk, closed_walk, declared_walks, earlier_walks, holder_walks, items_walk, leaf_walks, off_walks, waits_walks}
+use Rattle.hir_def_collector_written.proofs.Walks.{AllWalk, all_walk, closed_walk, declared_walks, earlier_walks, holder_walks, items_walk, leaf_walks}
+use Rattle.hir_def_collector_written.proofs.Walks.{off_walks, waits_walks}
 
 mapped : {A B : Type 0} (f : A → B) (xs : List A) (x : A) → Contains xs x → Contains (list_map f xs) (f x)
 mapped f [] x (n, below, is) = absurd (omega arith)
@@ -282,7 +292,7 @@ module _ (tables : TablesValue) (w : Workspace) (answer : CollectedValue) (last 
           }),
           f,
         )
-    walks_rule (lists_derives v at a adt paths rest) may found kept stays f =
+    walks_rule (lists_derives v at a adt paths call rest) may found kept stays f =
         at_next may.has.on.next (earlier_walks answer last v.site v.item v.done (suc at) (derive_low v rest at a may.has) f.0, f.1)
     walks_rule (faults_derive v at report rest) may found kept stays f =
         at_next may.has.on.next (earlier_walks answer last v.site v.item v.done (suc at) (derive_low v rest at may.attribute may.has) f.0, f.1)
@@ -342,11 +352,8 @@ module _ (tables : TablesValue) (w : Workspace) (answer : CollectedValue) (last 
       pub well_rule : (r : Rule) → May finished s r → Sees (environment tables w) finished (reads s r) → Numbered tables s r
           → ((key : TreeKey) → Contains (keys_read (reads s r)) (keys.Tree key) → Contains answer.asked (keys.Tree key))
           → Stays (after finished s r).core.map answer.map → Walk (after finished s r).agenda → AllFine Well (asking s r) (acts finished s r)
-      well_rule (drops_item v report rest) may sees numbers read stays f = (tt, (tt, tt))
       well_rule (declares_item v d rest) may sees numbers read stays f = (tt, (tt, (tt, tt)))
       well_rule (declares_enum site head name variants rest) may sees numbers read stays f = (tt, (tt, (tt, (tt, tt))))
-      well_rule (lists_constant site head rest) may sees numbers read stays f = (tt, (tt, tt))
-      well_rule (lists_impl site head of_trait rest) may sees numbers read stays f = (tt, (tt, tt))
       well_rule (opens_module site head name items rest) may sees numbers read stays f =
           let r : Rule = opens_module site head name items rest in
           let vis : Visibility = own_visibility finished s.core.local m site head in
@@ -369,7 +376,6 @@ module _ (tables : TablesValue) (w : Workspace) (answer : CollectedValue) (last 
           let seen : (tree_at tables w (file_key m.id.krate m.crate_data.edition file.id)).tree ≡ file.tree =
           found_seen tables w finished m.id.krate m.crate_data.edition search.absent search.found file may.found sees in
           (file_walked site head file made seen walks, (tt, (tt, (tt, (tt, tt)))))
-      well_rule (drops_file site head name search report rest) may sees numbers read stays f = (tt, (tt, tt))
       well_rule (misses_file site head name search report rest) may sees numbers read stays f =
           let r : Rule = misses_file site head name search report rest in
           let vis : Visibility = own_visibility finished s.core.local m site head in
@@ -377,38 +383,34 @@ module _ (tables : TablesValue) (w : Workspace) (answer : CollectedValue) (last 
           made_module (asking s r) site.home name (inline_origin site.tree head.id) vis
           (takes_textual count site.home ∷ goes_on rest ∷ declaring site.home (module_declaration m name vis) ++ tells report ∷ []) own stays site refl in
           (no_file_walked site site.tree (node_of site.tree nodes.Module head.id) made, (tt, (tt, (tt, (tt, (tt, tt))))))
-      well_rule (enters_block site head items rest) may sees numbers read stays f = (tt, (tt, tt))
       well_rule (reaches_imports site head tree rest) may sees numbers read stays f = (tt, (tt, (tt, tt)))
       well_rule (reaches_crate site head name alias rest) may sees numbers read stays f = (tt, (tt, (tt, (tt, (tt, tt)))))
       well_rule (defines_rules site head name expander helpers rest) may sees numbers read stays f =
           (tt, (tt, (tt, (tt, fine_macro Well _ _ expander (λ t. tt) head name _ (λ t. tt) _))))
       well_rule (defines_macro site head name expander helpers rest) may sees numbers read stays f =
           (tt, (tt, (tt, (tt, (tt, fine_reporting Well _ _ expander (λ t. tt) _)))))
-      well_rule (closes_module parent child rest) may sees numbers read stays f = (tt, (tt, tt))
-      well_rule (awaits_attribute v a k rest) may sees numbers read stays f = (tt, (tt, tt))
-      well_rule (lists_derives v at a adt paths rest) may sees numbers read stays f = (tt, (tt, tt))
-      well_rule (faults_derive v at report rest) may sees numbers read stays f = (tt, (tt, tt))
+      well_rule (lists_derives v at a adt paths call rest) may sees numbers read stays f = (tt, (tt, (tt, tt)))
       well_rule (exports_macro site head name d e rest) may sees numbers read stays f = (tt, (tt, (tt, (tt, (tt, (tt, (tt, tt)))))))
-      well_rule (reaches_call site head path rest) may sees numbers read stays f = (tt, (tt, tt))
       well_rule rests may sees numbers read stays f = (tt, tt)
       well_rule (expands_call i d makro x) may sees numbers read stays f =
           let next : List Task = visits_over (call_site d x.id) x.tree.tree.items in
           let helpers : List DeriveHelper = helpers_brought finished m d makro (Some (either.Left x.id)) in
-          let begun : State = perform (asking s (expands_call i d makro x)) (ends i Handled ∷ goes_on next ∷ []) in
+          let begun : State = perform (asking s (expands_call i d makro x)) (ends i Handled ∷ goes_on next ∷ notes d.site.home (invocation_of d x.id) ∷ []) in
           let now : Walk next = subst Walk (expanding_agenda begun d.ast_id helpers (module_id m d.site.home) d (error_of x.there)) f in
           let walks : Walks answer last x.tree.tree.items (call_site d x.id) = all_walk answer last (call_site d x.id) x.tree.tree.items now in (
             expanded_here i d makro x may.called.due.waiting.call sees numbers read walks,
-            (tt, fine_expanding Well _ (λ t helper. tt) _ _ d (error_of x.there) (λ t text. tt) _),
+            (tt, (tt, fine_expanding Well _ (λ t helper. tt) _ _ d (error_of x.there) (λ t text. tt) _)),
           )
       well_rule (drops_call i d) may sees numbers read stays f = (deep_here i d may.due.waiting.call may.deep, tt)
       well_rule (drops_reached i d makro) may sees numbers read stays f =
           (deep_here i d may.called.due.waiting.call may.deep, fine_bringing Well _ (λ t helper. tt) _ _)
       well_rule (derives_builtin i d makro imp) may sees numbers read stays f = (
         λ call is. call_here (WentOn tables w answer last) i d call may.due.waiting.call is (builtin makro imp may.builtin may.is),
-        (tt, fine_bringing Well _ (λ t helper. tt) _ _),
+        (tt, (tt, fine_bringing Well _ (λ t helper. tt) _ _)),
       )
       well_rule (skips_attribute i d k item) may sees numbers read stays f =
           (λ call is. resumed (resumed_here i d k item may.due.waiting.call may.of f.0 call is), (tt, tt))
       well_rule (falls_back i d k item) may sees numbers read stays f = (resumed_here i d k item may.waiting.call may.of f.0, (tt, (tt, tt)))
       well_rule (resolves_imports rule) may sees numbers read stays f =
           all_fine Well (λ t c. tt) (import_acts finished (import_state s) rule) (asking s (resolves_imports rule))
+      well_rule other may sees numbers read stays f = (tt, (tt, tt))

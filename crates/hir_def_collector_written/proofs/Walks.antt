@@ -2,7 +2,9 @@
 use Rattle.std.proofs.Common.{◌≡◌, ◌≤◌, ℕ, Bool, true, false, List, [], ◌∷◌, ◌++◌, Some, refl, subst, arith, append_assoc}
 use Rattle.hir_item_tree.specs.Collected.{is_enabled}
 use Rattle.hir_item_tree.specs.Kinds.{item_head}
-use Rattle.hir_item_tree.specs.KeptForest.{Head, Holder, KeptForest, KeptItem, Leaf, constant, enumeration, extern_crate, function, holder, implementation, import, item, leaf, macro_call, macro_def, macro_rules, no_items, outline_module, static_item, structure, trait_item, type_alias, union_structure}
+use Rattle.hir_item_tree.specs.KeptForest.{Head, Holder, KeptForest, KeptItem, Leaf, constant, enumeration, extern_crate, function, holder, implementation}
+use Rattle.hir_item_tree.specs.KeptForest.{import, item, leaf, macro_call, macro_def, macro_rules, no_items, outline_module, static_item, structure, trait_item}
+use Rattle.hir_item_tree.specs.KeptForest.{type_alias, union_structure}
 use Rattle.hir_def_map_rules.specs.Overlay.{Maps}
 use Rattle.hir_def_map_rules.specs.State.{Local, Map}
 use Rattle.hir_collector_rules.specs.declared.declaration.Declaration.{Declaration}

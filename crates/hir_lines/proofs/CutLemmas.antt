@@ -15,7 +15,8 @@ abbrev Onto : List ℕ → Type 0
 Onto ys = (ls : List (List ℕ)) (part : List ℕ) → fold next_byte (ls, part) ys ≡ onto ls (cut_from part ys)
 
 cut_onto_at : (b : Bool) (ls : List (List ℕ)) (part : List ℕ) (y : ℕ) (ys : List ℕ) → Onto ys
-    → fold next_byte (if b then (ls ++ part ∷ [], []) else (ls, part ++ y ∷ [])) ys ≡ onto ls (fold next_byte (if b then ([] ++ part ∷ [], []) else ([], part ++ y ∷ [])) ys)
+    → fold next_byte (if b then (ls ++ part ∷ [], []) else (ls, part ++ y ∷ [])) ys
+    ≡ onto ls (fold next_byte (if b then ([] ++ part ∷ [], []) else ([], part ++ y ∷ [])) ys)
 cut_onto_at true ls part y ys rest = rest (ls ++ part ∷ []) [] ∙ onto_twice ls (part ∷ []) (cut_from [] ys) ∙ ap (onto ls) (sym (rest (part ∷ []) []))
 cut_onto_at false ls part y ys rest = rest ls (part ++ y ∷ [])
 

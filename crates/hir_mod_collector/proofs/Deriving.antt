@@ -1,8 +1,8 @@
 -- Paths of a derive that are listed one after another.
 use Rattle.std.proofs.Common.{◌≡◌, ◌∙◌, List, [], ◌∷◌, ◌++◌, ap, refl}
 use Rattle.hir_collector_rules.specs.declared.macro_directive.Fate.{Fate}
-use Rattle.hir_collector_rules.specs.declared.macro_directive.Fate.TheVariants.{Waits}
 use Rattle.hir_collector_rules.specs.declared.macro_directive.MacroDirective.{MacroDirective}
+use Rattle.hir_collector_rules.specs.declared.macro_directive.Fate.TheVariants.{Waits}
 use Rattle.hir_collector_rules.specs.State.{Core, all_wait, with_calls}
 
 append_one : {A : Type 0} (xs : List A) (y : A) (ys : List A) → (xs ++ y ∷ []) ++ ys ≡ xs ++ y ∷ ys
@@ -21,4 +21,5 @@ append_none (x ∷ xs) = ap (λ (zs : List _). x ∷ zs) (append_none xs)
 
 pub no_more_calls : (c : Core) → with_calls c [] ≡ c
 no_more_calls c =
-    ap (λ (cs : List MacroDirective). record c { calls = cs; fates = c.fates ++ [] }) (append_none c.calls) ∙ ap (λ (fs : List Fate). record c { fates = fs }) (append_none c.fates)
+    ap (λ (cs : List MacroDirective). record c { calls = cs; fates = c.fates ++ [] }) (append_none c.calls) ∙ ap (λ (fs : List Fate). record c { fates = fs })
+    (append_none c.fates)

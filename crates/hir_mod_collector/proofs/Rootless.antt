@@ -18,7 +18,8 @@ nothing_at xs i x e h = let gone : slice_get [] i ≡ Some x = subst (λ (ys : L
 nothing_brought_there : (o : Option Brought) (by : Brought) → o ≡ None → o ≡ Some by → ⊥
 nothing_brought_there o by e h = let no : ⊥ = cc in no
 
-pub ready_empty : (tables : TablesValue) (finished : Maps) (c : Core) → c.globs ≡ no_recorded_globs → c.reached ≡ [] → c.taken ≡ [] → c.calls ≡ [] → c.fates ≡ [] → IsInOrder c.map
+pub ready_empty : (tables : TablesValue) (finished : Maps) (c : Core) → c.globs ≡ no_recorded_globs → c.reached ≡ [] → c.taken ≡ [] → c.calls ≡ [] → c.fates
+    ≡ [] → IsInOrder c.map
     → IsReady tables finished c
 ready_empty tables finished c globs reached taken calls fates in_order = record {
   sound = record {
@@ -35,7 +36,8 @@ ready_empty tables finished c globs reached taken calls fates in_order = record 
 }
 
 -- nothing is left to be done in it
-pub rests_empty : (env : Environment) (finished : Maps) (c : Core) → c.globs ≡ no_recorded_globs → c.reached ≡ [] → c.calls ≡ [] → ComesToRest env finished c c false
+pub rests_empty : (env : Environment) (finished : Maps) (c : Core) → c.globs ≡ no_recorded_globs → c.reached ≡ [] → c.calls ≡ [] → ComesToRest env finished c c
+    false
 rests_empty env finished c globs reached calls =
     rested
     (record {

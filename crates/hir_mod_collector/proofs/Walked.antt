@@ -1,5 +1,6 @@
 -- The walk, step by step.
-use Rattle.std.proofs.Common.{◌≡◌, ◌∙◌, ℕ, zero, suc, ◌+◌, ◌<◌, ◌≤◌, true, false, List, [], ◌∷◌, ◌++◌, length, drop, get_or, map, slice_get, slice_index_or, Option, Some, None, refl, sym, ap, subst, arith, append-nil, append_assoc}
+use Rattle.std.proofs.Common.{◌≡◌, ◌∙◌, ℕ, zero, suc, ◌+◌, ◌<◌, ◌≤◌, true, false, List, [], ◌∷◌, ◌++◌, length, drop, get_or, map, slice_get, slice_index_or}
+use Rattle.std.proofs.Common.{Option, Some, None, refl, sym, ap, subst, arith, append-nil, append_assoc}
 use Rattle.std.specs.List.{All}
 use Rattle.std.specs.Option.{IfSome}
 use Rattle.std.specs.Prelude.{is_some}
@@ -13,16 +14,16 @@ use Rattle.hir_base.specs.declared.ast_id.AstKind.TheVariants as nodes
 use Rattle.hir_item_tree.specs.Kinds.{item_head, item_kind, kind_content, kind_of, module_content}
 use Rattle.hir_item_tree.specs.declared.kinds.ExternBlock.{ExternBlock}
 use Rattle.hir_item_tree.specs.declared.kinds.Mod.{Mod}
+use Rattle.hir_item_tree.specs.declared.rows.ModItemId.{ModItemId}
+use Rattle.hir_item_tree.specs.declared.kinds.ModItemKind.{ModItemKind}
 use Rattle.hir_item_tree.specs.declared.kinds.ModKind.{ModKind}
 use Rattle.hir_item_tree.specs.declared.kinds.ModKind.TheVariants.{Inline, Outline}
-use Rattle.hir_item_tree.specs.declared.kinds.ModItemKind.{ModItemKind}
 use Rattle.hir_item_tree.specs.declared.kinds.ModItemKind.TheVariants as kinds
 use Rattle.hir_item_tree.specs.KeptForest.{Head, KeptItem, KeptForest, all_items, no_items}
 use Rattle.hir_item_tree.specs.Rows.{Content, alone, with_items, numbers_of, items_at, item_of, and_found}
-use Rattle.hir_item_tree.specs.declared.rows.ModItemId.{ModItemId}
 use Rattle.hir_def_map_rules.specs.Overlay.{Maps}
 use Rattle.hir_def_map_rules.specs.State.{Map}
-use Rattle.hir_mod_collector.specs.declared.attributes.Visited.{Visited}
+use Rattle.hir_mod_collector.specs.Types.{Visited}
 use Rattle.hir_collector_rules.specs.Attributes.{adt_of}
 use Rattle.hir_collector_rules.specs.declared.site.Site.{Site}
 use Rattle.hir_collector_rules.specs.Keys.{Environment, absent_source}
@@ -89,7 +90,8 @@ All-below m n ns h all = λ k d inside. omega (arith, all k d inside)
 
 -- ---- the items of a site, one after another
 
-visits_found : (site : Site) (o : Option KeptItem) (f : KeptForest) → visits_over site (and_found o f) ≡ visits_over site (and_found o no_items) ++ visits_over site f
+visits_found : (site : Site) (o : Option KeptItem) (f : KeptForest) → visits_over site (and_found o f) ≡ visits_over site (and_found o no_items) ++ visits_over
+    site f
 visits_found site None f = refl
 visits_found site (Some i) f = refl
 
@@ -119,17 +121,21 @@ module _ (tree : Tree) (site : Site) where
   module _ (env : Environment) (finished : Maps) (ids : List ModItemId) (old : Core) where
     -- steps through those before a place
     pub record WalksTo (c : Core) (i : ℕ) : Type 0 where
-      pub steps : (rest : List Task) → Steps env finished (joined old (visits_at tree site (numbers_of ids) ++ rest)) (joined c (visits_at tree site (numbers_of (drop i ids)) ++ rest))
+      pub steps : (rest : List Task) → Steps env finished (joined old (visits_at tree site (numbers_of ids) ++ rest))
+          (joined c (visits_at tree site (numbers_of (drop i ids)) ++ rest))
 
     pub WalksTo-none : WalksTo old 0
     WalksTo-none = record { steps = λ rest. none }
 
     steps_to : (c : Core) (i : ℕ) (x : ModItemId) → i < length ids → x ≡ get_or ids i x → WalksTo c i → (rest : List Task)
-        → Steps env finished (joined old (visits_at tree site (numbers_of ids) ++ rest)) (joined c (visits_at tree site (x.0 ∷ []) ++ (visits_at tree site (numbers_of (drop (i + 1) ids)) ++ rest)))
+        → Steps env finished (joined old (visits_at tree site (numbers_of ids) ++ rest))
+        (joined c (visits_at tree site (x.0 ∷ []) ++ (visits_at tree site (numbers_of (drop (i + 1) ids)) ++ rest)))
     steps_to c i x h e before rest =
-        subst (λ (agenda : List Task). Steps env finished (joined old (visits_at tree site (numbers_of ids) ++ rest)) (joined c agenda)) (left_next ids i x rest h e) (before.steps rest)
+        subst (λ (agenda : List Task). Steps env finished (joined old (visits_at tree site (numbers_of ids) ++ rest)) (joined c agenda))
+        (left_next ids i x rest h e) (before.steps rest)
 
-    pub WalksTo-next : (c d : Core) (i : ℕ) (x : ModItemId) → i < length ids → x ≡ get_or ids i x → WalksTo c i → Walks env finished c d (visits_at tree site (x.0 ∷ [])) → WalksTo d (i + 1)
+    pub WalksTo-next : (c d : Core) (i : ℕ) (x : ModItemId) → i < length ids → x ≡ get_or ids i x → WalksTo c i
+        → Walks env finished c d (visits_at tree site (x.0 ∷ [])) → WalksTo d (i + 1)
     WalksTo-next c d i x h e before step = record {
       steps = λ rest. Steps-append (steps_to c i x h e before rest) (step.steps (visits_at tree site (numbers_of (drop (i + 1) ids)) ++ rest));
     }
@@ -137,21 +143,25 @@ module _ (tree : Tree) (site : Site) where
     pub Walks-all : (c : Core) (i : ℕ) → length ids ≤ i → WalksTo c i → Walks env finished old c (visits_at tree site (numbers_of ids))
     Walks-all c i h before = record {
       steps = λ rest.
-          subst (λ (vs : List Task). Steps env finished (joined old (visits_at tree site (numbers_of ids) ++ rest)) (joined c (vs ++ rest))) (left_past ids i h) (before.steps rest);
+          subst (λ (vs : List Task). Steps env finished (joined old (visits_at tree site (numbers_of ids) ++ rest)) (joined c (vs ++ rest))) (left_past ids i h)
+          (before.steps rest);
     }
 
-    pub WalksTooFar-next : (c : Core) (i : ℕ) (x : ModItemId) → i < length ids → x ≡ get_or ids i x → WalksTo c i → WalksTooFar env finished c (visits_at tree site (x.0 ∷ []))
+    pub WalksTooFar-next : (c : Core) (i : ℕ) (x : ModItemId) → i < length ids → x ≡ get_or ids i x → WalksTo c i
+        → WalksTooFar env finished c (visits_at tree site (x.0 ∷ []))
         → WalksTooFar env finished old (visits_at tree site (numbers_of ids))
     WalksTooFar-next c i x h e before far = record {
       spent = λ rest. spent_after (steps_to c i x h e before rest) (far.spent (visits_at tree site (numbers_of (drop (i + 1) ids)) ++ rest));
     }
 
 -- steps take no module away
-pub longer_after : {env : Environment} {finished : Maps} (old new : Core) (vs : List Task) → Walks env finished old new vs → length old.map.modules ≤ length new.map.modules
+pub longer_after : {env : Environment} {finished : Maps} (old new : Core) (vs : List Task) → Walks env finished old new vs → length old.map.modules ≤ length
+    new.map.modules
 longer_after old new vs walks = (Grows-Steps (walks.steps [])).longer
 
 -- nor do those that handle an item
-pub still_there : {env : Environment} {finished : Maps} (old new : Core) (v : Visit) (inside : List Task) (n done : ℕ) → IsPassed old v done → HandlesAndSpreads env finished old new v inside → n < length old.map.modules
+pub still_there : {env : Environment} {finished : Maps} (old new : Core) (v : Visit) (inside : List Task) (n done : ℕ) → IsPassed old v done
+    → HandlesAndSpreads env finished old new v inside → n < length old.map.modules
     → n < length new.map.modules
 still_there old new v inside n done passed handles h =
     let longer : length old.map.modules ≤ length new.map.modules = (Grows-Steps (handles.steps done passed [])).longer in
@@ -204,12 +214,15 @@ visits_alone tree site n = go (slice_get (all_items tree.items) n)
     go (Some i) = refl
 
 -- steps handle the item whose attributes are done with, and then those inside are walked
-pub Walks-first : {env : Environment} {finished : Maps} (old mid new : Core) (v : Visit) (done : ℕ) (inside : List Task) → IsPassed old v done → HandlesAndSpreads env finished old mid v inside
+pub Walks-first : {env : Environment} {finished : Maps} (old mid new : Core) (v : Visit) (done : ℕ) (inside : List Task) → IsPassed old v done
+    → HandlesAndSpreads env finished old mid v inside
     → Walks env finished mid new inside → Walks env finished old new (visits (behind v done) ∷ [])
-Walks-first {env} {finished} old mid new v done inside passed handles walks = record { steps = λ rest. Steps-append (handles.steps done passed rest) (walks.steps rest) }
+Walks-first {env} {finished} old mid new v done inside passed handles walks =
+    record { steps = λ rest. Steps-append (handles.steps done passed rest) (walks.steps rest) }
 
 -- steps through attributes of the item come before that, or lead to where it waits
-pub Walks-passed : {env : Environment} {finished : Maps} (old mid new : Core) (v : Visit) (from done : ℕ) (vs : List Task) → vs ≡ visits (behind v from) ∷ [] → Passes env finished old mid v from (Some done)
+pub Walks-passed : {env : Environment} {finished : Maps} (old mid new : Core) (v : Visit) (from done : ℕ) (vs : List Task) → vs ≡ visits (behind v from) ∷ []
+    → Passes env finished old mid v from (Some done)
     → Walks env finished mid new (visits (behind v done) ∷ []) → Walks env finished old new vs
 Walks-passed {env} {finished} old mid new v from done vs e passes walks = record {
   steps = λ rest.
@@ -217,29 +230,37 @@ Walks-passed {env} {finished} old mid new v from done vs e passes walks = record
       (Steps-append (passes.goes.1 rest) (walks.steps rest));
 }
 
-pub Walks-waits : {env : Environment} {finished : Maps} (old new : Core) (v : Visit) (from : ℕ) (vs : List Task) → vs ≡ visits (behind v from) ∷ [] → Passes env finished old new v from None → Walks env finished old new vs
+pub Walks-waits : {env : Environment} {finished : Maps} (old new : Core) (v : Visit) (from : ℕ) (vs : List Task) → vs ≡ visits (behind v from) ∷ []
+    → Passes env finished old new v from None → Walks env finished old new vs
 Walks-waits {env} {finished} old new v from vs e passes = record {
   steps = λ rest. subst (λ (us : List Task). Steps env finished (joined old (us ++ rest)) (joined new rest)) (sym e) (passes.goes rest);
 }
 
 -- or they lead too far, or what comes behind them does
-pub WalksTooFar-passing : {env : Environment} {finished : Maps} (old : Core) (v : Visit) (from : ℕ) (vs : List Task) → vs ≡ visits (behind v from) ∷ [] → PassesTooFar env finished old v from → WalksTooFar env finished old vs
-WalksTooFar-passing {env} {finished} old v from vs e far = record { spent = λ rest. subst (λ (us : List Task). IsSpent env finished (joined old (us ++ rest))) (sym e) (far.spent rest) }
+pub WalksTooFar-passing : {env : Environment} {finished : Maps} (old : Core) (v : Visit) (from : ℕ) (vs : List Task) → vs ≡ visits (behind v from) ∷ []
+    → PassesTooFar env finished old v from → WalksTooFar env finished old vs
+WalksTooFar-passing {env} {finished} old v from vs e far =
+    record { spent = λ rest. subst (λ (us : List Task). IsSpent env finished (joined old (us ++ rest))) (sym e) (far.spent rest) }
 
-pub WalksTooFar-passed : {env : Environment} {finished : Maps} (old mid : Core) (v : Visit) (from done : ℕ) (vs : List Task) → vs ≡ visits (behind v from) ∷ [] → Passes env finished old mid v from (Some done)
+pub WalksTooFar-passed : {env : Environment} {finished : Maps} (old mid : Core) (v : Visit) (from done : ℕ) (vs : List Task) → vs ≡ visits (behind v from) ∷ []
+    → Passes env finished old mid v from (Some done)
     → WalksTooFar env finished mid (visits (behind v done) ∷ []) → WalksTooFar env finished old vs
 WalksTooFar-passed {env} {finished} old mid v from done vs e passes far = record {
   spent = λ rest. subst (λ (us : List Task). IsSpent env finished (joined old (us ++ rest))) (sym e) (spent_after (passes.goes.1 rest) (far.spent rest));
 }
 
 -- the item leads too far itself
-pub WalksTooFar-here : {env : Environment} {finished : Maps} (old : Core) (v : Visit) (done : ℕ) → IsPassed old v done → HandlesTooFar env finished old v → WalksTooFar env finished old (visits (behind v done) ∷ [])
+pub WalksTooFar-here : {env : Environment} {finished : Maps} (old : Core) (v : Visit) (done : ℕ) → IsPassed old v done → HandlesTooFar env finished old v
+    → WalksTooFar env finished old (visits (behind v done) ∷ [])
 WalksTooFar-here old v done passed far = record { spent = λ rest. far.spent done passed rest }
 
 -- steps through attributes take no module away
-pub there_behind : {env : Environment} {finished : Maps} (old new : Core) (v : Visit) (from : ℕ) (done : Option ℕ) (n : ℕ) → Passes env finished old new v from done → n < length old.map.modules → n < length new.map.modules
-there_behind old new v from None n passes h = let longer : length old.map.modules ≤ length new.map.modules = (Grows-Steps (passes.goes [])).longer in omega arith
-there_behind old new v from (Some done) n passes h = let longer : length old.map.modules ≤ length new.map.modules = (Grows-Steps (passes.goes.1 [])).longer in omega arith
+pub there_behind : {env : Environment} {finished : Maps} (old new : Core) (v : Visit) (from : ℕ) (done : Option ℕ) (n : ℕ) → Passes env finished old new v from
+    done → n < length old.map.modules → n < length new.map.modules
+there_behind old new v from None n passes h =
+    let longer : length old.map.modules ≤ length new.map.modules = (Grows-Steps (passes.goes [])).longer in omega arith
+there_behind old new v from (Some done) n passes h =
+    let longer : length old.map.modules ≤ length new.map.modules = (Grows-Steps (passes.goes.1 [])).longer in omega arith
 
 -- how many are done with where the item is next
 pub past_one : (o : Option ℕ) → is_some o ≡ true → (done : ℕ) × (o ≡ Some done)
@@ -251,22 +272,30 @@ past_none None h = refl
 past_none (Some done) h = absurd (let no : ⊥ = cc in no)
 
 -- steps through those inside lead too far
-pub WalksTooFar-inside : {env : Environment} {finished : Maps} (old mid : Core) (v : Visit) (done : ℕ) (inside : List Task) → IsPassed old v done → HandlesAndSpreads env finished old mid v inside
+pub WalksTooFar-inside : {env : Environment} {finished : Maps} (old mid : Core) (v : Visit) (done : ℕ) (inside : List Task) → IsPassed old v done
+    → HandlesAndSpreads env finished old mid v inside
     → WalksTooFar env finished mid inside → WalksTooFar env finished old (visits (behind v done) ∷ [])
-WalksTooFar-inside {env} {finished} old mid v done inside passed handles far = record { spent = λ rest. spent_after (handles.steps done passed rest) (far.spent rest) }
+WalksTooFar-inside {env} {finished} old mid v done inside passed handles far =
+    record { spent = λ rest. spent_after (handles.steps done passed rest) (far.spent rest) }
 
 -- steps through attributes of the item, the one that handles it, and those through what is inside
-pub Walks-through : {env : Environment} {finished : Maps} (old passed mid new : Core) (v : Visit) (from done : ℕ) (vs inside : List Task) → vs ≡ visits (behind v from) ∷ []
-    → Passes env finished old passed v from (Some done) → HandlesAndSpreads env finished passed mid v inside → Walks env finished mid new inside → Walks env finished old new vs
-Walks-through old passed mid new v from done vs inside e passes handles walks = Walks-passed old passed new v from done vs e passes (Walks-first passed mid new v done inside passes.goes.0 handles walks)
+pub Walks-through : {env : Environment} {finished : Maps} (old passed mid new : Core) (v : Visit) (from done : ℕ) (vs inside : List Task) → vs
+    ≡ visits (behind v from) ∷ []
+    → Passes env finished old passed v from (Some done) → HandlesAndSpreads env finished passed mid v inside → Walks env finished mid new inside
+    → Walks env finished old new vs
+Walks-through old passed mid new v from done vs inside e passes handles walks =
+    Walks-passed old passed new v from done vs e passes (Walks-first passed mid new v done inside passes.goes.0 handles walks)
 
-pub WalksTooFar-through : {env : Environment} {finished : Maps} (old passed mid : Core) (v : Visit) (from done : ℕ) (vs inside : List Task) → vs ≡ visits (behind v from) ∷ []
-    → Passes env finished old passed v from (Some done) → HandlesAndSpreads env finished passed mid v inside → WalksTooFar env finished mid inside → WalksTooFar env finished old vs
+pub WalksTooFar-through : {env : Environment} {finished : Maps} (old passed mid : Core) (v : Visit) (from done : ℕ) (vs inside : List Task) → vs
+    ≡ visits (behind v from) ∷ []
+    → Passes env finished old passed v from (Some done) → HandlesAndSpreads env finished passed mid v inside → WalksTooFar env finished mid inside
+    → WalksTooFar env finished old vs
 WalksTooFar-through old passed mid v from done vs inside e passes handles far =
     WalksTooFar-passed old passed v from done vs e passes (WalksTooFar-inside passed mid v done inside passes.goes.0 handles far)
 
 -- tasks that are done one after another
-pub Walks-append : {env : Environment} {finished : Maps} (old mid new : Core) (inside behind : List Task) → Walks env finished old mid inside → Walks env finished mid new behind
+pub Walks-append : {env : Environment} {finished : Maps} (old mid new : Core) (inside behind : List Task) → Walks env finished old mid inside
+    → Walks env finished mid new behind
     → Walks env finished old new (inside ++ behind)
 Walks-append {env} {finished} old mid new inside behind first then_ = record {
   steps = λ rest.
@@ -275,19 +304,24 @@ Walks-append {env} {finished} old mid new inside behind first then_ = record {
 }
 
 -- the first of them lead too far, or those behind do
-pub WalksTooFar-first : {env : Environment} {finished : Maps} (old : Core) (inside behind : List Task) → WalksTooFar env finished old inside → WalksTooFar env finished old (inside ++ behind)
+pub WalksTooFar-first : {env : Environment} {finished : Maps} (old : Core) (inside behind : List Task) → WalksTooFar env finished old inside
+    → WalksTooFar env finished old (inside ++ behind)
 WalksTooFar-first {env} {finished} old inside behind far = record {
   spent = λ rest. subst (λ (ts : List Task). IsSpent env finished (joined old ts)) (sym (append_assoc inside behind rest)) (far.spent (behind ++ rest));
 }
 
-pub WalksTooFar-behind : {env : Environment} {finished : Maps} (old mid : Core) (inside behind : List Task) → Walks env finished old mid inside → WalksTooFar env finished mid behind
+pub WalksTooFar-behind : {env : Environment} {finished : Maps} (old mid : Core) (inside behind : List Task) → Walks env finished old mid inside
+    → WalksTooFar env finished mid behind
     → WalksTooFar env finished old (inside ++ behind)
 WalksTooFar-behind {env} {finished} old mid inside behind first far = record {
-  spent = λ rest. subst (λ (ts : List Task). IsSpent env finished (joined old ts)) (sym (append_assoc inside behind rest)) (spent_after (first.steps (behind ++ rest)) (far.spent rest));
+  spent =
+      λ rest. subst (λ (ts : List Task). IsSpent env finished (joined old ts)) (sym (append_assoc inside behind rest))
+      (spent_after (first.steps (behind ++ rest)) (far.spent rest));
 }
 
 -- as many as are counted were taken already, and the item has its rule
-pub far_here : {env : Environment} {finished : Maps} (site : Site) (i : KeptItem) (old : Core) → is_enabled (item_head i).attributes ≡ true → is_outline i ≡ false → IsFull old.count old.map
+pub far_here : {env : Environment} {finished : Maps} (site : Site) (i : KeptItem) (old : Core) → is_enabled (item_head i).attributes ≡ true → is_outline i
+    ≡ false → IsFull old.count old.map
     → HandlesTooFar env finished old (visit site i)
 far_here {env} {finished} site i old on single full = record {
   spent = λ done passed rest.
@@ -296,7 +330,8 @@ far_here {env} {finished} site i old on single full = record {
       record { at = at; steps = none; stuck = counted_out goes.next goes.step full };
 }
 
-pub far_off : {env : Environment} {finished : Maps} (site : Site) (i : KeptItem) (done : ℕ) (condition : Cfg) (report : DefDiagnostic) (old : Core) → (item_head i).attributes.disabled ≡ Some condition
+pub far_off : {env : Environment} {finished : Maps} (site : Site) (i : KeptItem) (done : ℕ) (condition : Cfg) (report : DefDiagnostic) (old : Core)
+    → (item_head i).attributes.disabled ≡ Some condition
     → IsUnconfigured (module_id old.map site.home) (node_of site.tree (item_kind i) (item_head i).id) condition old.options report → IsFull old.count old.map
     → WalksTooFar env finished old (visits (behind (visit site i) done) ∷ [])
 far_off {env} {finished} site i done condition report old off reported full = record {
@@ -307,11 +342,14 @@ far_off {env} {finished} site i done condition report old off reported full = re
 }
 
 -- a disabled item is dropped
-pub dropped : {env : Environment} {finished : Maps} (site : Site) (i : KeptItem) (done : ℕ) (condition : Cfg) (old new : Core) → (item_head i).attributes.disabled ≡ Some condition
-    → Drops (IsUnconfigured (module_id old.map site.home) (node_of site.tree (item_kind i) (item_head i).id) condition old.options) old new → Walks env finished old new (visits (behind (visit site i) done) ∷ [])
+pub dropped : {env : Environment} {finished : Maps} (site : Site) (i : KeptItem) (done : ℕ) (condition : Cfg) (old new : Core)
+    → (item_head i).attributes.disabled ≡ Some condition
+    → Drops (IsUnconfigured (module_id old.map site.home) (node_of site.tree (item_kind i) (item_head i).id) condition old.options) old new
+    → Walks env finished old new (visits (behind (visit site i) done) ∷ [])
 dropped {env} {finished} site i done condition old new off drops = record {
   steps = λ rest.
-      Steps-one (made (drops_item (behind (visit site i) done) drops.report rest) (record { next = refl; condition = condition; disabled = off; reported = drops.is_such }) tt tt (rw drops.is refl));
+      Steps-one (made (drops_item (behind (visit site i) done) drops.report rest)
+      (record { next = refl; condition = condition; disabled = off; reported = drops.is_such }) tt tt (rw drops.is refl));
 }
 
 -- what an item is that a tree lends
@@ -324,52 +362,29 @@ module_same items h m (Inline ids) = refl
 module_same items h m Outline = refl
 
 kind_same : (items : List KeptItem) (h : Head) (item : ModItemKind) → item_kind (item_of items h (kind_content item)) ≡ kind_of item
-kind_same items h (kinds.Use i) = refl
-kind_same items h (kinds.ExternCrate i) = refl
-kind_same items h (kinds.ExternBlock i) = refl
-kind_same items h (kinds.Function i) = refl
-kind_same items h (kinds.Struct i) = refl
-kind_same items h (kinds.Union i) = refl
-kind_same items h (kinds.Enum i) = refl
-kind_same items h (kinds.Const i) = refl
-kind_same items h (kinds.Static i) = refl
-kind_same items h (kinds.Trait i) = refl
-kind_same items h (kinds.Impl i) = refl
-kind_same items h (kinds.TypeAlias i) = refl
 kind_same items h (kinds.Mod i) = module_same items h i i.kind
-kind_same items h (kinds.MacroCall i) = refl
-kind_same items h (kinds.MacroRules i) = refl
-kind_same items h (kinds.Macro2 i) = refl
+kind_same items h other = refl
 
 -- an item that holds no others and is no module, and a module that is written where it is declared, are of no other file
 pub single_here : (items : List KeptItem) (h : Head) (item : ModItemKind) → is_single item ≡ true → is_outline (item_of items h (kind_content item)) ≡ false
-single_here items h (kinds.Use i) e = refl
-single_here items h (kinds.ExternCrate i) e = refl
 single_here items h (kinds.ExternBlock i) e = absurd (let no : ⊥ = cc in no)
-single_here items h (kinds.Function i) e = refl
-single_here items h (kinds.Struct i) e = refl
-single_here items h (kinds.Union i) e = refl
-single_here items h (kinds.Enum i) e = refl
-single_here items h (kinds.Const i) e = refl
-single_here items h (kinds.Static i) e = refl
-single_here items h (kinds.Trait i) e = refl
-single_here items h (kinds.Impl i) e = refl
-single_here items h (kinds.TypeAlias i) e = refl
 single_here items h (kinds.Mod i) e = absurd (let no : ⊥ = cc in no)
-single_here items h (kinds.MacroCall i) e = refl
-single_here items h (kinds.MacroRules i) e = refl
-single_here items h (kinds.Macro2 i) e = refl
+single_here items h other e = refl
 
-pub inline_here : (items : List KeptItem) (h : Head) (item : ModItemKind) (m : Mod) (ids : _) → item ≡ kinds.Mod m → m.kind ≡ Inline ids → is_outline (item_of items h (kind_content item)) ≡ false
+pub inline_here : (items : List KeptItem) (h : Head) (item : ModItemKind) (m : Mod) (ids : _) → item ≡ kinds.Mod m → m.kind ≡ Inline ids
+    → is_outline (item_of items h (kind_content item)) ≡ false
 inline_here items h item m ids e f =
     subst (λ (it : ModItemKind). is_outline (item_of items h (kind_content it)) ≡ false) (sym e)
     (subst (λ (k : ModKind). is_outline (item_of items h (module_content k m)) ≡ false) (sym f) refl)
 
-pub block_here : (items : List KeptItem) (h : Head) (item : ModItemKind) (b : ExternBlock) → item ≡ kinds.ExternBlock b → is_outline (item_of items h (kind_content item)) ≡ false
+pub block_here : (items : List KeptItem) (h : Head) (item : ModItemKind) (b : ExternBlock) → item ≡ kinds.ExternBlock b
+    → is_outline (item_of items h (kind_content item)) ≡ false
 block_here items h item b e = subst (λ (it : ModItemKind). is_outline (item_of items h (kind_content it)) ≡ false) (sym e) refl
 
-pub far_item : (env : Environment) (finished : Maps) (site : Site) (items : List KeptItem) (h : Head) (item : ModItemKind) (old : Core) → is_enabled h.attributes ≡ true
-    → is_outline (item_of items h (kind_content item)) ≡ false → IsFull old.count old.map → HandlesTooFar env finished old (visit site (item_of items h (kind_content item)))
+pub far_item : (env : Environment) (finished : Maps) (site : Site) (items : List KeptItem) (h : Head) (item : ModItemKind) (old : Core)
+    → is_enabled h.attributes ≡ true
+    → is_outline (item_of items h (kind_content item)) ≡ false → IsFull old.count old.map → HandlesTooFar env finished old
+    (visit site (item_of items h (kind_content item)))
 far_item env finished site items h item old on here full =
     far_here site (item_of items h (kind_content item)) old (ap (λ (g : Head). is_enabled g.attributes) (head_same items h (kind_content item)) ∙ on) here full
 
@@ -390,11 +405,14 @@ module _ (m : Map) (visited : Visited) (h : Head) (item : ModItemKind) where
     pub holds_at_one : (P : KeptItem → Type 0) → P one → IfSome (slice_get all visited.id.0) P
     holds_at_one P holds = subst (λ (o : Option KeptItem). IfSome o P) (sym kept_one) holds
 
-    pub visited_one : IfSome (slice_get all visited.id.0) (λ i. is_enabled (item_head i).attributes ≡ true) → visited.node ≡ node_of visited.site.now.tree (kind_of item) h.id
+    pub visited_one : IfSome (slice_get all visited.id.0) (λ i. is_enabled (item_head i).attributes ≡ true) → visited.node ≡ node_of visited.site.now.tree
+        (kind_of item) h.id
         → map numbered visited.attrs.now ≡ h.attributes.attributes → visited.adt ≡ adt_of m visited.site.now one → IsVisited m visited one
     visited_one enabled node attributes adt = record {
       kept = kept_one;
-      node = node ∙ ap (λ (k : AstKind). node_of visited.site.now.tree k h.id) (sym (kind_same all h item)) ∙ ap (λ (g : Head). node_of visited.site.now.tree (item_kind one) g.id) (sym (head_same all h (kind_content item)));
+      node =
+          node ∙ ap (λ (k : AstKind). node_of visited.site.now.tree k h.id) (sym (kind_same all h item)) ∙ ap
+          (λ (g : Head). node_of visited.site.now.tree (item_kind one) g.id) (sym (head_same all h (kind_content item)));
       enabled = found (slice_get all visited.id.0) one (λ i. is_enabled (item_head i).attributes ≡ true) kept_one enabled;
       attributes = attributes ∙ ap (λ (g : Head). g.attributes.attributes) (sym (head_same all h (kind_content item)));
       adt = adt;
@@ -402,26 +420,33 @@ module _ (m : Map) (visited : Visited) (h : Head) (item : ModItemKind) where
 
 -- an item of a tree that is disabled
 module _ (site : Site) (tree : Tree) (n done : ℕ) (h : Head) (item : ModItemKind) (condition : Cfg)
-    (is : visits_behind tree site n done ≡ visits (behind (visit site (item_of (all_items tree.items) h (kind_content item))) done) ∷ []) (off : h.attributes.disabled ≡ Some condition) where
+    (is : visits_behind tree site n done ≡ visits (behind (visit site (item_of (all_items tree.items) h (kind_content item))) done) ∷ [])
+    (off : h.attributes.disabled ≡ Some condition) where
   abbrev i : KeptItem
   i = item_of (all_items tree.items) h (kind_content item)
 
   off_there : (item_head i).attributes.disabled ≡ Some condition
   off_there = ap (λ (g : Head). g.attributes.disabled) (head_same (all_items tree.items) h (kind_content item)) ∙ off
 
-  reported_there : (old : Core) (d : DefDiagnostic) → IsUnconfigured (module_id old.map site.home) (node_of site.tree (kind_of item) h.id) condition old.options d
+  reported_there : (old : Core) (d : DefDiagnostic) → IsUnconfigured (module_id old.map site.home) (node_of site.tree (kind_of item) h.id) condition old.options
+      d
       → IsUnconfigured (module_id old.map site.home) (node_of site.tree (item_kind i) (item_head i).id) condition old.options d
   reported_there old d r =
-      subst (λ (kind : AstKind). IsUnconfigured (module_id old.map site.home) (node_of site.tree kind (item_head i).id) condition old.options d) (sym (kind_same (all_items tree.items) h item))
-      (subst (λ (g : Head). IsUnconfigured (module_id old.map site.home) (node_of site.tree (kind_of item) g.id) condition old.options d) (sym (head_same (all_items tree.items) h (kind_content item))) r)
+      subst (λ (kind : AstKind). IsUnconfigured (module_id old.map site.home) (node_of site.tree kind (item_head i).id) condition old.options d)
+      (sym (kind_same (all_items tree.items) h item))
+      (subst (λ (g : Head). IsUnconfigured (module_id old.map site.home) (node_of site.tree (kind_of item) g.id) condition old.options d)
+      (sym (head_same (all_items tree.items) h (kind_content item))) r)
 
-  pub dropped_at : (env : Environment) (finished : Maps) (old new : Core) → Drops (IsUnconfigured (module_id old.map site.home) (node_of site.tree (kind_of item) h.id) condition old.options) old new
+  pub dropped_at : (env : Environment) (finished : Maps) (old new : Core)
+      → Drops (IsUnconfigured (module_id old.map site.home) (node_of site.tree (kind_of item) h.id) condition old.options) old new
       → Walks env finished old new (visits_behind tree site n done)
   dropped_at env finished old new drops =
       subst (λ (vs : List Task). Walks env finished old new vs) (sym is)
-      (dropped site i done condition old new off_there (record { report = drops.report; is_such = reported_there old drops.report drops.is_such; is = drops.is }))
+      (dropped site i done condition old new off_there
+      (record { report = drops.report; is_such = reported_there old drops.report drops.is_such; is = drops.is }))
 
-  pub far_at : (env : Environment) (finished : Maps) (old : Core) (d : DefDiagnostic) → IsUnconfigured (module_id old.map site.home) (node_of site.tree (kind_of item) h.id) condition old.options d
+  pub far_at : (env : Environment) (finished : Maps) (old : Core) (d : DefDiagnostic) → IsUnconfigured (module_id old.map site.home)
+      (node_of site.tree (kind_of item) h.id) condition old.options d
       → IsFull old.count old.map → WalksTooFar env finished old (visits_behind tree site n done)
   far_at env finished old d r full =
       subst (λ (vs : List Task). WalksTooFar env finished old vs) (sym is) (far_off site i done condition d old off_there (reported_there old d r) full)
@@ -444,7 +469,8 @@ module _ (env : Environment) (finished : Maps) (site : Site) (tree : Tree) (old 
     present_visits : visits_at tree site (numbers_of ids) ++ [] ≡ tree_visits site tree
     present_visits = append-nil (visits_at tree site (numbers_of ids)) ∙ ap (visits_over site) all ∙ sym (enabled_visits site tree enabled)
 
-    pub walks_present : (new : Core) → Walks env finished old new (visits_at tree site (numbers_of ids)) → Steps env finished (joined old (tree_visits site tree)) (at_rest new)
+    pub walks_present : (new : Core) → Walks env finished old new (visits_at tree site (numbers_of ids))
+        → Steps env finished (joined old (tree_visits site tree)) (at_rest new)
     walks_present new walks = subst (λ (vs : List Task). Steps env finished (joined old vs) (at_rest new)) present_visits (walks.steps [])
 
     pub spent_present : WalksTooFar env finished old (visits_at tree site (numbers_of ids)) → IsSpent env finished (joined old (tree_visits site tree))

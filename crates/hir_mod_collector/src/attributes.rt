@@ -1,5 +1,5 @@
 //! The attributes of items: which of them are looked up, and which list derives.
-ghost use Rattle.std.specs.Prelude.{◌≡◌, ◌≤◌, ◌<◌, true, false, ◌+◌, ◌∷◌, [], IfOk, IfSome, None, OnOk, Some, map as list_map, option_map, length, slice_get};
+ghost use Rattle.std.specs.Prelude.{◌≡◌, ◌≤◌, ◌<◌, true, false, ◌+◌, ◌∷◌, [], IfOk, IfSome, IsSome, None, OnOk, Some, map as list_map, option_map, length, slice_get};
 ghost use Rattle.hir_base.specs.declared.ids.AdtId.{AdtId};
 ghost use Rattle.hir_item_tree.specs.Attributes.{input_view};
 ghost use Rattle.hir_item_tree.specs.Collected.{numbered};
@@ -9,8 +9,12 @@ ghost use Rattle.hir_item_tree.specs.Rows.{item_of};
 ghost use Rattle.hir_def_map_rules.specs.Overlay.{Maps};
 ghost use Rattle.hir_collector_rules.specs.Attributes.{adt_of, is_among, is_helper, is_passed, is_tool, next_among, next_attribute, paths_in};
 ghost use Rattle.hir_collector_rules.specs.ItemIds.{module_id};
-ghost use Rattle.hir_collector_rules.specs.Keys.{Environment};
-ghost use Rattle.hir_collector_rules.specs.Moves.{HandlesAttribute, Passes, PassesTooFar, TakesDerive, goes_behind};
+ghost use Rattle.hir_tables.specs.SourcePlaces.{expansion_value};
+ghost use Rattle.hir_tables.specs.Tables.{KeepsTables, source_of};
+ghost use Rattle.hir_collector_rules.specs.Calls.{AreCallsPlaced, IsNumberedDerive, derive_expansion};
+ghost use Rattle.hir_collector_rules.specs.Keys.{Environment, node_tree};
+ghost use Rattle.hir_collector_rules.specs.Moves.{HandlesAttribute, LacksDeriveNumber, ListsDerive, Passes, PassesTooFar, TakesDerive, goes_behind};
+ghost use Rattle.hir_collector_rules.specs.NumberedOut.{IsDeriveNumberedOut};
 ghost use Rattle.hir_mod_collector.specs.Walking.{IsVisited};
 ghost use Rattle.hir_collector_rules.specs.State.{core_in, visit, with_calls};
 ghost use Rattle.hir_collector_rules.specs.Steps.{attribute_at, derive_at, derives_from};
@@ -18,15 +22,17 @@ ghost use Rattle.hir_collector_rules.specs.TreeReads.{head_of};
 ghost use Rattle.hir_collector_rules.specs.Waiting.{IsNoted};
 
 use crate::builtin_attr::is_inert_by_name;
-use hir_base::ast_id::{AstId, AttrId};
-use hir_base::ids::{AdtId, EnumId, ItemLoc, StructId, UnionId};
+use hir_base::ast_id::{AstId, AttrId, MacroCallId};
+use hir_base::ids::{AdtId, Crate, EnumId, ItemLoc, StructId, UnionId};
+use hir_base::macro_kind::{CallStyle, ExpansionKey, MacroCallKind, MacroCallLoc, MacroText};
 use hir_base::mod_path::{ModPath, PathKind};
 use hir_base::name::Name;
+use hir_base::text::Text;
 use hir_collector_rules::crate_attrs::is_keyed;
 use hir_collector_rules::macro_directive::{MacroDirective, MacroDirectiveKind, WaitingItem};
 use hir_collector_rules::shared_tree::SharedTree;
 use hir_collector_rules::site::{ItemHead, Site};
-use hir_collector_rules::start::{CollectError, STEP_LIMIT};
+use hir_collector_rules::start::StepError;
 use hir_collector_state::def_collector::DefCollector;
 use hir_collector_state::helpers::is_helper;
 use hir_def_map::nameres::DefMap;
@@ -36,8 +42,9 @@ use hir_item_tree::kinds::ModItemKind;
 use hir_item_tree::raw_attr::{AttrInput, TokenTree};
 use hir_item_tree::rows::ModItemId;
 use hir_item_tree::source_tree::SourceTree;
+use hir_tables::Tables;
 use hir_use_tree::use_tree::place_after;
-use std::alloc::AllocError;
+use std::alloc::{AllocError, Global};
 use std::rc::Rc;
 
 /// Whether a name is one of these.
@@ -167,24 +174,97 @@ fn await_derives(
     Ok(())
 }
 
+/// What the call of a `derive` attribute depends on: neither a text nor an input.
+fn derive_key(alloc: Global, krate: Crate, attr: AttrId) -> Result<ExpansionKey, AllocError>
+    ensures value { IfOk result (λ key. expansion_value key ≡ derive_expansion krate attr) }
+{
+    Ok(ExpansionKey {
+        caller: krate,
+        called: MacroText {
+            krate,
+            text: Text::from_str(alloc, "")?,
+        },
+        call: CallStyle::Attribute(attr),
+        input: Text::from_str(alloc, "")?,
+        reached: Vec::new(alloc),
+    })
+}
+
+/// The number of the call that a `derive` attribute is. It isn't expanded, and nothing is asked for of it.
+fn number_derive(
+    run: &DefCollector,
+    locations: &mut Tables,
+    node: AstId,
+    attr: AttrId,
+) -> Result<MacroCallId, StepError>
+    requires meant { IsSome (source_of locations.old (node_tree node)) }
+    ensures kept { KeepsTables locations.old locations.new }
+    ensures placed { AreCallsPlaced locations.old → AreCallsPlaced locations.new }
+    ensures ok { IfOk result (λ id. IsNumberedDerive locations.new (core_in run.now).map.id.krate node attr id) }
+    ensures many { result ≡ Err StepError.TooMany → IsDeriveNumberedOut locations.new (core_in run.now).map.id.krate node attr }
+{
+    let krate = run.map().id().krate;
+    let key = derive_key(run.allocator(), krate, attr)?;
+    let entry = locations.intern_entry(key)?;
+    let id = locations.intern_call(MacroCallLoc {
+        kind: MacroCallKind::Attr { ast: node, attr },
+        entry,
+    })?;
+    Ok(id)
+}
+
+/// Lists the paths of a `derive`, all of which wait, and notes it in the scope of its module.
+fn list_derive(
+    run: &mut DefCollector,
+    locations: &mut Tables,
+    site: &Site,
+    node: AstId,
+    attr: AttrId,
+    adt: AdtId,
+    paths: &[ModPath],
+) -> Result<(), StepError>
+    requires in_range { site.now.home < length (core_in run.old).map.modules }
+    requires meant { IsSome (source_of locations.old (node_tree node)) }
+    ensures kept { KeepsTables locations.old locations.new }
+    ensures placed { AreCallsPlaced locations.old → AreCallsPlaced locations.new }
+    ensures ok { OnOk result (ListsDerive locations.new site.now node attr adt paths.now (core_in run.old) (core_in run.new)) }
+    ensures noted { OnOk result (IsNoted run.old run.new) }
+    ensures many { result ≡ Err StepError.TooMany → IsDeriveNumberedOut locations.new (core_in run.old).map.id.krate node attr }
+{
+    let call = number_derive(run, locations, node, attr)?;
+    await_derives(run, site, node, attr, adt, paths)?;
+    run.note_derive(site.home, node, attr, call, paths)?;
+    Ok(())
+}
+
 /// Lists the paths of a `derive`, or reports that it can't be one.
 fn take_derive(
     run: &mut DefCollector,
+    locations: &mut Tables,
     site: &Site,
     node: AstId,
     attr: &Attr,
     adt: Option<AdtId>,
-) -> Result<(), AllocError>
-    ensures ok { OnOk result (TakesDerive site.now node (numbered attr.now) adt (core_in run.old) (core_in run.new)) }
+) -> Result<(), StepError>
+    requires in_range { site.now.home < length (core_in run.old).map.modules }
+    requires meant { IsSome (source_of locations.old (node_tree node)) }
+    ensures kept { KeepsTables locations.old locations.new }
+    ensures placed { AreCallsPlaced locations.old → AreCallsPlaced locations.new }
+    ensures ok { OnOk result (TakesDerive locations.new site.now node (numbered attr.now) adt (core_in run.old) (core_in run.new)) }
     ensures noted { OnOk result (IsNoted run.old run.new) }
+    ensures many { result ≡ Err StepError.TooMany → LacksDeriveNumber locations.new (core_in run.old).map.id.krate node (numbered attr.now) adt }
 {
     let at = run.module_id(site.home);
     let Some(adt) = adt else {
-        return run.tell(DefDiagnostic::invalid_derive_target(at, node, attr.id));
+        run.tell(DefDiagnostic::invalid_derive_target(at, node, attr.id))?;
+        return Ok(());
     };
     match paths_in(&attr.meta.input) {
-        Some(paths) => await_derives(run, site, node, attr.id, adt, paths),
-        None => run.tell(DefDiagnostic::malformed_derive(at, node, attr.id)),
+        Some(paths) => list_derive(run, locations, site, node, attr.id, adt, paths),
+        None => {
+            run.tell(DefDiagnostic::malformed_derive(at, node, attr.id))?;
+            Ok(())
+        }
     }
 }
 
@@ -226,20 +306,37 @@ pub struct Visited<'a> {
 /// Handles the attribute at a place, which is the next that isn't passed: whether the item goes on behind it.
 fn handle_attribute(
     run: &mut DefCollector,
+    locations: &mut Tables,
     visited: Visited<'_>,
     at: usize,
-) -> Result<bool, CollectError>
+) -> Result<bool, StepError>
     requires there { at < length visited.attrs.now }
-    ensures ok { IfOk result (λ goes_on. (env : Environment) (finished : Maps) (item : KeptItem) (from : _) (a : Attr) → IsVisited (core_in run.old).map visited.entry item
-        → slice_get visited.entry.attrs.now at ≡ Some a → next_attribute (core_in run.old).map visited.entry.site.now item from ≡ Some (at, numbered a)
+    requires in_range { visited.site.now.home < length (core_in run.old).map.modules }
+    requires meant { IsSome (source_of locations.old (node_tree visited.node)) }
+    ensures kept { KeepsTables locations.old locations.new }
+    ensures placed { AreCallsPlaced locations.old → AreCallsPlaced locations.new }
+    ensures ok { IfOk result (λ goes_on. (env : Environment) (finished : Maps) (item : KeptItem) (from : _) (a : Attr) → KeepsTables locations.new env.tables
+        → IsVisited (core_in run.old).map visited.entry item → slice_get visited.entry.attrs.now at ≡ Some a
+        → next_attribute (core_in run.old).map visited.entry.site.now item from ≡ Some (at, numbered a)
         → HandlesAttribute env finished (core_in run.old) (core_in run.new) (visit visited.entry.site.now item) from (goes_behind (visit visited.entry.site.now item) at goes_on)) }
+    ensures modules { OnOk result (length (core_in run.new).map.modules ≡ length (core_in run.old).map.modules) }
     ensures noted { OnOk result (IsNoted run.old run.new) }
-    ensures many { result ≡ Err CollectError.TooMany → STEP_LIMIT ≤ (core_in run.old).count }
+    ensures many { result ≡ Err StepError.TooMany → (env : Environment) (finished : Maps) (item : KeptItem) (from : _) (a : Attr) → KeepsTables locations.new env.tables
+        → IsVisited (core_in run.old).map visited.entry item → slice_get visited.entry.attrs.now at ≡ Some a
+        → next_attribute (core_in run.old).map visited.entry.site.now item from ≡ Some (at, numbered a)
+        → PassesTooFar env finished (core_in run.old) (visit visited.entry.site.now item) from }
 {
     let attr = &visited.attrs[at];
     let goes_on = is_keyed(attr, "derive");
     if goes_on {
-        take_derive(run, visited.site, visited.node, attr, visited.adt)?;
+        take_derive(
+            run,
+            locations,
+            visited.site,
+            visited.node,
+            attr,
+            visited.adt,
+        )?;
     } else {
         let item = WaitingItem {
             source: SharedTree::new(visited.source)?,
@@ -258,18 +355,23 @@ fn handle_attribute(
 /// After rust-analyzer's `resolve_attributes`.
 pub fn pass_attributes(
     run: &mut DefCollector,
+    locations: &mut Tables,
     visited: Visited<'_>,
     from: usize,
-) -> Result<Option<usize>, CollectError>
-    ensures ok { IfOk result (λ done. (env : Environment) (finished : Maps) (item : KeptItem) → IsVisited (core_in run.old).map visited.entry item
+) -> Result<Option<usize>, StepError>
+    requires in_range { visited.site.now.home < length (core_in run.old).map.modules }
+    requires meant { IsSome (source_of locations.old (node_tree visited.node)) }
+    ensures kept { KeepsTables locations.old locations.new }
+    ensures placed { AreCallsPlaced locations.old → AreCallsPlaced locations.new }
+    ensures ok { IfOk result (λ done. (env : Environment) (finished : Maps) (item : KeptItem) → KeepsTables locations.new env.tables → IsVisited (core_in run.old).map visited.entry item
         → Passes env finished (core_in run.old) (core_in run.new) (visit visited.entry.site.now item) from done) }
     ensures noted { OnOk result (IsNoted run.old run.new) }
-    ensures many { result ≡ Err CollectError.TooMany → (env : Environment) (finished : Maps) (item : KeptItem) → IsVisited (core_in run.old).map visited.entry item
-        → PassesTooFar env finished (core_in run.old) (visit visited.entry.site.now item) from }
+    ensures many { result ≡ Err StepError.TooMany → (env : Environment) (finished : Maps) (item : KeptItem) → KeepsTables locations.new env.tables
+        → IsVisited (core_in run.old).map visited.entry item → PassesTooFar env finished (core_in run.old) (visit visited.entry.site.now item) from }
 {
     let mut done = from;
     'next: while let Some(at) = next_attribute(run.map(), visited.node, visited.attrs, done) {
-        if !handle_attribute(run, visited, at)? {
+        if !handle_attribute(run, locations, visited, at)? {
             return Ok(None);
         }
         done = at + 1;

@@ -42,7 +42,7 @@ use hir_collector_rules::declaration::Declaration;
 use hir_collector_rules::macro_directive::{MacroDirective, MacroDirectiveKind};
 use hir_collector_rules::site::{ItemHead, Site, head_at};
 use hir_collector_rules::source_database::SourceDatabase;
-use hir_collector_rules::start::{CollectError, STEP_LIMIT};
+use hir_collector_rules::start::{STEP_LIMIT, StepError};
 use hir_collector_state::def_collector::DefCollector;
 use hir_collector_state::diagnostics::{unconfigured, unresolved_module};
 use hir_def_map::nameres::origin::ModuleOrigin;
@@ -75,11 +75,11 @@ pub enum Inside<'a> {
 }
 
 /// Lists a constant that has no name.
-fn list_const(run: &mut DefCollector, site: &Site, head: ItemHead<'_>) -> Result<(), CollectError>
+fn list_const(run: &mut DefCollector, site: &Site, head: ItemHead<'_>) -> Result<(), StepError>
     requires enabled { is_enabled (head_of head).attributes ≡ true }
     ensures ok { OnOk result ((env : Environment) (finished : Maps) → Handles env finished (core_in run.old) (core_in run.new) (visit site.now (leaf (head_of head.entry) (constant None))) []) }
     ensures noted { OnOk result (IsNoted run.old run.new) }
-    ensures many { result ≡ Err CollectError.TooMany → STEP_LIMIT ≤ (core_in run.old).count }
+    ensures many { result ≡ Err StepError.TooMany → STEP_LIMIT ≤ (core_in run.old).count }
 {
     let id = ConstId {
         loc: ItemLoc {
@@ -101,11 +101,11 @@ fn visit_const(
     site: &Site,
     head: ItemHead<'_>,
     name: &Option<Name>,
-) -> Result<(), CollectError>
+) -> Result<(), StepError>
     requires enabled { is_enabled (head_of head).attributes ≡ true }
     ensures ok { OnOk result ((env : Environment) → Handles env (part_of world.entry) (core_in run.old) (core_in run.new) (visit site.now (leaf (head_of head.entry) (constant name.now))) []) }
     ensures noted { OnOk result (IsNoted run.old run.new) }
-    ensures many { result ≡ Err CollectError.TooMany → STEP_LIMIT ≤ (core_in run.old).count }
+    ensures many { result ≡ Err StepError.TooMany → STEP_LIMIT ≤ (core_in run.old).count }
 {
     match name {
         Some(name) => declare_const(run, world, site, head, name)?,
@@ -120,11 +120,11 @@ fn list_impl(
     site: &Site,
     head: ItemHead<'_>,
     of_trait: bool,
-) -> Result<(), CollectError>
+) -> Result<(), StepError>
     requires enabled { is_enabled (head_of head).attributes ≡ true }
     ensures ok { OnOk result ((env : Environment) (finished : Maps) → Handles env finished (core_in run.old) (core_in run.new) (visit site.now (leaf (head_of head.entry) (implementation of_trait))) []) }
     ensures noted { OnOk result (IsNoted run.old run.new) }
-    ensures many { result ≡ Err CollectError.TooMany → STEP_LIMIT ≤ (core_in run.old).count }
+    ensures many { result ≡ Err StepError.TooMany → STEP_LIMIT ≤ (core_in run.old).count }
 {
     let id = ImplId {
         loc: ItemLoc {
@@ -159,12 +159,12 @@ fn open(
     head: ItemHead<'_>,
     name: &Name,
     origin: ModuleOrigin,
-) -> Result<u32, CollectError>
+) -> Result<u32, StepError>
     requires in_range { site.now.home < length (core_in run.old).map.modules }
     ensures made { IfOk result (λ home. home ≡ length (core_in run.old).map.modules) }
     ensures ok { OnOk result (core_in run.new ≡ opened (part_of world.entry) (core_in run.old) site.now (head_of head.entry) name.now origin) }
     ensures noted { OnOk result (IsNoted run.old run.new) }
-    ensures many { result ≡ Err CollectError.TooMany → IsFull (core_in run.old).count (core_in run.old).map }
+    ensures many { result ≡ Err StepError.TooMany → IsFull (core_in run.old).count (core_in run.old).map }
 {
     let vis = run.visibility(world, site, head);
     let made = run.open(site.home, name.clone()?, origin, vis)?;
@@ -186,14 +186,14 @@ fn visit_inline<'a>(
     head: ItemHead<'_>,
     name: &Name,
     ids: &'a [ModItemId],
-) -> Result<Inside<'a>, CollectError>
+) -> Result<Inside<'a>, StepError>
     requires in_range { site.now.home < length (core_in run.old).map.modules }
     requires enabled { is_enabled (head_of head).attributes ≡ true }
     ensures ok { IfOk result (λ inside. (env : Environment) (items : List KeptItem) → Handles env (part_of world.entry) (core_in run.old) (core_in run.new)
         (visit site.now (holder (head_of head.entry) (inline_module name.now) (items_at items (numbers_of ids.entry.now)))) (tasks_of site.now.home items inside)) }
     ensures noted { OnOk result (IsNoted run.old run.new) }
     ensures within { IfOk result (λ inside. (tables : TablesValue) → GoesInside tables (length (core_in run.new).map.modules) site.now (numbers_of ids.entry.now) inside) }
-    ensures many { result ≡ Err CollectError.TooMany → IsFull (core_in run.old).count (core_in run.old).map }
+    ensures many { result ≡ Err StepError.TooMany → IsFull (core_in run.old).count (core_in run.old).map }
 {
     let path = path_attr(head.attrs.attrs.as_slice());
     let dir = site
@@ -230,13 +230,13 @@ fn open_file(
     head: ItemHead<'_>,
     name: &Name,
     file: &FoundFile,
-) -> Result<Site, CollectError>
+) -> Result<Site, StepError>
     requires in_range { site.now.home < length (core_in run.old).map.modules }
     ensures inside { IfOk result (λ inside. inside ≡ inside_file (core_in run.old).map (found_view file.now)) }
     ensures ok { OnOk result (core_in run.new ≡ opened (part_of world.entry) (core_in run.old) site.now (head_of head.entry) name.now
         (file_origin site.now.tree head.entry.id (core_in run.old).map.crate_data.edition (found_view file.now))) }
     ensures noted { OnOk result (IsNoted run.old run.new) }
-    ensures many { result ≡ Err CollectError.TooMany → IsFull (core_in run.old).count (core_in run.old).map }
+    ensures many { result ≡ Err StepError.TooMany → IsFull (core_in run.old).count (core_in run.old).map }
 {
     let definition = EditionedFileId {
         file_id: file.id,
@@ -269,10 +269,10 @@ fn drop_file(
     site: &Site,
     head: ItemHead<'_>,
     cfg: &CfgExpr,
-) -> Result<(), CollectError>
+) -> Result<(), StepError>
     ensures ok { OnOk result (Drops (IsUnconfigured (module_id (core_in run.old).map site.now.home) (node_of site.now.tree AstKind.Module head.entry.id) (cfg_view cfg.now) (core_in run.old).options) (core_in run.old) (core_in run.new)) }
     ensures noted { OnOk result (IsNoted run.old run.new) }
-    ensures many { result ≡ Err CollectError.TooMany → STEP_LIMIT ≤ (core_in run.old).count }
+    ensures many { result ≡ Err StepError.TooMany → STEP_LIMIT ≤ (core_in run.old).count }
 {
     let at = run.module_id(site.home);
     let node = mod_node(site.tree, head.id);
@@ -290,12 +290,12 @@ fn miss_file(
     head: ItemHead<'_>,
     name: &Name,
     candidates: &[Candidate],
-) -> Result<(), CollectError>
+) -> Result<(), StepError>
     requires in_range { site.now.home < length (core_in run.old).map.modules }
     ensures ok { OnOk result (Tells (IsUnresolvedModule (module_id (core_in run.old).map site.now.home) (node_of site.now.tree AstKind.Module head.entry.id) (map (λ c. c.text) candidates.now))
         (opened (part_of world.entry) (core_in run.old) site.now (head_of head.entry) name.now (inline_origin site.now.tree head.entry.id)) (core_in run.new)) }
     ensures noted { OnOk result (IsNoted run.old run.new) }
-    ensures many { result ≡ Err CollectError.TooMany → IsFull (core_in run.old).count (core_in run.old).map
+    ensures many { result ≡ Err StepError.TooMany → IsFull (core_in run.old).count (core_in run.old).map
         × ((d : DefDiagnostic) × IsUnresolvedModule (module_id (core_in run.old).map site.now.home) (node_of site.now.tree AstKind.Module head.entry.id) (map (λ c. c.text) candidates.now) d) }
 {
     let node = mod_node(site.tree, head.id);
@@ -319,11 +319,11 @@ fn take_file<'a>(
     head: ItemHead<'_>,
     name: &Name,
     file: FoundFile,
-) -> Result<Inside<'a>, CollectError>
+) -> Result<Inside<'a>, StepError>
     requires in_range { site.now.home < length (core_in run.old).map.modules }
     ensures ok { IfOk result (λ inside. TakesFile (part_of world.entry) site.now (head_of head.entry) name.now (found_view file) file.source.value (core_in run.old) (core_in run.new) inside) }
     ensures noted { OnOk result (IsNoted run.old run.new) }
-    ensures many { result ≡ Err CollectError.TooMany → IsFull (core_in run.old).count (core_in run.old).map × MayTake site.now (head_of head.entry) (found_view file) (core_in run.old) }
+    ensures many { result ≡ Err StepError.TooMany → IsFull (core_in run.old).count (core_in run.old).map × MayTake site.now (head_of head.entry) (found_view file) (core_in run.old) }
 {
     if let Some(cfg) = &file.source.tree().top_level_attrs().disabled {
         drop_file(run, site, head, cfg)?;
@@ -347,7 +347,7 @@ fn visit_outline<'a, D: SourceDatabase>(
     site: &Site,
     head: ItemHead<'_>,
     name: &Name,
-) -> Result<Inside<'a>, CollectError>
+) -> Result<Inside<'a>, StepError>
     requires in_range { site.now.home < length (core_in run.old).map.modules }
     requires enabled { is_enabled (head_of head).attributes ≡ true }
     requires meant { IsFileMeant locations.old site.now.file }
@@ -358,7 +358,7 @@ fn visit_outline<'a, D: SourceDatabase>(
         (visit site.now (leaf (head_of head.entry) (outline_module name.now))) (tasks_of site.now.home items inside))) }
     ensures noted { OnOk result (IsNoted run.old run.new) }
     ensures within { IfOk result (λ inside. GoesInside locations.new (length (core_in run.new).map.modules) site.now [] inside) }
-    ensures many { result ≡ Err CollectError.TooMany → OnceGrown locations.new (D.workspace db.old)
+    ensures many { result ≡ Err StepError.TooMany → OnceGrown locations.new (D.workspace db.old)
         (λ env. HandlesTooFar env (part_of world.entry) (core_in run.old) (visit site.now (leaf (head_of head.entry) (outline_module name.now)))) }
 {
     let path = path_attr(head.attrs.attrs.as_slice());
@@ -385,14 +385,14 @@ fn enter<'a>(
     site: &Site,
     head: ItemHead<'_>,
     ids: &'a [ModItemId],
-) -> Result<Inside<'a>, CollectError>
+) -> Result<Inside<'a>, StepError>
     requires in_range { site.now.home < length (core_in run.old).map.modules }
     requires enabled { is_enabled (head_of head).attributes ≡ true }
     ensures ok { IfOk result (λ inside. (env : Environment) (finished : Maps) (items : List KeptItem) → Handles env finished (core_in run.old) (core_in run.new)
         (visit site.now (holder (head_of head.entry) extern_block (items_at items (numbers_of ids.entry.now)))) (tasks_of site.now.home items inside)) }
     ensures noted { OnOk result (IsNoted run.old run.new) }
     ensures within { IfOk result (λ inside. (tables : TablesValue) → GoesInside tables (length (core_in run.new).map.modules) site.now (numbers_of ids.entry.now) inside) }
-    ensures many { result ≡ Err CollectError.TooMany → STEP_LIMIT ≤ (core_in run.old).count }
+    ensures many { result ≡ Err StepError.TooMany → STEP_LIMIT ≤ (core_in run.old).count }
 {
     let id = ExternBlockId {
         loc: ItemLoc {
@@ -425,11 +425,11 @@ fn reach_call(
     site: &Site,
     head: ItemHead<'_>,
     path: &ModPath,
-) -> Result<(), CollectError>
+) -> Result<(), StepError>
     requires enabled { is_enabled (head_of head).attributes ≡ true }
     ensures ok { OnOk result ((env : Environment) (finished : Maps) → Handles env finished (core_in run.old) (core_in run.new) (visit site.now (leaf (head_of head.entry) (macro_call path.now))) []) }
     ensures noted { OnOk result (IsNoted run.old run.new) }
-    ensures many { result ≡ Err CollectError.TooMany → STEP_LIMIT ≤ (core_in run.old).count }
+    ensures many { result ≡ Err StepError.TooMany → STEP_LIMIT ≤ (core_in run.old).count }
 {
     let call = MacroDirective {
         site: site.clone()?,
@@ -457,7 +457,7 @@ fn visit_leaf<D: SourceDatabase>(
     site: &Site,
     head: ItemHead<'_>,
     item: ModItemKind<'_>,
-) -> Result<(), CollectError>
+) -> Result<(), StepError>
     requires in_range { site.now.home < length (core_in run.old).map.modules }
     requires enabled { is_enabled (head_of head).attributes ≡ true }
     requires meant { IsMeantAt locations.now site.now }
@@ -466,7 +466,7 @@ fn visit_leaf<D: SourceDatabase>(
     ensures ok { OnOk result (OnceGrown locations.now (D.workspace db.old) (λ env. (items : List KeptItem)
         → Handles env (part_of world.entry) (core_in run.old) (core_in run.new) (visit site.now (item_of items (head_of head.entry) (kind_content item.entry))) [])) }
     ensures noted { OnOk result (IsNoted run.old run.new) }
-    ensures many { result ≡ Err CollectError.TooMany → STEP_LIMIT ≤ (core_in run.old).count }
+    ensures many { result ≡ Err StepError.TooMany → STEP_LIMIT ≤ (core_in run.old).count }
 {
     match item {
         ModItemKind::Use(item) => reach_use(run, site, head, item.use_tree),
@@ -522,7 +522,7 @@ fn handle_item<'a, D: SourceDatabase>(
     site: &Site,
     head: ItemHead<'_>,
     item: ModItemKind<'a>,
-) -> Result<Inside<'a>, CollectError>
+) -> Result<Inside<'a>, StepError>
     requires in_range { site.now.home < length (core_in run.old).map.modules }
     requires enabled { is_enabled (head_of head).attributes ≡ true }
     requires meant { IsMeantAt locations.old site.now }
@@ -533,7 +533,7 @@ fn handle_item<'a, D: SourceDatabase>(
         (visit site.now (item_of items (head_of head.entry) (kind_content item.entry))) (tasks_of site.now.home items inside))) }
     ensures noted { OnOk result (IsNoted run.old run.new) }
     ensures within { IfOk result (λ inside. GoesInside locations.new (length (core_in run.new).map.modules) site.now (held_numbers (kind_content item.entry)) inside) }
-    ensures many { result ≡ Err CollectError.TooMany → OnceGrown locations.new (D.workspace db.old) (λ env. (items : List KeptItem) →
+    ensures many { result ≡ Err StepError.TooMany → OnceGrown locations.new (D.workspace db.old) (λ env. (items : List KeptItem) →
         HandlesTooFar env (part_of world.entry) (core_in run.old) (visit site.now (item_of items (head_of head.entry) (kind_content item.entry)))) }
 {
     match item {
@@ -559,7 +559,7 @@ fn visit_item<'a, D: SourceDatabase>(
     site: &Site,
     head: ItemHead<'_>,
     item: ModItemKind<'a>,
-) -> Result<Inside<'a>, CollectError>
+) -> Result<Inside<'a>, StepError>
     requires in_range { site.now.home < length (core_in run.old).map.modules }
     requires enabled { is_enabled (head_of head).attributes ≡ true }
     requires meant { IsMeantAt locations.old site.now }
@@ -571,7 +571,7 @@ fn visit_item<'a, D: SourceDatabase>(
     ensures noted { OnOk result (IsNotedBeside (part_of world.entry) run.old run.new) }
     ensures spread { OnOk result (run.new.globs.pending ≡ []) }
     ensures within { IfOk result (λ inside. GoesInside locations.new (length (core_in run.new).map.modules) site.now (held_numbers (kind_content item.entry)) inside) }
-    ensures many { result ≡ Err CollectError.TooMany → OnceGrown locations.new (D.workspace db.old) (λ env. (items : List KeptItem) →
+    ensures many { result ≡ Err StepError.TooMany → OnceGrown locations.new (D.workspace db.old) (λ env. (items : List KeptItem) →
         HandlesTooFar env (part_of world.entry) (core_in run.old) (visit site.now (item_of items (head_of head.entry) (kind_content item.entry)))) }
 {
     let inside = handle_item(run, db, world, locations, site, head, item)?;
@@ -586,10 +586,10 @@ fn drop_item(
     id: SyntaxId,
     item: ModItemKind<'_>,
     cfg: &CfgExpr,
-) -> Result<(), CollectError>
+) -> Result<(), StepError>
     ensures ok { OnOk result (Drops (IsUnconfigured (module_id (core_in run.old).map site.now.home) (node_of site.now.tree (kind_of item.entry) id) (cfg_view cfg.now) (core_in run.old).options) (core_in run.old) (core_in run.new)) }
     ensures noted { OnOk result (IsNoted run.old run.new) }
-    ensures many { result ≡ Err CollectError.TooMany → STEP_LIMIT ≤ (core_in run.old).count }
+    ensures many { result ≡ Err StepError.TooMany → STEP_LIMIT ≤ (core_in run.old).count }
 {
     let node = AstId {
         file_id: site.tree.file,
@@ -616,17 +616,22 @@ fn counted(number: usize) -> usize
 /// item is next.
 fn pass(
     run: &mut DefCollector,
+    locations: &mut Tables,
     source: &Rc<SourceTree>,
     site: &Site,
     id: ModItemId,
     done: usize,
-) -> Result<Option<usize>, CollectError>
+) -> Result<Option<usize>, StepError>
+    requires in_range { site.now.home < length (core_in run.old).map.modules }
+    requires meant { IsMeantAt locations.old site.now }
     requires there { id.0 < length (all_items source.now.value.tree.items) }
     requires enabled { IfSome (slice_get (all_items source.now.value.tree.items) id.0) (λ i. is_enabled (item_head i).attributes ≡ true) }
-    ensures ok { IfOk result (λ passed. (env : Environment) (finished : Maps) → IfSome (slice_get (all_items source.now.value.tree.items) id.0)
+    ensures kept { KeepsTables locations.old locations.new }
+    ensures placed { AreCallsPlaced locations.old → AreCallsPlaced locations.new }
+    ensures ok { IfOk result (λ passed. (env : Environment) (finished : Maps) → KeepsTables locations.new env.tables → IfSome (slice_get (all_items source.now.value.tree.items) id.0)
         (λ i. Passes env finished (core_in run.old) (core_in run.new) (visit site.now i) done passed)) }
     ensures noted { OnOk result (IsNoted run.old run.new) }
-    ensures many { result ≡ Err CollectError.TooMany → (env : Environment) (finished : Maps) → IfSome (slice_get (all_items source.now.value.tree.items) id.0)
+    ensures many { result ≡ Err StepError.TooMany → (env : Environment) (finished : Maps) → KeepsTables locations.new env.tables → IfSome (slice_get (all_items source.now.value.tree.items) id.0)
         (λ i. PassesTooFar env finished (core_in run.old) (visit site.now i) done) }
 {
     let head = head_at(source.tree(), id);
@@ -644,7 +649,7 @@ fn pass(
         attrs: head.attrs.attrs.as_slice(),
         adt: adt_of(run, site, head, item),
     };
-    pass_attributes(run, visited, done)
+    pass_attributes(run, locations, visited, done)
 }
 
 /// Handles an item of which so many attributes are done with, and all that is in it.
@@ -658,7 +663,7 @@ pub fn walk_item<D: SourceDatabase>(
     site: &Site,
     id: ModItemId,
     done: usize,
-) -> Result<(), CollectError>
+) -> Result<(), StepError>
     requires in_range { site.now.home < length (core_in run.old).map.modules }
     requires meant { IsMeantAt locations.old site.now }
     requires there { id.0 < length (all_items source.now.value.tree.items) }
@@ -668,7 +673,7 @@ pub fn walk_item<D: SourceDatabase>(
     ensures ok { OnOk result (OnceGrown locations.new (D.workspace db.old)
         (λ env. Walks env (part_of world.entry) (core_in run.old) (core_in run.new) (visits_behind source.now.value.tree site.now id.0 done))) }
     ensures noted { OnOk result (IsNotedBeside (part_of world.entry) run.old run.new) }
-    ensures many { result ≡ Err CollectError.TooMany → OnceGrown locations.new (D.workspace db.old)
+    ensures many { result ≡ Err StepError.TooMany → OnceGrown locations.new (D.workspace db.old)
         (λ env. WalksTooFar env (part_of world.entry) (core_in run.old) (visits_behind source.now.value.tree site.now id.0 done)) }
 {
     let head = head_at(source.tree(), id);
@@ -677,7 +682,7 @@ pub fn walk_item<D: SourceDatabase>(
         drop_item(run, site, head.id, item, cfg)?;
         return Ok(());
     }
-    if pass(run, source, site, id, done)?.is_none() {
+    if pass(run, locations, source, site, id, done)?.is_none() {
         return Ok(());
     }
     let inside = visit_item(run, db, world, locations, site, head, item)?;
@@ -715,7 +720,7 @@ pub fn walk_all<D: SourceDatabase>(
     source: &Rc<SourceTree>,
     site: &Site,
     ids: &[ModItemId],
-) -> Result<(), CollectError>
+) -> Result<(), StepError>
     requires in_range { site.now.home < length (core_in run.old).map.modules }
     requires meant { IsMeantAt locations.old site.now }
     requires there { All (λ n. n < length (all_items source.now.value.tree.items)) (numbers_of ids.now) }
@@ -725,7 +730,7 @@ pub fn walk_all<D: SourceDatabase>(
     ensures ok { OnOk result (OnceGrown locations.new (D.workspace db.old)
         (λ env. Walks env (part_of world.entry) (core_in run.old) (core_in run.new) (visits_at source.now.value.tree site.now (numbers_of ids.now)))) }
     ensures noted { OnOk result (IsNotedBeside (part_of world.entry) run.old run.new) }
-    ensures many { result ≡ Err CollectError.TooMany → OnceGrown locations.new (D.workspace db.old)
+    ensures many { result ≡ Err StepError.TooMany → OnceGrown locations.new (D.workspace db.old)
         (λ env. WalksTooFar env (part_of world.entry) (core_in run.old) (visits_at source.now.value.tree site.now (numbers_of ids.now))) }
 {
     for id in ids {

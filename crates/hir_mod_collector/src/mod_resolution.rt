@@ -16,7 +16,7 @@ use hir_base::file_path::FilePath;
 use hir_collector_items::sources::source_at;
 use hir_collector_rules::crate_attrs::is_keyed;
 use hir_collector_rules::source_database::{Key, SourceDatabase};
-use hir_collector_rules::start::CollectError;
+use hir_collector_rules::start::StepError;
 use hir_collector_state::def_collector::DefCollector;
 use hir_item_tree::attrs::Attr;
 use hir_item_tree::raw_attr::AttrInput;
@@ -114,14 +114,14 @@ fn look_at<D: SourceDatabase>(
     locations: &mut Tables,
     declaring: Option<&FilePath>,
     candidate: &Candidate,
-) -> Result<Option<LookedFile>, CollectError>
+) -> Result<Option<LookedFile>, StepError>
     ensures kept { KeepsTables locations.old locations.new }
     ensures placed { AreCallsPlaced locations.old → AreCallsPlaced locations.new }
     ensures same { D.workspace db.new ≡ D.workspace db.old }
     ensures ok { IfOk result (λ file. LooksAt locations.new (D.workspace db.old) (option_map (λ p. p.now) declaring.entry) candidate.now (core_in run.old) (core_in run.new) (option_map looked_view file)) }
     ensures noted { OnOk result (IsNoted run.old run.new) }
     ensures held { IfOk result (λ file. IfSome file (λ f. IsHeld locations.new (D.workspace db.old) (core_in run.old).map.id.krate (file_tree (core_in run.old).map.crate_data.edition f.id) f.source.value)) }
-    ensures many { result ≡ Err CollectError.TooMany → (path : List ℕ) × (named_by (option_map (λ p. p.now) declaring.entry) candidate.now ≡ Some path) × IsNumberedOut locations.new.files path }
+    ensures many { result ≡ Err StepError.TooMany → (path : List ℕ) × (named_by (option_map (λ p. p.now) declaring.entry) candidate.now ≡ Some path) × IsNumberedOut locations.new.files path }
 {
     let Some(path) = named_by(run.allocator(), declaring, candidate)? else {
         return Ok(None);
@@ -169,14 +169,14 @@ pub fn find_file<D: SourceDatabase>(
     locations: &mut Tables,
     declaring: Option<&FilePath>,
     candidates: &[Candidate],
-) -> Result<Option<FoundFile>, CollectError>
+) -> Result<Option<FoundFile>, StepError>
     ensures kept { KeepsTables locations.old locations.new }
     ensures placed { AreCallsPlaced locations.old → AreCallsPlaced locations.new }
     ensures same { D.workspace db.new ≡ D.workspace db.old }
     ensures ok { IfOk result (λ file. Finds locations.new (D.workspace db.old) (option_map (λ p. p.now) declaring.entry) candidates.now (core_in run.old) (core_in run.new) (option_map found_view file)) }
     ensures noted { OnOk result (IsNoted run.old run.new) }
     ensures held { IfOk result (λ file. IfSome file (λ f. IsHeld locations.new (D.workspace db.old) (core_in run.old).map.id.krate (file_tree (core_in run.old).map.crate_data.edition f.id) f.source.value)) }
-    ensures many { result ≡ Err CollectError.TooMany → (path : List ℕ) × IsTriedFile (D.workspace db.old) (core_in run.old).map.id.krate (option_map (λ p. p.now) declaring.entry) candidates.now path
+    ensures many { result ≡ Err StepError.TooMany → (path : List ℕ) × IsTriedFile (D.workspace db.old) (core_in run.old).map.id.krate (option_map (λ p. p.now) declaring.entry) candidates.now path
         × IsNumberedOut locations.new.files path }
 {
     let [candidate, others @ ..] = candidates else {

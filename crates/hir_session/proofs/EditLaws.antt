@@ -1,15 +1,16 @@
 -- What an edit of a source marks, and what it leaves.
 use Rattle.std.specs.Prelude.{cond, is_none, is_some}
 use Rattle.std.specs.Option.{option_and_then}
-use Rattle.std.proofs.Common.{◌≡◌, ◌≢◌, ℕ, Bool, true, false, nat_lt, if◌then◌else◌, length, Option, Some, None, refl, sym, subst, ap, ◌∙◌, Contains, List, [], ◌∷◌, ◌++◌, option_map}
+use Rattle.std.proofs.Common.{◌≡◌, ◌≢◌, ℕ, Bool, true, false, nat_lt, if◌then◌else◌, length, Option, Some, None, refl, sym, subst, ap, ◌∙◌, Contains, List, []}
+use Rattle.std.proofs.Common.{◌∷◌, ◌++◌, option_map}
 use Rattle.hir_base.specs.CfgOptions.{is_set}
 use Rattle.hir_base.specs.Place.{PlaceValue}
-use Rattle.hir_base.specs.declared.ast_id.EntryId.{EntryId}
 use Rattle.hir_base.specs.declared.ast_id.BlockId.{BlockId}
+use Rattle.hir_base.specs.declared.place.BlockPlace.{BlockPlace}
 use Rattle.hir_base.specs.declared.ids.Crate.{Crate}
+use Rattle.hir_base.specs.declared.ast_id.EntryId.{EntryId}
 use Rattle.hir_base.specs.declared.ids.MapId.{MapId}
 use Rattle.hir_base.specs.declared.ids.ModuleId.{ModuleId}
-use Rattle.hir_base.specs.declared.place.BlockPlace.{BlockPlace}
 use Rattle.hir_base.specs.declared.place.PlaceElement.{PlaceElement}
 use Rattle.hir_base.specs.declared.place.PlaceElement.TheVariants as element
 use Rattle.hir_item_tree.specs.BodyTexts.{BodyTextsLeaveTheSides, BodyTextsLeaveTheTree, source_without_bodies}
@@ -39,9 +40,11 @@ use Rattle.hir_session_state.specs.Crates.{CrateValue, crate_in, options_in, tra
 use Rattle.hir_session_state.specs.Entries.{entry_at, look_of, source_of as source_in_entry}
 use Rattle.hir_session_state.specs.Files.{file_at}
 use Rattle.hir_session_state.specs.KeySources.{key_place, key_tree}
-use Rattle.hir_session_state.specs.SessionState.{SessionState, Resolution, finished_of, follows, is_marked, kept_of, module_of, read_of, standing_of, workspace_of, IsSound}
+use Rattle.hir_session_state.specs.SessionState.{SessionState, Resolution, finished_of, follows, is_marked, kept_of, module_of, read_of, standing_of}
+use Rattle.hir_session_state.specs.SessionState.{workspace_of, IsSound}
 use Rattle.hir_session_state.specs.Kept.{kept_in, placed_by}
-use Rattle.hir_session_state.specs.Standing.{Standing, block_below, block_map, block_number, down, from_crate, is_set as is_block_set, kept_block, module_by, step, to_child, to_root}
+use Rattle.hir_session_state.specs.Standing.{Standing, block_below, block_map, block_number, down, from_crate, is_set as is_block_set, kept_block, module_by}
+use Rattle.hir_session_state.specs.Standing.{step, to_child, to_root}
 use Rattle.hir_session_state.specs.Standing.Standing.{at, lacks, stale, unset}
 use Rattle.hir_session_state.specs.SourceEdits.{SourceEditValue, IsSeenAlike, edit_of, edited, of_block, of_expansion, of_file, place_of, source_by}
 use Rattle.hir_session_state.specs.SourceTable.{SourceTable, front_in, source_at, tree_under, workspace_in}
@@ -53,14 +56,22 @@ use Rattle.hir_session_state.specs.Marks.IsTouched.{before, asked_for}
 use Rattle.hir_session_state.specs.EditedSources.{seen_at}
 use Rattle.hir_session_state.specs.Changes.{Becomes}
 use Rattle.hir_session_state.specs.Due.{IsBehind}
-use Rattle.hir_session.specs.Laws.{AnswersAlike, BodyEditsMarkNothing, BodyEditsLeaveAnswers, ExpansionBodyEditsMarkNothing, ExpansionBodyEditsLeaveAnswers, SetAbsentFileMarks, RemovePresentFileMarks, RemoveAbsentFileMarksNothing, RemoveAbsentFileLeavesAnswers, SetAbsentExpansionMarks, RemovePresentExpansionMarks, RemoveAbsentExpansionMarksNothing, RemoveAbsentExpansionLeavesAnswers, BlockBodyEditsMarkNothing, BlockBodyEditsLeaveAnswers, SetAbsentBlockMarks, RemovePresentBlockMarks, RemoveAbsentBlockMarksNothing, RemoveAbsentBlockLeavesAnswers, UnaskedSourcesMarkNothing, UnaskedSourcesLeaveAnswers, UnaskedSourcesLeaveCurrentAnswers, IsUnasked, edits_block}
+use Rattle.hir_session.specs.Laws.{AnswersAlike, BodyEditsMarkNothing, BodyEditsLeaveAnswers, ExpansionBodyEditsMarkNothing, ExpansionBodyEditsLeaveAnswers}
+use Rattle.hir_session.specs.Laws.{SetAbsentFileMarks, RemovePresentFileMarks, RemoveAbsentFileMarksNothing, RemoveAbsentFileLeavesAnswers}
+use Rattle.hir_session.specs.Laws.{SetAbsentExpansionMarks, RemovePresentExpansionMarks, RemoveAbsentExpansionMarksNothing, RemoveAbsentExpansionLeavesAnswers}
+use Rattle.hir_session.specs.Laws.{BlockBodyEditsMarkNothing, BlockBodyEditsLeaveAnswers, SetAbsentBlockMarks, RemovePresentBlockMarks}
+use Rattle.hir_session.specs.Laws.{RemoveAbsentBlockMarksNothing, RemoveAbsentBlockLeavesAnswers, UnaskedSourcesMarkNothing, UnaskedSourcesLeaveAnswers}
+use Rattle.hir_session.specs.Laws.{UnaskedSourcesLeaveCurrentAnswers, IsUnasked, edits_block}
 use Rattle.hir_session_answers.proofs.Differ.{ends_unmarked, same_answer, unmarked_behind}
 use Rattle.hir_session_state.proofs.Truth.{clash, on_bool, no_value, one_value}
-use Rattle.hir_session_sources.proofs.SourceLemmas.{beside-differs, look-apart, look-differs, look-same, place_same, same_place, source_at-edited, treeless-same}
+use Rattle.hir_session_sources.proofs.SourceLemmas.{beside-differs, look-apart, look-differs, look-same, place_same, same_place, source_at-edited}
+use Rattle.hir_session_sources.proofs.SourceLemmas.{treeless-same}
 
 -- each key that a run asked for sees what it saw
 abbrev AreUnaltered : SessionState → Workspace → Type 0
-AreUnaltered s w = (id : MapId) (r : Resolution) (key : Key) → kept_of s id ≡ Some r → Contains r.asked key → look s.tables w no_maps key ≡ look s.tables (workspace_of s) no_maps key
+AreUnaltered s w =
+    (id : MapId) (r : Resolution) (key : Key) → kept_of s id ≡ Some r → Contains r.asked key → look s.tables w no_maps key ≡ look s.tables (workspace_of s)
+    no_maps key
 
 -- what the edit leaves alike at each such key marks what was marked
 unspread : {s : SessionState} {w : Workspace} {k : MapId} → IsSound s → AreUnaltered s w → Spread (follows s) (IsTouched s w) k → is_marked s k ≡ true
@@ -81,7 +92,8 @@ unaltered_marks {old} {new} sound is same k = on_bool (is_marked new k)
 
 -- an edit after which each key that asks for the source sees what it saw leaves each key as it was
 same_looks : (s : SessionState) (edit : SourceEditValue)
-    → ((k : ℕ) (key : Key) → seen_at (tree_under s.crates k (place_of edit) (source_by edit)) key ≡ seen_at (tree_under s.crates k (place_of edit) (source_at s.sources (place_of edit))) key)
+    → ((k : ℕ) (key : Key) → seen_at (tree_under s.crates k (place_of edit) (source_by edit)) key
+    ≡ seen_at (tree_under s.crates k (place_of edit) (source_at s.sources (place_of edit))) key)
     → IsSeenAlike s.sources edit
     → (key : Key) → look s.tables (workspace_in s.crates (edited s.sources edit)) no_maps key ≡ look s.tables (workspace_of s) no_maps key
 same_looks s edit same alike key = go (key_place s.tables key) refl
@@ -126,7 +138,8 @@ module _ (old new : SessionState) (crates : new.crates ≡ old.crates) (tables :
       ap (λ (t : TablesValue). kept_block t new.kept b) tables
       ∙ go (block_number old.tables b)
     where
-      go : (o : Option BlockId) → option_and_then (λ (n : BlockId). kept_in new.kept (block_map b.holder.krate n)) o ≡ option_and_then (λ (n : BlockId). kept_in old.kept (block_map b.holder.krate n)) o
+      go : (o : Option BlockId) → option_and_then (λ (n : BlockId). kept_in new.kept (block_map b.holder.krate n)) o
+          ≡ option_and_then (λ (n : BlockId). kept_in old.kept (block_map b.holder.krate n)) o
       go None = refl
       go (Some n) = kept (block_map b.holder.krate n)
 
@@ -134,7 +147,8 @@ module _ (old new : SessionState) (crates : new.crates ≡ old.crates) (tables :
       → step new.tables new.sources.blocks new.kept krate start st e ≡ step old.tables old.sources.blocks old.kept krate start st e
   step_alike krate start (at m) (element.Module name) =
       ap (λ (o : Option Resolution). to_child m.map (option_and_then (λ (r : Resolution). child_at r.map m.index name) o)) (kept m.map)
-  step_alike krate start (at m) (element.Block id) = (λ i. cond (set (block_below krate start id) i) (to_root (block_alike (block_below krate start id) i)) unset)
+  step_alike krate start (at m) (element.Block id) =
+      (λ i. cond (set (block_below krate start id) i) (to_root (block_alike (block_below krate start id) i)) unset)
   step_alike krate start (lacks id) (element.Module name) = refl
   step_alike krate start (lacks id) (element.Block b) = refl
   step_alike krate start stale (element.Module name) = refl
@@ -150,7 +164,9 @@ module _ (old new : SessionState) (crates : new.crates ≡ old.crates) (tables :
       ∙ down_alike krate (start ++ e ∷ []) (step old.tables old.sources.blocks old.kept krate start st e) more
 
   standing_alike : (place : PlaceValue) → standing_of new place ≡ standing_of old place
-  standing_alike place = ap (λ (o : Option Resolution). from_crate new.tables new.sources.blocks new.kept o place) (kept (crate_map place.krate)) ∙ go (kept_of old (crate_map place.krate))
+  standing_alike place =
+      ap (λ (o : Option Resolution). from_crate new.tables new.sources.blocks new.kept o place) (kept (crate_map place.krate)) ∙ go
+      (kept_of old (crate_map place.krate))
     where
       go : (o : Option Resolution) → from_crate new.tables new.sources.blocks new.kept o place ≡ from_crate old.tables old.sources.blocks old.kept o place
       go None = refl
@@ -165,7 +181,8 @@ module _ (old new : SessionState) (crates : new.crates ≡ old.crates) (tables :
   -- each answer is as it was
   answers_alike : AnswersAlike old new
   answers_alike place path shadow style =
-      (λ i. answer_by (if nat_lt place.krate.0 (length (crates i)) then status_by (standing_alike place i) else status.Unknown) (answer_at new (module_by (standing_alike place i)) path shadow style))
+      (λ i. answer_by (if nat_lt place.krate.0 (length (crates i)) then status_by (standing_alike place i) else status.Unknown)
+      (answer_at new (module_by (standing_alike place i)) path shadow style))
       ∙ ap (answer_by (status_of old place)) (go (module_of old place))
     where
       go : (o : Option ModuleId) → answer_at new o path shadow style ≡ answer_at old o path shadow style
@@ -173,7 +190,8 @@ module _ (old new : SessionState) (crates : new.crates ≡ old.crates) (tables :
       go (Some m) = λ i. answer_from (tables i) (read_alike m.map i) (kept m.map i) m path shadow style
 
 -- of a place whose mark doesn't change, the same is kept
-same_kept : {old new : SessionState} {sources : SourceTable} → Becomes old sources new → (id : MapId) → is_marked new id ≡ is_marked old id → kept_of new id ≡ kept_of old id
+same_kept : {old new : SessionState} {sources : SourceTable} → Becomes old sources new → (id : MapId) → is_marked new id ≡ is_marked old id → kept_of new id
+    ≡ kept_of old id
 same_kept {old} {new} is id same = on_bool (is_marked new id)
     (λ on. nothing (kept_of new id) on ∙ sym (nothing (kept_of old id) (sym same ∙ on)))
     (λ off. is.kept id off)
@@ -183,7 +201,8 @@ same_kept {old} {new} is id same = on_bool (is_marked new id)
     nothing (Some r) e = clash e refl
 
 -- an edit that leaves each such key as it was, and the same blocks set, leaves each answer
-unaltered_answers : {old new : SessionState} {sources : SourceTable} → IsSound old → Becomes old sources new → AreUnaltered old (workspace_in old.crates sources)
+unaltered_answers : {old new : SessionState} {sources : SourceTable} → IsSound old → Becomes old sources new
+    → AreUnaltered old (workspace_in old.crates sources)
     → ((b : BlockPlace) → is_block_set sources.blocks b ≡ is_block_set old.sources.blocks b) → AnswersAlike old new
 unaltered_answers {old} {new} {sources} sound is same set =
     answers_alike old new is.crates is.tables (λ id. same_kept is id (unaltered_marks sound is same id))
@@ -197,10 +216,12 @@ sets_alike t edit alike b = on_bool (is_place (place_of edit) (block b))
     let same : place_of edit ≡ block b = place_same (place_of edit) (block b) on in
     ap (λ (o : Option SourceValue). is_some o) (source_at-edited t edit (block b) ∙ ap (λ (x : Bool). cond x (source_by edit) (source_at t (block b))) on)
     ∙ alike ∙ ap (λ (q : SourcePlaceValue). is_some (source_at t q)) same)
-    (λ off. ap (λ (o : Option SourceValue). is_some o) (source_at-edited t edit (block b) ∙ ap (λ (x : Bool). cond x (source_by edit) (source_at t (block b))) off))
+    (λ off. ap (λ (o : Option SourceValue). is_some o) (source_at-edited t edit (block b) ∙ ap (λ (x : Bool). cond x (source_by edit) (source_at t (block b)))
+    off))
 
 -- what a source has with other bodies is the same
-same_tree : BodyTextsLeaveTheTree → BodyTextsLeaveTheSides → (crates : List CrateValue) (place : SourcePlaceValue) (was source : SourceValue) → source_without_bodies was ≡ source_without_bodies source → (k : ℕ)
+same_tree : BodyTextsLeaveTheTree → BodyTextsLeaveTheSides → (crates : List CrateValue) (place : SourcePlaceValue) (was source : SourceValue)
+    → source_without_bodies was ≡ source_without_bodies source → (k : ℕ)
     → tree_under crates k place (Some source) ≡ tree_under crates k place (Some was)
 same_tree law sides crates place was source alike k = λ i. record {
   present = true;
@@ -209,14 +230,18 @@ same_tree law sides crates place was source alike k = λ i. record {
 }
 
 -- a file that is set to a source with other bodies leaves each key as it was
-same_but_bodies : BodyTextsLeaveTheTree → BodyTextsLeaveTheSides → (s : SessionState) (path : List ℕ) (was source : SourceValue) → file_at s.sources.files path ≡ Some was
+same_but_bodies : BodyTextsLeaveTheTree → BodyTextsLeaveTheSides → (s : SessionState) (path : List ℕ) (was source : SourceValue) → file_at s.sources.files path
+    ≡ Some was
     → source_without_bodies was ≡ source_without_bodies source
-    → (key : Key) → look s.tables (workspace_in s.crates (edited s.sources (of_file path (Some source)))) no_maps key ≡ look s.tables (workspace_of s) no_maps key
+    → (key : Key) → look s.tables (workspace_in s.crates (edited s.sources (of_file path (Some source)))) no_maps key ≡ look s.tables (workspace_of s) no_maps
+    key
 same_but_bodies law sides s path was source is_was alike = same_looks s (of_file path (Some source)) (λ k key.
-    ap (λ (t : SourceTreeValue). seen_at t key) (same_tree law sides s.crates (file path) was source alike k ∙ ap (λ (o : Option SourceValue). tree_under s.crates k (file path) o) (sym is_was))) tt
+    ap (λ (t : SourceTreeValue). seen_at t key) (same_tree law sides s.crates (file path) was source alike k ∙ ap
+    (λ (o : Option SourceValue). tree_under s.crates k (file path) o) (sym is_was))) tt
 
 -- so does an expansion, with the same error
-same_but_expansion_bodies : BodyTextsLeaveTheTree → BodyTextsLeaveTheSides → (s : SessionState) (key : ExpansionValue) (was entry : EntryValue) → entry_at s.sources.entries key ≡ Some was
+same_but_expansion_bodies : BodyTextsLeaveTheTree → BodyTextsLeaveTheSides → (s : SessionState) (key : ExpansionValue) (was entry : EntryValue)
+    → entry_at s.sources.entries key ≡ Some was
     → was.error ≡ entry.error → source_without_bodies was.source ≡ source_without_bodies entry.source
     → (k : Key) → look s.tables (workspace_in s.crates (edited s.sources (of_expansion key (Some entry)))) no_maps k ≡ look s.tables (workspace_of s) no_maps k
 same_but_expansion_bodies law sides s key was entry is_was error alike = same_looks s (of_expansion key (Some entry))
@@ -227,7 +252,8 @@ same_but_expansion_bodies law sides s key was entry is_was error alike = same_lo
 -- a file that is removed where none is leaves each key as it was
 same_without : (s : SessionState) (path : List ℕ) → file_at s.sources.files path ≡ None
     → (key : Key) → look s.tables (workspace_in s.crates (edited s.sources (of_file path None))) no_maps key ≡ look s.tables (workspace_of s) no_maps key
-same_without s path absent = same_looks s (of_file path None) (λ k key. ap (λ (o : Option SourceValue). seen_at (tree_under s.crates k (file path) o) key) (sym absent)) tt
+same_without s path absent =
+    same_looks s (of_file path None) (λ k key. ap (λ (o : Option SourceValue). seen_at (tree_under s.crates k (file path) o) key) (sym absent)) tt
 
 -- so does an expansion
 same_without_expansion : (s : SessionState) (key : ExpansionValue) → entry_at s.sources.entries key ≡ None
@@ -262,7 +288,8 @@ pub remove_absent_expansion_marks_nothing : RemoveAbsentExpansionMarksNothing
 remove_absent_expansion_marks_nothing old new key sound absent is = unaltered_marks sound is (λ id r k kept has. same_without_expansion old key absent k)
 
 pub remove_absent_expansion_leaves_answers : RemoveAbsentExpansionLeavesAnswers
-remove_absent_expansion_leaves_answers old new key sound absent is = unaltered_answers sound is (λ id r k kept has. same_without_expansion old key absent k) (λ b. refl)
+remove_absent_expansion_leaves_answers old new key sound absent is =
+    unaltered_answers sound is (λ id r k kept has. same_without_expansion old key absent k) (λ b. refl)
 
 -- ---- what is there, and what isn't
 
@@ -289,7 +316,8 @@ none_is_there crates key place x o there h = clash (ap (λ (p : Option SourceVal
 
 pub set_absent_file_marks : SetAbsentFileMarks
 set_absent_file_marks old new path source k found key absent is kept asked written =
-    altered_marks (of_file path (Some source)) k found key (there_is_none old.crates key (file path) source (file_at old.sources.files path) absent) is kept asked written
+    altered_marks (of_file path (Some source)) k found key (there_is_none old.crates key (file path) source (file_at old.sources.files path) absent) is kept
+    asked written
 
 pub remove_present_file_marks : RemovePresentFileMarks
 remove_present_file_marks old new path was k found key there is kept asked written =
@@ -310,9 +338,11 @@ remove_present_expansion_marks old new key was k found number there is kept aske
 -- ---- blocks
 
 -- a block that is set to a source with other bodies leaves each key as it was
-same_but_block_bodies : BodyTextsLeaveTheTree → BodyTextsLeaveTheSides → (s : SessionState) (place : BlockPlace) (was source : SourceValue) → block_in s.sources.blocks (place_of_block place) ≡ Some was
+same_but_block_bodies : BodyTextsLeaveTheTree → BodyTextsLeaveTheSides → (s : SessionState) (place : BlockPlace) (was source : SourceValue)
+    → block_in s.sources.blocks (place_of_block place) ≡ Some was
     → source_without_bodies was ≡ source_without_bodies source
-    → (key : Key) → look s.tables (workspace_in s.crates (edited s.sources (of_block place (Some source)))) no_maps key ≡ look s.tables (workspace_of s) no_maps key
+    → (key : Key) → look s.tables (workspace_in s.crates (edited s.sources (of_block place (Some source)))) no_maps key ≡ look s.tables (workspace_of s) no_maps
+    key
 same_but_block_bodies law sides s place was source is_was alike = same_looks s (of_block place (Some source)) (λ k key.
     ap (λ (t : SourceTreeValue). seen_at t key)
     (same_tree law sides s.crates (block place) was source alike k ∙ ap (λ (o : Option SourceValue). tree_under s.crates k (block place) o) (sym is_was))) tt
@@ -320,7 +350,8 @@ same_but_block_bodies law sides s place was source is_was alike = same_looks s (
 -- so does one that is removed where none is set
 same_without_block : (s : SessionState) (place : BlockPlace) → block_in s.sources.blocks (place_of_block place) ≡ None
     → (key : Key) → look s.tables (workspace_in s.crates (edited s.sources (of_block place None))) no_maps key ≡ look s.tables (workspace_of s) no_maps key
-same_without_block s place absent = same_looks s (of_block place None) (λ k key. ap (λ (o : Option SourceValue). seen_at (tree_under s.crates k (block place) o) key) (sym absent)) tt
+same_without_block s place absent =
+    same_looks s (of_block place None) (λ k key. ap (λ (o : Option SourceValue). seen_at (tree_under s.crates k (block place) o) key) (sym absent)) tt
 
 pub block_body_edits_mark_nothing : BodyTextsLeaveTheTree → BodyTextsLeaveTheSides → BlockBodyEditsMarkNothing
 block_body_edits_mark_nothing law sides old new place was source sound is_was alike is =
@@ -340,11 +371,13 @@ remove_absent_block_leaves_answers old new place sound absent is = unaltered_ans
 
 pub set_absent_block_marks : SetAbsentBlockMarks
 set_absent_block_marks old new place source k found key absent is kept asked written =
-    altered_marks (of_block place (Some source)) k found key (there_is_none old.crates key (block place) source (block_in old.sources.blocks (place_of_block place)) absent) is kept asked written
+    altered_marks (of_block place (Some source)) k found key
+    (there_is_none old.crates key (block place) source (block_in old.sources.blocks (place_of_block place)) absent) is kept asked written
 
 pub remove_present_block_marks : RemovePresentBlockMarks
 remove_present_block_marks old new place was k found key there is kept asked written =
-    altered_marks (of_block place None) k found key (none_is_there old.crates key (block place) was (block_in old.sources.blocks (place_of_block place)) there) is kept asked written
+    altered_marks (of_block place None) k found key (none_is_there old.crates key (block place) was (block_in old.sources.blocks (place_of_block place)) there)
+    is kept asked written
 
 -- ---- sources for which no run asked
 
@@ -357,16 +390,18 @@ pub unasked_sources_mark_nothing : UnaskedSourcesMarkNothing
 unasked_sources_mark_nothing old new edit sound none is = unaltered_marks sound is (unasked_looks old (edit_of edit) none)
 
 -- an edit that isn't of a block leaves all blocks as they were
-blocks_stay : (t : SourceTable) (edit : EditValue) → edits_block edit ≡ false → (b : BlockPlace) → is_block_set (edited t (edit_of edit)).blocks b ≡ is_block_set t.blocks b
-blocks_stay t (set_file path source) e b = refl
-blocks_stay t (remove_file path) e b = refl
+blocks_stay : (t : SourceTable) (edit : EditValue) → edits_block edit ≡ false → (b : BlockPlace) → is_block_set (edited t (edit_of edit)).blocks b
+    ≡ is_block_set t.blocks b
 blocks_stay t (set_block place source) e b = clash refl e
 blocks_stay t (remove_block place) e b = clash refl e
+blocks_stay t (set_file path source) e b = refl
+blocks_stay t (remove_file path) e b = refl
 blocks_stay t (set_expansion key entry) e b = refl
 blocks_stay t (remove_expansion key) e b = refl
 
 pub unasked_sources_leave_answers : UnaskedSourcesLeaveAnswers
-unasked_sources_leave_answers old new edit sound none other is = unaltered_answers sound is (unasked_looks old (edit_of edit) none) (blocks_stay old.sources edit other)
+unasked_sources_leave_answers old new edit sound none other is =
+    unaltered_answers sound is (unasked_looks old (edit_of edit) none) (blocks_stay old.sources edit other)
 
 -- at a place of a current map the answer stays, whatever the edit is of
 pub unasked_sources_leave_current_answers : RunsBindFromSources → PathsAnswerFromSources → PathsLeadToWhatIsThere → UnaskedSourcesLeaveCurrentAnswers

@@ -1,11 +1,11 @@
 -- An edit of a block changes no mark of a crate: no crate's run asks for something of a block.
 use Rattle.std.proofs.Common.{◌≡◌, ◌≢◌, ◌∙◌, ap, sym, subst, refl, ℕ, zero, suc, ◌<◌, true, Option, Some, None, option_map, List, [], arith, Contains}
 use Rattle.hir_base.specs.declared.ast_id.BlockId.{BlockId}
-use Rattle.hir_base.specs.declared.ast_id.HirFileId.{HirFileId}
-use Rattle.hir_base.specs.declared.ast_id.HirFileId.TheVariants as syntax
-use Rattle.hir_base.specs.declared.ids.MapId.{MapId}
-use Rattle.hir_base.specs.declared.macro_kind.MacroId.TheVariants as macros
 use Rattle.hir_base.specs.declared.place.BlockPlace.{BlockPlace}
+use Rattle.hir_base.specs.declared.ast_id.HirFileId.{HirFileId}
+use Rattle.hir_base.specs.declared.ids.MapId.{MapId}
+use Rattle.hir_base.specs.declared.ast_id.HirFileId.TheVariants as syntax
+use Rattle.hir_base.specs.declared.macro_kind.MacroId.TheVariants as macros
 use Rattle.hir_item_tree.specs.Source.{SourceValue}
 use Rattle.hir_tables.specs.SourcePlaces.{ExpansionValue, block, expansion, file}
 use Rattle.hir_tables.specs.Tables.{TablesValue, entry_at, expansion_of, file_at, source_under}
@@ -77,7 +77,8 @@ module _ (law : CratesAskForNoBlock) (s : SessionState) (sound : IsSound s) wher
   IsClear r = ((key : Key) → Contains r.asked key → block_of_key key ≡ None) × HoldsNowhereIn in_blocks r.map
 
   -- so do the crates that it reads
-  nowhere_below : (n k : ℕ) → k < suc n → ((j : ℕ) → j < n → (x : Resolution) → kept_of s (id_of j) ≡ Some x → IsClear x) → HoldsNowhere in_blocks (read_under s (id_of k) [])
+  nowhere_below : (n k : ℕ) → k < suc n → ((j : ℕ) → j < n → (x : Resolution) → kept_of s (id_of j) ≡ Some x → IsClear x)
+      → HoldsNowhere in_blocks (read_under s (id_of k) [])
   nowhere_below n k low clear id placed e = go (kept_of s id) refl (among_there (transitive_in s.crates k) (finished_of s) id placed e).2
     where
       go : (o : Option Resolution) → kept_of s id ≡ o → option_map placed_by o ≡ Some placed → HoldsNowhereIn in_blocks placed.map
@@ -85,7 +86,8 @@ module _ (law : CratesAskForNoBlock) (s : SessionState) (sound : IsSound s) wher
       go (Some x) kept h =
           let there = among_there (transitive_in s.crates k) (finished_of s) id placed e in
           let lower : id.krate.0 < k = DependsOn-below sound.below ((depended sound k id.krate).0 there.1) in
-          subst (λ (q : Placed). HoldsNowhereIn in_blocks q.map) (one_value h) (clear id.krate.0 (omega arith) x (ap (kept_of s) (sym (of_number id there.0)) ∙ kept)).1
+          subst (λ (q : Placed). HoldsNowhereIn in_blocks q.map) (one_value h)
+          (clear id.krate.0 (omega arith) x (ap (kept_of s) (sym (of_number id there.0)) ∙ kept)).1
 
   clear_crate : (n k : ℕ) → k < n → (r : Resolution) → kept_of s (id_of k) ≡ Some r → IsClear r
   clear_crate zero k low r is = absurd (omega arith)
@@ -111,7 +113,8 @@ module _ (law : CratesAskForNoBlock) (s : SessionState) (sound : IsSound s) wher
       (λ on. on)
       (λ off. clash (unspread_crate place there (ap (λ (x : MapId). x.block) c.2) sp) (sound.closed id d off among))
 
-  spared_by : (place : BlockPlace) (there : Option SourceValue) (new : SessionState) → Becomes s (edited s.sources (of_block place there)) new → (k : ℕ) → is_marked new (id_of k) ≡ is_marked s (id_of k)
+  spared_by : (place : BlockPlace) (there : Option SourceValue) (new : SessionState) → Becomes s (edited s.sources (of_block place there)) new → (k : ℕ)
+      → is_marked new (id_of k) ≡ is_marked s (id_of k)
   spared_by place there new is k = on_bool (is_marked new (id_of k))
       (λ on. on ∙ sym (unspread_crate place there refl (is.only (id_of k) on)))
       (λ off. on_bool (is_marked s (id_of k))
@@ -119,9 +122,9 @@ module _ (law : CratesAskForNoBlock) (s : SessionState) (sound : IsSound s) wher
       (λ was. off ∙ sym was))
 
 pub block_edits_spare_the_crate : CratesAskForNoBlock → BlockEditsSpareTheCrate
-block_edits_spare_the_crate law old new (set_file path source) k sound of_a_block is = clash of_a_block refl
-block_edits_spare_the_crate law old new (remove_file path) k sound of_a_block is = clash of_a_block refl
 block_edits_spare_the_crate law old new (set_block place source) k sound of_a_block is = spared_by law old sound place (Some source) new is k
 block_edits_spare_the_crate law old new (remove_block place) k sound of_a_block is = spared_by law old sound place None new is k
+block_edits_spare_the_crate law old new (set_file path source) k sound of_a_block is = clash of_a_block refl
+block_edits_spare_the_crate law old new (remove_file path) k sound of_a_block is = clash of_a_block refl
 block_edits_spare_the_crate law old new (set_expansion key entry) k sound of_a_block is = clash of_a_block refl
 block_edits_spare_the_crate law old new (remove_expansion key) k sound of_a_block is = clash of_a_block refl

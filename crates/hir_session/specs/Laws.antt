@@ -2,9 +2,10 @@
 use Rattle.std.specs.Prelude.{◌≡◌, ◌≢◌, ℕ, Bool, true, false, List, Option, Some, None, Contains}
 use Rattle.hir_base.specs.ModPath.{Path}
 use Rattle.hir_base.specs.Place.{PlaceValue}
+use Rattle.hir_base.specs.declared.place.BlockPlace.{BlockPlace}
+use Rattle.hir_base.specs.declared.ids.Crate.{Crate}
 use Rattle.hir_base.specs.declared.ast_id.EntryId.{EntryId}
 use Rattle.hir_base.specs.declared.ids.MapId.{MapId}
-use Rattle.hir_base.specs.declared.place.BlockPlace.{BlockPlace}
 use Rattle.hir_item_tree.specs.BodyTexts.{source_without_bodies}
 use Rattle.hir_item_tree.specs.Source.{SourceValue}
 use Rattle.hir_item_tree.specs.declared.tree_id.TreeKey.{TreeKey}
@@ -14,11 +15,17 @@ use Rattle.hir_tables.specs.Tables.{source_of}
 use Rattle.hir_collector_rules.specs.declared.source_database.Key.{Key}
 use Rattle.hir_collector_rules.specs.declared.source_database.Key.TheVariants.{Tree, Expansion}
 use Rattle.hir_wire.specs.Edits.{EditValue, EntryValue, set_file, remove_file, set_block, remove_block, set_expansion, remove_expansion}
-use Rattle.hir_wire.specs.declared.command.Shadow.{Shadow}
 use Rattle.hir_wire.specs.declared.command.MacroStyle.{MacroStyle}
+use Rattle.hir_wire.specs.declared.command.Shadow.{Shadow}
 use Rattle.hir_session_answers.specs.Answers.{answer_of}
+use Rattle.hir_session_answers.specs.AssocItems.{impl_at, trait_at}
+use Rattle.hir_session_answers.specs.Diagnostics.{diagnostics_of}
+use Rattle.hir_session_answers.specs.Dumps.{dump_at}
+use Rattle.hir_session_answers.specs.Status.{status_of}
+use Rattle.hir_session_answers.specs.TreeText.{tree_text_of}
 use Rattle.hir_session_state.specs.Blocks.{block_in, place_of_block}
 use Rattle.hir_session_state.specs.Crates.{id_of}
+use Rattle.hir_session_state.specs.Due.{Grows}
 use Rattle.hir_session_state.specs.Entries.{entry_at}
 use Rattle.hir_session_state.specs.Files.{file_at}
 use Rattle.hir_session_state.specs.KeySources.{key_place}
@@ -32,6 +39,21 @@ pub use Rattle.hir_session_answers.specs.Histories.{History, WasAltered, DifferO
 abbrev pub AnswersAlike : SessionState → SessionState → Type 0
 AnswersAlike old new = (place : PlaceValue) (path : Path) (shadow : Shadow) (style : Option MacroStyle)
     → answer_of new place path shadow style ≡ answer_of old place path shadow style
+
+-- whatever is asked is answered alike in both, and the items of the same traits and impls would be listed
+pub record TellsAlike (old new : SessionState) : Type 0 where
+  pub marks : (id : MapId) → is_marked new id ≡ is_marked old id
+  pub statuses : (place : PlaceValue) → status_of new place ≡ status_of old place
+  pub answers : AnswersAlike old new
+  pub diagnostics : (krate : Crate) → diagnostics_of new krate ≡ diagnostics_of old krate
+  pub dumps : (place : PlaceValue) → dump_at new place ≡ dump_at old place
+  pub pages : (krate : Crate) (path : List ℕ) → tree_text_of new krate path ≡ tree_text_of old krate path
+  pub traits : (place : PlaceValue) (path : Path) → trait_at new place path ≡ trait_at old place path
+  pub impls : (place : PlaceValue) (number : ℕ) → impl_at new place number ≡ impl_at old place number
+
+-- a query that gives numbers to calls changes no answer
+abbrev pub NumbersChangeNoAnswer : Type 0
+NumbersChangeNoAnswer = (old new : SessionState) → IsSound old → Grows old new → TellsAlike old new
 
 -- a file that was there is set to a source that differs in the texts of bodies alone: no mark changes
 abbrev pub BodyEditsMarkNothing : Type 0
@@ -112,13 +134,15 @@ RemoveAbsentExpansionLeavesAnswers = (old new : SessionState) (key : ExpansionVa
 -- a block that was set is set to a source that differs in the texts of bodies alone: no mark changes
 abbrev pub BlockBodyEditsMarkNothing : Type 0
 BlockBodyEditsMarkNothing = (old new : SessionState) (place : BlockPlace) (was source : SourceValue) → IsSound old
-    → block_in old.sources.blocks (place_of_block place) ≡ Some was → source_without_bodies was ≡ source_without_bodies source → Applies old (set_block place source) new
+    → block_in old.sources.blocks (place_of_block place) ≡ Some was → source_without_bodies was ≡ source_without_bodies source
+    → Applies old (set_block place source) new
     → (id : MapId) → is_marked new id ≡ is_marked old id
 
 -- and no answer
 abbrev pub BlockBodyEditsLeaveAnswers : Type 0
 BlockBodyEditsLeaveAnswers = (old new : SessionState) (place : BlockPlace) (was source : SourceValue) → IsSound old
-    → block_in old.sources.blocks (place_of_block place) ≡ Some was → source_without_bodies was ≡ source_without_bodies source → Applies old (set_block place source) new
+    → block_in old.sources.blocks (place_of_block place) ≡ Some was → source_without_bodies was ≡ source_without_bodies source
+    → Applies old (set_block place source) new
     → AnswersAlike old new
 
 -- a block that wasn't set is, to an empty source too: each place whose run asked for it is marked
@@ -176,10 +200,13 @@ UnaskedSourcesMarkNothing = (old new : SessionState) (edit : EditValue) → IsSo
 
 -- and no answer, unless it is of a block
 abbrev pub UnaskedSourcesLeaveAnswers : Type 0
-UnaskedSourcesLeaveAnswers = (old new : SessionState) (edit : EditValue) → IsSound old → IsUnasked old (place_of_edit edit) → edits_block edit ≡ false → Applies old edit new
+UnaskedSourcesLeaveAnswers =
+    (old new : SessionState) (edit : EditValue) → IsSound old → IsUnasked old (place_of_edit edit) → edits_block edit ≡ false → Applies old edit new
     → AnswersAlike old new
 
 -- nor, whatever it is of, one at a place whose steps end in a current map
 abbrev pub UnaskedSourcesLeaveCurrentAnswers : Type 0
-UnaskedSourcesLeaveCurrentAnswers = (old new : SessionState) (edit : EditValue) (place : PlaceValue) (id : MapId) (path : Path) (shadow : Shadow) (style : Option MacroStyle) → IsSound old
-    → IsUnasked old (place_of_edit edit) → Applies old edit new → map_by (standing_of old place) ≡ Some id → answer_of new place path shadow style ≡ answer_of old place path shadow style
+UnaskedSourcesLeaveCurrentAnswers =
+    (old new : SessionState) (edit : EditValue) (place : PlaceValue) (id : MapId) (path : Path) (shadow : Shadow) (style : Option MacroStyle) → IsSound old
+    → IsUnasked old (place_of_edit edit) → Applies old edit new → map_by (standing_of old place) ≡ Some id → answer_of new place path shadow style
+    ≡ answer_of old place path shadow style

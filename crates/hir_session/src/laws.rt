@@ -2,7 +2,7 @@
 ghost use Rattle.hir_session_machine.specs.Headline.{RepliesHoldTheHeadline};
 ghost use Rattle.hir_session_answers.specs.Histories.{DifferOnlyWhereAltered};
 ghost use Rattle.hir_session_machine.specs.MachineHistories.{LinesBeginHistories};
-ghost use Rattle.hir_session.specs.Laws.{BodyEditsMarkNothing, BodyEditsLeaveAnswers, ExpansionBodyEditsMarkNothing, ExpansionBodyEditsLeaveAnswers, SetAbsentFileMarks, RemovePresentFileMarks, RemoveAbsentFileMarksNothing, RemoveAbsentFileLeavesAnswers, SetAbsentExpansionMarks, RemovePresentExpansionMarks, RemoveAbsentExpansionMarksNothing, RemoveAbsentExpansionLeavesAnswers, BlockBodyEditsMarkNothing, BlockBodyEditsLeaveAnswers, SetAbsentBlockMarks, RemovePresentBlockMarks, RemoveAbsentBlockMarksNothing, RemoveAbsentBlockLeavesAnswers, BlockEditsSpareTheCrate, UnaskedSourcesMarkNothing, UnaskedSourcesLeaveAnswers, UnaskedSourcesLeaveCurrentAnswers};
+ghost use Rattle.hir_session.specs.Laws.{BodyEditsMarkNothing, BodyEditsLeaveAnswers, ExpansionBodyEditsMarkNothing, ExpansionBodyEditsLeaveAnswers, SetAbsentFileMarks, RemovePresentFileMarks, RemoveAbsentFileMarksNothing, RemoveAbsentFileLeavesAnswers, SetAbsentExpansionMarks, RemovePresentExpansionMarks, RemoveAbsentExpansionMarksNothing, RemoveAbsentExpansionLeavesAnswers, BlockBodyEditsMarkNothing, BlockBodyEditsLeaveAnswers, SetAbsentBlockMarks, RemovePresentBlockMarks, RemoveAbsentBlockMarksNothing, RemoveAbsentBlockLeavesAnswers, BlockEditsSpareTheCrate, UnaskedSourcesMarkNothing, UnaskedSourcesLeaveAnswers, UnaskedSourcesLeaveCurrentAnswers, NumbersChangeNoAnswer};
 
 use hir_def_collector_laws::laws::{crates_ask_for_no_block, runs_bind_from_sources};
 use hir_def_map::laws::{paths_answer_from_sources, paths_lead_to_what_is_there};
@@ -17,7 +17,17 @@ pub fn answers_differ_only_where_altered()
     paths_lead_to_what_is_there();
 }
 
-/// Where lines are answered from the first state on, a session begins, and then has a history of edits and refreshes.
+/// A query for the items of a trait or an impl gives numbers to macro calls, and these change no answer.
+pub fn numbers_change_no_answer()
+    ensures law { NumbersChangeNoAnswer }
+{
+    runs_bind_from_sources();
+    paths_answer_from_sources();
+    paths_lead_to_what_is_there();
+}
+
+/// Where lines are answered from the first state on, a session begins, and then has a history of edits, refreshes and queries that give numbers to
+/// macro calls.
 pub fn lines_begin_histories()
     ensures law { LinesBeginHistories }
 {}

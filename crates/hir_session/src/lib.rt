@@ -24,11 +24,13 @@ pub use hir_session_sources::files::Files;
 pub use hir_session_sources::{crate_info, files};
 pub use hir_session_state::error;
 pub use hir_session_state::error::{
-    DiagnosticsError, EditError, NewSessionError, QueryError, RefreshError, TreeTextError,
+    DiagnosticsError, EditError, ImplItemsError, NewSessionError, QueryError, RefreshError,
+    TraitItemsError, TreeTextError,
 };
 pub use hir_wire::answer::Answer;
 pub use hir_wire::command::{CrateInput, MacroStyle, Shadow};
 pub use hir_wire::diagnostic::{Diagnostic, DiagnosticKind};
 pub use hir_wire::edit::{Edit, ExpansionEntry};
+pub use hir_wire::items::{AssocItem, Items};
 pub use hir_wire::reply::Status;
 pub use server::{MOST_READS, run};

@@ -1,20 +1,21 @@
 -- Each module of what is kept is written in a file that has a number, or in what a call there expands to.
 use Rattle.std.specs.Prelude.{is_some, slice_get, map}
-use Rattle.std.proofs.Common.{◌≡◌, ◌≢◌, ◌∙◌, ap, sym, subst, refl, ℕ, zero, suc, ◌<◌, ◌≤◌, ◌++◌, true, List, [], ◌∷◌, length, IsSome, Option, None, Some, option_map, arith, Contains}
+use Rattle.std.proofs.Common.{◌≡◌, ◌≢◌, ◌∙◌, ap, sym, subst, refl, ℕ, zero, suc, ◌<◌, ◌≤◌, ◌++◌, true, List, [], ◌∷◌, length, IsSome, Option, None, Some}
+use Rattle.std.proofs.Common.{option_map, arith, Contains}
 use Rattle.std.specs.Option.{option_and_then}
 use Rattle.hir_base.specs.declared.ast_id.AstId.{AstId}
 use Rattle.hir_base.specs.declared.ast_id.BlockId.{BlockId}
+use Rattle.hir_base.specs.declared.ids.Crate.{Crate}
+use Rattle.hir_base.specs.declared.edition.Edition.{Edition}
 use Rattle.hir_base.specs.declared.ast_id.EditionedFileId.{EditionedFileId}
 use Rattle.hir_base.specs.declared.ast_id.FileId.{FileId}
 use Rattle.hir_base.specs.declared.ast_id.HirFileId.{HirFileId}
-use Rattle.hir_base.specs.declared.ast_id.HirFileId.TheVariants.{File, Macro}
 use Rattle.hir_base.specs.declared.ast_id.MacroCallId.{MacroCallId}
-use Rattle.hir_base.specs.declared.edition.Edition.{Edition}
-use Rattle.hir_base.specs.declared.ids.Crate.{Crate}
-use Rattle.hir_base.specs.declared.ids.MapId.{MapId}
-use Rattle.hir_base.specs.declared.ids.ModuleId.{ModuleId}
 use Rattle.hir_base.specs.declared.macro_kind.MacroCallLoc.{MacroCallLoc}
 use Rattle.hir_base.specs.declared.macro_kind.MacroId.{MacroId}
+use Rattle.hir_base.specs.declared.ids.MapId.{MapId}
+use Rattle.hir_base.specs.declared.ids.ModuleId.{ModuleId}
+use Rattle.hir_base.specs.declared.ast_id.HirFileId.TheVariants.{File, Macro}
 use Rattle.hir_base.specs.declared.macro_kind.MacroId.TheVariants as macros
 use Rattle.hir_item_tree.specs.KeptForest.{KeptForest}
 use Rattle.hir_item_tree.specs.declared.tree_id.TreeId.{TreeId}
@@ -25,7 +26,8 @@ use Rattle.hir_def_map_rules.specs.Diagnostics.{call_node}
 use Rattle.hir_def_map_rules.specs.Overlay.{Maps}
 use Rattle.hir_def_map_rules.specs.State.{ModuleValue, module_at}
 use Rattle.hir_def_map_rules.specs.declared.origin.ModuleOrigin.{ModuleOrigin}
-use Rattle.hir_collector_rules.specs.Calls.{AreCallsPlaced, Expanding, IsMeantAt, IsPlacedBelow, call_key, call_kind, call_loc, expansion_readings, kind_by, text_readings}
+use Rattle.hir_collector_rules.specs.Calls.{AreCallsPlaced, Expanding, IsMeantAt, IsPlacedBelow, call_key, call_kind, call_loc, expansion_readings, kind_by}
+use Rattle.hir_collector_rules.specs.Calls.{text_readings}
 use Rattle.hir_collector_rules.specs.Causes.{HasCause, IsOfCall, IsPassed}
 use Rattle.hir_collector_rules.specs.Causes.HasCause.{root_tree, of_holder, declared_enum, candidate, of_call, dependency}
 use Rattle.hir_collector_rules.specs.Derivation.{CollectedValue, Ends}
@@ -36,10 +38,10 @@ use Rattle.hir_collector_rules.specs.Steps.{keys_read}
 use Rattle.hir_collector_rules.specs.Workspace.{Workspace}
 use Rattle.hir_collector_rules.specs.declared.macro_directive.MacroDirective.{MacroDirective}
 use Rattle.hir_collector_rules.specs.declared.macro_directive.MacroDirectiveKind.{MacroDirectiveKind}
-use Rattle.hir_collector_rules.specs.declared.macro_directive.MacroDirectiveKind.TheVariants.{Attr, Derive, FnLike}
 use Rattle.hir_collector_rules.specs.declared.site.Site.{Site}
-use Rattle.hir_collector_rules.specs.declared.source_database.Key.TheVariants as keys
 use Rattle.hir_collector_rules.specs.declared.start.Start.{Start}
+use Rattle.hir_collector_rules.specs.declared.macro_directive.MacroDirectiveKind.TheVariants.{Attr, Derive, FnLike}
+use Rattle.hir_collector_rules.specs.declared.source_database.Key.TheVariants as keys
 use Rattle.hir_collector_rules.specs.declared.start.Start.TheVariants as starts
 use Rattle.hir_collector_rules.proofs.Tried.{call_stays}
 use Rattle.hir_def_collector_laws.specs.Calls.{IsCallBy}
@@ -88,7 +90,8 @@ same_tree : {a b : TreeKey} → keys.Tree a ≡ keys.Tree b → a ≡ b
 same_tree e = cc
 
 -- a call asks for one tree, that of what it expands to
-tree_of_call : (own : Crate) (d : MacroDirective) (makro : MacroId) (x : Expanding) (key : TreeKey) → Contains (keys_read (text_readings makro x.text ++ expansion_readings own d x)) (keys.Tree key)
+tree_of_call : (own : Crate) (d : MacroDirective) (makro : MacroId) (x : Expanding) (key : TreeKey)
+    → Contains (keys_read (text_readings makro x.text ++ expansion_readings own d x)) (keys.Tree key)
     → call_key own x.id ≡ key
 tree_of_call own d (macros.Macro2Id m) x key among = same_tree (
     last_of_four (keys.Text (macros.Macro2Id m)) (keys.Input own d.ast_id) (keys.Expansion x.entry) (keys.Tree (call_key own x.id)) (keys.Tree key) among
@@ -116,10 +119,12 @@ of_held (starts.Block krate b holder at) holders key (suc n, within, is) =
 pub data IsTreeBy (tables : TablesValue) (w : Workspace) (all : Maps) (from : Beginning) (last : State) (key : TreeKey) : Type 0 where
   of_start : key ≡ tree_key from.start from.tree → IsTreeBy tables w all from last key
   of_a_file : (krate : Crate) (edition : Edition) (id : FileId) → key ≡ file_key krate edition id → IsTreeBy tables w all from last key
-  of_a_call : (at : State) → IsPassed tables w all from last at → (of : IsOfCall tables w (read_by w all from.start) at (keys.Tree key)) → call_key at.core.map.id.krate of.seen.id ≡ key
+  of_a_call : (at : State) → IsPassed tables w all from last at → (of : IsOfCall tables w (read_by w all from.start) at (keys.Tree key))
+      → call_key at.core.map.id.krate of.seen.id ≡ key
       → IsTreeBy tables w all from last key
 
-pub tree_by : (tables : TablesValue) (w : Workspace) (all : Maps) (from : Beginning) (last : State) (key : TreeKey) → HasCause tables w all from last (keys.Tree key) → IsTreeBy tables w all from last key
+pub tree_by : (tables : TablesValue) (w : Workspace) (all : Maps) (from : Beginning) (last : State) (key : TreeKey) → HasCause tables w all from last
+    (keys.Tree key) → IsTreeBy tables w all from last key
 tree_by tables w all from last key (root_tree is) = of_start (same_tree is)
 tree_by tables w all from last key (of_holder among) = of_held from.start (holders_by all from.start) key among
 tree_by tables w all from last key (declared_enum home n listed is) = absurd (let wrong : ⊥ = cc in wrong)
@@ -128,7 +133,8 @@ tree_by tables w all from last key (of_call at passed of) = of_a_call at passed 
 tree_by tables w all from last key (dependency c among is) = absurd (let wrong : ⊥ = cc in wrong)
 
 -- a block's tree is asked for only where a run begins with it
-pub tree_of_block : (tables : TablesValue) (w : Workspace) (all : Maps) (from : Beginning) (answer : CollectedValue) → Ends tables w all from answer → (key : TreeKey) (b : BlockId)
+pub tree_of_block : (tables : TablesValue) (w : Workspace) (all : Maps) (from : Beginning) (answer : CollectedValue) → Ends tables w all from answer
+    → (key : TreeKey) (b : BlockId)
     → Contains answer.asked (keys.Tree key) → key.id.block ≡ Some b → key ≡ tree_key from.start from.tree
 tree_of_block tables w all from answer ends key b asked e = elim (tree_by tables w all from ends.last key (ends.caused (keys.Tree key) asked)) [
   | of_start is ↦ is
@@ -149,7 +155,8 @@ record IsWrittenAt (answer : CollectedValue) (d : MacroDirective) : Type 0 where
   block : d.ast_id.block ≡ d.site.tree.block
   asked : Contains answer.asked (keys.Tree (key_of answer d.site.tree))
 
-written_at : (tables : TablesValue) (w : Workspace) (answer : CollectedValue) (d : MacroDirective) (kind : MacroDirectiveKind) → IsCallBy tables w answer d kind → IsWrittenAt answer d
+written_at : (tables : TablesValue) (w : Workspace) (answer : CollectedValue) (d : MacroDirective) (kind : MacroDirectiveKind) → IsCallBy tables w answer d kind
+    → IsWrittenAt answer d
 written_at tables w answer d (FnLike path) by = record {
   file = ap (λ (x : MacroDirective). x.ast_id.file_id) by.is;
   block = ap (λ (x : MacroDirective). x.ast_id.block) by.is;
@@ -179,7 +186,8 @@ pub record HasFile (tables : TablesValue) (n : ℕ) (held : HirFileId) : Type 0 
   pub means : IsSome (file_at tables root.file_id)
 
 -- what a file's number means
-file_means : (tables : TablesValue) (f : EditionedFileId) → IsSome (source_of tables (record { file = File f; block = None })) → IsSome (file_at tables f.file_id)
+file_means : (tables : TablesValue) (f : EditionedFileId) → IsSome (source_of tables (record { file = File f; block = None }))
+    → IsSome (file_at tables f.file_id)
 file_means tables f means = go (file_at tables f.file_id) means
   where
     go : (o : Option (List ℕ)) → IsSome (option_map file o) → IsSome o
@@ -191,7 +199,8 @@ module _ (tables : TablesValue) (w : Workspace) (all : Maps) (from : Beginning) 
   start_means : IsSome (file_at tables begun.root.file_id)
   start_means = go from.tree.file begun.tree (meant.file)
     where
-      go : (held : HirFileId) → held ≡ File begun.root → ((id : FileId) → (root_site (record { file = held; block = from.tree.block })).file ≡ Some id → IsSome (file_at tables id)) → IsSome (file_at tables begun.root.file_id)
+      go : (held : HirFileId) → held ≡ File begun.root → ((id : FileId) → (root_site (record { file = held; block = from.tree.block })).file ≡ Some id
+          → IsSome (file_at tables id)) → IsSome (file_at tables begun.root.file_id)
       go (File f) e h = h begun.root.file_id (let same : f ≡ begun.root = cc in ap (λ (x : EditionedFileId). Some x.file_id) same)
       go (Macro c) e h = absurd (let wrong : ⊥ = cc in wrong)
 
@@ -199,7 +208,8 @@ module _ (tables : TablesValue) (w : Workspace) (all : Maps) (from : Beginning) 
   in_start n held e = record { root = begun.root; is = ap (file_within n tables) e; means = start_means }
 
   -- so is each tree that was asked for
-  pub found : (n : ℕ) (krate : Crate) (held : HirFileId) (block : Option BlockId) → Contains answer.asked (keys.Tree (record { krate = krate; id = record { file = held; block = block } }))
+  pub found : (n : ℕ) (krate : Crate) (held : HirFileId) (block : Option BlockId)
+      → Contains answer.asked (keys.Tree (record { krate = krate; id = record { file = held; block = block } }))
       → (block ≡ None → most_calls held ≤ n) → HasFile tables n held
   found n krate held (Some b) asked low =
       let key : TreeKey = record { krate = krate; id = record { file = held; block = Some b } } in
@@ -207,25 +217,31 @@ module _ (tables : TablesValue) (w : Workspace) (all : Maps) (from : Beginning) 
   found n krate (File f) None asked low = record {
     root = f;
     is = refl;
-    means = file_means tables f (asked_keys_have_meaning tables w all from answer meant ends (keys.Tree (record { krate = krate; id = record { file = File f; block = None } })) asked);
+    means =
+        file_means tables f (asked_keys_have_meaning tables w all from answer meant ends
+        (keys.Tree (record { krate = krate; id = record { file = File f; block = None } })) asked);
   }
   found zero krate (Macro c) None asked low = absurd (let bound : suc c.0 ≤ zero = low refl in omega arith)
   found (suc n) krate (Macro c) None asked low =
       elim (tree_by tables w all from ends.last (record { krate = krate; id = record { file = Macro c; block = None } }) (ends.caused _ asked)) [
         | of_start is ↦ absurd (let wrong : ⊥ = (let both : Macro c ≡ File begun.root = ap (λ (k : TreeKey). k.id.file) is ∙ begun.tree in cc) in wrong)
-        | of_a_file other edition id is ↦ absurd (let wrong : ⊥ = (let both : Macro c ≡ File (record { file_id = id; edition = edition }) = ap (λ (k : TreeKey). k.id.file) is in cc) in wrong)
+        | of_a_file other edition id is ↦ absurd
+            (let wrong : ⊥ = (let both : Macro c ≡ File (record { file_id = id; edition = edition }) = ap (λ (k : TreeKey). k.id.file) is in cc) in wrong)
         | of_a_call at passed of is ↦ by_call (λ other held block. found n other held block) at passed of (ap (λ (k : TreeKey). k.id.file) is)
       ]
     where
-      by_call : ((other : Crate) (held : HirFileId) (block : Option BlockId) → Contains answer.asked (keys.Tree (record { krate = other; id = record { file = held; block = block } }))
-          → (block ≡ None → most_calls held ≤ n) → HasFile tables n held) → (at : State) → IsPassed tables w all from ends.last at → (of : IsOfCall tables w (read_by w all from.start) at (keys.Tree (record { krate = krate; id = record { file = Macro c; block = None } })))
+      by_call : ((other : Crate) (held : HirFileId) (block : Option BlockId)
+          → Contains answer.asked (keys.Tree (record { krate = other; id = record { file = held; block = block } }))
+          → (block ≡ None → most_calls held ≤ n) → HasFile tables n held) → (at : State) → IsPassed tables w all from ends.last at
+          → (of : IsOfCall tables w (read_by w all from.start) at (keys.Tree (record { krate = krate; id = record { file = Macro c; block = None } })))
           → Macro of.seen.id ≡ Macro c → HasFile tables (suc n) (Macro c)
       by_call next at passed of same =
           let d : MacroDirective = of.call in
           let is : of.seen.id ≡ c = cc in
           let call : call_at tables c ≡ Some (call_loc d of.seen.entry) = ap (call_at tables) (sym is) ∙ of.numbered.call in
           let written = written_at tables w answer d d.kind
-          (calls_are_written tables w all from answer ends d (standing ends.last.core.calls of.place d (call_stays passed.after of.place d of.expands.called.due.waiting.call))).0.by in
+          (calls_are_written tables w all from answer ends d
+          (standing ends.last.core.calls of.place d (call_stays passed.after of.place d of.expands.called.due.waiting.call))).0.by in
           let node : call_node (call_kind d) ≡ d.ast_id = node_by d.ast_id d.kind in
           let file : (call_node (call_kind d)).file_id ≡ d.site.tree.file = ap (λ (x : AstId). x.file_id) node ∙ written.file in
           let block : (call_node (call_kind d)).block ≡ d.site.tree.block = ap (λ (x : AstId). x.block) node ∙ written.block in
@@ -245,12 +261,14 @@ module _ (tables : TablesValue) (w : Workspace) (all : Maps) (from : Beginning) 
     pub is : file_of_origin tables origin ≡ Some root
     pub means : IsSome (file_at tables root.file_id)
 
-  inline : (tree : TreeId) (origin : ModuleOrigin) → ((t : TablesValue) → file_of_origin t origin ≡ file_around t tree.file) → Contains answer.asked (keys.Tree (key_of answer tree)) → HasOrigin origin
+  inline : (tree : TreeId) (origin : ModuleOrigin) → ((t : TablesValue) → file_of_origin t origin ≡ file_around t tree.file)
+      → Contains answer.asked (keys.Tree (key_of answer tree)) → HasOrigin origin
   inline tree origin e asked =
       let in_tree = found (most_calls tree.file) answer.map.id.krate tree.file tree.block asked (λ none. omega arith) in
       record { root = in_tree.root; is = e tables ∙ in_tree.is; means = in_tree.means }
 
-  by_items : (origin : ModuleOrigin) (site : Site) {items : KeptForest} → HasItems tables w (read_by w all from.start) from answer origin site items → HasOrigin origin
+  by_items : (origin : ModuleOrigin) (site : Site) {items : KeptForest} → HasItems tables w (read_by w all from.start) from answer origin site items
+      → HasOrigin origin
   by_items origin site (of_root o s) = record { root = begun.root; is = ap (file_of_origin tables) o ∙ begun.origin tables; means = start_means }
   by_items origin site (of_file m declared tree id o s asked) = record {
     root = record { file_id = id; edition = answer.map.crate_data.edition };
@@ -281,15 +299,18 @@ pub record IsDefined (s : SessionState) (m : ModuleId) : Type 0 where
   pub is : definition_file s.tables s.kept m ≡ Some root
   pub means : IsSome (file_at s.tables root.file_id)
 
-pub defined_there : (s : SessionState) → IsSound s → (m : ModuleId) (r : Resolution) → kept_of s m.map ≡ Some r → is_some (module_at r.map m.index) ≡ true → IsDefined s m
+pub defined_there : (s : SessionState) → IsSound s → (m : ModuleId) (r : Resolution) → kept_of s m.map ≡ Some r → is_some (module_at r.map m.index) ≡ true
+    → IsDefined s m
 defined_there s sound m r is there = go (module_at r.map m.index) refl there
   where
     go : (o : Option ModuleValue) → module_at r.map m.index ≡ o → is_some o ≡ true → IsDefined s m
     go None e f = absurd (let wrong : ⊥ = cc in wrong)
     go (Some v) e f =
         let gives = kept_gives s sound m.map r is in
-        let ended : Ends s.tables (workspace_of s) (finished_of s) gives.from (collected_of r) = gives.resolved.ends (workspace_of s) (finished_of s) AgreeOn-refl in
-        let origin = module_written s.tables (workspace_of s) (finished_of s) gives.from (collected_of r) ended gives.meant sound.calls (of_file_begun s m.map gives.from gives.begun) m.index v e
+        let ended : Ends s.tables (workspace_of s) (finished_of s) gives.from (collected_of r) = gives.resolved.ends (workspace_of s) (finished_of s)
+        AgreeOn-refl in
+        let origin = module_written s.tables (workspace_of s) (finished_of s) gives.from (collected_of r) ended gives.meant sound.calls
+        (of_file_begun s m.map gives.from gives.begun) m.index v e
         (below_length r.map.modules m.index v e) in
         record {
           root = origin.root;

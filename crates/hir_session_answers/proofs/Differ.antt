@@ -1,15 +1,16 @@
 -- What is behind a place stays, or an edit altered a key that was asked for there.
 use Rattle.std.specs.Prelude.{is_none, if◌then◌else◌}
-use Rattle.std.proofs.Common.{◌≡◌, ◌⊎◌, inl, inr, ℕ, nat_lt, Bool, true, false, cond, List, [], ◌∷◌, ◌++◌, length, Option, None, Some, Result, Ok, option_map, refl, sym, subst, ap, ◌∙◌, Contains}
+use Rattle.std.proofs.Common.{◌≡◌, ◌⊎◌, inl, inr, ℕ, nat_lt, Bool, true, false, cond, List, [], ◌∷◌, ◌++◌, length, Option, None, Some, Result, Ok, option_map}
+use Rattle.std.proofs.Common.{refl, sym, subst, ap, ◌∙◌, Contains}
 use Rattle.std.specs.Option.{option_and_then}
 use Rattle.hir_base.specs.ModPath.{Path}
 use Rattle.hir_base.specs.Place.{PlaceValue}
 use Rattle.hir_base.specs.contracts.ids.MapIdPartialEq.TheImpl as map_id
 use Rattle.hir_base.specs.declared.ast_id.BlockId.{BlockId}
+use Rattle.hir_base.specs.declared.place.BlockPlace.{BlockPlace}
 use Rattle.hir_base.specs.declared.ids.Crate.{Crate}
 use Rattle.hir_base.specs.declared.ids.MapId.{MapId}
 use Rattle.hir_base.specs.declared.ids.ModuleId.{ModuleId}
-use Rattle.hir_base.specs.declared.place.BlockPlace.{BlockPlace}
 use Rattle.hir_base.specs.declared.place.PlaceElement.{PlaceElement}
 use Rattle.hir_base.specs.declared.place.PlaceElement.TheVariants as element
 use Rattle.hir_tables.specs.Tables.{KeepsTables, TablesValue, block_at}
@@ -27,30 +28,32 @@ use Rattle.hir_def_collector_laws.specs.Sources.{RunsBindFromSources}
 use Rattle.hir_collector_rules.specs.declared.source_database.Key.{Key}
 use Rattle.hir_wire.specs.Edits.{EditValue}
 use Rattle.hir_wire.specs.declared.answer.Answer.{Answer}
-use Rattle.hir_wire.specs.declared.command.Shadow.{Shadow}
 use Rattle.hir_wire.specs.declared.command.MacroStyle.{MacroStyle}
+use Rattle.hir_wire.specs.declared.command.Shadow.{Shadow}
 use Rattle.hir_wire.specs.declared.reply.Status.TheVariants as status
 use Rattle.hir_session_state.specs.declared.error.QueryError.{QueryError}
 use Rattle.hir_session_state.specs.Blocks.{Blocks}
 use Rattle.hir_session_state.specs.Crates.{CrateValue, dependency_maps, transitive_in}
-use Rattle.hir_session_state.specs.Kept.{Resolutions, placed_by}
+use Rattle.hir_session_state.specs.Kept.{Resolutions, kept_in, placed_by}
 use Rattle.hir_session_state.specs.SourceEdits.{edit_of, edited}
 use Rattle.hir_session_state.specs.SourceTable.{SourceTable}
-use Rattle.hir_session_state.specs.SessionState.{SessionState, Resolution, workspace_of, finished_of, follows, follows_by, held_maps, read_of, kept_of, is_marked, module_of, standing_of, IsPlace, IsSound}
+use Rattle.hir_session_state.specs.SessionState.{SessionState, Resolution, workspace_of, finished_of, follows, follows_by, held_maps, read_of, kept_of}
+use Rattle.hir_session_state.specs.SessionState.{is_marked, module_of, standing_of, IsPlace, IsSound}
 use Rattle.hir_session_state.specs.SessionState.IsPlace.{of_block, of_crate}
 use Rattle.hir_session_state.specs.Spread.{Spread}
 use Rattle.hir_session_state.specs.Spread.Spread.{here, depends}
-use Rattle.hir_session_state.specs.Standing.{Standing, block_below, block_map, child_kept, down, from_crate, is_set, kept_block, map_by, module_by, step, to_child, to_root}
+use Rattle.hir_session_state.specs.Standing.{Standing, block_below, block_map, child_kept, down, from_crate, is_set, kept_block, map_by, module_by, step}
+use Rattle.hir_session_state.specs.Standing.{to_child, to_root}
 use Rattle.hir_session_state.specs.Standing.{Standing as way}
 use Rattle.hir_session_state.specs.Marks.{IsAltered, IsTouched}
 use Rattle.hir_session_state.specs.Marks.IsTouched.{before, asked_for}
-use Rattle.hir_session_state.specs.Due.{IsBehind, IsAskedBehind}
+use Rattle.hir_session_state.specs.Due.{Grows, IsBehind, IsAskedBehind}
 use Rattle.hir_session_state.specs.Due.IsBehind.{itself, next}
 use Rattle.hir_session_state.specs.Changes.{Becomes, Applies, Resolves, with_sources}
 use Rattle.hir_session_answers.specs.Status.{status_by}
 use Rattle.hir_session_answers.specs.Answers.{answer_at, answer_by, answer_from, answer_in, answer_kept, answer_of}
 use Rattle.hir_session_answers.specs.Histories.{History, WasAltered, DifferOnlyWhereAltered}
-use Rattle.hir_session_answers.specs.Histories.History.{none, edit, refresh}
+use Rattle.hir_session_answers.specs.Histories.History.{none, edit, refresh, numbers}
 use Rattle.hir_session_state.proofs.Depending.{found-any}
 use Rattle.hir_session_state.proofs.Holding.{holders_hold}
 use Rattle.hir_session_state.proofs.Following.{followed_crate}
@@ -84,14 +87,16 @@ follows_alike from to id crates kept = go id.block
 
 -- all that was behind a place is unmarked where the place still is
 pub unmarked_still : {from to : SessionState} {k j : MapId} → to.crates ≡ from.crates → IsSound to
-    → ((i : MapId) → IsBehind from k i → is_marked to i ≡ false → kept_of to i ≡ kept_of from i) → is_marked to k ≡ false → IsBehind from k j → is_marked to j ≡ false
+    → ((i : MapId) → IsBehind from k i → is_marked to i ≡ false → kept_of to i ≡ kept_of from i) → is_marked to k ≡ false → IsBehind from k j → is_marked to j
+    ≡ false
 unmarked_still alike sound kept off itself = off
 unmarked_still {from} {to} alike sound kept off (next j d behind among) =
     let still = unmarked_still alike sound kept off behind in
     sound.closed j d still (subst (λ (ids : List MapId). Contains ids d) (sym (follows_alike from to j alike (kept j behind still))) among)
 
 -- what was marked shows a key that was altered
-pub what_marked : {from mid : SessionState} {k : MapId} (w : Workspace) → IsSame from mid k → {j : MapId} → Spread (follows mid) (IsTouched mid w) j → IsBehind from k j
+pub what_marked : {from mid : SessionState} {k : MapId} (w : Workspace) → IsSame from mid k → {j : MapId} → Spread (follows mid) (IsTouched mid w) j
+    → IsBehind from k j
     → (key : Key) × IsAskedBehind from k key × IsAltered mid.tables (workspace_of mid) w key
 what_marked w same (here j (before m)) behind = clash m (same.off j behind)
 what_marked w same (here j (asked_for key r is has ne)) behind =
@@ -108,7 +113,12 @@ pub same_after_edit : {from mid to : SessionState} {k : MapId} (e : EditValue) �
     → IsSame from to k ⊎ ((key : Key) × IsAskedBehind from k key × IsAltered mid.tables (workspace_of mid) (workspace_of to) key)
 same_after_edit {from} {mid} {to} {k} e same is = on_bool (is_marked to k)
     (λ on. let hit = what_marked (workspace_of (with_sources mid (edited mid.sources (edit_of e)))) same (is.only k on) itself in
-    inr (hit.0, hit.1, λ h. hit.2 (subst (λ (w : Workspace). look mid.tables w no_maps hit.0 ≡ look mid.tables (workspace_of mid) no_maps hit.0) (workspace-becomes is) h)))
+    inr (
+      hit.0,
+      hit.1,
+      λ h. hit.2 (subst (λ (w : Workspace). look mid.tables w no_maps hit.0 ≡ look mid.tables (workspace_of mid) no_maps hit.0)
+          (workspace-becomes is) h),
+    ))
     (λ still.
     let kept = λ (j : MapId) (behind : IsBehind from k j) (off : is_marked to j ≡ false). is.kept j off ∙ same.kept j behind in
     let off = λ (j : MapId) (behind : IsBehind from k j). unmarked_still (is.crates ∙ same.crates) is.sound kept still behind in
@@ -130,8 +140,19 @@ same_after_refresh same is = record {
   sound = is.sound;
 }
 
+-- so it stays as tables grow
+pub same_once_grown : {from mid to : SessionState} {k : MapId} → IsSame from mid k → Grows mid to → IsSame from to k
+same_once_grown same grown = record {
+  crates = grown.crates ∙ same.crates;
+  tables = KeepsTables-trans _ _ _ same.tables grown.tables;
+  off = λ j behind. ap (λ (kept : Resolutions). is_none (kept_in kept j)) grown.kept ∙ same.off j behind;
+  kept = λ j behind. ap (λ (kept : Resolutions). kept_in kept j) grown.kept ∙ same.kept j behind;
+  sound = grown.sound;
+}
+
 pub same_at_first : {from : SessionState} {k : MapId} → IsSound from → is_marked from k ≡ false → IsSame from from k
-same_at_first sound off = record { crates = refl; tables = KeepsTables-refl _; off = λ j behind. unmarked_behind sound off behind; kept = λ j behind. refl; sound = sound }
+same_at_first sound off =
+    record { crates = refl; tables = KeepsTables-refl _; off = λ j behind. unmarked_behind sound off behind; kept = λ j behind. refl; sound = sound }
 
 pub same_or_altered : {from : SessionState} {k : MapId} → IsSound from → is_marked from k ≡ false → {to : SessionState} → (h : History from to)
     → IsSame from to k ⊎ ((key : Key) × IsAskedBehind from k key × WasAltered key h)
@@ -147,11 +168,16 @@ same_or_altered sound off (refresh mid to done earlier is) = elim (same_or_alter
   | inl same ↦ inl (same_after_refresh same is)
   | inr hit ↦ inr (hit.0, hit.1, hit.2)
 ]
+same_or_altered sound off (numbers mid to earlier grown) = elim (same_or_altered sound off earlier) [
+  | inl same ↦ inl (same_once_grown same grown)
+  | inr hit ↦ inr (hit.0, hit.1, hit.2)
+]
 
 -- ---- what is read
 
 -- the same finished maps are read
-pub same_read_of : {from to : SessionState} (id : MapId) (r : Resolution) → IsSound from → kept_of from id ≡ Some r → IsSame from to id → read_of to id ≡ read_of from id
+pub same_read_of : {from to : SessionState} (id : MapId) (r : Resolution) → IsSound from → kept_of from id ≡ Some r → IsSame from to id → read_of to id
+    ≡ read_of from id
 same_read_of {from} {to} id r sound is same =
     (λ i. among (transitive_in (same.crates i) id.krate.0) (holders_of (finished i)) (finished_of to))
     ∙ among_agrees (transitive_in from.crates id.krate.0) (holders_of (finished_of from id)) (finished_of to) (finished_of from)
@@ -174,11 +200,13 @@ same_read_of {from} {to} id r sound is same =
     behind j h = elim (of_some (transitive_in from.crates id.krate.0) (holders_of (finished_of from id)) j h) [
       | inl crate ↦
           let own : j ≡ crate_map j.krate = λ i. record { krate = j.krate; block = crate.0 i } in
-          subst (IsBehind from id) (sym own) (crates_stay from sound from.sources from.kept (IsBehind from id) outwards (λ i b. refl) id.krate (own_crate id.block refl) j.krate crate.1)
+          subst (IsBehind from id) (sym own) (crates_stay from sound from.sources from.kept (IsBehind from id) outwards (λ i b. refl) id.krate
+          (own_crate id.block refl) j.krate crate.1)
       | inr held ↦
           let one = found-any (λ (m : ModuleId). map_id.ghosts.eq m.map j) (holders_of (finished_of from id)) held in
           subst (IsBehind from id) (exact_map one.0.map j one.2)
-          (holders_hold from sound {P = IsBehind from id} outwards r.holders id r is refl itself one.0 (subst (λ (ms : List ModuleId). Contains ms one.0) holders_are one.1))
+          (holders_hold from sound {P = IsBehind from id} outwards r.holders id r is refl itself one.0
+          (subst (λ (ms : List ModuleId). Contains ms one.0) holders_are one.1))
     ]
 
 -- ---- a name that isn't there
@@ -216,9 +244,11 @@ module _ (tables : TablesValue) (blocks : Blocks) (kept : Resolutions) (krate : 
   no_root None id e = absurd (let no : ⊥ = cc in no)
   no_root (Some r) id e = absurd (let no : ⊥ = cc in no)
 
-  last_step : (start : List PlaceElement) (st : Standing) (e : PlaceElement) (more : List PlaceElement) (id : MapId) → step tables blocks kept krate start st e ≡ way.lacks id
+  last_step : (start : List PlaceElement) (st : Standing) (e : PlaceElement) (more : List PlaceElement) (id : MapId) → step tables blocks kept krate start st e
+      ≡ way.lacks id
       → (st ≡ way.lacks id) ⊎ IsLacking start st (e ∷ more) id
-  last_step start (way.at m) (element.Module name) more id f = inr (record { first = []; name = name; others = more; at_last = m; split = refl; leads = refl; lacks = f })
+  last_step start (way.at m) (element.Module name) more id f =
+      inr (record { first = []; name = name; others = more; at_last = m; split = refl; leads = refl; lacks = f })
   last_step start (way.at m) (element.Block b) more id f = go (is_set blocks (block_below krate start b)) f
     where
       go : {A : Type 0} (t : Bool) → cond t (to_root (kept_block tables kept (block_below krate start b))) way.unset ≡ way.lacks id → A
@@ -235,7 +265,8 @@ module _ (tables : TablesValue) (blocks : Blocks) (kept : Resolutions) (krate : 
   last_step start way.unset (element.Module name) more id f = absurd (let no : ⊥ = cc in no)
   last_step start way.unset (element.Block b) more id f = absurd (let no : ⊥ = cc in no)
 
-  pub lacking : (start : List PlaceElement) (st : Standing) (steps : List PlaceElement) (id : MapId) → on start st steps ≡ way.lacks id → (st ≡ way.lacks id) ⊎ IsLacking start st steps id
+  pub lacking : (start : List PlaceElement) (st : Standing) (steps : List PlaceElement) (id : MapId) → on start st steps ≡ way.lacks id → (st ≡ way.lacks id)
+      ⊎ IsLacking start st steps id
   lacking start st [] id f = inl f
   lacking start st (e ∷ more) id f = elim (lacking (start ++ e ∷ []) (step tables blocks kept krate start st e) more id f) [
     | inl last ↦ last_step start st e more id last
@@ -257,7 +288,8 @@ module _ {from to : SessionState} (id : MapId) (sound : IsSound from) (same : Is
   outwards_behind i d b among = next i d b among
 
   -- a block of which something is kept stays set
-  stays_set : (b : BlockId) (place : BlockPlace) → block_at from.tables b ≡ Some place → IsBehind from id (block_map place.holder.krate b) → is_set from.sources.blocks place ≡ true
+  stays_set : (b : BlockId) (place : BlockPlace) → block_at from.tables b ≡ Some place → IsBehind from id (block_map place.holder.krate b)
+      → is_set from.sources.blocks place ≡ true
       → is_set to.sources.blocks place ≡ true
   stays_set b place means behind was = go (same.sound.placed (block_map place.holder.krate b) (same.off (block_map place.holder.krate b) behind))
     where
@@ -270,14 +302,16 @@ module _ {from to : SessionState} (id : MapId) (sound : IsSound from) (same : Is
 
   -- a place that leads into what is behind leads there still
   pub leads_still : (place : PlaceValue) (m : ModuleId) → standing_of from place ≡ way.at m → IsBehind from id m.map → standing_of to place ≡ way.at m
-  leads_still place m leads behind = standing_stays from sound (IsBehind from id) outwards_behind to.tables to.sources to.kept same.tables same.kept stays_set place m leads behind
+  leads_still place m leads behind =
+      standing_stays from sound (IsBehind from id) outwards_behind to.tables to.sources to.kept same.tables same.kept stays_set place m leads behind
 
   -- where a name isn't there in a map behind, it still isn't
   pub lacks_still : (place : PlaceValue) (j : MapId) → standing_of from place ≡ way.lacks j → IsBehind from id j → standing_of to place ≡ way.lacks j
   lacks_still place j lacks behind = go (kept_of from (crate_map place.krate)) refl lacks
     where
       -- the rest of the way
-      rest : (first others : List PlaceElement) (name : List ℕ) (m : ModuleId) → place.elements ≡ first ++ element.Module name ∷ others → to_child m.map (child_kept from.kept m name) ≡ way.lacks j
+      rest : (first others : List PlaceElement) (name : List ℕ) (m : ModuleId) → place.elements ≡ first ++ element.Module name ∷ others
+          → to_child m.map (child_kept from.kept m name) ≡ way.lacks j
           → (o : Option Resolution) → kept_of to (crate_map place.krate) ≡ o
           → from_crate to.tables to.sources.blocks to.kept o (record { krate = place.krate; elements = first }) ≡ way.at m → standing_of to place ≡ way.lacks j
       rest first others name m split lack None is_kept leads = absurd (let no : ⊥ = cc in no)
@@ -286,7 +320,8 @@ module _ {from to : SessionState} (id : MapId) (sound : IsSound from) (same : Is
           let kept : kept_of to m.map ≡ kept_of from m.map = same.kept m.map (subst (IsBehind from id) (sym own) behind) in
           let child : to_child m.map (child_kept to.kept m name) ≡ way.lacks j =
           ap (λ (o : Option Resolution). to_child m.map (option_and_then (λ (x : Resolution). child_at x.map m.index name) o)) kept ∙ lack in
-          let goes = λ (start : List PlaceElement) (st : Standing) (steps : List PlaceElement). down to.tables to.sources.blocks to.kept place.krate start st steps in
+          let goes = λ (start : List PlaceElement) (st : Standing) (steps : List PlaceElement). down to.tables to.sources.blocks to.kept place.krate start st
+          steps in
           ap (λ (o : Option Resolution). from_crate to.tables to.sources.blocks to.kept o place) is_kept
           ∙ ap (goes [] (way.at (root_of r.map.id))) split
           ∙ down-append to.tables to.sources.blocks to.kept place.krate [] (way.at (root_of r.map.id)) first (element.Module name ∷ others)
@@ -294,14 +329,16 @@ module _ {from to : SessionState} (id : MapId) (sound : IsSound from) (same : Is
           ∙ ap (λ (st : Standing). goes (first ++ element.Module name ∷ []) st others) child
           ∙ lacks_on to.tables to.sources.blocks to.kept place.krate (first ++ element.Module name ∷ []) j others
 
-      go : (o : Option Resolution) → kept_of from (crate_map place.krate) ≡ o → from_crate from.tables from.sources.blocks from.kept o place ≡ way.lacks j → standing_of to place ≡ way.lacks j
+      go : (o : Option Resolution) → kept_of from (crate_map place.krate) ≡ o → from_crate from.tables from.sources.blocks from.kept o place ≡ way.lacks j
+          → standing_of to place ≡ way.lacks j
       go None is_kept f = absurd (let no : ⊥ = cc in no)
       go (Some r) is_kept f = elim (lacking from.tables from.sources.blocks from.kept place.krate [] (way.at (root_of r.map.id)) place.elements j f) [
         | inl never ↦ absurd (let wrong : ⊥ = cc in wrong)
         | inr at ↦
             let own : at.at_last.map ≡ j = lacks_child at.at_last.map (child_kept from.kept at.at_last at.name) j at.lacks in
             let leads : standing_of from (record { krate = place.krate; elements = at.first }) ≡ way.at at.at_last =
-            ap (λ (o : Option Resolution). from_crate from.tables from.sources.blocks from.kept o (record { krate = place.krate; elements = at.first })) is_kept ∙ at.leads in
+            ap (λ (o : Option Resolution). from_crate from.tables from.sources.blocks from.kept o (record { krate = place.krate; elements = at.first })) is_kept
+            ∙ at.leads in
             let still = leads_still (record { krate = place.krate; elements = at.first }) at.at_last leads (subst (IsBehind from id) (sym own) behind) in
             rest at.first at.others at.name at.at_last at.split at.lacks (kept_of to (crate_map place.krate)) refl still
       ]
@@ -309,33 +346,40 @@ module _ {from to : SessionState} (id : MapId) (sound : IsSound from) (same : Is
 -- ---- answers
 
 -- no answer is given where a name isn't there
-unknown_over : (b : Bool) (x y : Result Answer QueryError) → answer_by (if b then status.Unknown else status.Unknown) x ≡ answer_by (if b then status.Unknown else status.Unknown) y
+unknown_over : (b : Bool) (x y : Result Answer QueryError) → answer_by (if b then status.Unknown else status.Unknown) x
+    ≡ answer_by (if b then status.Unknown else status.Unknown) y
 unknown_over true x y = refl
 unknown_over false x y = refl
 
 -- what is answered where steps lead so, of so many crates
 abbrev answer_where : PlaceValue → Path → Shadow → Option MacroStyle → SessionState → ℕ → Standing → Option ModuleId → Result Answer QueryError
-answer_where place path shadow style s count st m = answer_by (if nat_lt place.krate.0 count then status_by st else status.Unknown) (answer_at s m path shadow style)
+answer_where place path shadow style s count st m =
+    answer_by (if nat_lt place.krate.0 count then status_by st else status.Unknown) (answer_at s m path shadow style)
 
 module _ {from to : SessionState} (place : PlaceValue) (path : Path) (shadow : Shadow) (style : Option MacroStyle) (sound : IsSound from) where
   -- at a name that isn't there
-  pub alike_lacking : (id : MapId) → IsSame from to id → standing_of from place ≡ way.lacks id → answer_of to place path shadow style ≡ answer_of from place path shadow style
+  pub alike_lacking : (id : MapId) → IsSame from to id → standing_of from place ≡ way.lacks id → answer_of to place path shadow style
+      ≡ answer_of from place path shadow style
   alike_lacking id same lacks =
-      ap (λ (st : Standing). answer_where place path shadow style to (length to.crates) st (module_of to place)) (lacks_still id sound same place id lacks itself)
+      ap (λ (st : Standing). answer_where place path shadow style to (length to.crates) st (module_of to place))
+      (lacks_still id sound same place id lacks itself)
       ∙ ap (λ (cs : List CrateValue). answer_where place path shadow style to (length cs) (way.lacks id) (module_of to place)) same.crates
       ∙ unknown_over (nat_lt place.krate.0 (length from.crates)) (answer_kept to place path shadow style) (answer_kept from place path shadow style)
       ∙ ap (λ (st : Standing). answer_where place path shadow style from (length from.crates) st (module_of from place)) (sym lacks)
 
   module _ (runs : RunsBindFromSources) (answers : PathsAnswerFromSources) (leads : PathsLeadToWhatIsThere) where
     -- from a module
-    pub alike_at : (m : ModuleId) → IsSame from to m.map → standing_of from place ≡ way.at m → answer_of to place path shadow style ≡ answer_of from place path shadow style
+    pub alike_at : (m : ModuleId) → IsSame from to m.map → standing_of from place ≡ way.at m → answer_of to place path shadow style
+        ≡ answer_of from place path shadow style
     alike_at m same at =
         let there = place_there from sound place m (ap module_by at) in
         let r : Resolution = there.found in
         let kept : kept_of to m.map ≡ Some r = same.kept m.map itself ∙ there.is in
-        let all = subst (λ (read : Maps). answer_in to.tables (overlay read r.map) r.local m path shadow style ≡ answer_in from.tables (overlay read r.map) r.local m path shadow style)
+        let all = subst (λ (read : Maps). answer_in to.tables (overlay read r.map) r.local m path shadow style ≡ answer_in from.tables (overlay read r.map)
+        r.local m path shadow style)
         (sym (read_kept from m.map r there.is))
-        (kept_answer from.tables to.tables same.tables (maps_behind from m.map r) r.local m path shadow style (whole runs answers leads from sound m r there.is there.there path shadow style)) in
+        (kept_answer from.tables to.tables same.tables (maps_behind from m.map r) r.local m path shadow style
+        (whole runs answers leads from sound m r there.is there.there path shadow style)) in
         let over : answer_at to (Some m) path shadow style ≡ answer_at from (Some m) path shadow style =
         ap (λ (o : Option Resolution). answer_from to.tables (read_of to m.map) o m path shadow style) kept
         ∙ ap (λ (read : Maps). answer_from to.tables read (Some r) m path shadow style) (same_read_of m.map r sound there.is same)
@@ -347,7 +391,8 @@ module _ {from to : SessionState} (place : PlaceValue) (path : Path) (shadow : S
         ∙ ap (λ (st : Standing). answer_where place path shadow style from (length from.crates) st (module_by st)) (sym at)
 
     -- so a query has the same answer
-    pub same_answer : (id : MapId) → map_by (standing_of from place) ≡ Some id → IsSame from to id → answer_of to place path shadow style ≡ answer_of from place path shadow style
+    pub same_answer : (id : MapId) → map_by (standing_of from place) ≡ Some id → IsSame from to id → answer_of to place path shadow style
+        ≡ answer_of from place path shadow style
     same_answer id ends same = go (standing_of from place) refl ends
       where
         go : (st : Standing) → standing_of from place ≡ st → map_by st ≡ Some id → answer_of to place path shadow style ≡ answer_of from place path shadow style
@@ -363,7 +408,8 @@ ends_unmarked s sound place id ends = go (standing_of s place) refl ends
     kept_at : (at : PlaceValue) (m : ModuleId) → standing_of s at ≡ way.at m → is_marked s m.map ≡ false
     kept_at at m is = let there = place_there s sound at m (ap module_by is) in unmarked s m.map there.found there.is
 
-    lacking_in : (j : MapId) (o : Option Resolution) → kept_of s (crate_map place.krate) ≡ o → from_crate s.tables s.sources.blocks s.kept o place ≡ way.lacks j → is_marked s j ≡ false
+    lacking_in : (j : MapId) (o : Option Resolution) → kept_of s (crate_map place.krate) ≡ o → from_crate s.tables s.sources.blocks s.kept o place ≡ way.lacks j
+        → is_marked s j ≡ false
     lacking_in j None is_kept f = absurd (let no : ⊥ = cc in no)
     lacking_in j (Some r) is_kept f = elim (lacking s.tables s.sources.blocks s.kept place.krate [] (way.at (root_of r.map.id)) place.elements j f) [
       | inl never ↦ absurd (let wrong : ⊥ = cc in wrong)
@@ -371,7 +417,8 @@ ends_unmarked s sound place id ends = go (standing_of s place) refl ends
           let own : at.at_last.map ≡ j = lacks_child at.at_last.map (child_kept s.kept at.at_last at.name) j at.lacks in
           subst (λ (x : MapId). is_marked s x ≡ false) own
           (kept_at (record { krate = place.krate; elements = at.first }) at.at_last
-          (ap (λ (o : Option Resolution). from_crate s.tables s.sources.blocks s.kept o (record { krate = place.krate; elements = at.first })) is_kept ∙ at.leads))
+          (ap (λ (o : Option Resolution). from_crate s.tables s.sources.blocks s.kept o (record { krate = place.krate; elements = at.first })) is_kept ∙
+          at.leads))
     ]
 
     go : (st : Standing) → standing_of s place ≡ st → map_by st ≡ Some id → is_marked s id ≡ false

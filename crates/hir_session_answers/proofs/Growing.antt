@@ -1,48 +1,58 @@
 -- An answer that leaves nothing out stays as tables grow.
-use Rattle.std.proofs.Common.{◌≡◌, ◌⊎◌, inl, inr, ℕ, zero, suc, is_some, List, Option, None, Some, option_map, slice_get, refl, sym, ap, ◌∙◌, subst}
+use Rattle.std.proofs.Common.{◌≡◌, ◌⊎◌, inl, inr, ℕ, zero, suc, is_some, List, [], ◌∷◌, map, Option, None, Some, option_map, slice_get, refl, sym, ap, ◌∙◌}
+use Rattle.std.proofs.Common.{subst}
+use Rattle.std.specs.List.{cons_option}
 use Rattle.std.specs.Option.{option_and_then}
 use Rattle.hir_base.specs.ModPath.{Path}
-use Rattle.hir_base.specs.declared.ast_id.BlockId.{BlockId}
-use Rattle.hir_base.specs.declared.ast_id.HirFileId.{HirFileId}
-use Rattle.hir_base.specs.declared.ast_id.HirFileId.TheVariants.{File, Macro}
-use Rattle.hir_base.specs.declared.ast_id.SyntaxId.{SyntaxId}
 use Rattle.hir_base.specs.declared.ids.AdtId.{AdtId}
-use Rattle.hir_base.specs.declared.ids.AdtId.TheVariants as adt
+use Rattle.hir_base.specs.declared.ast_id.AstId.{AstId}
+use Rattle.hir_base.specs.declared.ast_id.BlockId.{BlockId}
+use Rattle.hir_base.specs.declared.place.BlockPlace.{BlockPlace}
 use Rattle.hir_base.specs.declared.ids.Crate.{Crate}
-use Rattle.hir_base.specs.declared.ids.ModuleDefId.{ModuleDefId}
-use Rattle.hir_base.specs.declared.ids.ModuleDefId.TheVariants as def
-use Rattle.hir_base.specs.declared.ids.ModuleId.{ModuleId}
+use Rattle.hir_base.specs.declared.ast_id.HirFileId.{HirFileId}
 use Rattle.hir_base.specs.declared.macro_kind.MacroCallLoc.{MacroCallLoc}
 use Rattle.hir_base.specs.declared.macro_kind.MacroId.{MacroId}
+use Rattle.hir_base.specs.declared.ids.ModuleDefId.{ModuleDefId}
+use Rattle.hir_base.specs.declared.ids.ModuleId.{ModuleId}
+use Rattle.hir_base.specs.declared.ast_id.SyntaxId.{SyntaxId}
+use Rattle.hir_base.specs.declared.ast_id.HirFileId.TheVariants.{File, Macro}
+use Rattle.hir_base.specs.declared.ids.AdtId.TheVariants as adt
+use Rattle.hir_base.specs.declared.ids.ModuleDefId.TheVariants as def
 use Rattle.hir_base.specs.declared.macro_kind.MacroId.TheVariants as macro
-use Rattle.hir_base.specs.declared.place.BlockPlace.{BlockPlace}
 use Rattle.hir_scope.specs.PerNs.{Item}
 use Rattle.hir_scope.specs.declared.imports.ImportOrExternCrate.{ImportOrExternCrate}
-use Rattle.hir_scope.specs.declared.imports.ImportOrExternCrate.TheVariants as import
 use Rattle.hir_scope.specs.declared.imports.ImportOrGlob.{ImportOrGlob}
-use Rattle.hir_scope.specs.declared.imports.ImportOrGlob.TheVariants as value_import
 use Rattle.hir_scope.specs.declared.visibility.Visibility.{Visibility}
+use Rattle.hir_scope.specs.declared.imports.ImportOrExternCrate.TheVariants as import
+use Rattle.hir_scope.specs.declared.imports.ImportOrGlob.TheVariants as value_import
 use Rattle.hir_scope.specs.declared.visibility.Visibility.TheVariants as vis
 use Rattle.hir_tables.specs.Tables.{TablesValue, KeepsTables, block_at, call_at}
-use Rattle.hir_def_map_rules.specs.Diagnostics.{call_node}
+use Rattle.hir_def_map_rules.specs.Diagnostics.{DiagnosticValue, KindValue, call_node, diagnostic_view, node_of}
 use Rattle.hir_def_map_rules.specs.Scoping.{resolution_of}
 use Rattle.hir_def_map_rules.specs.State.{Local, ModuleValue}
 use Rattle.hir_def_map_rules.specs.Overlay.{Maps, module_in}
+use Rattle.hir_def_map_rules.specs.declared.diagnostics.DefDiagnostic.{DefDiagnostic}
 use Rattle.hir_def_map_rules.specs.declared.origin.ModuleOrigin.{ModuleOrigin}
 use Rattle.hir_def_map_rules.specs.declared.origin.ModuleOrigin.TheVariants as origin
 use Rattle.hir_wire.specs.declared.answer.AnswerItem.{AnswerItem}
 use Rattle.hir_wire.specs.declared.answer.AnswerVisibility.{AnswerVisibility}
 use Rattle.hir_wire.specs.declared.answer.Definition.{Definition}
+use Rattle.hir_wire.specs.declared.diagnostic.Diagnostic.{Diagnostic}
 use Rattle.hir_wire.specs.declared.answer.ImportSource.{ImportSource}
 use Rattle.hir_wire.specs.declared.answer.ItemSource.{ItemSource}
-use Rattle.hir_wire.specs.declared.answer.SourceKind.{SourceKind}
 use Rattle.hir_wire.specs.declared.command.MacroStyle.{MacroStyle}
 use Rattle.hir_wire.specs.declared.command.Shadow.{Shadow}
+use Rattle.hir_wire.specs.declared.answer.SourceItem.{SourceItem}
+use Rattle.hir_wire.specs.declared.answer.SourceKind.{SourceKind}
 use Rattle.hir_session_answers.specs.Answers.{answer_in, asking_of}
+use Rattle.hir_session_answers.specs.Diagnostics.{diagnostic_source, diagnostic_with, diagnostics_in, node_in, node_source}
+use Rattle.hir_session_answers.specs.DiagnosticsStand.{AreTold}
 use Rattle.hir_session_state.specs.Standing.{most_calls}
 use Rattle.hir_session_answers.specs.LeavesOut.{LeavesNothingOut}
 use Rattle.hir_session_answers.specs.SourceCalls.{and_call, block_source, file_source, source_call, source_of, source_within}
-use Rattle.hir_session_answers.specs.SourceItems.{adt_definition, answered_macro, answered_type, answered_value, block_definition, definition_of, import_source, item_in, item_of, macro_definition, maybe_source, module_by, module_definition, together, value_import_source, visibility_source}
+use Rattle.hir_session_answers.specs.SourceItems.{adt_definition, answered_macro, answered_type, answered_value, block_definition, definition_of, import_source}
+use Rattle.hir_session_answers.specs.SourceItems.{item_in, item_of, macro_definition, maybe_source, module_by, module_definition, together, value_import_source}
+use Rattle.hir_session_answers.specs.SourceItems.{visibility_source}
 use Rattle.hir_session_state.proofs.Truth.{clash}
 
 -- what was there stays
@@ -62,7 +72,8 @@ no_visibility None i = refl
 no_visibility (Some d) None = refl
 no_visibility (Some d) (Some i) = refl
 
-all : (d e : Option Definition) (i j : Option (Option ImportSource)) (v w : Option AnswerVisibility) → Stays d e → Stays i j → Stays v w → Stays (together d i v) (together e j w)
+all : (d e : Option Definition) (i j : Option (Option ImportSource)) (v w : Option AnswerVisibility) → Stays d e → Stays i j → Stays v w
+    → Stays (together d i v) (together e j w)
 all d e i j v w (inl none) b c = inl (ap (λ (x : Option Definition). together x i v) none)
 all d e i j v w (inr a) (inl none) c = inl (ap (λ (x : Option (Option ImportSource)). together d x v) none ∙ no_import d v)
 all d e i j v w (inr a) (inr b) (inl none) = inl (ap (together d i) none ∙ no_visibility d i)
@@ -78,7 +89,8 @@ module _ (few more : TablesValue) (keeps : KeepsTables few more) where
 
   within_stays : (n : ℕ) (file : HirFileId) (block : Option BlockId) → Stays (source_within n few file block) (source_within n more file block)
   within_stays n file (Some b) = mapped block_source (block_at few b) (block_at more b) (block_stays b)
-  within_stays n (File f) None = mapped file_source (slice_get few.files f.file_id.0) (slice_get more.files f.file_id.0) (go (slice_get few.files f.file_id.0) refl)
+  within_stays n (File f) None =
+      mapped file_source (slice_get few.files f.file_id.0) (slice_get more.files f.file_id.0) (go (slice_get few.files f.file_id.0) refl)
     where
       go : (o : Option (List ℕ)) → slice_get few.files f.file_id.0 ≡ o → Stays (slice_get few.files f.file_id.0) (slice_get more.files f.file_id.0)
       go None s = inl s
@@ -89,14 +101,17 @@ module _ (few more : TablesValue) (keeps : KeepsTables few more) where
       inside : TablesValue → MacroCallLoc → Option ItemSource
       inside t call = option_map (and_call (source_call call.kind)) (source_within n t (call_node call.kind).file_id (call_node call.kind).block)
 
-      stays : (call : MacroCallLoc) → call_at few c ≡ Some call → Stays (source_within n few (call_node call.kind).file_id (call_node call.kind).block) (source_within n more (call_node call.kind).file_id (call_node call.kind).block)
+      stays : (call : MacroCallLoc) → call_at few c ≡ Some call → Stays (source_within n few (call_node call.kind).file_id (call_node call.kind).block)
+          (source_within n more (call_node call.kind).file_id (call_node call.kind).block)
           → Stays (option_and_then (inside few) (call_at few c)) (option_and_then (inside more) (call_at more c))
       stays call s next =
           subst (λ (o : Option MacroCallLoc). Stays (option_and_then (inside few) o) (option_and_then (inside more) (call_at more c))) (sym s)
-          (subst (λ (o : Option MacroCallLoc). Stays (option_and_then (inside few) (Some call)) (option_and_then (inside more) o)) (sym (keeps.calls c.0 call s))
+          (subst (λ (o : Option MacroCallLoc). Stays (option_and_then (inside few) (Some call)) (option_and_then (inside more) o))
+          (sym (keeps.calls c.0 call s))
           (mapped (and_call (source_call call.kind)) _ _ next))
 
-      go : (o : Option MacroCallLoc) → call_at few c ≡ o → ((file : HirFileId) (block : Option BlockId) → Stays (source_within n few file block) (source_within n more file block))
+      go : (o : Option MacroCallLoc) → call_at few c ≡ o
+          → ((file : HirFileId) (block : Option BlockId) → Stays (source_within n few file block) (source_within n more file block))
           → Stays (option_and_then (inside few) (call_at few c)) (option_and_then (inside more) (call_at more c))
       go None s next = inl (ap (option_and_then (inside few)) s)
       go (Some call) s next = stays call s (next (call_node call.kind).file_id (call_node call.kind).block)
@@ -104,7 +119,8 @@ module _ (few more : TablesValue) (keeps : KeepsTables few more) where
   source_stays : (file : HirFileId) (block : Option BlockId) → Stays (source_of few file block) (source_of more file block)
   source_stays file block = within_stays (most_calls file) file block
 
-  item_stays : (krate : Crate) (kind : SourceKind) (file : HirFileId) (block : Option BlockId) (id : SyntaxId) → Stays (item_of few krate kind file block id) (item_of more krate kind file block id)
+  item_stays : (krate : Crate) (kind : SourceKind) (file : HirFileId) (block : Option BlockId) (id : SyntaxId) → Stays (item_of few krate kind file block id)
+      (item_of more krate kind file block id)
   item_stays krate kind file block id = mapped (item_in krate kind id) (source_of few file block) (source_of more file block) (source_stays file block)
 
   by_origin : (krate : Crate) (o : ModuleOrigin) → Stays (module_by few krate o) (module_by more krate o)
@@ -140,7 +156,8 @@ module _ (few more : TablesValue) (keeps : KeepsTables few more) where
     module_stays : (m : ModuleId) → Stays (module_definition few maps m) (module_definition more maps m)
     module_stays m = go (module_in maps m)
       where
-        go : (o : Option ModuleValue) → Stays (option_and_then (λ (v : ModuleValue). module_by few m.map.krate v.origin) o) (option_and_then (λ (v : ModuleValue). module_by more m.map.krate v.origin) o)
+        go : (o : Option ModuleValue) → Stays (option_and_then (λ (v : ModuleValue). module_by few m.map.krate v.origin) o)
+            (option_and_then (λ (v : ModuleValue). module_by more m.map.krate v.origin) o)
         go None = inl refl
         go (Some v) = by_origin m.map.krate v.origin
 
@@ -165,10 +182,13 @@ module _ (few more : TablesValue) (keeps : KeepsTables few more) where
     type_stays i = all _ _ _ _ _ _ (def_stays i.def) (maybe_stays (import_source few) (import_source more) import_stays i.import) (visibility_stays i.vis)
 
     value_stays : (i : Item ModuleDefId ImportOrGlob) → Stays (answered_value few maps i) (answered_value more maps i)
-    value_stays i = all _ _ _ _ _ _ (def_stays i.def) (maybe_stays (value_import_source few) (value_import_source more) value_import_stays i.import) (visibility_stays i.vis)
+    value_stays i =
+        all _ _ _ _ _ _ (def_stays i.def) (maybe_stays (value_import_source few) (value_import_source more) value_import_stays i.import)
+        (visibility_stays i.vis)
 
     macro_item_stays : (i : Item MacroId ImportOrExternCrate) → Stays (answered_macro few maps i) (answered_macro more maps i)
-    macro_item_stays i = all _ _ _ _ _ _ (macro_stays i.def) (maybe_stays (import_source few) (import_source more) import_stays i.import) (visibility_stays i.vis)
+    macro_item_stays i =
+        all _ _ _ _ _ _ (macro_stays i.def) (maybe_stays (import_source few) (import_source more) import_stays i.import) (visibility_stays i.vis)
 
     -- what isn't left out stays
     not_left_out : {I : Type 0} (f g : I → Option AnswerItem) → ((i : I) → Stays (f i) (g i)) → (o : Option I) → is_some (option_and_then f o) ≡ is_some o
@@ -188,3 +208,41 @@ module _ (few more : TablesValue) (keeps : KeepsTables few more) where
         let values = not_left_out (answered_value few maps) (answered_value more maps) value_stays found.resolved_def.values whole.values in
         let macros = not_left_out (answered_macro few maps) (answered_macro more maps) macro_item_stays found.resolved_def.macros whole.macros in
         λ k. record { types = types k; values = values k; macros = macros k; stop = found.segment_index }
+
+-- a diagnostic is told alike where its module and its item are
+with_stays : (kind : KindValue) (a b : Option Definition) (i j : Option SourceItem) → Stays a b → Stays i j → Stays (diagnostic_with kind a i)
+    (diagnostic_with kind b j)
+with_stays kind a b i j (inl none) second = inl (ap (λ (x : Option Definition). diagnostic_with kind x i) none)
+with_stays kind None b i j (inr same) second = inl refl
+with_stays kind (Some d) b i j (inr same) (inl none) = inl (ap (diagnostic_with kind (Some d)) none)
+with_stays kind (Some d) b i j (inr same) (inr alike) = inr (λ k. diagnostic_with kind (same k) (alike k))
+
+module _ (few more : TablesValue) (keeps : KeepsTables few more) (maps : Maps) where
+  node_stays : (n : AstId) → Stays (node_source few n) (node_source more n)
+  node_stays n = mapped (node_in n) (source_of few n.file_id n.block) (source_of more n.file_id n.block) (source_stays few more keeps n.file_id n.block)
+
+  diagnostic_stays : (d : DiagnosticValue) → Stays (diagnostic_source few maps d) (diagnostic_source more maps d)
+  diagnostic_stays d =
+      with_stays d.kind (module_definition few maps d.in_module) (module_definition more maps d.in_module) (node_source few (node_of d.kind))
+      (node_source more (node_of d.kind))
+      (module_stays few more keeps maps d.in_module) (node_stays (node_of d.kind))
+
+  abbrev told_by : TablesValue → DefDiagnostic → Option Diagnostic
+  told_by tables d = diagnostic_source tables maps (diagnostic_view d)
+
+  -- one that is told stays
+  told_stays : (d : DefDiagnostic) (t : Diagnostic) → told_by few d ≡ Some t → told_by more d ≡ told_by few d
+  told_stays d t is = elim (diagnostic_stays (diagnostic_view d)) [
+    | inl none ↦ let wrong : Some t ≡ None = sym is ∙ none in absurd (let never : ⊥ = cc in never)
+    | inr same ↦ same
+  ]
+
+  -- all stay where none is left out
+  pub kept_diagnostics : (ds : List DefDiagnostic) (told : List Diagnostic) → AreTold few maps ds told → diagnostics_in more maps ds
+      ≡ diagnostics_in few maps ds
+  kept_diagnostics [] told all = refl
+  kept_diagnostics (d ∷ ds) [] all = absurd (let wrong : ⊥ = cc in wrong)
+  kept_diagnostics (d ∷ ds) (t ∷ ts) all =
+      let first : told_by few d ≡ Some t = cc in
+      let others : AreTold few maps ds ts = cc in
+      λ k. cons_option (told_stays d t first k) (kept_diagnostics ds ts others k)

@@ -3,9 +3,11 @@ pub mod Walks
 pub mod ReadMaps
 pub mod Defined
 pub mod LeftOut
+pub mod KnownSources
 pub mod Reported
 pub mod Told
 pub mod Growing
 pub mod Differ
 pub mod Stand
 pub mod Diagnosing
+pub mod Listed

@@ -8,9 +8,10 @@ use Rattle.hir_def_map_rules.proofs.Reached.{paths_lead_there}
 use Rattle.hir_def_map_rules.proofs.Sourced.{paths_from_sources}
 use Rattle.hir_collector_rules.specs.Growth as growth
 use Rattle.hir_collector_rules.specs.Start.{read_by}
-use Rattle.hir_def_collector_laws.specs.Sources.{RunsBindFromSources}
+use Rattle.hir_def_collector_laws.specs.Sources.{RunsBindFromSources, RunsMeetNoUnknownSource}
 use Rattle.hir_def_collector_laws.specs.Whole.{RunsNameWhatIsThere}
 use Rattle.hir_collector_rules.proofs.Meaning as meaning
+use Rattle.hir_def_collector_laws.proofs.KnownSources.{meets_no_unknown_source}
 use Rattle.hir_def_collector_laws.proofs.Sourced.{ends_sourced}
 use Rattle.hir_def_collector_laws.proofs.Whole.{ends_whole}
 
@@ -30,6 +31,9 @@ runs_bind t tables w finished from answer whole stands begins e clear =
 pub runs_name : RunsNameWhatIsThere
 runs_name tables w finished from answer whole stands e =
     ends_whole paths_lead (read_by w finished from.start) whole tables w finished from answer refl stands e
+
+pub runs_meet : RunsMeetNoUnknownSource
+runs_meet = meets_no_unknown_source paths_answer paths_lead
 
 pub looks_stand : growth.LooksStand
 looks_stand = meaning.looks_stand

@@ -2,7 +2,8 @@
 use Rattle.std.specs.Prelude.{is_some}
 use Rattle.std.specs.List.{list_any}
 use Rattle.std.specs.Option.{option_and_then}
-use Rattle.std.proofs.Common.{◌≡◌, inl, inr, ◌∙◌, ap, sym, subst, refl, ℕ, zero, suc, ◌+◌, ◌<◌, Bool, true, false, not, ◌&&◌, ◌||◌, Option, Some, None, option_map, List, [], ◌∷◌, length, arith, Contains}
+use Rattle.std.proofs.Common.{◌≡◌, inl, inr, ◌∙◌, ap, sym, subst, refl, ℕ, zero, suc, ◌+◌, ◌<◌, Bool, true, false, not, ◌&&◌, ◌||◌, Option, Some, None}
+use Rattle.std.proofs.Common.{option_map, List, [], ◌∷◌, length, arith, Contains}
 use Rattle.hir_base.specs.contracts.ids.MapIdPartialEq.TheImpl as map_id
 use Rattle.hir_base.specs.declared.ast_id.BlockId.{BlockId}
 use Rattle.hir_base.specs.declared.ids.Crate.{Crate}
@@ -41,7 +42,8 @@ rank id r = id.krate.0 + length r.holders
 module _ (s : SessionState) (sound : IsSound s) where
   -- ---- maps in which holders lie
 
-  held_krate : (hs : List ModuleId) (id : MapId) (r : Resolution) → kept_of s id ≡ Some r → r.holders ≡ hs → (j : MapId) → holds hs j ≡ true → j.krate ≡ id.krate
+  held_krate : (hs : List ModuleId) (id : MapId) (r : Resolution) → kept_of s id ≡ Some r → r.holders ≡ hs → (j : MapId) → holds hs j ≡ true → j.krate
+      ≡ id.krate
   held_krate [] id r is e j held = clash held refl
   held_krate (x ∷ xs) id r is e j held =
       let p = kept_gives s sound id r is in
@@ -50,7 +52,8 @@ module _ (s : SessionState) (sound : IsSound s) where
       same_krate s sound xs x kept.found kept.is (first.1 kept.found kept.is) j held ∙ kept.krate
 
   -- fewer modules hold such a map
-  held_fewer : (hs : List ModuleId) (id : MapId) (r : Resolution) → kept_of s id ≡ Some r → r.holders ≡ hs → (j : MapId) → holds hs j ≡ true → (f : Resolution) → kept_of s j ≡ Some f
+  held_fewer : (hs : List ModuleId) (id : MapId) (r : Resolution) → kept_of s id ≡ Some r → r.holders ≡ hs → (j : MapId) → holds hs j ≡ true → (f : Resolution)
+      → kept_of s j ≡ Some f
       → length f.holders < length hs
   held_fewer [] id r is e j held f there = clash held refl
   held_fewer (x ∷ xs) id r is e j held f there =
@@ -76,7 +79,8 @@ module _ (s : SessionState) (sound : IsSound s) where
     abbrev read : Maps
     read = read_under s id r.holders
 
-    closed : (j : MapId) (c : Crate) → is_of_some (behind id.krate.0) r.holders j ≡ true → has_crate (behind j.krate.0) c ≡ true → has_crate (behind id.krate.0) c ≡ true
+    closed : (j : MapId) (c : Crate) → is_of_some (behind id.krate.0) r.holders j ≡ true → has_crate (behind j.krate.0) c ≡ true → has_crate (behind id.krate.0)
+        c ≡ true
     closed j c of has = elim (of_some (behind id.krate.0) r.holders j of) [
       | inl crate ↦ (depended sound id.krate.0 c).1 (DependsOn-trans ((depended sound id.krate.0 j.krate).0 crate.1) ((depended sound j.krate.0 c).0 has))
       | inr held ↦ ap (λ (k : Crate). has_crate (behind k.0) c) (sym (held_krate r.holders id r is refl j held)) ∙ has
@@ -125,7 +129,8 @@ module _ (s : SessionState) (sound : IsSound s) where
             let w = kept_whole s sound j found there in
             let one : found ≡ w.found = one_value (sym there ∙ w.is) in
             let held_too : are_of_some (behind id.krate.0) r.holders w.found.holders ≡ true =
-            ap (λ (x : Resolution). are_of_some (behind id.krate.0) r.holders x.holders) (sym one) ∙ ap (λ (p : Placed). are_of_some (behind id.krate.0) r.holders p.holders) same ∙ held in
+            ap (λ (x : Resolution). are_of_some (behind id.krate.0) r.holders x.holders) (sym one) ∙ ap
+            (λ (p : Placed). are_of_some (behind id.krate.0) r.holders p.holders) same ∙ held in
             record {
               found = found;
               is_kept = there;
@@ -170,7 +175,8 @@ module _ (s : SessionState) (sound : IsSound s) where
         off = unmarked s id r is
 
         go : (o : Option BlockId) → id.block ≡ o → is_marked s (crate_map id.krate) ≡ false
-        go None of = let same : id ≡ crate_map id.krate = λ i. record { krate = id.krate; block = of i } in subst (λ (x : MapId). is_marked s x ≡ false) same off
+        go None of =
+            let same : id ≡ crate_map id.krate = λ i. record { krate = id.krate; block = of i } in subst (λ (x : MapId). is_marked s x ≡ false) same off
         go (Some b) of = sound.closed id (crate_map id.krate) off (followed_crate s id b of)
 
     behind_off : (c : Crate) → has_crate (behind id.krate.0) c ≡ true → is_marked s (crate_map c) ≡ false
@@ -180,14 +186,18 @@ module _ (s : SessionState) (sound : IsSound s) where
     lies j held = held_krate r.holders id r is refl j held
 
     -- a map that may be read is
-    kept_read : (j : MapId) (f : Resolution) → kept_of s j ≡ Some f → is_of_some (behind id.krate.0) r.holders j ≡ true → are_of_some (behind id.krate.0) r.holders f.holders ≡ true → is_some (read j) ≡ true
-    kept_read j f there of held = ap (λ (o : Option Placed). is_some o) (among-there (behind id.krate.0) r.holders (finished_of s) j (placed_by f) of (ap (option_map placed_by) there) held)
+    kept_read : (j : MapId) (f : Resolution) → kept_of s j ≡ Some f → is_of_some (behind id.krate.0) r.holders j ≡ true → are_of_some (behind id.krate.0)
+        r.holders f.holders ≡ true → is_some (read j) ≡ true
+    kept_read j f there of held =
+        ap (λ (o : Option Placed). is_some o) (among-there (behind id.krate.0) r.holders (finished_of s) j (placed_by f) of (ap (option_map placed_by) there)
+        held)
 
     own_crate_read : (b : BlockId) → id.block ≡ Some b → is_some (read (crate_map id.krate)) ≡ true
     own_crate_read b of =
         let f = kept_there s (crate_map id.krate) own_crate_off in
         let alone : f.0.holders ≡ [] = crate_holders s (crate_map id.krate) f.0 (kept_gives s sound (crate_map id.krate) f.0 f.1) refl in
-        kept_read (crate_map id.krate) f.0 f.1 (is_held_of_some (behind id.krate.0) r.holders (crate_map id.krate) (in_own_crate s sound r.holders id r b is refl of))
+        kept_read (crate_map id.krate) f.0 f.1 (is_held_of_some (behind id.krate.0) r.holders (crate_map id.krate)
+        (in_own_crate s sound r.holders id r b is refl of))
         (ap (are_of_some (behind id.krate.0) r.holders) alone)
 
     own_crate_there : any_own_crate (is_missing read) id ≡ false
@@ -206,18 +216,22 @@ module _ (s : SessionState) (sound : IsSound s) where
         go (Some h) held =
             let kept = holder_kept s id r own h held in
             let found : read h.map ≡ Some (placed_by kept.found) =
-            among-there (behind id.krate.0) r.holders (finished_of s) h.map (placed_by kept.found) (of_holders h (subst (λ (hs : List ModuleId). Contains hs h) (sym kept.holders) (zero, omega arith, refl)))
+            among-there (behind id.krate.0) r.holders (finished_of s) h.map (placed_by kept.found)
+            (of_holders h (subst (λ (hs : List ModuleId). Contains hs h) (sym kept.holders) (zero, omega arith, refl)))
             (ap (option_map placed_by) kept.is)
-            (all_read kept.found.holders (λ x among. of_holders x (subst (λ (hs : List ModuleId). Contains hs x) (sym kept.holders) (suc among.0, (let below : among.0 < length kept.found.holders = among.1 in omega arith), among.2)))) in
+            (all_read kept.found.holders (λ x among. of_holders x (subst (λ (hs : List ModuleId). Contains hs x) (sym kept.holders)
+            (suc among.0, (let below : among.0 < length kept.found.holders = among.1 in omega arith), among.2)))) in
             both_true (same_crate h.map.krate id.krate) (is_some (module_in read h)) kept.same
             (ap (λ (o : Option Placed). is_some (option_and_then (λ (p : Placed). module_at p.map h.index) o)) found ∙ kept.module_)
           where
             of_holders : (x : ModuleId) → Contains r.holders x → is_of_some (behind id.krate.0) r.holders x.map ≡ true
             of_holders x among = is_held_of_some (behind id.krate.0) r.holders x.map (holds_listed r.holders x among)
 
-            all_read : (xs : List ModuleId) → ((x : ModuleId) → Contains xs x → is_of_some (behind id.krate.0) r.holders x.map ≡ true) → are_of_some (behind id.krate.0) r.holders xs ≡ true
+            all_read : (xs : List ModuleId) → ((x : ModuleId) → Contains xs x → is_of_some (behind id.krate.0) r.holders x.map ≡ true)
+                → are_of_some (behind id.krate.0) r.holders xs ≡ true
             all_read [] each = refl
-            all_read (x ∷ xs) each = both_true (is_of_some (behind id.krate.0) r.holders x.map) (are_of_some (behind id.krate.0) r.holders xs) (each x (zero, omega arith, refl))
+            all_read (x ∷ xs) each =
+                both_true (is_of_some (behind id.krate.0) r.holders x.map) (are_of_some (behind id.krate.0) r.holders xs) (each x (zero, omega arith, refl))
                 (all_read xs (λ y among. each y (suc among.0, (let below : among.0 < length xs = among.1 in omega arith), among.2)))
 
     pub stood_on_whole : StandsOnWhole (workspace_of s) read own.from.start

@@ -44,13 +44,17 @@ module _ (unwritten : HirFileId → Option BlockId → Bool) where
       written = clear (key_of answer (record { file = (reported_node d).file_id; block = (reported_node d).block })) told.of_item.written.key_asked;
     }
 
-    are_reports : (ds : List DefDiagnostic) → ((d : DefDiagnostic) → Contains ds d → IsToldOfItem tables w answer (diagnostic_view d)) → AreReports answer.map.id (length answer.map.modules) ds
+    are_reports : (ds : List DefDiagnostic) → ((d : DefDiagnostic) → Contains ds d → IsToldOfItem tables w answer (diagnostic_view d))
+        → AreReports answer.map.id (length answer.map.modules) ds
     are_reports [] told = tt
-    are_reports (d ∷ ds) told =
-        (is_report d (told d (0, (let here : 0 < length (d ∷ ds) = omega arith in here), refl)), are_reports ds (λ e h. told e (Contains-append_right (d ∷ []) ds e h)))
+    are_reports (d ∷ ds) told = (
+      is_report d (told d (0, (let here : 0 < length (d ∷ ds) = omega arith in here), refl)),
+      are_reports ds (λ e h. told e (Contains-append_right (d ∷ []) ds e h)),
+    )
 
   -- where the test holds of no source that was asked for, each diagnostic is of a module of the map, and about something of which it doesn't hold
   pub ends_reported : (tables : TablesValue) (w : Workspace) (all : Maps) (from : Beginning) (answer : CollectedValue) → Ends tables w all from answer
       → ((key : TreeKey) → Contains answer.asked (keys.Tree key) → unwritten key.id.file key.id.block ≡ false)
       → AreReports answer.map.id (length answer.map.modules) answer.map.diagnostics
-  ends_reported tables w all from answer e clear = are_reports tables w answer clear answer.map.diagnostics (λ d h. diagnostics_are_of_items tables w all from answer e d h)
+  ends_reported tables w all from answer e clear =
+      are_reports tables w answer clear answer.map.diagnostics (λ d h. diagnostics_are_of_items tables w all from answer e d h)

@@ -12,8 +12,8 @@ use Rattle.hir_def_map_rules.specs.Overlay.{Maps, overlay}
 use Rattle.hir_def_map.specs.WorldParts.{among}
 use Rattle.hir_def_collector_laws.specs.Sources.{RunsBindFromSources}
 use Rattle.hir_wire.specs.declared.answer.Answer.{Answer}
-use Rattle.hir_wire.specs.declared.command.Shadow.{Shadow}
 use Rattle.hir_wire.specs.declared.command.MacroStyle.{MacroStyle}
+use Rattle.hir_wire.specs.declared.command.Shadow.{Shadow}
 use Rattle.hir_wire.specs.declared.reply.Status.{Status}
 use Rattle.hir_wire.specs.declared.reply.Status.TheVariants as status
 use Rattle.hir_session_state.specs.SessionState.{SessionState, Resolution, kept_of, module_of, read_of, IsSound}
@@ -36,7 +36,8 @@ pub answer_of-current : (s : SessionState) (place : PlaceValue) (path : Path) (s
 answer_of-current s place path shadow style current over = ap (λ (now : Status). answer_by now (answer_kept s place path shadow style)) (sym current) ∙ over
 
 -- what is answered over what is kept
-pub given : (s : SessionState) (place : PlaceValue) (path : Path) (shadow : Shadow) (style : Option MacroStyle) (m : ModuleId) (found : Resolution) (maps : Maps) (a : Answer)
+pub given : (s : SessionState) (place : PlaceValue) (path : Path) (shadow : Shadow) (style : Option MacroStyle) (m : ModuleId) (found : Resolution)
+    (maps : Maps) (a : Answer)
     → module_of s place ≡ Some m → kept_of s m.map ≡ Some found → maps ≡ overlay (read_of s m.map) found.map
     → a ≡ answer_in s.tables maps found.local m path shadow style → answer_kept s place path shadow style ≡ Ok a
 given s place path shadow style m found maps a named kept over is =
@@ -75,9 +76,11 @@ same_answer : {a b : Answer} {x : Result Answer QueryError} → x ≡ Ok a → x
 same_answer {a} {b} e f = let both : Ok a ≡ Ok b = sym e ∙ f in cc
 
 -- an answer that is given stands
-pub stands : RunsBindFromSources → PathsAnswerFromSources → PathsLeadToWhatIsThere → (s : SessionState) (place : PlaceValue) (path : Path) (shadow : Shadow) (style : Option MacroStyle) (a : Answer) → IsSound s
+pub stands : RunsBindFromSources → PathsAnswerFromSources → PathsLeadToWhatIsThere → (s : SessionState) (place : PlaceValue) (path : Path) (shadow : Shadow)
+    (style : Option MacroStyle) (a : Answer) → IsSound s
     → answer_of s place path shadow style ≡ Ok a → AnswersStand s place path shadow style a
-stands runs answers leads s place path shadow style a sound h = go (module_of s place) refl (given_over (status_of s place) (answer_kept s place path shadow style) a h)
+stands runs answers leads s place path shadow style a sound h =
+    go (module_of s place) refl (given_over (status_of s place) (answer_kept s place path shadow style) a h)
   where
     go : (o : Option ModuleId) → module_of s place ≡ o → answer_at s o path shadow style ≡ Ok a → AnswersStand s place path shadow style a
     go None named e = absurd (let wrong : ⊥ = cc in wrong)

@@ -4,8 +4,8 @@ use Rattle.std.specs.List.{cons_option}
 use Rattle.std.proofs.Common.{ap, refl, subst, sym, ◌∙◌}
 use mathlib.Core.Bool.{true≢false}
 use Rattle.hir_base.specs.declared.ast_id.BlockId.{BlockId}
-use Rattle.hir_base.specs.declared.ast_id.HirFileId.{HirFileId}
 use Rattle.hir_base.specs.declared.ids.Crate.{Crate}
+use Rattle.hir_base.specs.declared.ast_id.HirFileId.{HirFileId}
 use Rattle.hir_base.specs.declared.ids.MapId.{MapId}
 use Rattle.hir_def_map_rules.proofs.StaysWellFormed.{module_there}
 use Rattle.hir_def_map_rules.specs.Closed.{ModuleIsThere}
@@ -15,8 +15,8 @@ use Rattle.hir_def_map_rules.specs.State.{numbered}
 use Rattle.hir_def_map_rules.specs.declared.diagnostics.DefDiagnostic.{DefDiagnostic}
 use Rattle.hir_def_collector_laws.specs.Sources.{RunsBindFromSources}
 use Rattle.hir_wire.specs.declared.answer.Definition.{Definition}
-use Rattle.hir_wire.specs.declared.answer.SourceItem.{SourceItem}
 use Rattle.hir_wire.specs.declared.diagnostic.Diagnostic.{Diagnostic}
+use Rattle.hir_wire.specs.declared.answer.SourceItem.{SourceItem}
 use Rattle.hir_session_state.specs.Crates.{id_of}
 use Rattle.hir_session_answers.specs.Diagnostics.{diagnostic_source, diagnostic_with, diagnostics_in, diagnostics_of, node_in}
 use Rattle.hir_session_answers.specs.DiagnosticsStand.{AreTold, DiagnosticsStand}
@@ -34,12 +34,15 @@ abbrev unwritten : SessionState → HirFileId → Option BlockId → Bool
 unwritten s file block = not (is_some (source_of s.tables file block))
 
 -- what a run for a current place reported is in modules of its map, and about what has a source item
-reported : (s : SessionState) (sound : IsSound s) (id : MapId) (r : Resolution) → kept_of s id ≡ Some r → AreReports (unwritten s) r.map.id (length r.map.modules) r.map.diagnostics
+reported : (s : SessionState) (sound : IsSound s) (id : MapId) (r : Resolution) → kept_of s id ≡ Some r → AreReports (unwritten s) r.map.id
+    (length r.map.modules) r.map.diagnostics
 reported s sound id r is =
-    ends_reported (unwritten s) s.tables (workspace_of s) (finished_of s) (start_of s sound id r is) (collected_of r) (ended_of s sound id r is) (λ key asked. ap not (asked_there s sound id r is key asked))
+    ends_reported (unwritten s) s.tables (workspace_of s) (finished_of s) (start_of s sound id r is) (collected_of r) (ended_of s sound id r is)
+    (λ key asked. ap not (asked_there s sound id r is key asked))
 
 -- where both a module and an item have a source, the diagnostic is told
-both_there : (kind : KindValue) (within : Option Definition) (item : Option SourceItem) → is_some within ≡ true → is_some item ≡ true → is_some (diagnostic_with kind within item) ≡ true
+both_there : (kind : KindValue) (within : Option Definition) (item : Option SourceItem) → is_some within ≡ true → is_some item ≡ true
+    → is_some (diagnostic_with kind within item) ≡ true
 both_there kind None item f g = absurd (true≢false (sym f))
 both_there kind (Some within) None f g = absurd (true≢false (sym g))
 both_there kind (Some within) (Some item) f g = refl
@@ -48,10 +51,12 @@ module _ (runs : RunsBindFromSources) (s : SessionState) (sound : IsSound s) (id
   abbrev maps : Maps
   maps = maps_behind s id r
 
-  is_told : (d : DefDiagnostic) → IsReport (unwritten s) r.map.id (length r.map.modules) d → is_some (diagnostic_source s.tables maps (diagnostic_view d)) ≡ true
+  is_told : (d : DefDiagnostic) → IsReport (unwritten s) r.map.id (length r.map.modules) d → is_some (diagnostic_source s.tables maps (diagnostic_view d))
+      ≡ true
   is_told d report =
       let same : numbered r.map.id d.in_module.index ≡ d.in_module = λ i. record { map = sym report.own i; index = d.in_module.index } in
-      let there : ModuleIsThere maps d.in_module = subst (ModuleIsThere maps) same (module_there (read_under s id r.holders) r.map d.in_module.index report.below) in
+      let there : ModuleIsThere maps d.in_module = subst (ModuleIsThere maps) same (module_there (read_under s id r.holders) r.map d.in_module.index
+      report.below) in
       let written : IsSourced s maps r = sourced runs s sound id r is in
       let node = reported_node d in
       both_there (diagnostic_view d).kind (module_definition s.tables maps d.in_module) (option_map (node_in node) (source_of s.tables node.file_id node.block))
@@ -63,14 +68,16 @@ module _ (runs : RunsBindFromSources) (s : SessionState) (sound : IsSound s) (id
   next_told None f os ts rest = absurd (true≢false (sym f))
   next_told (Some t) f os ts rest = ap (λ (xs : List (Option Diagnostic)). Some t ∷ xs) rest
 
-  each_told : (ds : List DefDiagnostic) → AreReports (unwritten s) r.map.id (length r.map.modules) ds → AreTold s.tables maps ds (diagnostics_in s.tables maps ds)
+  each_told : (ds : List DefDiagnostic) → AreReports (unwritten s) r.map.id (length r.map.modules) ds
+      → AreTold s.tables maps ds (diagnostics_in s.tables maps ds)
   each_told [] reports = refl
   each_told (d ∷ ds) reports =
       next_told (diagnostic_source s.tables maps (diagnostic_view d)) (is_told d reports.0)
       (map (λ (d : DefDiagnostic). diagnostic_source s.tables maps (diagnostic_view d)) ds) (diagnostics_in s.tables maps ds) (each_told ds reports.1)
 
 -- diagnostics that are told stand
-pub tell : RunsBindFromSources → (s : SessionState) (krate : Crate) (told : List Diagnostic) → IsSound s → diagnostics_of s krate ≡ Ok told → DiagnosticsStand s krate told
+pub tell : RunsBindFromSources → (s : SessionState) (krate : Crate) (told : List Diagnostic) → IsSound s → diagnostics_of s krate ≡ Ok told
+    → DiagnosticsStand s krate told
 tell runs s krate told sound h =
     on_bool (nat_lt krate.0 (length s.crates))
     (λ within. on_option (kept_of s (id_of krate.0))
@@ -78,8 +85,10 @@ tell runs s krate told sound h =
     (λ r some.
     let over = rw (within, some) at h in
     let is : diagnostics_in s.tables (overlay (read_of s (id_of krate.0)) r.map) r.map.diagnostics ≡ told = cc over in
-    let all : AreTold s.tables (overlay (read_of s (id_of krate.0)) r.map) r.map.diagnostics (diagnostics_in s.tables (overlay (read_of s (id_of krate.0)) r.map) r.map.diagnostics) =
-    subst (λ (read : Maps). AreTold s.tables (overlay read r.map) r.map.diagnostics (diagnostics_in s.tables (overlay read r.map) r.map.diagnostics)) (sym (read_kept s (id_of krate.0) r some))
+    let all : AreTold s.tables (overlay (read_of s (id_of krate.0)) r.map) r.map.diagnostics
+    (diagnostics_in s.tables (overlay (read_of s (id_of krate.0)) r.map) r.map.diagnostics) =
+    subst (λ (read : Maps). AreTold s.tables (overlay read r.map) r.map.diagnostics (diagnostics_in s.tables (overlay read r.map) r.map.diagnostics))
+    (sym (read_kept s (id_of krate.0) r some))
     (each_told runs s sound (id_of krate.0) r some r.map.diagnostics (reported s sound (id_of krate.0) r some)) in
     record {
       found = r;

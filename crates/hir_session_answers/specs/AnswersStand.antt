@@ -8,9 +8,10 @@ use Rattle.hir_def_map_rules.specs.Scoping.{resolution_of}
 use Rattle.hir_def_map_rules.specs.Overlay.{overlay}
 use Rattle.hir_collector_rules.specs.Start.{Beginning}
 use Rattle.hir_wire.specs.declared.answer.Answer.{Answer}
-use Rattle.hir_wire.specs.declared.command.Shadow.{Shadow}
 use Rattle.hir_wire.specs.declared.command.MacroStyle.{MacroStyle}
-use Rattle.hir_session_state.specs.SessionState.{SessionState, Resolution, workspace_of, finished_of, module_of, read_of, beginning_of, kept_of, IsCurrent, IsResolved}
+use Rattle.hir_wire.specs.declared.command.Shadow.{Shadow}
+use Rattle.hir_session_state.specs.SessionState.{SessionState, Resolution, workspace_of, finished_of, module_of, read_of, beginning_of, kept_of, IsCurrent}
+use Rattle.hir_session_state.specs.SessionState.{IsResolved}
 use Rattle.hir_session_state.specs.Due.{IsBehind}
 use Rattle.hir_session_state.specs.Kept.{collected_of}
 use Rattle.hir_session_answers.specs.Answers.{answer_in, asking_of}
@@ -34,5 +35,6 @@ pub record AnswersStand (s : SessionState) (place : PlaceValue) (path : Path) (s
   pub found : Resolution
   pub stands : StandsAt s asked_from.map found
   -- and it has a source item wherever scoping gives something
-  pub whole : LeavesNothingOut (resolution_of (overlay (read_of s asked_from.map) found.map) (asking_of found.local shadow style) asked_from path).resolved_def answer
+  pub whole : LeavesNothingOut (resolution_of (overlay (read_of s asked_from.map) found.map) (asking_of found.local shadow style) asked_from path).resolved_def
+      answer
   pub is : answer ≡ answer_in s.tables (overlay (read_of s asked_from.map) found.map) found.local asked_from path shadow style

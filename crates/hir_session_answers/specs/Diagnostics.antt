@@ -5,15 +5,17 @@ use Rattle.hir_base.specs.Cfg.{cfg_text}
 use Rattle.hir_base.specs.declared.ast_id.AstId.{AstId}
 use Rattle.hir_base.specs.declared.ids.Crate.{Crate}
 use Rattle.hir_tables.specs.Tables.{TablesValue}
-use Rattle.hir_def_map_rules.specs.Diagnostics.{DiagnosticValue, KindValue, UnresolvedModule, UnresolvedExternCrate, UnresolvedImport, UnconfiguredCode, UnresolvedMacroCall, UnimplementedBuiltinMacro, InvalidDeriveTarget, MalformedDerive, MacroDefError, MacroError, diagnostic_view, node_of}
+use Rattle.hir_def_map_rules.specs.Diagnostics.{DiagnosticValue, KindValue, UnresolvedModule, UnresolvedExternCrate, UnresolvedImport, UnconfiguredCode}
+use Rattle.hir_def_map_rules.specs.Diagnostics.{UnresolvedMacroCall, UnimplementedBuiltinMacro, InvalidDeriveTarget, MalformedDerive, MacroDefError, MacroError}
+use Rattle.hir_def_map_rules.specs.Diagnostics.{diagnostic_view, node_of}
 use Rattle.hir_def_map_rules.specs.Overlay.{Maps, overlay}
 use Rattle.hir_def_map_rules.specs.declared.diagnostics.DefDiagnostic.{DefDiagnostic}
 use Rattle.hir_wire.specs.declared.answer.Definition.{Definition}
+use Rattle.hir_wire.specs.declared.diagnostic.Diagnostic.{Diagnostic}
+use Rattle.hir_wire.specs.declared.diagnostic.DiagnosticKind.{DiagnosticKind}
 use Rattle.hir_wire.specs.declared.answer.ItemSource.{ItemSource}
 use Rattle.hir_wire.specs.declared.answer.SourceItem.{SourceItem}
 use Rattle.hir_wire.specs.declared.answer.SourceKind.TheVariants as source
-use Rattle.hir_wire.specs.declared.diagnostic.Diagnostic.{Diagnostic}
-use Rattle.hir_wire.specs.declared.diagnostic.DiagnosticKind.{DiagnosticKind}
 use Rattle.hir_wire.specs.declared.diagnostic.DiagnosticKind.TheVariants as told
 use Rattle.hir_session_state.specs.declared.error.DiagnosticsError.{DiagnosticsError}
 use Rattle.hir_session_state.specs.declared.error.DiagnosticsError.TheVariants as error

@@ -5,26 +5,28 @@ use Rattle.hir_base.specs.ModPath.{Path}
 use Rattle.hir_base.specs.Place.{PlaceValue}
 use Rattle.hir_collector_rules.specs.declared.source_database.Key.{Key}
 use Rattle.hir_wire.specs.Edits.{EditValue}
-use Rattle.hir_wire.specs.declared.command.Shadow.{Shadow}
 use Rattle.hir_wire.specs.declared.command.MacroStyle.{MacroStyle}
+use Rattle.hir_wire.specs.declared.command.Shadow.{Shadow}
 use Rattle.hir_session_state.specs.SessionState.{SessionState, standing_of, workspace_of, IsSound}
 use Rattle.hir_session_state.specs.Standing.{map_by}
 use Rattle.hir_session_state.specs.Marks.{IsAltered}
-use Rattle.hir_session_state.specs.Due.{IsAskedBehind}
+use Rattle.hir_session_state.specs.Due.{Grows, IsAskedBehind}
 use Rattle.hir_session_state.specs.Changes.{Applies, Resolves}
 use Rattle.hir_session_answers.specs.Answers.{answer_of}
 
--- edits and refreshes in any order; a refused edit changes nothing, and a refused refresh is one that did less
+-- edits, refreshes and queries that give numbers to calls, in any order; a refused edit changes nothing, and a refused refresh is one that did less
 pub data History (from : SessionState) : SessionState → Type 0 where
   none : History from from
   edit : (mid to : SessionState) (e : EditValue) → History from mid → Applies mid e to → History from to
   refresh : (mid to : SessionState) (done : List PlaceValue) → History from mid → Resolves mid done to → History from to
+  numbers : (mid to : SessionState) → History from mid → Grows mid to → History from to
 
 -- an edit on the way altered the key
 abbrev pub WasAltered : {from to : SessionState} → Key → History from to → Type 0
 WasAltered key none = ⊥
 WasAltered key (edit mid to e earlier is) = IsAltered mid.tables (workspace_of mid) (workspace_of to) key ⊎ WasAltered key earlier
 WasAltered key (refresh mid to done earlier is) = WasAltered key earlier
+WasAltered key (numbers mid to earlier grown) = WasAltered key earlier
 
 -- two answers to a query, of which the first was asked in a place whose steps end in a current map, differ only where an edit between them altered a key that was
 -- asked for behind the first

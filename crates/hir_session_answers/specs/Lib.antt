@@ -9,4 +9,6 @@ pub mod TreeText
 pub mod Diagnostics
 pub mod DiagnosticsStand
 pub mod Dumps
+pub mod AssocItems
+pub mod ItemsStand
 pub mod Histories

@@ -2,21 +2,21 @@
 use Rattle.std.specs.Prelude.{ℕ, zero, suc, List, [], ◌∷◌, ◌++◌, reverse, Option, None, Some, option_map}
 use Rattle.std.specs.Option.{option_and_then}
 use Rattle.hir_base.specs.declared.ast_id.BlockId.{BlockId}
-use Rattle.hir_base.specs.declared.ast_id.HirFileId.{HirFileId}
-use Rattle.hir_base.specs.declared.ast_id.HirFileId.TheVariants.{File, Macro}
-use Rattle.hir_base.specs.declared.macro_kind.MacroCallKind.{MacroCallKind}
-use Rattle.hir_base.specs.declared.macro_kind.MacroCallKind.TheVariants as calls
-use Rattle.hir_base.specs.declared.macro_kind.MacroCallLoc.{MacroCallLoc}
-use Rattle.hir_tables.specs.Tables.{TablesValue, block_at, call_at, file_at}
 use Rattle.hir_base.specs.declared.place.BlockPlace.{BlockPlace}
+use Rattle.hir_base.specs.declared.ast_id.HirFileId.{HirFileId}
+use Rattle.hir_base.specs.declared.macro_kind.MacroCallKind.{MacroCallKind}
+use Rattle.hir_base.specs.declared.macro_kind.MacroCallLoc.{MacroCallLoc}
+use Rattle.hir_base.specs.declared.ast_id.HirFileId.TheVariants.{File, Macro}
+use Rattle.hir_base.specs.declared.macro_kind.MacroCallKind.TheVariants as calls
+use Rattle.hir_tables.specs.Tables.{TablesValue, block_at, call_at, file_at}
 use Rattle.hir_session_state.specs.Blocks.{place_of_block}
 use Rattle.hir_session_state.specs.Standing.{most_calls}
 use Rattle.hir_def_map_rules.specs.Diagnostics.{call_node}
 use Rattle.hir_wire.specs.declared.answer.ItemSource.{ItemSource}
 use Rattle.hir_wire.specs.declared.answer.SourceCall.{SourceCall}
 use Rattle.hir_wire.specs.declared.answer.SourceCallKind.{SourceCallKind}
-use Rattle.hir_wire.specs.declared.answer.SourceCallKind.TheVariants as kind
 use Rattle.hir_wire.specs.declared.answer.SourceRoot.{SourceRoot}
+use Rattle.hir_wire.specs.declared.answer.SourceCallKind.TheVariants as kind
 use Rattle.hir_wire.specs.declared.answer.SourceRoot.TheVariants as root
 
 -- how a macro is called
@@ -47,7 +47,8 @@ source_within n t file (Some b) = option_map block_source (block_at t b)
 source_within n t (File f) None = option_map file_source (file_at t f.file_id)
 source_within zero t (Macro c) None = None
 source_within (suc n) t (Macro c) None =
-    option_and_then (λ (call : MacroCallLoc). option_map (and_call (source_call call.kind)) (source_within n t (call_node call.kind).file_id (call_node call.kind).block)) (call_at t c)
+    option_and_then (λ (call : MacroCallLoc). option_map (and_call (source_call call.kind))
+    (source_within n t (call_node call.kind).file_id (call_node call.kind).block)) (call_at t c)
 
 -- what holds syntax
 abbrev pub source_of : TablesValue → HirFileId → Option BlockId → Option ItemSource

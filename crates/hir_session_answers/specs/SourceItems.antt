@@ -2,45 +2,45 @@
 use Rattle.std.specs.Prelude.{Bool, true, false, Option, None, Some, option_map}
 use Rattle.std.specs.Option.{option_and_then}
 use Rattle.hir_base.specs.declared.ast_id.AstKind.TheVariants as kind
-use Rattle.hir_base.specs.declared.ast_id.BlockId.{BlockId}
-use Rattle.hir_base.specs.declared.ast_id.HirFileId.{HirFileId}
-use Rattle.hir_base.specs.declared.ast_id.SyntaxId.{SyntaxId}
 use Rattle.hir_base.specs.declared.ids.AdtId.{AdtId}
-use Rattle.hir_base.specs.declared.ids.AdtId.TheVariants as adt
+use Rattle.hir_base.specs.declared.ast_id.BlockId.{BlockId}
+use Rattle.hir_base.specs.declared.place.BlockPlace.{BlockPlace}
 use Rattle.hir_base.specs.declared.ids.Crate.{Crate}
+use Rattle.hir_base.specs.declared.ast_id.HirFileId.{HirFileId}
 use Rattle.hir_base.specs.declared.ids.ItemContainerId.{ItemContainerId}
-use Rattle.hir_base.specs.declared.ids.ItemContainerId.TheVariants as container
-use Rattle.hir_base.specs.declared.ids.ModuleDefId.{ModuleDefId}
-use Rattle.hir_base.specs.declared.ids.ModuleDefId.TheVariants as def
-use Rattle.hir_base.specs.declared.ids.ModuleId.{ModuleId}
-use Rattle.hir_base.specs.declared.ids.UseId.{UseId}
 use Rattle.hir_base.specs.declared.macro_kind.MacroId.{MacroId}
+use Rattle.hir_base.specs.declared.ids.ModuleDefId.{ModuleDefId}
+use Rattle.hir_base.specs.declared.ids.ModuleId.{ModuleId}
+use Rattle.hir_base.specs.declared.ast_id.SyntaxId.{SyntaxId}
+use Rattle.hir_base.specs.declared.ids.UseId.{UseId}
+use Rattle.hir_base.specs.declared.ids.AdtId.TheVariants as adt
+use Rattle.hir_base.specs.declared.ids.ItemContainerId.TheVariants as container
+use Rattle.hir_base.specs.declared.ids.ModuleDefId.TheVariants as def
 use Rattle.hir_base.specs.declared.macro_kind.MacroId.TheVariants as macro
 use Rattle.hir_item_tree.specs.declared.raw_visibility.VisibilityExplicitness.{VisibilityExplicitness}
 use Rattle.hir_item_tree.specs.declared.raw_visibility.VisibilityExplicitness.TheVariants as explicitness
 use Rattle.hir_scope.specs.declared.imports.ImportOrExternCrate.{ImportOrExternCrate}
-use Rattle.hir_scope.specs.declared.imports.ImportOrExternCrate.TheVariants as import
 use Rattle.hir_scope.specs.declared.imports.ImportOrGlob.{ImportOrGlob}
+use Rattle.hir_scope.specs.declared.visibility.Visibility.{Visibility}
+use Rattle.hir_scope.specs.declared.imports.ImportOrExternCrate.TheVariants as import
 use Rattle.hir_scope.specs.declared.imports.ImportOrGlob.TheVariants as value_import
 use Rattle.hir_scope.specs.PerNs.{Item}
-use Rattle.hir_scope.specs.declared.visibility.Visibility.{Visibility}
 use Rattle.hir_scope.specs.declared.visibility.Visibility.TheVariants as vis
 use Rattle.hir_def_map_rules.specs.Overlay.{Maps, module_in}
 use Rattle.hir_def_map_rules.specs.declared.origin.ModuleOrigin.{ModuleOrigin}
 use Rattle.hir_def_map_rules.specs.declared.origin.ModuleOrigin.TheVariants as origin
 use Rattle.hir_tables.specs.Tables.{TablesValue, block_at}
-use Rattle.hir_base.specs.declared.place.BlockPlace.{BlockPlace}
 use Rattle.hir_session_state.specs.Blocks.{place_of_block}
 use Rattle.hir_wire.specs.declared.answer.AnswerItem.{AnswerItem}
 use Rattle.hir_wire.specs.declared.answer.AnswerVisibility.{AnswerVisibility}
-use Rattle.hir_wire.specs.declared.answer.AnswerVisibility.TheVariants as answer_vis
 use Rattle.hir_wire.specs.declared.answer.Definition.{Definition}
-use Rattle.hir_wire.specs.declared.answer.Definition.TheVariants as definition
 use Rattle.hir_wire.specs.declared.answer.ImportOrigin.{ImportOrigin}
-use Rattle.hir_wire.specs.declared.answer.ImportOrigin.TheVariants as how
 use Rattle.hir_wire.specs.declared.answer.ImportSource.{ImportSource}
 use Rattle.hir_wire.specs.declared.answer.ItemSource.{ItemSource}
 use Rattle.hir_wire.specs.declared.answer.SourceKind.{SourceKind}
+use Rattle.hir_wire.specs.declared.answer.AnswerVisibility.TheVariants as answer_vis
+use Rattle.hir_wire.specs.declared.answer.Definition.TheVariants as definition
+use Rattle.hir_wire.specs.declared.answer.ImportOrigin.TheVariants as how
 use Rattle.hir_wire.specs.declared.answer.SourceKind.TheVariants as source
 use Rattle.hir_session_answers.specs.SourceCalls.{source_of}
 
@@ -152,7 +152,8 @@ answered_type tables maps i = together (definition_of tables maps i.def) (maybe_
 
 -- what a value is answered
 abbrev pub answered_value : TablesValue → Maps → Item ModuleDefId ImportOrGlob → Option AnswerItem
-answered_value tables maps i = together (definition_of tables maps i.def) (maybe_source (value_import_source tables) i.import) (visibility_source tables maps i.vis)
+answered_value tables maps i =
+    together (definition_of tables maps i.def) (maybe_source (value_import_source tables) i.import) (visibility_source tables maps i.vis)
 
 -- what a macro is answered
 abbrev pub answered_macro : TablesValue → Maps → Item MacroId ImportOrExternCrate → Option AnswerItem

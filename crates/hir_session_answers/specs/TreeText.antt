@@ -1,7 +1,7 @@
 -- Which page shows the tree of a file?
 use Rattle.std.specs.Prelude.{ℕ, nat_lt, List, length, Result, Ok, Err, if◌then◌else◌}
-use Rattle.hir_base.specs.declared.edition.Edition.{Edition}
 use Rattle.hir_base.specs.declared.ids.Crate.{Crate}
+use Rattle.hir_base.specs.declared.edition.Edition.{Edition}
 use Rattle.hir_item_tree.specs.Page.{page}
 use Rattle.hir_session_state.specs.declared.error.TreeTextError.{TreeTextError}
 use Rattle.hir_session_state.specs.declared.error.TreeTextError.TheVariants as error
@@ -18,5 +18,6 @@ edition_in crates k = (crate_in crates k).config.edition
 -- the page of the file's tree in the crate's edition, or that there is no such crate
 abbrev pub tree_text_of : SessionState → Crate → List ℕ → Result (List ℕ) TreeTextError
 tree_text_of s krate path =
-    if nat_lt krate.0 (length s.crates) then Ok (page (edition_in s.crates krate.0) (tree_under s.crates krate.0 (file path) (file_at s.sources.files path)).tree) else
+    if nat_lt krate.0 (length s.crates) then Ok
+    (page (edition_in s.crates krate.0) (tree_under s.crates krate.0 (file path) (file_at s.sources.files path)).tree) else
     Err error.UnknownCrate

@@ -18,7 +18,11 @@ use hir_wire::diagnostic::{CalledItem, Diagnostic, DiagnosticKind, Texts};
 use std::alloc::{AllocError, Global};
 
 /// The source item of a node.
-fn node_at(alloc: Global, tables: &Tables, node: AstId) -> Result<Option<SourceItem>, AllocError>
+pub fn node_at(
+    alloc: Global,
+    tables: &Tables,
+    node: AstId,
+) -> Result<Option<SourceItem>, AllocError>
     ensures value { IfOk result (λ o. o ≡ node_source tables.now node) }
 {
     match source_at(alloc, tables, node.file_id, node.block)? {

@@ -1,17 +1,18 @@
 -- A block that is due begins in the module that holds it.
 use Rattle.std.specs.Prelude.{is_none, slice_get}
 use Rattle.std.specs.Option.{IsSome, option_and_then}
-use Rattle.std.proofs.Common.{◌≡◌, ◌∙◌, ◌⊎◌, inl, inr, ap, sym, subst, refl, ℕ, zero, suc, ◌<◌, ◌≤◌, true, false, List, [], ◌∷◌, ◌++◌, length, Option, Some, None, option_map, Result, Ok, Err, IsErrAnd, OnErr, arith}
+use Rattle.std.proofs.Common.{◌≡◌, ◌∙◌, ◌⊎◌, inl, inr, ap, sym, subst, refl, ℕ, zero, suc, ◌<◌, ◌≤◌, true, false, List, [], ◌∷◌, ◌++◌, length, Option, Some}
+use Rattle.std.proofs.Common.{None, option_map, Result, Ok, Err, IsErrAnd, OnErr, arith}
 use Rattle.hir_base.specs.Locations.{max_locations}
 use Rattle.hir_base.specs.declared.ast_id.BlockId.{BlockId}
+use Rattle.hir_base.specs.declared.place.BlockPlace.{BlockPlace}
+use Rattle.hir_base.specs.declared.ids.Crate.{Crate}
 use Rattle.hir_base.specs.declared.ast_id.EditionedFileId.{EditionedFileId}
 use Rattle.hir_base.specs.declared.ast_id.FileId.{FileId}
-use Rattle.hir_base.specs.declared.ast_id.SyntaxId.{SyntaxId}
-use Rattle.hir_base.specs.declared.ids.Crate.{Crate}
+use Rattle.hir_base.specs.declared.locations.LocationsError.{LocationsError}
 use Rattle.hir_base.specs.declared.ids.MapId.{MapId}
 use Rattle.hir_base.specs.declared.ids.ModuleId.{ModuleId}
-use Rattle.hir_base.specs.declared.place.BlockPlace.{BlockPlace}
-use Rattle.hir_base.specs.declared.locations.LocationsError.{LocationsError}
+use Rattle.hir_base.specs.declared.ast_id.SyntaxId.{SyntaxId}
 use Rattle.hir_base.specs.declared.locations.LocationsError.TheVariants as number_error
 use Rattle.hir_tables.specs.SourcePlaces.{block}
 use Rattle.hir_tables.specs.Tables.{KeepsTables, TablesValue, block_at, file_at}
@@ -21,6 +22,7 @@ use Rattle.hir_collector_rules.proofs.ModuleFiles.{source_kept}
 use Rattle.hir_collector_rules.specs.Calls.{AreCallsPlaced, IsMeantAt}
 use Rattle.hir_collector_rules.specs.Derivation.{CollectedValue, IsOverlong}
 use Rattle.hir_collector_rules.specs.Growth.{AnswersStand, AskedKeysHaveMeaning, LooksStand}
+use Rattle.hir_collector_rules.specs.UnknownSources.{MeetsUnknownSource}
 use Rattle.hir_collector_rules.specs.Workspace.{Workspace}
 use Rattle.hir_def_collector_laws.specs.Whole.{RunsNameWhatIsThere}
 use Rattle.hir_def_map_rules.specs.Overlay.{Maps, holders_under}
@@ -31,7 +33,8 @@ use Rattle.hir_session_state.specs.Crates.{CrateValue, begins_in_block, id_of}
 use Rattle.hir_session_state.specs.Due.{Grows, IsDueBlock, IsStuckAt, Resolved}
 use Rattle.hir_session_state.specs.Due.IsStuckAt.{overlong}
 use Rattle.hir_session_state.specs.Kept.{Resolution, Resolutions, held, kept_in}
-use Rattle.hir_session_state.specs.SessionState.{SessionState, beginning_of, finished_of, is_marked, kept_of, module_of, standing_of, workspace_of, IsPlace, IsResolved, IsResolutionOf, IsSound}
+use Rattle.hir_session_state.specs.SessionState.{SessionState, beginning_of, finished_of, is_marked, kept_of, module_of, standing_of, workspace_of, IsPlace}
+use Rattle.hir_session_state.specs.SessionState.{IsResolved, IsResolutionOf, IsSound}
 use Rattle.hir_session_state.specs.SessionState.IsPlace.{of_block, of_crate}
 use Rattle.hir_session_state.specs.SourceTable.{SourceTable}
 use Rattle.hir_session_state.specs.Refusals.{refresh_error_of_number}
@@ -41,9 +44,11 @@ use Rattle.hir_session_state.specs.Standing.{block_map, block_number, definition
 use Rattle.hir_session_state.proofs.Holders.{ends_held}
 use Rattle.hir_session_state.proofs.Places.{has_block_number, number_kept, number_means}
 use Rattle.hir_session_state.proofs.Resolving.{found_of_block}
-use Rattle.hir_session_state.proofs.Standing.{IsBlockBegun, IsModuleKept, at_module, beginning_stays, begun_block, block_begun, holder_begun, module_there, unmarked}
+use Rattle.hir_session_state.proofs.Standing.{IsBlockBegun, IsModuleKept, at_module, beginning_stays, begun_block, block_begun, holder_begun, module_there}
+use Rattle.hir_session_state.proofs.Standing.{unmarked}
 use Rattle.hir_session_state.proofs.Truth.{clash, no_value, one_value}
 use Rattle.hir_session_state.proofs.Worlds.{AgreeOn-refl}
+use Rattle.hir_session_answers.proofs.KnownSources.{block_known}
 use Rattle.hir_session_core.specs.Progress.{AreCratesCurrent, AreFollowedCurrent, IsBlockResolved, IsModuleThere}
 use Rattle.hir_session_core.proofs.Growth.{grown_mark, resolved_later}
 use Rattle.hir_session_core.proofs.Waiting.{same_block, same_standing}
@@ -67,7 +72,8 @@ none_left t b full = (go (block_number t b) refl, (let count : length t.blocks �
     go (Some id) is = absurd (full.absent (id.0, number_means t b id is))
 
 -- why a number isn't given
-pub no_number : (given : Result BlockId LocationsError) (told : Result BlockId RefreshError) (e : LocationsError) → given ≡ Err e → IsErrAnd told (λ x. x ≡ refresh_error_of_number e)
+pub no_number : (given : Result BlockId LocationsError) (told : Result BlockId RefreshError) (e : LocationsError) → given ≡ Err e
+    → IsErrAnd told (λ x. x ≡ refresh_error_of_number e)
     → told ≡ Err refresh_error.TooMany → given ≡ Err number_error.TooMany
 no_number given (Ok x) e was h is = absurd h
 no_number given (Err x) number_error.TooMany was h is = was
@@ -97,12 +103,14 @@ module _ (old new : SessionState) (sound : IsSound old) (grown : Grows old new) 
   with_tables : record old { tables = new.tables } ≡ new
   with_tables = λ i. record { crates = sym grown.crates i; tables = new.tables; sources = sym grown.sources i; kept = sym grown.kept i }
 
-  pub grown_begun : (krate : Crate) (b : BlockId) (from : Beginning) → beginning_of old (block_map krate b) ≡ Some from → beginning_of new (block_map krate b) ≡ Some from
+  pub grown_begun : (krate : Crate) (b : BlockId) (from : Beginning) → beginning_of old (block_map krate b) ≡ Some from → beginning_of new (block_map krate b)
+      ≡ Some from
   grown_begun krate b from begun =
       let q = block_begun old krate b from begun in
       let k = module_there old sound q.place.holder q.holder (at_module (standing_of old q.place.holder) q.holder q.held) in
       subst (λ (s : SessionState). beginning_of s (block_map krate b) ≡ Some from) with_tables
-      (beginning_stays old sound (λ j. is_marked old j ≡ false) (λ j d off among. sound.closed j d off among) new.tables old.sources old.kept grown.tables (λ j off. refl) (λ c place means off set. set)
+      (beginning_stays old sound (λ j. is_marked old j ≡ false) (λ j d off among. sound.closed j d off among) new.tables old.sources old.kept grown.tables
+      (λ j off. refl) (λ c place means off set. set)
       (block_map krate b) from begun
       (λ h held.
       let same : h ≡ q.holder = one_value (sym held ∙ holder_begun old krate b from q) in
@@ -149,7 +157,8 @@ module _ (old mid : SessionState) (sound : IsSound old) (grown : Grows old mid) 
       sym (ap (option_and_then (λ (n : BlockId). kept_in mid.kept (block_map b.holder.krate n))) numbered)
       ∙ same_block old mid sound grown b ∙ due.marked
 
-  pub ready : (krate : Crate) → krate ≡ b.holder.krate → (file : EditionedFileId) → definition_file mid.tables mid.kept holder ≡ Some file → IsReady mid krate b number holder file
+  pub ready : (krate : Crate) → krate ≡ b.holder.krate → (file : EditionedFileId) → definition_file mid.tables mid.kept holder ≡ Some file
+      → IsReady mid krate b number holder file
   ready krate same file written = subst (λ (k : Crate). IsReady mid k b number holder file) (sym same) (record {
     place = of_block number b refl means refl (subst (λ (cs : List CrateValue). b.holder.krate.0 < length cs) (sym grown.crates) within)
         (ap (λ (t : SourceTable). is_set t.blocks b) grown.sources ∙ due.set);
@@ -167,12 +176,14 @@ module _ (old mid : SessionState) (sound : IsSound old) (grown : Grows old mid) 
   })
     where
       follows_current : AreFollowedCurrent mid own (Some holder)
-      follows_current d (zero, below, is) = subst (λ (x : MapId). is_marked mid x ≡ false) is (grown_mark old mid grown (id_of b.holder.krate.0) ∙ current b.holder.krate.0 within)
+      follows_current d (zero, below, is) =
+          subst (λ (x : MapId). is_marked mid x ≡ false) is (grown_mark old mid grown (id_of b.holder.krate.0) ∙ current b.holder.krate.0 within)
       follows_current d (suc zero, below, is) = subst (λ (x : MapId). is_marked mid x ≡ false) is (grown_mark old mid grown holder.map ∙ holder_off)
       follows_current d (suc (suc n), below, is) = absurd (let past : suc (suc n) < 2 = below in omega arith)
 
   -- where it was resolved
-  pub block_resolved : (krate : Crate) → krate ≡ b.holder.krate → (new : SessionState) (r : Resolution) → Resolved mid (block_map krate number) r new → IsBlockResolved old b new
+  pub block_resolved : (krate : Crate) → krate ≡ b.holder.krate → (new : SessionState) (r : Resolution) → Resolved mid (block_map krate number) r new
+      → IsBlockResolved old b new
   block_resolved krate same new r resolved_so =
       let is : Resolved mid own r new = subst (λ (k : Crate). Resolved mid (block_map k number) r new) same resolved_so in
       record {
@@ -184,33 +195,44 @@ module _ (old mid : SessionState) (sound : IsSound old) (grown : Grows old mid) 
       }
 
   -- where its run was given up
-  pub block_stuck : (krate : Crate) → krate ≡ b.holder.krate → (new : SessionState) (file : EditionedFileId) → definition_file mid.tables mid.kept holder ≡ Some file → Grows mid new
+  pub block_stuck : (krate : Crate) → krate ≡ b.holder.krate → (new : SessionState) (file : EditionedFileId) → definition_file mid.tables mid.kept holder
+      ≡ Some file → Grows mid new
       → IsOverlong new.tables (workspace_of new) (finished_of new) (begins_in_block krate number holder file b.id) → IsStuckAt new (place_of_block b)
   block_stuck krate same new file written later over =
       overlong own (begins_in_block b.holder.krate number holder file b.id)
       (ap (option_map place_of_block) (later.tables.blocks number.0 b means))
-      (grown_begun mid new grown.sound later b.holder.krate number (begins_in_block b.holder.krate number holder file b.id) (ready b.holder.krate refl file written).begun)
+      (grown_begun mid new grown.sound later b.holder.krate number (begins_in_block b.holder.krate number holder file b.id)
+      (ready b.holder.krate refl file written).begun)
       (subst (λ (k : Crate). IsOverlong new.tables (workspace_of new) (finished_of new) (begins_in_block k number holder file b.id)) same over)
 
 -- ---- a run
 
-module _ (looks : LooksStand) (meaning : AskedKeysHaveMeaning) (answers : AnswersStand) (law : RunsNameWhatIsThere) (s : SessionState) (T : TablesValue) (keeps : KeepsTables s.tables T)
-    (placed : AreCallsPlaced s.tables → AreCallsPlaced T) where
-  -- what a run gives for a block is its resolution
-  pub found_held : (view : SessionState) → s ≡ view → IsSound s → (krate : Crate) (b : BlockId) (holder : ModuleId) (file : EditionedFileId) (id : SyntaxId) → IsPlace view (block_map krate b)
-      → is_marked view (block_map krate b) ≡ true → beginning_of view (block_map krate b) ≡ Some (begins_in_block krate b holder file id) → IsSome (file_at view.tables file.file_id)
-      → AreFollowedCurrent view (block_map krate b) (Some holder) → (r : CollectedValue) (finished : Maps) → finished ≡ finished_of s
-      → IsResolved T (workspace_of s) finished (begins_in_block krate b holder file id) r
-      → IsResolutionOf (record s { tables = T }) (block_map krate b) (held r (holders_under (finished_of s) r.map.id r.map.holder))
-  found_held view seen sound krate b holder file id place on begun there behind r finished is resolved =
+-- what holds of a block whose run may begin
+record BeginsHeld (s : SessionState) (krate : Crate) (b : BlockId) (from : Beginning) : Type 0 where
+  begun : IsBlockBegun s krate b from
+  own : begun.place.holder.krate ≡ krate
+  off : is_marked s (crate_map krate) ≡ false
+  none : kept_of s (block_map krate b) ≡ None
+  meant : IsMeantAt s.tables (root_site from.tree)
+
+module _ (s view : SessionState) (seen : s ≡ view) (krate : Crate) (b : BlockId) (holder : ModuleId) (file : EditionedFileId) (id : SyntaxId) (place : IsPlace view (block_map krate b))
+    (on : is_marked view (block_map krate b) ≡ true) (begun : beginning_of view (block_map krate b) ≡ Some (begins_in_block krate b holder file id))
+    (there : IsSome (file_at view.tables file.file_id))
+    (behind : AreFollowedCurrent view (block_map krate b) (Some holder)) where
+  begins_held : BeginsHeld s krate b (begins_in_block krate b holder file id)
+  begins_held =
       let back = sym seen in
       let here : beginning_of s (block_map krate b) ≡ Some (begins_in_block krate b holder file id) =
       subst (λ (v : SessionState). beginning_of v (block_map krate b) ≡ Some (begins_in_block krate b holder file id)) back begun in
       let q = block_begun s krate b (begins_in_block krate b holder file id) here in
       let numbered : IsSome (file_at s.tables file.file_id) = subst (λ (v : SessionState). IsSome (file_at v.tables file.file_id)) back there in
-      let off : is_marked s (crate_map krate) ≡ false = subst (λ (v : SessionState). is_marked v (crate_map krate) ≡ false) back (behind (crate_map krate) (zero, omega arith, refl)) in
-      found_of_block looks meaning answers s T keeps placed sound law krate b (begins_in_block krate b holder file id) q (own_krate q (subst (λ (v : SessionState). IsPlace v (block_map krate b)) back place))
-      off (none_there (subst (λ (v : SessionState). is_marked v (block_map krate b) ≡ true) back on)) (meant_at q numbered) r finished is resolved
+      record {
+        begun = q;
+        own = own_krate q (subst (λ (v : SessionState). IsPlace v (block_map krate b)) back place);
+        off = subst (λ (v : SessionState). is_marked v (crate_map krate) ≡ false) back (behind (crate_map krate) (zero, omega arith, refl));
+        none = none_there (subst (λ (v : SessionState). is_marked v (block_map krate b) ≡ true) back on);
+        meant = meant_at q numbered;
+      }
     where
       own_krate : (q : IsBlockBegun s krate b (begins_in_block krate b holder file id)) → IsPlace s (block_map krate b) → q.place.holder.krate ≡ krate
       own_krate q (of_crate none within) = no_value (sym none)
@@ -225,14 +247,34 @@ module _ (looks : LooksStand) (meaning : AskedKeysHaveMeaning) (answers : Answer
           go (Some x) e = clash e refl
 
       -- the tree is the block's, and its file the one in which the holder is written
-      meant_at : (q : IsBlockBegun s krate b (begins_in_block krate b holder file id)) → IsSome (file_at s.tables file.file_id) → IsMeantAt s.tables (root_site (begins_in_block krate b holder file id).tree)
+      meant_at : (q : IsBlockBegun s krate b (begins_in_block krate b holder file id)) → IsSome (file_at s.tables file.file_id)
+          → IsMeantAt s.tables (root_site (begins_in_block krate b holder file id).tree)
       meant_at q numbered = record {
         tree = subst (λ (o : Option BlockPlace). IsSome (option_map block o)) (sym q.means) refl;
         file = λ f e. subst (λ (x : FileId). IsSome (file_at s.tables x)) (one_value e) numbered;
       }
 
+  -- what a run gives for a block is its resolution
+  pub found_held : LooksStand → AskedKeysHaveMeaning → AnswersStand → RunsNameWhatIsThere → (T : TablesValue) → KeepsTables s.tables T
+      → (AreCallsPlaced s.tables → AreCallsPlaced T) → IsSound s
+      → (r : CollectedValue) (finished : Maps) → finished ≡ finished_of s → IsResolved T (workspace_of s) finished (begins_in_block krate b holder file id) r
+      → IsResolutionOf (record s { tables = T }) (block_map krate b) (held r (holders_under (finished_of s) r.map.id r.map.holder))
+  found_held looks meaning answers law T keeps placed sound r finished is resolved =
+      let h : BeginsHeld s krate b (begins_in_block krate b holder file id) = begins_held in
+      found_of_block looks meaning answers s T keeps placed sound law krate b (begins_in_block krate b holder file id) h.begun h.own h.off h.none h.meant r
+      finished is resolved
+
+  -- and it meets no unknown source
+  pub known_held : IsSound s → (T : TablesValue) → KeepsTables s.tables T → (finished : Maps) → finished ≡ finished_of s
+      → ¬ MeetsUnknownSource T (workspace_of s) finished (begins_in_block krate b holder file id)
+  known_held sound T keeps finished is meets =
+      let h : BeginsHeld s krate b (begins_in_block krate b holder file id) = begins_held in
+      block_known s sound T keeps krate b (begins_in_block krate b holder file id) h.begun h.own h.off h.none h.meant
+      (subst (λ (maps : Maps). MeetsUnknownSource T (workspace_of s) maps (begins_in_block krate b holder file id)) is meets)
+
 -- its map is held as its run began
-pub holder_found : (tables : TablesValue) (w : Workspace) (finished : Maps) (from : Beginning) (r : CollectedValue) → IsResolved tables w finished from r → r.map.holder ≡ holder_of from.start
+pub holder_found : (tables : TablesValue) (w : Workspace) (finished : Maps) (from : Beginning) (r : CollectedValue) → IsResolved tables w finished from r
+    → r.map.holder ≡ holder_of from.start
 holder_found tables w finished from r resolved = ends_held (resolved.ends w finished AgreeOn-refl)
 
 -- ---- the number that a block gets
@@ -248,7 +290,8 @@ found_behind (z ∷ zs) x y (suc n) e = elim (found_behind zs x y n e) [
 ]
 
 -- it is that of the block
-pub interned_number : (old new : TablesValue) (b : BlockPlace) (id : BlockId) → block_at new id ≡ Some b → ((n : BlockId) → block_at old n ≡ Some b → n ≡ id) → Interns old.blocks new.blocks b
+pub interned_number : (old new : TablesValue) (b : BlockPlace) (id : BlockId) → block_at new id ≡ Some b → ((n : BlockId) → block_at old n ≡ Some b → n ≡ id)
+    → Interns old.blocks new.blocks b
     → block_number new b ≡ Some id
 interned_number old new b id means again grown =
     let has = has_block_number new b id means in
@@ -257,7 +300,8 @@ interned_number old new b id means again grown =
     one_number : Interns old.blocks new.blocks b → (n : BlockId) → block_at new n ≡ Some b → n ≡ id
     one_number (had_number h same) n is = again n (sym (ap (λ (bs : List BlockPlace). slice_get bs n.0) same) ∙ is)
     one_number (gets_next none longer) n is =
-        let last : (k : ℕ) → slice_get new.blocks k ≡ Some b → k ≡ length old.blocks = λ k at. elim (found_behind old.blocks b b k (sym (ap (λ (bs : List BlockPlace). slice_get bs k) longer) ∙ at)) [
+        let last : (k : ℕ) → slice_get new.blocks k ≡ Some b → k ≡ length old.blocks = λ k at. elim
+        (found_behind old.blocks b b k (sym (ap (λ (bs : List BlockPlace). slice_get bs k) longer) ∙ at)) [
           | inl early ↦ absurd (none (k, early))
           | inr is_last ↦ is_last
         ] in

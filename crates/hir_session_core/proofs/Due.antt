@@ -1,6 +1,7 @@
 -- What a refresh resolved so far, and what is left.
 use Rattle.std.specs.Prelude.{is_none}
-use Rattle.std.proofs.Common.{append_assoc, append-nil, ◌≡◌, ℕ, ◌+◌, ◌<◌, true, false, List, [], ◌∷◌, ◌++◌, length, arith, below_more, refl, sym, subst, ◌∙◌, ap, Option, Result, Ok, Err, IsErrAnd}
+use Rattle.std.proofs.Common.{append_assoc, append-nil, ◌≡◌, ℕ, ◌+◌, ◌<◌, true, false, List, [], ◌∷◌, ◌++◌, length, arith, below_more, refl, sym, subst, ◌∙◌}
+use Rattle.std.proofs.Common.{ap, Option, Result, Ok, Err, IsErrAnd}
 use Rattle.hir_base.specs.Place.{PlaceValue}
 use Rattle.hir_base.specs.declared.ids.MapId.{MapId}
 use Rattle.hir_session_state.specs.Crates.{CrateValue, id_of}
@@ -22,7 +23,8 @@ pub resolved_none : (s : SessionState) → IsSound s → HasResolved s [] s
 resolved_none s sound = record { crates = refl; tables = KeepsTables-refl _; sources = refl; in_turn = none; others = λ id off. refl; sound = sound }
 
 -- one more place was, which was next and marked
-pub resolved_more : {old mid : SessionState} {done : List PlaceValue} (place : PlaceValue) (new : SessionState) → HasResolved old done mid → IsSound new → IsNext mid place
+pub resolved_more : {old mid : SessionState} {done : List PlaceValue} (place : PlaceValue) (new : SessionState) → HasResolved old done mid → IsSound new
+    → IsNext mid place
     → IsResolvedAt mid place new → HasResolved old (done ++ place ∷ []) new
 resolved_more {old} {mid} {done} place new p sound next at = record {
   crates = at.resolved.crates ∙ p.crates;
@@ -36,7 +38,8 @@ resolved_more {old} {mid} {done} place new p sound next at = record {
 }
 
 -- what was resolved before, and then what is resolved
-in_turn : {old mid new : SessionState} {places rest : List PlaceValue} → WereResolved old places mid → AreResolved mid rest new → AreResolved old (places ++ rest) new
+in_turn : {old mid new : SessionState} {places rest : List PlaceValue} → WereResolved old places mid → AreResolved mid rest new
+    → AreResolved old (places ++ rest) new
 in_turn none after = after
 in_turn {old} {new = new} {rest = rest} (more places mid place next_state before next at) after =
     subst (λ (ps : List PlaceValue). AreResolved old ps new) (sym (append_assoc places (place ∷ []) rest))
@@ -68,25 +71,30 @@ pub refreshing-start : (s : SessionState) → IsSound s → IsRefreshing s s [] 
 refreshing-start s sound = record { so_far = resolved_none s sound; below = λ j h. absurd (omega arith) }
 
 -- one that was current
-pub refreshing-skip : {old new : SessionState} {done : List PlaceValue} (k : ℕ) → IsRefreshing old new done k → is_marked new (id_of k) ≡ false → IsRefreshing old new done (k + 1)
+pub refreshing-skip : {old new : SessionState} {done : List PlaceValue} (k : ℕ) → IsRefreshing old new done k → is_marked new (id_of k) ≡ false
+    → IsRefreshing old new done (k + 1)
 refreshing-skip {old} {new} k p off = record {
   so_far = p.so_far;
   below = below_more _ k p.below off;
 }
 
 -- where no crate below is marked, a marked one is next
-next_at : (s : SessionState) (k : ℕ) → ((j : ℕ) → j < k → is_marked s (id_of j) ≡ false) → k < length s.crates → is_marked s (id_of k) ≡ true → IsNext s (root_place k)
+next_at : (s : SessionState) (k : ℕ) → ((j : ℕ) → j < k → is_marked s (id_of j) ≡ false) → k < length s.crates → is_marked s (id_of k) ≡ true
+    → IsNext s (root_place k)
 next_at s k below within on = next_crate k (record { within = within; marked = on }) (λ j low due. clash due.marked (below j low)) refl
 
 -- one that was due
-pub refreshing-more : {old mid : SessionState} {done : List PlaceValue} (k : ℕ) (r : Resolution) (new : SessionState) → IsRefreshing old mid done k → IsSound new
+pub refreshing-more : {old mid : SessionState} {done : List PlaceValue} (k : ℕ) (r : Resolution) (new : SessionState) → IsRefreshing old mid done k
+    → IsSound new
     → k < length mid.crates → is_marked mid (id_of k) ≡ true → Resolved mid (id_of k) r new
     → IsRefreshing old new (done ++ root_place k ∷ []) (k + 1)
 refreshing-more {old} {mid} {done} k r new p sound within on is =
     let stays : (id : MapId) → is_marked mid id ≡ false → kept_of new id ≡ kept_of mid id =
     λ id off. is.others id (λ e. clash on (ap (is_marked mid) (sym e) ∙ off)) in
     record {
-      so_far = resolved_more (root_place k) new p.so_far sound (next_at mid k p.below within on) (record { id = id_of k; found = r; of = refl; marked = on; resolved = is });
+      so_far =
+          resolved_more (root_place k) new p.so_far sound (next_at mid k p.below within on)
+          (record { id = id_of k; found = r; of = refl; marked = on; resolved = is });
       below = below_more _ k
           (λ j h. ap (λ (o : Option Resolution). is_none o) (stays (id_of j) (p.below j h)) ∙ p.below j h)
           (ap (λ (o : Option Resolution). is_none o) is.here);
@@ -104,6 +112,8 @@ overlong_first {old} {mid} {new} k p grown within on stuck =
     let same : (id : MapId) → is_marked new id ≡ is_marked mid id = λ id. ap (λ (kept : Resolutions). is_none (kept_in kept id)) grown.kept in
     record {
       place = root_place k;
-      next = next_at new k (λ j low. same (id_of j) ∙ p.below j low) (subst (λ (cs : List CrateValue). k < length cs) (sym grown.crates) within) (same (id_of k) ∙ on);
+      next =
+          next_at new k (λ j low. same (id_of j) ∙ p.below j low) (subst (λ (cs : List CrateValue). k < length cs) (sym grown.crates) within)
+          (same (id_of k) ∙ on);
       stuck = stuck;
     }

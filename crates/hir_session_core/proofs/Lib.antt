@@ -6,3 +6,4 @@ pub mod Pending
 pub mod Waiting
 pub mod Begun
 pub mod Verdicts
+pub mod Items

@@ -11,7 +11,8 @@ use Rattle.hir_base.specs.declared.ids.ModuleId.{ModuleId}
 use Rattle.hir_base.specs.contracts.ids.MapIdOrd.TheImpl as map_order
 use Rattle.hir_base.specs.contracts.ids.MapIdPartialEq.TheImpl as map_id
 use Rattle.hir_def_map_rules.specs.Inner.OverlayLaws.{same_id}
-use Rattle.hir_def_map_rules.specs.References.{lies_in, any_reference_in, refers_to, any_own_crate, any_reference, prelude_reference, test_crate, test_extern, test_of}
+use Rattle.hir_def_map_rules.specs.References.{lies_in, any_reference_in, refers_to, any_own_crate, any_reference, prelude_reference, test_crate, test_extern}
+use Rattle.hir_def_map_rules.specs.References.{test_of}
 use Rattle.hir_def_map_rules.specs.State.{Local, Map, crate_map}
 use Rattle.hir_def_map_rules.specs.WellFormed.{is_held_outside}
 use Rattle.hir_def_map_rules.specs.declared.reference.Reference.TheVariants as named
@@ -33,7 +34,8 @@ use Rattle.std.proofs.lemmas.Bool.{eqb-true}
 
 module _ (m : Map) (local : Local) (id : MapId) (ne : id ≢ m.id) where
   -- what is found behind modules and the prelude
-  behind_prelude : (test_of (lies_in id) (option_map named.Module m.holder) ≡ true) ⊎ ((list_any (test_crate (lies_in id)) m.crate_data.dependencies ≡ true) ⊎ (any_own_crate (lies_in id) m.id ≡ true))
+  behind_prelude : (test_of (lies_in id) (option_map named.Module m.holder) ≡ true) ⊎ ((list_any (test_crate (lies_in id)) m.crate_data.dependencies ≡ true)
+      ⊎ (any_own_crate (lies_in id) m.id ≡ true))
       → refers_to m local id ≡ true
   behind_prelude found =
       both_true (not (is_at (map_order.ghosts.cmp m.id) id)) (any_reference (lies_in id) m local)
@@ -59,17 +61,20 @@ names_data m local c among ne = behind_prelude m local (crate_map c) ne (inr (in
 
 -- the map in which the module lies that holds it
 names_holder : (m : Map) (local : Local) (h : ModuleId) → m.holder ≡ Some h → h.map ≢ m.id → refers_to m local h.map ≡ true
-names_holder m local h held ne = behind_prelude m local h.map ne (inl (ap (λ (o : Option ModuleId). test_of (lies_in h.map) (option_map named.Module o)) held ∙ own_id h.map))
+names_holder m local h held ne =
+    behind_prelude m local h.map ne (inl (ap (λ (o : Option ModuleId). test_of (lies_in h.map) (option_map named.Module o)) held ∙ own_id h.map))
 
 -- and that of its crate, where it is a block's
 names_crate : (m : Map) (local : Local) (b : BlockId) → m.id.block ≡ Some b → refers_to m local (crate_map m.id.krate) ≡ true
 names_crate m local b of = behind_prelude m local (crate_map m.id.krate) (λ e. no_value (ap (λ (x : MapId). x.block) e ∙ of)) (inr (inr
-    (both_true (is_some m.id.block) (test_crate (lies_in (crate_map m.id.krate)) m.id.krate) (ap (λ (o : Option BlockId). is_some o) of) (own_id (crate_map m.id.krate)))))
+    (both_true (is_some m.id.block) (test_crate (lies_in (crate_map m.id.krate)) m.id.krate) (ap (λ (o : Option BlockId). is_some o) of)
+    (own_id (crate_map m.id.krate)))))
 
 -- a holder outside of a map lies in another
 lies_outside : (id : MapId) (o : Option ModuleId) (h : ModuleId) → o ≡ Some h → is_held_outside id o ≡ true → h.map ≢ id
 lies_outside id o h held outside e =
-    clash (sym (ap (λ (x : Option ModuleId). is_held_outside id x) held) ∙ outside) (ap not (subst (λ (x : MapId). map_id.ghosts.eq h.map x ≡ true) e (same_id h.map)))
+    clash (sym (ap (λ (x : Option ModuleId). is_held_outside id x) held) ∙ outside)
+    (ap not (subst (λ (x : MapId). map_id.ghosts.eq h.map x ≡ true) e (same_id h.map)))
 
 -- a crate that is found is listed
 listed_crate : (crates : List Crate) (c : Crate) → has_crate crates c ≡ true → Contains crates c
@@ -100,7 +105,8 @@ module _ (s : SessionState) (sound : IsSound s) (id : MapId) (r : Resolution) (i
       let behind : has_crate (transitive_in s.crates id.krate.0) c.0 ≡ true = (depended sound id.krate.0 c.0).1 (directly id.krate.0 c.0 c.1) in
       let lower : c.0.0 < id.krate.0 = sound.below id.krate.0 c.0 c.1 in
       subst (λ (x : MapId). refers_to r.map r.local x ≡ true) (sym c.2)
-      (names_data r.map r.local c.0 (subst (λ (cs : List Crate). Contains cs c.0) (sym kept_dependencies) (listed_crate (transitive_in s.crates id.krate.0) c.0 behind))
+      (names_data r.map r.local c.0 (subst (λ (cs : List Crate). Contains cs c.0) (sym kept_dependencies)
+      (listed_crate (transitive_in s.crates id.krate.0) c.0 behind))
       (λ same. let number : c.0.0 ≡ id.krate.0 = ap (λ (x : MapId). x.krate.0) (same ∙ gives.own) in absurd (omega arith)))
 
   named_of_block : (b : BlockId) → id.block ≡ Some b → (d : MapId) → Contains (follows s id) d → refers_to r.map r.local d ≡ true

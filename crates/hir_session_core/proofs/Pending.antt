@@ -1,6 +1,7 @@
 -- How the blocks are collected of which nothing is kept.
 use Rattle.std.specs.Prelude.{is_none, is_some, IfSome}
-use Rattle.std.proofs.Common.{◌≡◌, ◌∙◌, ◌⊎◌, inl, inr, zero, suc, ◌<◌, Bool, true, false, ◌&&◌, cond, List, [], ◌∷◌, ◌++◌, length, arith, refl, ap, sym, subst, Option, Some, None, option_map, Contains}
+use Rattle.std.proofs.Common.{◌≡◌, ◌∙◌, ◌⊎◌, inl, inr, zero, suc, ◌<◌, Bool, true, false, ◌&&◌, cond, List, [], ◌∷◌, ◌++◌, length, arith, refl, ap, sym, subst}
+use Rattle.std.proofs.Common.{Option, Some, None, option_map, Contains}
 use Rattle.std.specs.BTreeMap.{is_at}
 use Rattle.std.specs.BTreeSet.{BTreeSet, insert_key}
 use Rattle.std.specs.Cmp.{second_so}
@@ -14,8 +15,8 @@ use Rattle.std.proofs.lemmas.Map.Views.{All-insert_key}
 use Rattle.hir_base.specs.Place.{PlaceValue}
 use Rattle.hir_base.specs.contracts.ids.CrateOrd.TheImpl as crate_order
 use Rattle.hir_base.specs.contracts.place.PlacePartialEq.TheImpl as place_eq
-use Rattle.hir_base.specs.declared.ids.Crate.{Crate}
 use Rattle.hir_base.specs.declared.place.BlockPlace.{BlockPlace}
+use Rattle.hir_base.specs.declared.ids.Crate.{Crate}
 use Rattle.hir_base.specs.declared.place.PlaceElement.{PlaceElement}
 use Rattle.hir_item_tree.specs.Source.{SourceValue}
 use Rattle.hir_session_state.specs.Blocks.{Blocks, CrateBlocks, block_in, blocks_of, place_of_block, steps_cmp}
@@ -55,7 +56,8 @@ on_both (Some x) p q f = f x p q
 -- ---- all blocks that are set
 
 -- one that is found in a crate is among its places
-in_crate : (krate : Crate) (steps : List PlaceElement) (own : CrateBlocks) → is_some (lookup (is_at (steps_cmp steps)) own) ≡ true → Contains (places_in krate own) (steps_in krate steps)
+in_crate : (krate : Crate) (steps : List PlaceElement) (own : CrateBlocks) → is_some (lookup (is_at (steps_cmp steps)) own) ≡ true
+    → Contains (places_in krate own) (steps_in krate steps)
 in_crate krate steps [] there = clash there refl
 in_crate krate steps (e ∷ es) there = on_bool (is_at (steps_cmp steps) e.0)
     (λ on. (zero, omega arith, ap (steps_in krate) (sym (exact_steps.same steps e.0 on))))
@@ -72,7 +74,8 @@ among_all : (krate : Crate) (steps : List PlaceElement) (blocks : Blocks) → fo
 among_all krate steps [] there = clash there refl
 among_all krate steps (e ∷ es) there = on_bool (is_at (crate_order.ghosts.cmp krate) e.0)
     (λ on.
-    let here : found_in steps (Some e.1) ≡ true = sym (ap (λ (t : Bool). found_in steps (cond t (Some e.1) (lookup (is_at (crate_order.ghosts.cmp krate)) es))) on) ∙ there in
+    let here : found_in steps (Some e.1) ≡ true = sym (ap (λ (t : Bool). found_in steps (cond t (Some e.1) (lookup (is_at (crate_order.ghosts.cmp krate)) es)))
+    on) ∙ there in
     Contains-append_left (places_in e.0 e.1) (places_of es) (steps_in krate steps)
     (subst (λ (k : Crate). Contains (places_in k e.1) (steps_in krate steps)) (exact_crates.same krate e.0 on) (in_crate krate steps e.1 here)))
     (λ off. Contains-append_right (places_in e.0 e.1) (places_of es) (steps_in krate steps)
@@ -80,7 +83,8 @@ among_all krate steps (e ∷ es) there = on_bool (is_at (crate_order.ghosts.cmp 
 
 -- each block that is set is among all places
 set_listed : (blocks : Blocks) (b : BlockPlace) → is_set blocks b ≡ true → Contains (places_of blocks) (place_of_block b)
-set_listed blocks b there = among_all b.holder.krate (place_of_block b).elements blocks (go (lookup (is_at (crate_order.ghosts.cmp b.holder.krate)) blocks) refl)
+set_listed blocks b there =
+    among_all b.holder.krate (place_of_block b).elements blocks (go (lookup (is_at (crate_order.ghosts.cmp b.holder.krate)) blocks) refl)
   where
     go : (o : Option CrateBlocks) → lookup (is_at (crate_order.ghosts.cmp b.holder.krate)) blocks ≡ o → found_in (place_of_block b).elements o ≡ true
     go None none = clash there (ap (λ (o : Option CrateBlocks). is_some (lookup (is_at (steps_cmp (place_of_block b).elements)) (blocks_of o))) none)
@@ -92,13 +96,15 @@ pub found_set : (blocks : Blocks) (b : BlockPlace) (at : PlaceValue) → Some (p
     → (is_set blocks b ≡ true) × (place_of_block b ≡ at)
 found_set blocks b at is = go (block_in blocks at) refl is
   where
-    go : (o : Option SourceValue) → block_in blocks at ≡ o → Some (place_of_block b) ≡ option_map (λ (_ : SourceValue). at) o → (is_set blocks b ≡ true) × (place_of_block b ≡ at)
+    go : (o : Option SourceValue) → block_in blocks at ≡ o → Some (place_of_block b) ≡ option_map (λ (_ : SourceValue). at) o → (is_set blocks b ≡ true)
+        × (place_of_block b ≡ at)
     go None e f = no_value (sym f)
     go (Some source) e f =
         let root : place_of_block b ≡ at = one_value f in
         (ap (λ (p : PlaceValue). is_some (block_in blocks p)) root ∙ ap (λ (o : Option SourceValue). is_some o) e, root)
 
-pub found_none : (blocks : Blocks) (at : PlaceValue) → None ≡ option_map (λ (_ : SourceValue). at) (block_in blocks at) → (b : BlockPlace) → place_of_block b ≡ at → is_set blocks b ≡ false
+pub found_none : (blocks : Blocks) (at : PlaceValue) → None ≡ option_map (λ (_ : SourceValue). at) (block_in blocks at) → (b : BlockPlace) → place_of_block b
+    ≡ at → is_set blocks b ≡ false
 found_none blocks at is b root = ap (λ (p : PlaceValue). is_some (block_in blocks p)) root ∙ go (block_in blocks at) is
   where
     go : (o : Option SourceValue) → None ≡ option_map (λ (_ : SourceValue). at) o → is_some o ≡ false
@@ -128,7 +134,8 @@ inserted : (keys : List PendingBlock) (k : PendingBlock) → All IsOwn keys → 
 inserted [] k all own = (zero, omega arith, refl)
 inserted (x ∷ xs) k all own = by (pending_cmp k x) refl (inserted xs k (All-tail IsOwn x xs all) own)
   where
-    by : (r : Ordering) → pending_cmp k x ≡ r → Contains (insert_key pending_cmp xs k) k → Contains (match_ordering r (k ∷ x ∷ xs) (x ∷ xs) (x ∷ insert_key pending_cmp xs k)) k
+    by : (r : Ordering) → pending_cmp k x ≡ r → Contains (insert_key pending_cmp xs k) k
+        → Contains (match_ordering r (k ∷ x ∷ xs) (x ∷ xs) (x ∷ insert_key pending_cmp xs k)) k
     by Less e more = (zero, omega arith, refl)
     by Equal e more = (zero, omega arith, All-head IsOwn x xs all ∙ ap pending_of (sym (tied k x e)) ∙ sym own)
     by Greater e more = in_tail x (insert_key pending_cmp xs k) k more
@@ -137,7 +144,8 @@ still_in : (keys : List PendingBlock) (k y : PendingBlock) → Contains keys y �
 still_in [] k y h = absurd (let past : h.0 < 0 = h.1 in omega arith)
 still_in (x ∷ xs) k y h = by (pending_cmp k x) (still_in xs k y)
   where
-    by : (r : Ordering) → (Contains xs y → Contains (insert_key pending_cmp xs k) y) → Contains (match_ordering r (k ∷ x ∷ xs) (x ∷ xs) (x ∷ insert_key pending_cmp xs k)) y
+    by : (r : Ordering) → (Contains xs y → Contains (insert_key pending_cmp xs k) y)
+        → Contains (match_ordering r (k ∷ x ∷ xs) (x ∷ xs) (x ∷ insert_key pending_cmp xs k)) y
     by Less more = in_tail k (x ∷ xs) y h
     by Equal more = h
     by Greater more = elim (head_or_tail x xs y h) [
@@ -149,10 +157,12 @@ still_in (x ∷ xs) k y h = by (pending_cmp k x) (still_in xs k y)
 
 -- each block that is set and of which nothing is kept is among those that were collected, or among these that are left
 pub record IsCollecting (s : SessionState) (pending : BTreeSet PendingBlock) (rest : List PlaceValue) : Type 0 where
-  pub all : (b : BlockPlace) → is_set s.sources.blocks b ≡ true → block_kept s b ≡ None → Contains pending.keys (pending_of (place_of_block b)) ⊎ Contains rest (place_of_block b)
+  pub all : (b : BlockPlace) → is_set s.sources.blocks b ≡ true → block_kept s b ≡ None → Contains pending.keys (pending_of (place_of_block b))
+      ⊎ Contains rest (place_of_block b)
   pub own : All IsOwn pending.keys
 
-pub collecting-start : (s : SessionState) (pending : BTreeSet PendingBlock) (places : List PlaceValue) → pending.keys ≡ [] → places ≡ places_of s.sources.blocks → IsCollecting s pending places
+pub collecting-start : (s : SessionState) (pending : BTreeSet PendingBlock) (places : List PlaceValue) → pending.keys ≡ [] → places ≡ places_of s.sources.blocks
+    → IsCollecting s pending places
 collecting-start s pending places empty is = record {
   all = λ b set none. inr (subst (λ (ps : List PlaceValue). Contains ps (place_of_block b)) (sym is) (set_listed s.sources.blocks b set));
   own = subst (λ (ks : List PendingBlock). All IsOwn ks) (sym empty) (All-nil IsOwn);
@@ -179,7 +189,8 @@ module _ (s : SessionState) (pending new : BTreeSet PendingBlock) (b : BlockPlac
         (elim (p.all c set none) [
           | inl among ↦ inl (still_in pending.keys (pending_of (place_of_block b)) (pending_of (place_of_block c)) among)
           | inr left ↦ elim (head_or_tail (place_of_block b) rest (place_of_block c) left) [
-            | inl same ↦ inl (subst (λ (place : PlaceValue). Contains (insert_key pending_cmp pending.keys (pending_of (place_of_block b))) (pending_of place)) same
+            | inl same ↦ inl (subst (λ (place : PlaceValue). Contains (insert_key pending_cmp pending.keys (pending_of (place_of_block b))) (pending_of place))
+                same
                 (inserted pending.keys (pending_of (place_of_block b)) p.own refl))
             | inr more ↦ inr more
           ]
@@ -193,7 +204,8 @@ module _ (s : SessionState) (pending new : BTreeSet PendingBlock) (b : BlockPlac
       (λ off. skip off (is ∙ ap (λ (t : Bool). cond t (insert_key pending_cmp pending.keys (pending_of (place_of_block b))) pending.keys) off))
 
 -- the order of what is left doesn't matter
-pub collecting-last : (s : SessionState) (pending : BTreeSet PendingBlock) (x : PlaceValue) (rest : List PlaceValue) → IsCollecting s pending (rest ++ x ∷ []) → IsCollecting s pending (x ∷ rest)
+pub collecting-last : (s : SessionState) (pending : BTreeSet PendingBlock) (x : PlaceValue) (rest : List PlaceValue) → IsCollecting s pending (rest ++ x ∷ [])
+    → IsCollecting s pending (x ∷ rest)
 collecting-last s pending x rest p = record {
   all = λ b set none. elim (p.all b set none) [
     | inl among ↦ inl among
@@ -209,7 +221,8 @@ collecting-last s pending x rest p = record {
     here y (zero, within, is) = (zero, omega arith, is)
     here y (suc n, within, is) = absurd (let past : suc n < 1 = within in omega arith)
 
-pub collecting-end : (s : SessionState) (pending : BTreeSet PendingBlock) (rest : List PlaceValue) → length rest ≡ 0 → IsCollecting s pending rest → HasAllPending s pending.keys
+pub collecting-end : (s : SessionState) (pending : BTreeSet PendingBlock) (rest : List PlaceValue) → length rest ≡ 0 → IsCollecting s pending rest
+    → HasAllPending s pending.keys
 collecting-end s pending (x ∷ xs) none p = absurd (let some : suc (length xs) ≡ 0 = none in omega arith)
 collecting-end s pending [] none p = record {
   all = λ b set none. elim (p.all b set none) [

@@ -1,14 +1,15 @@
 -- An edit, and the resolution of a place, leave a sound session.
 use Rattle.std.specs.Prelude.{is_none, map}
-use Rattle.std.proofs.Common.{◌≡◌, ◌≢◌, ◌⊎◌, inl, inr, ℕ, zero, suc, ◌<◌, Bool, true, false, ◌||◌, is_some, List, [], ◌∷◌, length, arith, Option, Some, None, option_map, refl, sym, ap, ◌∙◌, subst, Contains}
+use Rattle.std.proofs.Common.{◌≡◌, ◌≢◌, ◌⊎◌, inl, inr, ℕ, zero, suc, ◌<◌, Bool, true, false, ◌||◌, is_some, List, [], ◌∷◌, length, arith, Option, Some, None}
+use Rattle.std.proofs.Common.{option_map, refl, sym, ap, ◌∙◌, subst, Contains}
 use Rattle.hir_base.specs.contracts.ids.MapIdPartialEq.TheImpl as map_id
 use Rattle.hir_base.specs.declared.ast_id.BlockId.{BlockId}
-use Rattle.hir_base.specs.declared.ast_id.EditionedFileId.{EditionedFileId}
-use Rattle.hir_base.specs.declared.ast_id.SyntaxId.{SyntaxId}
+use Rattle.hir_base.specs.declared.place.BlockPlace.{BlockPlace}
 use Rattle.hir_base.specs.declared.ids.Crate.{Crate}
+use Rattle.hir_base.specs.declared.ast_id.EditionedFileId.{EditionedFileId}
 use Rattle.hir_base.specs.declared.ids.MapId.{MapId}
 use Rattle.hir_base.specs.declared.ids.ModuleId.{ModuleId}
-use Rattle.hir_base.specs.declared.place.BlockPlace.{BlockPlace}
+use Rattle.hir_base.specs.declared.ast_id.SyntaxId.{SyntaxId}
 use Rattle.hir_tables.specs.SourcePlaces.{block}
 use Rattle.hir_tables.specs.Tables.{TablesValue, block_at}
 use Rattle.hir_tables.proofs.Growth.{KeepsTables-refl}
@@ -31,7 +32,8 @@ use Rattle.hir_session_state.specs.SourceTable.{SourceTable, workspace_in}
 use Rattle.hir_session_state.specs.Kept.{Resolutions, kept_in, names_in, names_of, AreForgotten}
 use Rattle.hir_crate_graph.specs.Dependencies.{DependsOn}
 use Rattle.hir_crate_graph.specs.Dependencies.DependsOn.{directly, through as depends_through}
-use Rattle.hir_session_state.specs.SessionState.{SessionState, Resolution, dependencies_of, workspace_of, finished_of, follows, follows_by, held_maps, kept_of, is_marked, IsResolutionOf, IsCurrent, IsPlace, IsSound}
+use Rattle.hir_session_state.specs.SessionState.{SessionState, Resolution, dependencies_of, workspace_of, finished_of, follows, follows_by, held_maps, kept_of}
+use Rattle.hir_session_state.specs.SessionState.{is_marked, IsResolutionOf, IsCurrent, IsPlace, IsSound}
 use Rattle.hir_session_state.specs.SessionState.IsPlace.{of_block, of_crate}
 use Rattle.hir_session_state.specs.Spread.{Spread}
 use Rattle.hir_session_state.specs.Spread.Spread.{here, depends}
@@ -93,7 +95,8 @@ module _ (s : SessionState) (sound : IsSound s) where
   -- ---- what spreads
 
   -- what is spread to the map in which one of its holders lies is spread to a place
-  spread_held : {P : MapId → Type 0} (hs : List ModuleId) (id : MapId) (r : Resolution) → kept_of s id ≡ Some r → r.holders ≡ hs → (other : MapId) → holds hs other ≡ true
+  spread_held : {P : MapId → Type 0} (hs : List ModuleId) (id : MapId) (r : Resolution) → kept_of s id ≡ Some r → r.holders ≡ hs → (other : MapId)
+      → holds hs other ≡ true
       → Spread (follows s) P other → Spread (follows s) P id
   spread_held [] id r is of other held sp = clash held refl
   spread_held {P} (h ∷ rest) id r is of other held sp =
@@ -111,7 +114,8 @@ module _ (s : SessionState) (sound : IsSound s) where
       beside false e f = f
 
   -- to what a place stands on as a crate
-  spread_crate : {P : MapId → Type 0} (id : MapId) (r : Resolution) → kept_of s id ≡ Some r → (other : Crate) → has_crate (transitive_in s.crates id.krate.0) other ≡ true
+  spread_crate : {P : MapId → Type 0} (id : MapId) (r : Resolution) → kept_of s id ≡ Some r → (other : Crate) → has_crate (transitive_in s.crates id.krate.0)
+      other ≡ true
       → Spread (follows s) P (crate_map other) → Spread (follows s) P id
   spread_crate {P} id r is other behind sp = go id.block refl
     where
@@ -135,13 +139,15 @@ module _ (s : SessionState) (sound : IsSound s) where
       ])
 
 -- what is in a spread set is in it for a reason
-spread_cases : {A : Type 0} {follows : MapId → List MapId} {P : MapId → Type 0} {id : MapId} → (P id → A) → ((d : MapId) → Contains (follows id) d → Spread follows P d → A)
+spread_cases : {A : Type 0} {follows : MapId → List MapId} {P : MapId → Type 0} {id : MapId} → (P id → A)
+    → ((d : MapId) → Contains (follows id) d → Spread follows P d → A)
     → Spread follows P id → A
 spread_cases f g (here id p) = f p
 spread_cases f g (depends id d among sp) = g d among sp
 
 -- one in a list is in the set, or none is
-any_of : (P : MapId → Type 0) (ids : List MapId) → ((d : MapId) → Contains ids d → P d ⊎ (¬ P d)) → ((d : MapId) × Contains ids d × P d) ⊎ ((d : MapId) → Contains ids d → ¬ P d)
+any_of : (P : MapId → Type 0) (ids : List MapId) → ((d : MapId) → Contains ids d → P d ⊎ (¬ P d)) → ((d : MapId) × Contains ids d × P d)
+    ⊎ ((d : MapId) → Contains ids d → ¬ P d)
 any_of P [] each = inr (λ d among. absurd (let past : among.0 < 0 = among.1 in omega arith))
 any_of P (x ∷ xs) each = elim (each x (zero, omega arith, refl)) [
   | inl does ↦ inl (x, (zero, omega arith, refl), does)
@@ -167,7 +173,8 @@ root_asked s sound id r is =
     let from = (kept_gives s sound id r is).from in
     let ended = kept_ended s sound id r is in
     subst (λ (ks : List Key). Contains ks (root_key from.start from.tree)) (sym ended.asked_is)
-    (Contains-append_left ended.last.core.asked _ (root_key from.start from.tree) (still_asked ended.derived (root_key from.start from.tree) (0, omega arith, refl)))
+    (Contains-append_left ended.last.core.asked _ (root_key from.start from.tree)
+    (still_asked ended.derived (root_key from.start from.tree) (0, omega arith, refl)))
 
 -- whether what is seen is there
 abbrev is_there : Look → Bool
@@ -179,7 +186,8 @@ is_there (of_entry e) = false
 is_there (of_map m) = false
 
 -- the tree of a block is there where the block is set
-root_seen : (crates : List CrateValue) (tables : TablesValue) (t : SourceTable) (b : BlockId) (place : BlockPlace) (holder : ModuleId) (file : EditionedFileId) (id : SyntaxId) (from : Beginning)
+root_seen : (crates : List CrateValue) (tables : TablesValue) (t : SourceTable) (b : BlockId) (place : BlockPlace) (holder : ModuleId) (file : EditionedFileId)
+    (id : SyntaxId) (from : Beginning)
     → block_at tables b ≡ Some place → begins_in_block place.holder.krate b holder file id ≡ from
     → is_there (look tables (workspace_in crates t) no_maps (root_key from.start from.tree)) ≡ is_set t.blocks place
 root_seen crates tables t b place holder file id from means begins =
@@ -209,7 +217,8 @@ module _ (s : SessionState) (sound : IsSound s) (F : SourceTable) (hits : List M
         | inr alike ↦ inr (untouched id r is alike)
       ])
     where
-      untouched : (id : MapId) (r : Resolution) → kept_of s id ≡ Some r → AgreeOn s.tables r.asked (workspace_of s) no_maps edited no_maps → ¬ IsTouched s edited id
+      untouched : (id : MapId) (r : Resolution) → kept_of s id ≡ Some r → AgreeOn s.tables r.asked (workspace_of s) no_maps edited no_maps
+          → ¬ IsTouched s edited id
       untouched id r is alike (before m) = clash m (some_unmarked (kept_of s id) r is)
       untouched id r is alike (asked_for key q there has ne) =
           let same : q ≡ r = one_value (sym there ∙ is) in
@@ -234,7 +243,8 @@ module _ (s : SessionState) (sound : IsSound s) (F : SourceTable) (hits : List M
       subst (λ (x : MapId). IsReached x ⊎ (¬ IsReached x)) (sym c.2) (reached_crate n c.0 (omega arith)))
 
   -- of blocks, by the module that holds one
-  reached_by_holder : (id : MapId) (r : Resolution) → kept_of s id ≡ Some r → ((h : ModuleId) → r.map.holder ≡ Some h → IsReached h.map ⊎ (¬ IsReached h.map)) → IsReached id ⊎ (¬ IsReached id)
+  reached_by_holder : (id : MapId) (r : Resolution) → kept_of s id ≡ Some r → ((h : ModuleId) → r.map.holder ≡ Some h → IsReached h.map ⊎ (¬ IsReached h.map))
+      → IsReached id ⊎ (¬ IsReached id)
   reached_by_holder id r is of_holder = go id.block refl
     where
       go : (o : Option BlockId) → id.block ≡ o → IsReached id ⊎ (¬ IsReached id)
@@ -310,13 +320,15 @@ module _ (s : SessionState) (sound : IsSound s) (F : SourceTable) (hits : List M
   ]
 
   -- a block that is kept still is set: its run asked for its tree
-  set_still : (b : BlockId) (place : BlockPlace) → block_at s.tables b ≡ Some place → IsKeptStill (block_map place.holder.krate b) → is_set s.sources.blocks place ≡ true → is_set F.blocks place ≡ true
+  set_still : (b : BlockId) (place : BlockPlace) → block_at s.tables b ≡ Some place → IsKeptStill (block_map place.holder.krate b)
+      → is_set s.sources.blocks place ≡ true → is_set F.blocks place ≡ true
   set_still b place means off set = on_kept (kept_of s (block_map place.holder.krate b))
       (λ none. clash (none_marked (kept_of s (block_map place.holder.krate b)) none) (was_unmarked (block_map place.holder.krate b) off))
       (λ r is.
       let p = kept_gives s sound (block_map place.holder.krate b) r is in
       let begun = block_begun s place.holder.krate b p.from p.begun in
-      let same = (unhit (block_map place.holder.krate b) off r is).same (root_key p.from.start p.from.tree) (root_asked s sound (block_map place.holder.krate b) r is) in
+      let same = (unhit (block_map place.holder.krate b) off r is).same (root_key p.from.start p.from.tree)
+      (root_asked s sound (block_map place.holder.krate b) r is) in
       sym (root_seen s.crates s.tables F b place begun.holder begun.file begun.place.id p.from means begun.is)
       ∙ ap is_there same
       ∙ root_seen s.crates s.tables s.sources b place begun.holder begun.file begun.place.id p.from means begun.is
@@ -336,7 +348,8 @@ module _ (s : SessionState) (sound : IsSound s) (F : SourceTable) (hits : List M
           is = stays id off ∙ now.is;
           gives = IsResolutionOf-stays s F K id now.found now.gives
               (kept_behind s sound F K IsKeptStill closed_still stays id now.found now.is off)
-              (beginning_stays s sound IsKeptStill closed_still s.tables F K (KeepsTables-refl _) stays set_still id now.gives.from now.gives.begun (holder_still id now.found now.is now.gives off))
+              (beginning_stays s sound IsKeptStill closed_still s.tables F K (KeepsTables-refl _) stays set_still id now.gives.from now.gives.begun
+              (holder_still id now.found now.is now.gives off))
               (unhit id off now.found now.is);
         };
     rooted = sound.rooted;
@@ -353,7 +366,8 @@ module _ (s : SessionState) (sound : IsSound s) (F : SourceTable) (hits : List M
       follows_still id off None = refl
       follows_still id off (Some b) = ap (λ (o : Option Resolution). crate_map id.krate ∷ held_maps o) (stays id off)
 
-      holder_still : (id : MapId) (r : Resolution) → kept_of s id ≡ Some r → (p : IsResolutionOf s id r) → IsKeptStill id → (h : ModuleId) → holder_of p.from.start ≡ Some h → IsKeptStill h.map
+      holder_still : (id : MapId) (r : Resolution) → kept_of s id ≡ Some r → (p : IsResolutionOf s id r) → IsKeptStill id → (h : ModuleId)
+          → holder_of p.from.start ≡ Some h → IsKeptStill h.map
       holder_still id r is p off h held =
           let in_map : r.map.holder ≡ Some h = p.holder ∙ held in
           let of = held_block s id r p h in_map in
@@ -425,17 +439,21 @@ module _ (s : SessionState) (id : MapId) (r : Resolution) (K : Resolutions) (sou
   abbrev kept_now : SessionState
   kept_now = record s { kept = K }
 
-  stays_resolved : (j : MapId) (x : Resolution) (p : IsResolutionOf s j x) → IsKeptBehind s s.sources K j x → ((h : ModuleId) → holder_of p.from.start ≡ Some h → WasUnmarked h.map)
+  stays_resolved : (j : MapId) (x : Resolution) (p : IsResolutionOf s j x) → IsKeptBehind s s.sources K j x
+      → ((h : ModuleId) → holder_of p.from.start ≡ Some h → WasUnmarked h.map)
       → IsResolutionOf kept_now j x
   stays_resolved j x p kept held = IsResolutionOf-stays s s.sources K j x p kept
-      (beginning_stays s sound WasUnmarked outwards s.tables s.sources K (KeepsTables-refl _) as_it_was (λ b at means off set. set) j p.from p.begun held) AgreeOn-refl
+      (beginning_stays s sound WasUnmarked outwards s.tables s.sources K (KeepsTables-refl _) as_it_was (λ b at means off set. set) j p.from p.begun held)
+      AgreeOn-refl
 
   -- what it follows is current
   follows_now : (d : MapId) → Contains (follows kept_now id) d → WasUnmarked d
   follows_now d among = go id.block refl
     where
       go : (o : Option BlockId) → id.block ≡ o → WasUnmarked d
-      go None none = behind d (subst (λ (o : Option BlockId). Contains (follows_under s id o r.map.holder) d) (sym none) (subst (λ (o : Option BlockId). Contains (follows_by kept_now id o) d) none among))
+      go None none =
+          behind d (subst (λ (o : Option BlockId). Contains (follows_under s id o r.map.holder) d) (sym none)
+          (subst (λ (o : Option BlockId). Contains (follows_by kept_now id o) d) none among))
       go (Some b) of =
           behind d (subst (λ (o : Option BlockId). Contains (follows_under s id o r.map.holder) d) (sym of)
           (subst (λ (o : Option Resolution). Contains (crate_map id.krate ∷ held_maps o) d) kept_here
@@ -458,7 +476,9 @@ module _ (s : SessionState) (id : MapId) (r : Resolution) (K : Resolutions) (sou
         where
           first : DependsOn (dependencies_of s) id.krate.0 c.0 → WasUnmarked (crate_map c)
           first (directly k d h) = direct d h
-          first (depends_through k i d h rest) = DependsOn-holds {P = λ (j : ℕ). WasUnmarked (id_of j)} (λ j e off member. outwards (id_of j) (crate_map e) off (followed s (record { 0 = j }) e member)) rest (direct d h)
+          first (depends_through k i d h rest) =
+              DependsOn-holds {P = λ (j : ℕ). WasUnmarked (id_of j)}
+              (λ j e off member. outwards (id_of j) (crate_map e) off (followed s (record { 0 = j }) e member)) rest (direct d h)
 
       go : (o : Option BlockId) → id.block ≡ o → WasUnmarked (crate_map c)
       go None none = all_behind (λ d h. follows_now (crate_map d)
@@ -477,7 +497,8 @@ module _ (s : SessionState) (id : MapId) (r : Resolution) (K : Resolutions) (sou
         where
           go : (o : Option ModuleId) → r.map.holder ≡ o → WasUnmarked h.map
           go None alone =
-              let none : Contains [] h = subst (λ (hs : List ModuleId). Contains hs h) (found.holders ∙ ap (holders_under (finished_of s) r.map.id) alone) among in
+              let none : Contains [] h = subst (λ (hs : List ModuleId). Contains hs h) (found.holders ∙ ap (holders_under (finished_of s) r.map.id) alone) among
+              in
               absurd (let past : none.0 < 0 = none.1 in omega arith)
           go (Some g) held =
               let first = holder_kept s id r found g held in
@@ -529,7 +550,8 @@ module _ (s : SessionState) (id : MapId) (r : Resolution) (K : Resolutions) (sou
       follows_as_before j ne (Some b) = ap (λ (o : Option Resolution). crate_map j.krate ∷ held_maps o) (kept_else j ne)
 
 -- where no crate before it is marked, what a crate depends on is current
-pub followed_crates : (s : SessionState) → IsSound s → (k : ℕ) → ((j : ℕ) → j < k → is_marked s (id_of j) ≡ false) → (holder : Option ModuleId) → AreFollowedCurrent s (id_of k) holder
+pub followed_crates : (s : SessionState) → IsSound s → (k : ℕ) → ((j : ℕ) → j < k → is_marked s (id_of j) ≡ false) → (holder : Option ModuleId)
+    → AreFollowedCurrent s (id_of k) holder
 followed_crates s sound k first holder d among =
     let c = dependency_behind s (record { 0 = k }) d among in
     let lower : c.0.0 < k = sound.below k c.0 c.1 in

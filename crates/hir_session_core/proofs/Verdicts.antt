@@ -1,12 +1,13 @@
 -- When is a session made, and a block set?
-use Rattle.std.proofs.Common.{◌≡◌, ℕ, ◌≤◌, false, nat_lt, List, length, map, Option, None, Some, option_map, Result, Ok, Err, OnOk, IfErr, ◌⊎◌, inl, inr, refl, sym, subst, arith}
+use Rattle.std.proofs.Common.{◌≡◌, ℕ, ◌≤◌, false, nat_lt, List, length, map, Option, None, Some, option_map, Result, Ok, Err, OnOk, IfErr, ◌⊎◌, inl, inr, refl}
+use Rattle.std.proofs.Common.{sym, subst, arith}
 use Rattle.std.proofs.lemmas.List.{length-map}
 use Rattle.hir_base.specs.declared.ids.Crate.{Crate}
+use Rattle.hir_base.specs.declared.place.PlaceElement.{PlaceElement}
 use Rattle.std.specs.List.{list_any}
 use Rattle.hir_wire.specs.CommandValue.{CrateInputValue}
 use Rattle.hir_session_state.specs.Refusals.{IsEditMemory, first_out_of_order, is_too_deep, is_too_long, verdict_of_new, verdict_with_steps}
 use Rattle.hir_session_state.specs.SessionState.{max_crates}
-use Rattle.hir_base.specs.declared.place.PlaceElement.{PlaceElement}
 use Rattle.hir_session_state.specs.declared.error.EditError.{EditError}
 use Rattle.hir_session_state.specs.declared.error.EditError.TheVariants as edit_error
 use Rattle.hir_session_core.specs.BlockVerdicts.{told_with_steps}
@@ -49,20 +50,25 @@ told_memory (Ok u) right e = absurd (let wrong : ⊥ = cc in wrong)
 told_memory (Err x) right e = (tt, inl (let same : x ≡ edit_error.Memory = cc in same))
 
 -- what is told of a block is right where what is told of its source is
-pub block_told : (steps : List PlaceElement) (source given told : Result (Unit {0}) EditError) → OnOk given (source ≡ Ok tt) → IfErr given (λ e. IsEditMemory e ⊎ (source ≡ Err e))
-    → told ≡ told_with_steps steps given → OnOk told (verdict_with_steps steps source ≡ Ok tt) × IfErr told (λ e. IsEditMemory e ⊎ (verdict_with_steps steps source ≡ Err e))
+pub block_told : (steps : List PlaceElement) (source given told : Result (Unit {0}) EditError) → OnOk given (source ≡ Ok tt)
+    → IfErr given (λ e. IsEditMemory e ⊎ (source ≡ Err e))
+    → told ≡ told_with_steps steps given → OnOk told (verdict_with_steps steps source ≡ Ok tt)
+    × IfErr told (λ e. IsEditMemory e ⊎ (verdict_with_steps steps source ≡ Err e))
 block_told steps source (Ok u) told accepted refused is =
     subst (λ (v : Result (Unit {0}) EditError). IsTold told (verdict_with_steps steps v)) (sym accepted) (told_right told (verdict_with_steps steps (Ok tt)) is)
 block_told steps source (Err edit_error.Memory) told accepted refused is = told_memory told (verdict_with_steps steps source) is
 block_told steps source (Err edit_error.UnknownCrate) told accepted refused is = elim refused [
   | inl memory ↦ absurd (let wrong : ⊥ = cc in wrong)
-  | inr right ↦ subst (λ (v : Result (Unit {0}) EditError). IsTold told (verdict_with_steps steps v)) (sym right) (told_right told (verdict_with_steps steps (Err edit_error.UnknownCrate)) is)
+  | inr right ↦ subst (λ (v : Result (Unit {0}) EditError). IsTold told (verdict_with_steps steps v)) (sym right)
+      (told_right told (verdict_with_steps steps (Err edit_error.UnknownCrate)) is)
 ]
 block_told steps source (Err (edit_error.TooLarge limit)) told accepted refused is = elim refused [
   | inl memory ↦ absurd (let wrong : ⊥ = cc in wrong)
-  | inr right ↦ subst (λ (v : Result (Unit {0}) EditError). IsTold told (verdict_with_steps steps v)) (sym right) (told_right told (verdict_with_steps steps (Err (edit_error.TooLarge limit))) is)
+  | inr right ↦ subst (λ (v : Result (Unit {0}) EditError). IsTold told (verdict_with_steps steps v)) (sym right)
+      (told_right told (verdict_with_steps steps (Err (edit_error.TooLarge limit))) is)
 ]
 block_told steps source (Err (edit_error.DuplicateId kind id)) told accepted refused is = elim refused [
   | inl memory ↦ absurd (let wrong : ⊥ = cc in wrong)
-  | inr right ↦ subst (λ (v : Result (Unit {0}) EditError). IsTold told (verdict_with_steps steps v)) (sym right) (told_right told (verdict_with_steps steps (Err (edit_error.DuplicateId kind id))) is)
+  | inr right ↦ subst (λ (v : Result (Unit {0}) EditError). IsTold told (verdict_with_steps steps v)) (sym right)
+      (told_right told (verdict_with_steps steps (Err (edit_error.DuplicateId kind id))) is)
 ]

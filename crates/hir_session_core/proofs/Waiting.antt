@@ -1,6 +1,7 @@
 -- Blocks in their turn: resolving one makes only deeper ones due.
 use Rattle.std.specs.Prelude.{is_none, cond, map, nat_lt, if◌then◌else◌}
-use Rattle.std.proofs.Common.{◌≡◌, ◌≢◌, inl, inr, ℕ, zero, suc, ◌+◌, ◌<◌, ◌≤◌, Bool, true, false, IsTrue, List, [], ◌∷◌, ◌++◌, length, arith, refl, sym, subst, ◌∙◌, ap, Option, Some, None, option_map, Contains, append-nil, append_assoc}
+use Rattle.std.proofs.Common.{◌≡◌, ◌≢◌, inl, inr, ℕ, zero, suc, ◌+◌, ◌<◌, ◌≤◌, Bool, true, false, IsTrue, List, [], ◌∷◌, ◌++◌, length, arith, refl, sym, subst}
+use Rattle.std.proofs.Common.{◌∙◌, ap, Option, Some, None, option_map, Contains, append-nil, append_assoc}
 use Rattle.std.specs.Option.{option_and_then}
 use Rattle.std.specs.List.{AllByRecursion}
 use Rattle.std.specs.List.Sorted.{IsStrictlySortedBy}
@@ -14,10 +15,10 @@ use Rattle.std.proofs.lemmas.Bool.{ltb-true}
 use Rattle.hir_base.specs.Place.{PlaceValue}
 use Rattle.hir_base.specs.contracts.ids.MapIdPartialEq.TheImpl as map_id
 use Rattle.hir_base.specs.declared.ast_id.BlockId.{BlockId}
+use Rattle.hir_base.specs.declared.place.BlockPlace.{BlockPlace}
 use Rattle.hir_base.specs.declared.ids.Crate.{Crate}
 use Rattle.hir_base.specs.declared.ids.MapId.{MapId}
 use Rattle.hir_base.specs.declared.ids.ModuleId.{ModuleId}
-use Rattle.hir_base.specs.declared.place.BlockPlace.{BlockPlace}
 use Rattle.hir_base.specs.declared.place.PlaceElement.{PlaceElement}
 use Rattle.hir_base.specs.declared.place.PlaceElement.TheVariants as element
 use Rattle.hir_def_map_rules.specs.State.{child_at, crate_map, root_of}
@@ -30,7 +31,8 @@ use Rattle.hir_session_state.specs.Due.IsNext.{crate as next_crate, block as nex
 use Rattle.hir_session_state.specs.Kept.{Resolution, Resolutions, kept_in}
 use Rattle.hir_session_state.specs.SessionState.{SessionState, block_kept, is_marked, kept_of, standing_of, IsSound}
 use Rattle.hir_session_state.specs.SourceTable.{SourceTable}
-use Rattle.hir_session_state.specs.Standing.{Standing, block_below, block_map, block_number, child_kept, down, from_crate, is_set, kept_block, module_by, step, to_child, to_root}
+use Rattle.hir_session_state.specs.Standing.{Standing, block_below, block_map, block_number, child_kept, down, from_crate, is_set, kept_block, module_by, step}
+use Rattle.hir_session_state.specs.Standing.{to_child, to_root}
 use Rattle.hir_session_state.specs.Standing.Standing.{at, lacks, stale, unset}
 use Rattle.hir_session_state.proofs.Places.{block_total, nesting_below, nesting_first, no_deeper, number_means}
 use Rattle.hir_session_state.proofs.Standing.{down-append, kept_block_grown, kept_gives, standing_grown, to_block_at, to_child_at, unmarked}
@@ -135,7 +137,8 @@ module _ (old new : SessionState) (sound : IsSound old) (b : BlockPlace) (p : Is
           ne (one_value (sym (number_means new.tables c n is) ∙ ap (block_at new.tables) number ∙ number_means new.tables b p.number p.numbered))
 
       go : (o : Option BlockId) → block_number new.tables c ≡ o
-          → option_and_then (λ (n : BlockId). kept_in new.kept (block_map c.holder.krate n)) o ≡ option_and_then (λ (n : BlockId). kept_in old.kept (block_map c.holder.krate n)) o
+          → option_and_then (λ (n : BlockId). kept_in new.kept (block_map c.holder.krate n)) o
+          ≡ option_and_then (λ (n : BlockId). kept_in old.kept (block_map c.holder.krate n)) o
       go None is = refl
       go (Some n) is = p.resolved.others (block_map c.holder.krate n) (apart n is)
 
@@ -150,12 +153,14 @@ module _ (old new : SessionState) (sound : IsSound old) (b : BlockPlace) (p : Is
   abbrev IsUnmarkedAt : Standing → Type 0
   IsUnmarkedAt st = (m : ModuleId) → st ≡ at m → is_marked old m.map ≡ false
 
-  unmarked_step : (krate : Crate) (before : List PlaceElement) (st : Standing) (e : PlaceElement) → IsUnmarkedAt st → IsUnmarkedAt (step old.tables old.sources.blocks old.kept krate before st e)
+  unmarked_step : (krate : Crate) (before : List PlaceElement) (st : Standing) (e : PlaceElement) → IsUnmarkedAt st
+      → IsUnmarkedAt (step old.tables old.sources.blocks old.kept krate before st e)
   unmarked_step krate before (at n) (element.Module name) off = λ m leads.
       subst (λ (x : MapId). is_marked old x ≡ false) (sym (to_child_at n.map (child_kept old.kept n name) m leads).1) (off n refl)
   unmarked_step krate before (at n) (element.Block id) off = λ m leads.
       let c = to_block_at old.tables old.sources.blocks old.kept (block_below krate before id) m leads in
-      let is_own : m.map ≡ block_map krate c.number = sym (ap (λ (x : ModuleId). x.map) c.root) ∙ (kept_gives old sound (block_map krate c.number) c.found c.is).own in
+      let is_own : m.map ≡ block_map krate c.number = sym (ap (λ (x : ModuleId). x.map) c.root) ∙
+      (kept_gives old sound (block_map krate c.number) c.found c.is).own in
       subst (λ (x : MapId). is_marked old x ≡ false) (sym is_own) (unmarked old (block_map krate c.number) c.found c.is)
   unmarked_step krate before (lacks id) (element.Module name) off = λ m leads. absurd (let no : ⊥ = cc in no)
   unmarked_step krate before (lacks id) (element.Block c) off = λ m leads. absurd (let no : ⊥ = cc in no)
@@ -169,7 +174,8 @@ module _ (old new : SessionState) (sound : IsSound old) (b : BlockPlace) (p : Is
   unmarked_step krate before unset (element.Block c) off = λ m leads. absurd (let no : ⊥ = cc in no)
 
   -- a step that doesn't lead into it leads where it led
-  step_alike : (krate : Crate) (before : List PlaceElement) (st : Standing) (e : PlaceElement) → IsUnmarkedAt st → nesting_of before + nesting_of (e ∷ []) < depth b
+  step_alike : (krate : Crate) (before : List PlaceElement) (st : Standing) (e : PlaceElement) → IsUnmarkedAt st → nesting_of before + nesting_of (e ∷ []) <
+      depth b
       → step new.tables new.sources.blocks new.kept krate before st e ≡ step old.tables old.sources.blocks old.kept krate before st e
   step_alike krate before (at m) (element.Module name) off less =
       ap (λ (o : Option Resolution). to_child m.map (option_and_then (λ (r : Resolution). child_at r.map m.index name) o)) (stays m.map (off m refl))
@@ -186,25 +192,31 @@ module _ (old new : SessionState) (sound : IsSound old) (b : BlockPlace) (p : Is
   step_alike krate before unset (element.Block c) off less = refl
 
   nesting_behind : (before : List PlaceElement) (e : PlaceElement) → nesting_of (before ++ e ∷ []) ≡ nesting_of before + nesting_of (e ∷ [])
-  nesting_behind before (element.Module name) = let none : nesting_of (before ++ element.Module name ∷ []) ≡ nesting_of before = nesting_beside before name in omega arith
-  nesting_behind before (element.Block id) = let one : nesting_of (before ++ element.Block id ∷ []) ≡ suc (nesting_of before) = nesting_below before id in omega arith
+  nesting_behind before (element.Module name) =
+      let none : nesting_of (before ++ element.Module name ∷ []) ≡ nesting_of before = nesting_beside before name in omega arith
+  nesting_behind before (element.Block id) =
+      let one : nesting_of (before ++ element.Block id ∷ []) ≡ suc (nesting_of before) = nesting_below before id in omega arith
 
-  down_alike : (krate : Crate) (before : List PlaceElement) (st : Standing) (steps : List PlaceElement) → IsUnmarkedAt st → nesting_of before + nesting_of steps < depth b
+  down_alike : (krate : Crate) (before : List PlaceElement) (st : Standing) (steps : List PlaceElement) → IsUnmarkedAt st → nesting_of before + nesting_of steps
+      < depth b
       → down new.tables new.sources.blocks new.kept krate before st steps ≡ down old.tables old.sources.blocks old.kept krate before st steps
   down_alike krate before st [] off less = refl
   down_alike krate before st (e ∷ more) off less =
       let sum : nesting_of (e ∷ more) ≡ nesting_of (e ∷ []) + nesting_of more = nesting_first e more in
       let behind : nesting_of (before ++ e ∷ []) ≡ nesting_of before + nesting_of (e ∷ []) = nesting_behind before e in
       ap (λ (x : Standing). down new.tables new.sources.blocks new.kept krate (before ++ e ∷ []) x more) (step_alike krate before st e off (omega arith))
-      ∙ down_alike krate (before ++ e ∷ []) (step old.tables old.sources.blocks old.kept krate before st e) more (unmarked_step krate before st e off) (omega arith)
+      ∙ down_alike krate (before ++ e ∷ []) (step old.tables old.sources.blocks old.kept krate before st e) more (unmarked_step krate before st e off)
+      (omega arith)
 
   -- steps into fewer blocks lead where they led
   standing_alike : (place : PlaceValue) → nesting_of place.elements < depth b → standing_of new place ≡ standing_of old place
   standing_alike place less =
-      ap (λ (o : Option Resolution). from_crate new.tables new.sources.blocks new.kept o place) (p.resolved.others (crate_map place.krate) (λ e. no_value (ap (λ (x : MapId). x.block) e)))
+      ap (λ (o : Option Resolution). from_crate new.tables new.sources.blocks new.kept o place)
+      (p.resolved.others (crate_map place.krate) (λ e. no_value (ap (λ (x : MapId). x.block) e)))
       ∙ go (kept_of old (crate_map place.krate)) refl
     where
-      go : (o : Option Resolution) → kept_of old (crate_map place.krate) ≡ o → from_crate new.tables new.sources.blocks new.kept o place ≡ from_crate old.tables old.sources.blocks old.kept o place
+      go : (o : Option Resolution) → kept_of old (crate_map place.krate) ≡ o → from_crate new.tables new.sources.blocks new.kept o place
+          ≡ from_crate old.tables old.sources.blocks old.kept o place
       go None is = refl
       go (Some r) is = down_alike place.krate [] (at (root_of r.map.id)) place.elements
           (λ m leads.
@@ -255,7 +267,8 @@ sorted_before : {A : Type 0} (cmp : A → A → Ordering) (before : List A) (p :
 unfolding IsStrictlySortedBy
 sorted_before cmp [] p after sorted x h = absurd (let past : h.0 < 0 = h.1 in omega arith)
 sorted_before cmp (y ∷ ys) p after sorted x (zero, within, is) =
-    subst (λ (z : _). cmp z p ≡ Less) is (at_each (λ (z : _). cmp y z ≡ Less) (ys ++ p ∷ after) sorted.0 p (Contains-append_right ys (p ∷ after) p (zero, omega arith, refl)))
+    subst (λ (z : _). cmp z p ≡ Less) is (at_each (λ (z : _). cmp y z ≡ Less) (ys ++ p ∷ after) sorted.0 p
+    (Contains-append_right ys (p ∷ after) p (zero, omega arith, refl)))
 sorted_before cmp (y ∷ ys) p after sorted x (suc n, within, is) = sorted_before cmp ys p after sorted.1 x (n, omega arith, is)
 
 sorted_after : {A : Type 0} (cmp : A → A → Ordering) (before : List A) (p : A) (after : List A) → IsStrictlySortedBy cmp (before ++ p ∷ after)
@@ -319,7 +332,8 @@ module _ (s : SessionState) (sound : IsSound s) (pending : List PendingBlock) (b
   -- what wasn't due and comes before isn't due then either
   turn_passed : (new : SessionState) (b : BlockPlace) → place_of_block b ≡ p.place → IsBlockResolved s b new → AreNotDue new (before ++ p ∷ [])
   turn_passed new b of came c among due = elim (Contains-append_cases before (p ∷ []) (pending_of (place_of_block c)) among) [
-    | inl early ↦ passed c early (was_due s new sound b came c (no_deeper c b (in_order c b (subst (λ (x : PendingBlock). pending_cmp (pending_of (place_of_block c)) x ≡ Less)
+    | inl early ↦ passed c early (was_due s new sound b came c
+        (no_deeper c b (in_order c b (subst (λ (x : PendingBlock). pending_cmp (pending_of (place_of_block c)) x ≡ Less)
         (own_turn ∙ sym (of_place b p.place of)) (sorted_before pending_cmp before p after ordered (pending_of (place_of_block c)) early)))) due)
     | inr last ↦ itself last
   ]
@@ -343,7 +357,8 @@ module _ (s : SessionState) (sound : IsSound s) (pending : List PendingBlock) (b
 -- ---- all turns
 
 -- what is left once these were looked at, from a state in which the places before them were resolved
-pub record IsInTurn (from : SessionState) (before : List PlaceValue) (pending : List PendingBlock) (looked rest : List PendingBlock) (now : SessionState) (done : List PlaceValue)
+pub record IsInTurn (from : SessionState) (before : List PlaceValue) (pending : List PendingBlock) (looked rest : List PendingBlock) (now : SessionState)
+    (done : List PlaceValue)
     : Type 0 where
   pub split : looked ++ rest ≡ pending
   pub so_far : (first : SessionState) → HasResolved first before from → HasResolved first done now
@@ -372,7 +387,8 @@ module _ (from : SessionState) (before : List PlaceValue) (pending : List Pendin
   split_behind = append_assoc looked (p ∷ []) rest ∙ t.split
 
   -- one more was looked at
-  pub in_turn-more : (new : SessionState) (after : List PlaceValue) → IsRefreshed now p.place done after new → IsInTurn from before pending (looked ++ p ∷ []) rest new after
+  pub in_turn-more : (new : SessionState) (after : List PlaceValue) → IsRefreshed now p.place done after new → IsInTurn from before pending (looked ++ p ∷ [])
+      rest new after
   in_turn-more new after (left none same as_was) =
       subst (λ (s : SessionState). IsInTurn from before pending (looked ++ p ∷ []) rest s after) (sym same)
       (subst (λ (ps : List PlaceValue). IsInTurn from before pending (looked ++ p ∷ []) rest now ps) (sym as_was) (record {
@@ -387,7 +403,9 @@ module _ (from : SessionState) (before : List PlaceValue) (pending : List Pendin
   in_turn-more new after (resolved b of due came sound longer) =
       subst (λ (ps : List PlaceValue). IsInTurn from before pending (looked ++ p ∷ []) rest new ps) (sym longer) (record {
         split = split_behind;
-        so_far = λ first h. resolved_more p.place new (t.so_far first h) sound (turn_next now t.sound pending looked rest p t.split t.sorted t.all t.passed t.current b of due)
+        so_far =
+            λ first h. resolved_more p.place new (t.so_far first h) sound (turn_next now t.sound pending looked rest p t.split t.sorted t.all t.passed t.current
+            b of due)
             (subst (λ (place : PlaceValue). IsResolvedAt now place new) of (at_place now new t.sound b came));
         sound = sound;
         all = still_pending now new t.sound b came pending t.all;
@@ -397,7 +415,8 @@ module _ (from : SessionState) (before : List PlaceValue) (pending : List Pendin
       })
 
   -- the run for one was given up
-  pub in_turn-stuck : (new : SessionState) (b : BlockPlace) → place_of_block b ≡ p.place → IsDueBlock now b → Grows now new → IsStuckAt new p.place → HasOverlongRun new
+  pub in_turn-stuck : (new : SessionState) (b : BlockPlace) → place_of_block b ≡ p.place → IsDueBlock now b → Grows now new → IsStuckAt new p.place
+      → HasOverlongRun new
   in_turn-stuck new b of due grown stuck = record {
     place = p.place;
     next = next_after now new t.sound grown p.place (turn_next now t.sound pending looked rest p t.split t.sorted t.all t.passed t.current b of due);
@@ -405,21 +424,27 @@ module _ (from : SessionState) (before : List PlaceValue) (pending : List Pendin
   }
 
 -- those that were looked at, as the loop has them
-pub in_turn-shown : {A : Type 0} (f : A → PendingBlock) (from : SessionState) (before : List PlaceValue) (xs : List A) (x : A) (pending : List PendingBlock) (rest : List PendingBlock) (now : SessionState)
-    {done : List PlaceValue} → IsInTurn from before pending (map f xs ++ f x ∷ []) rest now done → IsInTurn from before pending (map f (xs ++ x ∷ [])) rest now done
+pub in_turn-shown : {A : Type 0} (f : A → PendingBlock) (from : SessionState) (before : List PlaceValue) (xs : List A) (x : A) (pending : List PendingBlock)
+    (rest : List PendingBlock) (now : SessionState)
+    {done : List PlaceValue} → IsInTurn from before pending (map f xs ++ f x ∷ []) rest now done → IsInTurn from before pending (map f (xs ++ x ∷ [])) rest now
+    done
 in_turn-shown f from before xs x pending rest now {done} t =
     subst (λ (looked : List PendingBlock). IsInTurn from before pending looked rest now done) (sym (map-append f xs (x ∷ []))) t
 
 -- some may be left where a refresh ends early
-pub in_turn-partly : (from : SessionState) (before : List PlaceValue) (pending : List PendingBlock) (looked rest : List PendingBlock) (now : SessionState) (done : List PlaceValue)
-    → IsInTurn from before pending looked rest now done → (new : SessionState) → Grows now new → (first : SessionState) → HasResolved first before from → RefreshesPartly first new
+pub in_turn-partly : (from : SessionState) (before : List PlaceValue) (pending : List PendingBlock) (looked rest : List PendingBlock) (now : SessionState)
+    (done : List PlaceValue)
+    → IsInTurn from before pending looked rest now done → (new : SessionState) → Grows now new → (first : SessionState) → HasResolved first before from
+    → RefreshesPartly first new
 in_turn-partly from before pending looked rest now done t new grown first h = record { done = done; resolves = resolves_grown (t.so_far first h) grown }
 
 -- where all were looked at, none is due
-pub in_turn-end : (from : SessionState) (before : List PlaceValue) (pending : List PendingBlock) (looked : List PendingBlock) (now : SessionState) (done : List PlaceValue)
+pub in_turn-end : (from : SessionState) (before : List PlaceValue) (pending : List PendingBlock) (looked : List PendingBlock) (now : SessionState)
+    (done : List PlaceValue)
     → IsInTurn from before pending looked [] now done → (b : BlockPlace) → ¬ IsDueBlock now b
 in_turn-end from before pending looked now done t b due =
-    t.passed b (subst (λ (ks : List PendingBlock). Contains ks (pending_of (place_of_block b))) (sym t.split ∙ append-nil looked) (t.all.all b due.set due.marked)) due
+    t.passed b (subst (λ (ks : List PendingBlock). Contains ks (pending_of (place_of_block b))) (sym t.split ∙ append-nil looked)
+    (t.all.all b due.set due.marked)) due
 
 -- ---- the end of a refresh
 
@@ -428,7 +453,8 @@ nothing_next : (s : SessionState) → AreCratesCurrent s → ((b : BlockPlace) �
 nothing_next s current none place (next_crate k due lesser is) = clash due.marked (current k due.within)
 nothing_next s current none place (next_block b quiet due first is) = none b due
 
-pub refreshes_all : (old new : SessionState) (done : List PlaceValue) → HasResolved old done new → AreCratesCurrent new → ((b : BlockPlace) → ¬ IsDueBlock new b) → Refreshes old done new
+pub refreshes_all : (old new : SessionState) (done : List PlaceValue) → HasResolved old done new → AreCratesCurrent new
+    → ((b : BlockPlace) → ¬ IsDueBlock new b) → Refreshes old done new
 refreshes_all old new done so_far current none = record {
   resolves = resolves_grown so_far (grows_not new so_far.sound);
   all = nothing_next new current none;
@@ -438,7 +464,8 @@ refreshes_all old new done so_far current none = record {
 
 module _ (s : SessionState) (current : AreCratesCurrent s) (none : (b : BlockPlace) → ¬ IsDueBlock s b) where
   -- a step from what isn't stale leads to what isn't
-  fresh_step : (krate : Crate) (before : List PlaceElement) (st : Standing) (e : PlaceElement) → standing_of s (record { krate = krate; elements = before }) ≡ st → st ≢ stale
+  fresh_step : (krate : Crate) (before : List PlaceElement) (st : Standing) (e : PlaceElement) → standing_of s (record { krate = krate; elements = before })
+      ≡ st → st ≢ stale
       → step s.tables s.sources.blocks s.kept krate before st e ≢ stale
   fresh_step krate before (at m) (element.Module name) is fresh = go (child_kept s.kept m name)
     where
@@ -449,9 +476,11 @@ module _ (s : SessionState) (current : AreCratesCurrent s) (none : (b : BlockPla
       go : (o : Option ModuleId) → to_child m.map o ≢ stale
       go None e = absurd (let no : ⊥ = cc in no)
       go (Some n) e = checked (map_id.ghosts.eq n.map m.map) n e
-  fresh_step krate before (at m) (element.Block id) is fresh = go (is_set s.sources.blocks (block_below krate before id)) refl (kept_block s.tables s.kept (block_below krate before id)) refl
+  fresh_step krate before (at m) (element.Block id) is fresh =
+      go (is_set s.sources.blocks (block_below krate before id)) refl (kept_block s.tables s.kept (block_below krate before id)) refl
     where
-      go : (b : Bool) → is_set s.sources.blocks (block_below krate before id) ≡ b → (o : Option Resolution) → kept_block s.tables s.kept (block_below krate before id) ≡ o
+      go : (b : Bool) → is_set s.sources.blocks (block_below krate before id) ≡ b → (o : Option Resolution)
+          → kept_block s.tables s.kept (block_below krate before id) ≡ o
           → cond b (to_root o) unset ≢ stale
       go true set None marked e = none (block_below krate before id) (record { set = set; marked = marked; holder = m; held = ap module_by is })
       go true set (Some r) kept e = absurd (let no : ⊥ = cc in no)
@@ -461,23 +490,26 @@ module _ (s : SessionState) (current : AreCratesCurrent s) (none : (b : BlockPla
   fresh_step krate before unset e is fresh = λ same. absurd (let no : ⊥ = cc same in no)
 
   fresh_from : (krate : Crate) (r : Resolution) → kept_of s (crate_map krate) ≡ Some r → (before : List PlaceElement) (st : Standing) (more : List PlaceElement)
-      → down s.tables s.sources.blocks s.kept krate [] (at (root_of r.map.id)) before ≡ st → st ≢ stale → down s.tables s.sources.blocks s.kept krate before st more ≢ stale
+      → down s.tables s.sources.blocks s.kept krate [] (at (root_of r.map.id)) before ≡ st → st ≢ stale → down s.tables s.sources.blocks s.kept krate before st
+      more ≢ stale
   fresh_from krate r is before st [] leads fresh = fresh
   fresh_from krate r is before st (e ∷ more) leads fresh =
       fresh_from krate r is (before ++ e ∷ []) (step s.tables s.sources.blocks s.kept krate before st e) more
-      (down-append s.tables s.sources.blocks s.kept krate [] (at (root_of r.map.id)) before (e ∷ []) ∙ ap (λ (x : Standing). step s.tables s.sources.blocks s.kept krate before x e) leads)
+      (down-append s.tables s.sources.blocks s.kept krate [] (at (root_of r.map.id)) before (e ∷ []) ∙ ap
+      (λ (x : Standing). step s.tables s.sources.blocks s.kept krate before x e) leads)
       (fresh_step krate before st e
       (ap (λ (o : Option Resolution). from_crate s.tables s.sources.blocks s.kept o (record { krate = krate; elements = before })) is ∙ leads) fresh)
 
   not_stale_by : (st : Standing) → st ≢ stale → status_by st ≢ status.Stale
+  not_stale_by stale fresh e = fresh refl
   not_stale_by (at m) fresh e = absurd (let no : ⊥ = cc in no)
   not_stale_by (lacks id) fresh e = absurd (let no : ⊥ = cc in no)
-  not_stale_by stale fresh e = fresh refl
   not_stale_by unset fresh e = absurd (let no : ⊥ = cc in no)
 
   pub nowhere_stale : (place : PlaceValue) → status_of s place ≢ status.Stale
   nowhere_stale place = on_bool (nat_lt place.krate.0 (length s.crates))
-      (λ within e. not_stale_by (standing_of s place) (fresh_at within) (sym (ap (λ (b : Bool). if b then status_by (standing_of s place) else status.Unknown) within) ∙ e))
+      (λ within e. not_stale_by (standing_of s place) (fresh_at within)
+      (sym (ap (λ (b : Bool). if b then status_by (standing_of s place) else status.Unknown) within) ∙ e))
       (λ past e. absurd (let no : ⊥ = cc (sym (ap (λ (b : Bool). if b then status_by (standing_of s place) else status.Unknown) past) ∙ e) in no))
     where
       fresh_at : nat_lt place.krate.0 (length s.crates) ≡ true → standing_of s place ≢ stale

@@ -3,9 +3,9 @@ use Rattle.std.specs.Prelude.{◌≡◌, ℕ, ◌<◌, cond, is_none, is_some, t
 use Rattle.std.specs.BTreeSet.{insert_key}
 use Rattle.hir_base.specs.Place.{PlaceValue}
 use Rattle.hir_base.specs.declared.ast_id.BlockId.{BlockId}
+use Rattle.hir_base.specs.declared.place.BlockPlace.{BlockPlace}
 use Rattle.hir_base.specs.declared.ids.MapId.{MapId}
 use Rattle.hir_base.specs.declared.ids.ModuleId.{ModuleId}
-use Rattle.hir_base.specs.declared.place.BlockPlace.{BlockPlace}
 use Rattle.hir_def_map_rules.specs.Overlay.{holders_under}
 use Rattle.hir_def_map_rules.specs.State.{crate_map, module_at}
 use Rattle.hir_collector_rules.specs.Derivation.{CollectedValue}

@@ -24,6 +24,7 @@ ghost use Rattle.hir_session_state.specs.SourceEdits.{edited, of_expansion, of_f
 ghost use Rattle.hir_session_state.specs.Refusals.{first_out_of_order, verdict_of_new, IsNewMemory, verdict_of_apply, verdict_of_expansion, verdict_of_removal, verdict_of_source, IsEditMemory};
 ghost use Rattle.hir_session_state.specs.Changes.{Becomes, Applies};
 
+mod assoc_items;
 mod blocks;
 mod pending;
 mod queries;

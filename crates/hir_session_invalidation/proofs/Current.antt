@@ -34,7 +34,8 @@ pub none_current : (w : Workspace) (trees : SourceTrees) → ((place : SourcePla
 none_current w trees none = record { each = λ place krate t is. none_some (tree_in trees place krate) t (none place krate) is }
 
 -- where the same is kept
-pub same_current : (w : Workspace) (old new : SourceTrees) → AreCurrent w old → ((place : SourcePlaceValue) (krate : Crate) → tree_in new place krate ≡ tree_in old place krate) → AreCurrent w new
+pub same_current : (w : Workspace) (old new : SourceTrees) → AreCurrent w old → ((place : SourcePlaceValue) (krate : Crate) → tree_in new place krate
+    ≡ tree_in old place krate) → AreCurrent w new
 same_current w old new are same = record { each = λ place krate t is. are.each place krate t (sym (same place krate) ∙ is) }
 
 -- where the workspace is the same
@@ -60,7 +61,8 @@ kept_here (expansion key) krate (expansion at) c on =
 kept_here place krate p c on = clash on refl
 
 -- one more that is what the source has
-pub set_current : (w : Workspace) (old new : SourceTrees) (place : SourcePlaceValue) (krate : Crate) (tree : SourceTreeValue) → tree ≡ w.tree krate place → AreCurrent w old
+pub set_current : (w : Workspace) (old new : SourceTrees) (place : SourcePlaceValue) (krate : Crate) (tree : SourceTreeValue) → tree ≡ w.tree krate place
+    → AreCurrent w old
     → ((p : SourcePlaceValue) (c : Crate) → tree_in new p c ≡ (if is_kept_at place krate p c then Some tree else tree_in old p c)) → AreCurrent w new
 set_current w old new place krate tree right are becomes = record { each = λ p c t is. go p c t (is_kept_at place krate p c) refl (sym (becomes p c) ∙ is) }
   where

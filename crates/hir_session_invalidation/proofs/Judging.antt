@@ -1,16 +1,17 @@
 -- The places that were judged so far, and the keys of one.
-use Rattle.std.proofs.Common.{◌≡◌, ◌≢◌, Some, None, inl, inr, ℕ, zero, suc, ◌+◌, ◌<◌, ◌≤◌, true, false, List, [], ◌∷◌, ◌++◌, length, slice_index_or, arith, Option, refl, sym, ap, ◌∙◌, subst, Contains, map}
+use Rattle.std.proofs.Common.{◌≡◌, ◌≢◌, Some, None, inl, inr, ℕ, zero, suc, ◌+◌, ◌<◌, ◌≤◌, true, false, List, [], ◌∷◌, ◌++◌, length, slice_index_or, arith}
+use Rattle.std.proofs.Common.{Option, refl, sym, ap, ◌∙◌, subst, Contains, map}
 use Rattle.std.specs.List.{list_any}
 use Rattle.std.proofs.lemmas.Map.Lookups.{CmpEqualImpliesEq}
 use Rattle.std.proofs.lemmas.Map.Views.{btree_set_contains_iff}
 use Rattle.std.specs.BTreeSet.{BTreeSet}
 use Rattle.std.specs.Ordering.{is_eq}
 use Rattle.std.proofs.lemmas.List.Elements.{Contains-append_left, Contains-append_right, Contains-append_cases}
+use Rattle.hir_base.specs.declared.ids.Crate.{Crate}
 use Rattle.hir_base.specs.declared.ids.MapId.{MapId}
 use Rattle.hir_base.specs.contracts.ids.MapIdOrd.TheImpl as map_order
 use Rattle.hir_base.specs.contracts.ids.MapIdOrd.TheImpl.Laws.{total-law as order_total}
 use Rattle.hir_def_map_rules.specs.Overlay.{no_maps}
-use Rattle.hir_base.specs.declared.ids.Crate.{Crate}
 use Rattle.hir_tables.specs.Tables.{TablesValue}
 use Rattle.hir_collector_rules.specs.Asked.{IsOwnPart}
 use Rattle.hir_collector_rules.specs.Keys.{AgreeOn, look, map_keys}
@@ -55,32 +56,37 @@ pub judged-same : {tables : TablesValue} {v w : Workspace} {kept : Resolutions} 
 judged-same {tables} {v} {w} {kept} {hits = hits} same judged = subst (λ (xs : List MapId). AreJudged tables v w kept xs hits) same judged
 
 -- one more was judged
-pub judging-more : (tables : TablesValue) (v w : Workspace) (kept : Resolutions) (ids : List MapId) (at : MapId) (old new : List MapId) → AreJudged tables v w kept ids old
+pub judging-more : (tables : TablesValue) (v w : Workspace) (kept : Resolutions) (ids : List MapId) (at : MapId) (old new : List MapId)
+    → AreJudged tables v w kept ids old
     → IsJudged tables v w (kept_in kept at) at old new → AreJudged tables v w kept (ids ++ at ∷ []) new
-judging-more tables v w kept ids at old new so_far (hit asked is) = subst (λ (hits : List MapId). AreJudged tables v w kept (ids ++ at ∷ []) hits) (sym is) (record {
-  asked = λ id among. elim (Contains-append_cases old (at ∷ []) id among) [
-    | inl early ↦ so_far.asked id early
-    | inr last ↦ subst (λ (x : MapId). IsAsked tables v w (kept_in kept x)) (of_one at id last) asked
-  ];
-  missed = λ id r among found. elim (Contains-append_cases ids (at ∷ []) id among) [
-    | inl early ↦ elim (so_far.missed id r early found) [
-      | inl was ↦ inl (Contains-append_left old (at ∷ []) id was)
-      | inr alike ↦ inr alike
-    ]
-    | inr last ↦ inl (Contains-append_right old (at ∷ []) id last)
-  ];
-})
-judging-more tables v w kept ids at old new so_far (missed alike is) = subst (λ (hits : List MapId). AreJudged tables v w kept (ids ++ at ∷ []) hits) (sym is) (record {
-  asked = so_far.asked;
-  missed = λ id r among found. elim (Contains-append_cases ids (at ∷ []) id among) [
-    | inl early ↦ so_far.missed id r early found
-    | inr last ↦ inr (alike r (ap (kept_in kept) (of_one at id last) ∙ found))
-  ];
-})
+judging-more tables v w kept ids at old new so_far (hit asked is) =
+    subst (λ (hits : List MapId). AreJudged tables v w kept (ids ++ at ∷ []) hits) (sym is) (record {
+      asked = λ id among. elim (Contains-append_cases old (at ∷ []) id among) [
+        | inl early ↦ so_far.asked id early
+        | inr last ↦ subst (λ (x : MapId). IsAsked tables v w (kept_in kept x)) (of_one at id last) asked
+      ];
+      missed = λ id r among found. elim (Contains-append_cases ids (at ∷ []) id among) [
+        | inl early ↦ elim (so_far.missed id r early found) [
+          | inl was ↦ inl (Contains-append_left old (at ∷ []) id was)
+          | inr alike ↦ inr alike
+        ]
+        | inr last ↦ inl (Contains-append_right old (at ∷ []) id last)
+      ];
+    })
+judging-more tables v w kept ids at old new so_far (missed alike is) =
+    subst (λ (hits : List MapId). AreJudged tables v w kept (ids ++ at ∷ []) hits) (sym is) (record {
+      asked = so_far.asked;
+      missed = λ id r among found. elim (Contains-append_cases ids (at ∷ []) id among) [
+        | inl early ↦ so_far.missed id r early found
+        | inr last ↦ inr (alike r (ap (kept_in kept) (of_one at id last) ∙ found))
+      ];
+    })
 
 -- no run names a source without a number
-pub unnumbered_hit : (crates : List CrateValue) (tables : TablesValue) (t : SourceTable) (edit : SourceEditValue) (kept : Resolutions) (hits : List MapId) → hits ≡ []
-    → ((number : SourceNumber) → place_at tables number ≢ Some (place_of edit)) → AreHit tables (workspace_in crates t) (workspace_in crates (edited t edit)) kept hits
+pub unnumbered_hit : (crates : List CrateValue) (tables : TablesValue) (t : SourceTable) (edit : SourceEditValue) (kept : Resolutions) (hits : List MapId)
+    → hits ≡ []
+    → ((number : SourceNumber) → place_at tables number ≢ Some (place_of edit)) → AreHit tables (workspace_in crates t) (workspace_in crates (edited t edit))
+    kept hits
 unnumbered_hit crates tables t edit kept hits none apart =
     subst (λ (ids : List MapId). AreHit tables (workspace_in crates t) (workspace_in crates (edited t edit)) kept ids) (sym none) (record {
       asked = λ id among. absurd (let past : among.0 < 0 = among.1 in omega arith);
@@ -113,7 +119,8 @@ module _ (tables : TablesValue) (v w : Workspace) (keys : List Key) where
 
 -- all keys of a list are unaltered
 pub agrees_all : (crates : List CrateValue) (tables : TablesValue) (F G : SourceTable) (keys : List Key) (k : ℕ) → length keys ≤ k
-    → ((j : ℕ) (key : Key) → j < k → look tables (workspace_in crates G) no_maps (slice_index_or keys j key) ≡ look tables (workspace_in crates F) no_maps (slice_index_or keys j key))
+    → ((j : ℕ) (key : Key) → j < k → look tables (workspace_in crates G) no_maps (slice_index_or keys j key) ≡ look tables (workspace_in crates F) no_maps
+    (slice_index_or keys j key))
     → AgreeOn tables keys (workspace_in crates F) no_maps (workspace_in crates G) no_maps
 agrees_all crates tables F G keys k all same = record {
   crates = refl;
@@ -138,13 +145,15 @@ agrees_unasked crates tables t edit number keys numbered none = record {
 -- ---- all keys that a run asked for
 
 -- the key of a map shows nothing, where there are no maps
-of_maps : (tables : TablesValue) (v w : Workspace) (crates : List Crate) (key : Key) → Contains (map_keys crates) key → look tables w no_maps key ≡ look tables v no_maps key
+of_maps : (tables : TablesValue) (v w : Workspace) (crates : List Crate) (key : Key) → Contains (map_keys crates) key → look tables w no_maps key
+    ≡ look tables v no_maps key
 of_maps tables v w [] key h = absurd (let past : h.0 < 0 = h.1 in omega arith)
 of_maps tables v w (c ∷ cs) key (zero, within, is) = subst (λ (k : Key). look tables w no_maps k ≡ look tables v no_maps k) is refl
 of_maps tables v w (c ∷ cs) key (suc n, within, is) = of_maps tables v w cs key (n, (omega arith), is)
 
 -- what agrees on the keys of steps agrees on all
-pub agrees_on_own : (tables : TablesValue) (own all : List Key) (v w : Workspace) → IsOwnPart own all → AgreeOn tables own v no_maps w no_maps → AgreeOn tables all v no_maps w no_maps
+pub agrees_on_own : (tables : TablesValue) (own all : List Key) (v w : Workspace) → IsOwnPart own all → AgreeOn tables own v no_maps w no_maps
+    → AgreeOn tables all v no_maps w no_maps
 agrees_on_own tables own all v w part agree = record {
   crates = agree.crates;
   config = agree.config;
@@ -168,12 +177,14 @@ pub judged_by : (tables : TablesValue) (v w : Workspace) (r : Resolution) (own :
 judged_by tables v w r own id old new part (noted altered is) =
     hit (record { found = r; is = refl; altered = altered_of_own tables own r.asked v w part altered }) is
 judged_by tables v w r own id old new part (unnoted agree is) =
-    missed (λ q same. let here : r ≡ q = cc in subst (λ (x : Resolution). AgreeOn tables x.asked v no_maps w no_maps) here (agrees_on_own tables own r.asked v w part agree)) is
+    missed (λ q same. let here : r ≡ q = cc in subst (λ (x : Resolution). AgreeOn tables x.asked v no_maps w no_maps) here
+    (agrees_on_own tables own r.asked v w part agree)) is
 
 -- ---- those that were not judged
 
 -- where each place whose run asked for the source was judged, those are hit that were
-pub all_judged : (crates : List CrateValue) (tables : TablesValue) (t : SourceTable) (edit : SourceEditValue) (kept : Resolutions) (number : SourceNumber) (ids hits : List MapId)
+pub all_judged : (crates : List CrateValue) (tables : TablesValue) (t : SourceTable) (edit : SourceEditValue) (kept : Resolutions) (number : SourceNumber)
+    (ids hits : List MapId)
     → IsNumberOf tables (place_of edit) number
     → ((id : MapId) (r : Resolution) (key : Key) → kept_in kept id ≡ Some r → Contains r.asked key → asked_number tables key ≡ Some number → Contains ids id)
     → AreJudged tables (workspace_in crates t) (workspace_in crates (edited t edit)) kept ids hits

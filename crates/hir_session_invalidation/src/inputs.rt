@@ -7,6 +7,7 @@ ghost use Rattle.hir_wire.specs.Edits.{entry_view};
 ghost use Rattle.hir_def_map.specs.World.{finished_in};
 ghost use Rattle.hir_collector_rules.specs.Calls.{AreCallsPlaced};
 ghost use Rattle.hir_collector_rules.specs.Derivation.{IsOverlong, collected_view};
+ghost use Rattle.hir_collector_rules.specs.UnknownSources.{MeetsUnknownSource};
 ghost use Rattle.hir_session_state.specs.Blocks.{place_of_block, with_block, without_block};
 ghost use Rattle.hir_session_state.specs.Crates.{begins_in_block, beginning_in};
 ghost use Rattle.hir_session_state.specs.Entries.{with_entry, without_entry};
@@ -16,19 +17,22 @@ ghost use Rattle.hir_session_state.specs.SessionState.{IsResolved};
 ghost use Rattle.hir_session_state.specs.SourceTable.{source_at, tree_under};
 ghost use Rattle.hir_session_sources.specs.SourceTrees.{AreTreesOf};
 
+mod assoc_items;
+
+pub use self::assoc_items::AssocList;
 use crate::sources::{HeldBlock, Sources, collect, collect_block};
 use hir_base::file_path::FilePath;
 use hir_base::ids::Crate;
 use hir_base::macro_kind::ExpansionKey;
 use hir_base::place::BlockPlace;
 use hir_collector_rules::collected::Collected;
+use hir_collector_rules::start::CollectError;
 use hir_def_map::world::World;
 use hir_item_tree::source::Source;
 use hir_item_tree::source_tree::SourceTree;
 use hir_session_sources::crates::Crates;
 use hir_session_sources::source_table::SourceTable;
 use hir_session_sources::source_trees::{CrateTrees, SourceTrees, source_tree};
-use hir_session_state::error::RefreshError;
 use hir_tables::{SourcePlace, Tables};
 use hir_wire::edit::ExpansionEntry;
 use std::alloc::{AllocError, Global};
@@ -186,15 +190,17 @@ impl Inputs {
         tables: &mut Tables,
         world: &World,
         k: u32,
-    ) -> Result<Collected, RefreshError>
+    ) -> Result<Collected, CollectError>
         requires within { k < length self.old.crates }
         ensures same { self.new ≡ self.old }
         ensures kept { KeepsTables tables.old tables.new }
         ensures placed { AreCallsPlaced tables.old → AreCallsPlaced tables.new }
         ensures resolved { IfOk result (λ found. IsResolved tables.new (workspace_by self.old) (finished_in world.now.maps)
             (beginning_in self.old.crates k) (collected_view found)) }
-        ensures many { result ≡ Err RefreshError.TooMany
+        ensures many { result ≡ Err CollectError.TooMany
             → IsOverlong tables.new (workspace_by self.old) (finished_in world.now.maps) (beginning_in self.old.crates k) }
+        ensures unknown { result ≡ Err CollectError.UnknownSource
+            → MeetsUnknownSource tables.new (workspace_by self.old) (finished_in world.now.maps) (beginning_in self.old.crates k) }
     {
         let trees = replace(&mut self.trees, SourceTrees::new(alloc));
         let mut sources = Sources {
@@ -215,14 +221,16 @@ impl Inputs {
         tables: &mut Tables,
         world: &World,
         at: HeldBlock,
-    ) -> Result<Collected, RefreshError>
+    ) -> Result<Collected, CollectError>
         ensures same { self.new ≡ self.old }
         ensures kept { KeepsTables tables.old tables.new }
         ensures placed { AreCallsPlaced tables.old → AreCallsPlaced tables.new }
         ensures resolved { IfOk result (λ found. IsResolved tables.new (workspace_by self.old) (finished_in world.now.maps)
             (begins_in_block at.krate at.block at.holder at.file at.id) (collected_view found)) }
-        ensures many { result ≡ Err RefreshError.TooMany
+        ensures many { result ≡ Err CollectError.TooMany
             → IsOverlong tables.new (workspace_by self.old) (finished_in world.now.maps) (begins_in_block at.krate at.block at.holder at.file at.id) }
+        ensures unknown { result ≡ Err CollectError.UnknownSource
+            → MeetsUnknownSource tables.new (workspace_by self.old) (finished_in world.now.maps) (begins_in_block at.krate at.block at.holder at.file at.id) }
     {
         let trees = replace(&mut self.trees, SourceTrees::new(alloc));
         let mut sources = Sources {

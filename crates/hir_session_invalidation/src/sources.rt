@@ -6,6 +6,7 @@ ghost use Rattle.hir_def_map.specs.World.{finished_in};
 ghost use Rattle.hir_collector_rules.specs.Calls.{AreCallsPlaced};
 ghost use Rattle.hir_collector_rules.specs.Derivation.{IsOverlong, collected_view};
 ghost use Rattle.hir_collector_rules.specs.Start.{beginning};
+ghost use Rattle.hir_collector_rules.specs.UnknownSources.{MeetsUnknownSource};
 ghost use Rattle.hir_session_state.specs.Crates.{begins_in_block, beginning_in};
 ghost use Rattle.hir_session_state.specs.SessionState.{IsResolved};
 ghost use Rattle.hir_session_state.specs.SourceTable.{source_at, tree_under, workspace_in};
@@ -16,7 +17,7 @@ use hir_base::ids::{Crate, ModuleId};
 use hir_base::macro_kind::ExpansionKey;
 use hir_collector_rules::collected::Collected;
 use hir_collector_rules::source_database::{Config, CrateRoot, ExpansionLook, SourceDatabase};
-use hir_collector_rules::start::Start;
+use hir_collector_rules::start::{CollectError, Start};
 use hir_crate_graph::CrateSet;
 use hir_def_collector::collector::collect_defs;
 use hir_def_map::world::World;
@@ -26,7 +27,6 @@ use hir_session_sources::crates::Crates;
 use hir_session_sources::seen_entry::look_at;
 use hir_session_sources::source_table::SourceTable;
 use hir_session_sources::source_trees::{SourceTrees, source_tree};
-use hir_session_state::error::RefreshError;
 use hir_tables::{SourcePlace, Tables};
 use std::alloc::{AllocError, Global};
 use std::rc::Rc;
@@ -120,17 +120,18 @@ fn run(
     world: &World,
     start: Start,
     tree: TreeId,
-) -> Result<Collected, RefreshError>
+) -> Result<Collected, CollectError>
     ensures same { workspace_in sources.new.crates.now sources.new.table.now ≡ workspace_in sources.old.crates.now sources.old.table.now }
     ensures kept { KeepsTables tables.old tables.new }
     ensures placed { AreCallsPlaced tables.old → AreCallsPlaced tables.new }
     ensures resolved { IfOk result (λ found. IsResolved tables.new (workspace_in sources.old.crates.now sources.old.table.now)
         (finished_in world.now.maps) (beginning start tree None) (collected_view found)) }
-    ensures many { result ≡ Err RefreshError.TooMany
+    ensures many { result ≡ Err CollectError.TooMany
         → IsOverlong tables.new (workspace_in sources.old.crates.now sources.old.table.now) (finished_in world.now.maps) (beginning start tree None) }
+    ensures unknown { result ≡ Err CollectError.UnknownSource
+        → MeetsUnknownSource tables.new (workspace_in sources.old.crates.now sources.old.table.now) (finished_in world.now.maps) (beginning start tree None) }
 {
-    let found = collect_defs(alloc, sources, world, tables, start, tree, None)?;
-    Ok(found)
+    collect_defs(alloc, sources, world, tables, start, tree, None)
 }
 
 /// Runs the import rules for the crate of a number, beside finished maps.
@@ -140,15 +141,17 @@ pub fn collect(
     tables: &mut Tables,
     world: &World,
     k: u32,
-) -> Result<Collected, RefreshError>
+) -> Result<Collected, CollectError>
     requires within { k < length sources.old.crates.now }
     ensures same { workspace_in sources.new.crates.now sources.new.table.now ≡ workspace_in sources.old.crates.now sources.old.table.now }
     ensures kept { KeepsTables tables.old tables.new }
     ensures placed { AreCallsPlaced tables.old → AreCallsPlaced tables.new }
     ensures resolved { IfOk result (λ found. IsResolved tables.new (workspace_in sources.old.crates.now sources.old.table.now)
         (finished_in world.now.maps) (beginning_in sources.old.crates.now k) (collected_view found)) }
-    ensures many { result ≡ Err RefreshError.TooMany
+    ensures many { result ≡ Err CollectError.TooMany
         → IsOverlong tables.new (workspace_in sources.old.crates.now sources.old.table.now) (finished_in world.now.maps) (beginning_in sources.old.crates.now k) }
+    ensures unknown { result ≡ Err CollectError.UnknownSource
+        → MeetsUnknownSource tables.new (workspace_in sources.old.crates.now sources.old.table.now) (finished_in world.now.maps) (beginning_in sources.old.crates.now k) }
 {
     let root = sources.crates.as_slice()[k as usize].root();
     let krate = Crate(k);
@@ -167,14 +170,16 @@ pub fn collect_block(
     tables: &mut Tables,
     world: &World,
     at: HeldBlock,
-) -> Result<Collected, RefreshError>
+) -> Result<Collected, CollectError>
     ensures same { workspace_in sources.new.crates.now sources.new.table.now ≡ workspace_in sources.old.crates.now sources.old.table.now }
     ensures kept { KeepsTables tables.old tables.new }
     ensures placed { AreCallsPlaced tables.old → AreCallsPlaced tables.new }
     ensures resolved { IfOk result (λ found. IsResolved tables.new (workspace_in sources.old.crates.now sources.old.table.now)
         (finished_in world.now.maps) (begins_in_block at.krate at.block at.holder at.file at.id) (collected_view found)) }
-    ensures many { result ≡ Err RefreshError.TooMany
+    ensures many { result ≡ Err CollectError.TooMany
         → IsOverlong tables.new (workspace_in sources.old.crates.now sources.old.table.now) (finished_in world.now.maps) (begins_in_block at.krate at.block at.holder at.file at.id) }
+    ensures unknown { result ≡ Err CollectError.UnknownSource
+        → MeetsUnknownSource tables.new (workspace_in sources.old.crates.now sources.old.table.now) (finished_in world.now.maps) (begins_in_block at.krate at.block at.holder at.file at.id) }
 {
     let file_id = HirFileId::File(at.file);
     let start = Start::Block {

@@ -1,17 +1,19 @@
 -- What holds of all replies.
-use Rattle.std.proofs.Common.{◌≡◌, ◌⊎◌, inl, inr, ℕ, zero, suc, ◌<◌, arith, ap, slice_get, Bool, true, false, nat_le, List, [], ◌∷◌, length, Option, Some, None, Result, Ok, Err, refl, sym, subst, ◌∙◌}
+use Rattle.std.proofs.Common.{◌≡◌, ◌⊎◌, inl, inr, ℕ, zero, suc, ◌<◌, arith, ap, slice_get, Bool, true, false, nat_le, List, [], ◌∷◌, length, Option, Some, None}
+use Rattle.std.proofs.Common.{Result, Ok, Err, refl, sym, subst, ◌∙◌}
 use Rattle.hir_base.specs.ModPath.{Path}
 use Rattle.hir_base.specs.Place.{PlaceValue}
 use Rattle.hir_base.specs.declared.ids.Crate.{Crate}
 use Rattle.hir_base.specs.declared.ids.MapId.{MapId}
 use Rattle.hir_collector_rules.specs.declared.source_database.Key.{Key}
-use Rattle.hir_wire.specs.CommandValue.{CommandValue, diagnostics, resolve}
+use Rattle.hir_wire.specs.CommandValue.{CommandValue, diagnostics, impl_items, resolve, trait_items}
 use Rattle.hir_wire.specs.Commands.{reading_of}
 use Rattle.hir_wire.specs.declared.answer.Answer.{Answer}
-use Rattle.hir_wire.specs.declared.command.Shadow.{Shadow}
-use Rattle.hir_wire.specs.declared.command.MacroStyle.{MacroStyle}
 use Rattle.hir_wire.specs.declared.diagnostic.Diagnostic.{Diagnostic}
+use Rattle.hir_wire.specs.declared.items.Items.{Items}
+use Rattle.hir_wire.specs.declared.command.MacroStyle.{MacroStyle}
 use Rattle.hir_wire.specs.declared.reply.Reply.{Reply}
+use Rattle.hir_wire.specs.declared.command.Shadow.{Shadow}
 use Rattle.hir_wire.specs.declared.reply.Reply.TheVariants as reply
 use Rattle.hir_session_state.specs.declared.error.QueryError.{QueryError}
 use Rattle.hir_session_state.specs.declared.error.QueryError.TheVariants as query_error
@@ -24,23 +26,28 @@ use Rattle.hir_def_map_rules.specs.Closed.{PathsLeadToWhatIsThere}
 use Rattle.hir_def_map_rules.specs.Sources.{PathsAnswerFromSources}
 use Rattle.hir_session_state.specs.Due.{IsAskedBehind}
 use Rattle.hir_session_machine.specs.Machine.{MachineState, first_state, query_reply, Moves, AnswersCommand, AnswersLine}
-use Rattle.hir_session_machine.specs.Machine.Moves.{applies, refuses, refreshes, refreshes_partly, resolves, tells, shows, shows_none, dumps, dumps_none, lists}
+use Rattle.hir_session_machine.specs.Machine.Moves.{applies, refuses, refreshes, refreshes_partly, resolves, tells, shows, shows_none, dumps, dumps_none}
+use Rattle.hir_session_machine.specs.Machine.Moves.{asks_for_trait, asks_for_impl, lists}
 use Rattle.hir_session_machine.specs.Machine.AnswersCommand.{finds_no_memory, begins, refuses_session, comes_too_soon, comes_too_late, calls}
 use Rattle.hir_session_machine.specs.Machine.AnswersLine.{finds_no_memory_for_line, reads_no_command, carries_out}
 use Rattle.hir_session_machine.specs.AnsweredLines.{AnswersWithin, AnswersInput, AnswersLines}
-use Rattle.hir_session_machine.specs.Headline.{Query, Asks, AsksDiagnostics, Alters, IsAlteredBetween, Stands, AreAllTold, RepliesHoldTheHeadline, state_at}
+use Rattle.hir_session_machine.specs.Headline.{Query, Asks, AsksDiagnostics, AsksImplItems, AsksTraitItems, Alters, IsAlteredBetween, Stands, AreAllTold}
+use Rattle.hir_session_machine.specs.Headline.{AreOfImpl, AreOfTrait, RepliesHoldTheHeadline, state_at}
 use Rattle.hir_session_state.proofs.Standing.{at_module, unmarked}
-use Rattle.hir_session_answers.proofs.Differ.{IsSame, same_after_edit, same_after_refresh, same_at_first, same_answer}
+use Rattle.hir_session_answers.proofs.Differ.{IsSame, same_after_edit, same_after_refresh, same_at_first, same_answer, same_once_grown}
 use Rattle.hir_session_machine.proofs.Histories.{after_input, begun_input, history_sound, one_value}
 use Rattle.hir_session_answers.proofs.Stand.{stands}
 use Rattle.hir_session_machine.proofs.Telling.{told_within}
+use Rattle.hir_session_machine.proofs.Listing.{impl_within, trait_within}
+use Rattle.hir_session_answers.proofs.Listed.{impl_stands, trait_stands}
 use Rattle.hir_session_answers.proofs.Told.{tell}
 use Rattle.hir_session_answers.specs.Histories.History.{none as nothing_yet}
 
 -- ---- what a reply with an answer says
 
 -- the query was answered so, and nothing changed
-record IsAnswered (old : MachineState) (place : PlaceValue) (path : Path) (shadow : Shadow) (style : Option MacroStyle) (a : Answer) (new : MachineState) : Type 0 where
+record IsAnswered (old : MachineState) (place : PlaceValue) (path : Path) (shadow : Shadow) (style : Option MacroStyle) (a : Answer) (new : MachineState) : Type
+    0 where
   at : SessionState
   before : old ≡ Some at
   after : new ≡ Some at
@@ -70,15 +77,17 @@ answered_by_call asks (shows krate page text is_tree same found told) = absurd (
 answered_by_call asks (shows_none krate page why is_tree same refused told) = absurd (let wrong : ⊥ = cc in wrong)
 answered_by_call asks (dumps at text is_dump same found told) = absurd (let wrong : ⊥ = cc in wrong)
 answered_by_call asks (dumps_none at why is_dump same refused told) = absurd (let wrong : ⊥ = cc in wrong)
+answered_by_call asks (asks_for_trait at query is_trait grown told) = absurd (let wrong : ⊥ = cc in wrong)
+answered_by_call asks (asks_for_impl at number is_impl grown told) = absurd (let wrong : ⊥ = cc in wrong)
 answered_by_call asks (lists krate is_list same told) = absurd (let wrong : ⊥ = cc in wrong)
 
 answered_by_command : {old new : MachineState} {c : CommandValue} {a : Answer} {place : PlaceValue} {path : Path} {shadow : Shadow} {style : Option MacroStyle}
     → c ≡ resolve place path shadow style → AnswersCommand old c (reply.Answer a) new → IsAnswered old place path shadow style a new
-answered_by_command asks (finds_no_memory told same) = absurd (let wrong : ⊥ = cc in wrong)
-answered_by_command asks (begins inputs s is_crates before accepted made told same) = absurd (let wrong : ⊥ = cc in wrong)
-answered_by_command asks (refuses_session inputs why is_crates before refused told same) = absurd (let wrong : ⊥ = cc in wrong)
-answered_by_command asks (comes_too_soon other before told same) = absurd (let wrong : ⊥ = cc in wrong)
-answered_by_command asks (comes_too_late s makes before told same) = absurd (let wrong : ⊥ = cc in wrong)
+answered_by_command asks (finds_no_memory answer same) = absurd (let wrong : ⊥ = cc in wrong)
+answered_by_command asks (begins inputs s is_crates before accepted made answer same) = absurd (let wrong : ⊥ = cc in wrong)
+answered_by_command asks (refuses_session inputs why is_crates before refused answer same) = absurd (let wrong : ⊥ = cc in wrong)
+answered_by_command asks (comes_too_soon other before answer same) = absurd (let wrong : ⊥ = cc in wrong)
+answered_by_command asks (comes_too_late s makes before answer same) = absurd (let wrong : ⊥ = cc in wrong)
 answered_by_command asks (calls s t before moves same) =
     let call = answered_by_call asks moves in
     record { at = s; before = before; after = let there : (Some t) ≡ (Some s) = cc call.0 in same ∙ there; is = call.1 }
@@ -90,7 +99,8 @@ answered_by_line asks (finds_no_memory_for_line told same) = absurd (let wrong :
 answered_by_line asks (reads_no_command why read told same) = absurd (let wrong : ⊥ = cc in wrong)
 answered_by_line asks (carries_out c read done) = answered_by_command (cc) done
 
-answered_within : {old new : MachineState} {a : Answer} {place : PlaceValue} {path : Path} {shadow : Shadow} {style : Option MacroStyle} (fits : Bool) (line : List ℕ)
+answered_within : {old new : MachineState} {a : Answer} {place : PlaceValue} {path : Path} {shadow : Shadow} {style : Option MacroStyle} (fits : Bool)
+    (line : List ℕ)
     → reading_of line ≡ Ok (resolve place path shadow style) → AnswersWithin fits old line (reply.Answer a) new → IsAnswered old place path shadow style a new
 answered_within true line asks (inl done) = answered_by_line asks done
 answered_within true line asks (inr lost) = let told = lost.0 in absurd (let wrong : ⊥ = cc in wrong)
@@ -112,19 +122,25 @@ kept_by_call {s = s} {t} {line = line} read same (applies e is_edit accepted is 
 kept_by_call {from} {k = k} read same (refuses e why is_edit refused still told) = inl (subst (λ (x : SessionState). IsSame from x k) (sym still) same)
 kept_by_call read same (refreshes done is_refresh is told) = inl (same_after_refresh same is.resolves)
 kept_by_call read same (refreshes_partly why is_refresh is many told) = inl (same_after_refresh same is.resolves)
-kept_by_call {from} {k = k} read same (resolves at path shadow style is_resolve still told) = inl (subst (λ (x : SessionState). IsSame from x k) (sym still) same)
+kept_by_call {from} {k = k} read same (resolves at path shadow style is_resolve still told) =
+    inl (subst (λ (x : SessionState). IsSame from x k) (sym still) same)
 kept_by_call {from} {k = k} read same (tells at is_status still told) = inl (subst (λ (x : SessionState). IsSame from x k) (sym still) same)
 kept_by_call {from} {k = k} read same (shows krate path text is_tree still found told) = inl (subst (λ (x : SessionState). IsSame from x k) (sym still) same)
-kept_by_call {from} {k = k} read same (shows_none krate path why is_tree still refused told) = inl (subst (λ (x : SessionState). IsSame from x k) (sym still) same)
+kept_by_call {from} {k = k} read same (shows_none krate path why is_tree still refused told) =
+    inl (subst (λ (x : SessionState). IsSame from x k) (sym still) same)
 kept_by_call {from} {k = k} read same (dumps at text is_dump still found told) = inl (subst (λ (x : SessionState). IsSame from x k) (sym still) same)
 kept_by_call {from} {k = k} read same (dumps_none at why is_dump still refused told) = inl (subst (λ (x : SessionState). IsSame from x k) (sym still) same)
+kept_by_call read same (asks_for_trait at path is_trait grown told) = inl (same_once_grown same grown)
+kept_by_call read same (asks_for_impl at number is_impl grown told) = inl (same_once_grown same grown)
 kept_by_call {from} {k = k} read same (lists krate is_list still told) = inl (subst (λ (x : SessionState). IsSame from x k) (sym still) same)
 
 -- nothing changed
-kept_so : {from s : SessionState} {k : MapId} {old new : MachineState} {line : List ℕ} → old ≡ Some s → IsSame from s k → new ≡ old → KeepsOrAlters from k old line new
+kept_so : {from s : SessionState} {k : MapId} {old new : MachineState} {line : List ℕ} → old ≡ Some s → IsSame from s k → new ≡ old
+    → KeepsOrAlters from k old line new
 kept_so {s = s} is same still = (s, still ∙ is, inl same)
 
-kept_by_command : {from s : SessionState} {k : MapId} {old new : MachineState} {line : List ℕ} {c : CommandValue} {answer : Reply} → old ≡ Some s → IsSame from s k
+kept_by_command : {from s : SessionState} {k : MapId} {old new : MachineState} {line : List ℕ} {c : CommandValue} {answer : Reply} → old ≡ Some s
+    → IsSame from s k
     → reading_of line ≡ Ok c → AnswersCommand old c answer new → KeepsOrAlters from k old line new
 kept_by_command is same read (finds_no_memory told still) = kept_so is same still
 kept_by_command is same read (begins inputs t is_crates before accepted made told still) = absurd (let wrong : ⊥ = cc in wrong)
@@ -185,7 +201,8 @@ first_of : {A : Type 0} {x y : A} → Some x ≡ Some y → x ≡ y
 first_of e = cc
 
 module _ (runs : RunsBindFromSources) (paths : PathsAnswerFromSources) (leads : PathsLeadToWhatIsThere) where
-  stands_at : (n : ℕ) (q : Query) (a : Answer) (old : MachineState) (lines : List (List ℕ)) (answers : List Reply) (new : MachineState) (done : AnswersLines old lines answers new)
+  stands_at : (n : ℕ) (q : Query) (a : Answer) (old : MachineState) (lines : List (List ℕ)) (answers : List Reply) (new : MachineState)
+      (done : AnswersLines old lines answers new)
       → IsGood old → Asks lines n q → slice_get answers n ≡ Some (reply.Answer a) → Stands old lines answers new done n q a
   stands_at n q a old [] [] new done good asks told = absurd (let wrong = told in cc)
   stands_at n q a old [] (answer ∷ answers) new done good asks told = absurd done
@@ -193,31 +210,88 @@ module _ (runs : RunsBindFromSources) (paths : PathsAnswerFromSources) (leads : 
   stands_at zero q a old (line ∷ lines) (answer ∷ answers) new done good asks told =
       let read : reading_of line ≡ Ok (resolve q.place q.path q.shadow q.style) = ap reading_of (first_of asks.is) ∙ asks.read in
       let here = answered_within (nat_le (length line) LINE_LIMIT) line read (subst (λ (r : Reply). AnswersInput old line r done.0) (first_of told) done.1) in
-      record { session = here.at; is = here.before; stands = stands runs paths leads here.at q.place q.path q.shadow q.style a (good here.at here.before) here.is }
+      record {
+        session = here.at;
+        is = here.before;
+        stands = stands runs paths leads here.at q.place q.path q.shadow q.style a (good here.at here.before)
+            here.is;
+      }
   stands_at (suc n) q a old (line ∷ lines) (answer ∷ answers) new done good asks told =
-      let rest = stands_at n q a done.0 lines answers new done.2 (good_next line answer good done.1) (record { line = asks.line; is = asks.is; read = asks.read }) told in
+      let rest = stands_at n q a done.0 lines answers new done.2 (good_next line answer good done.1)
+      (record { line = asks.line; is = asks.is; read = asks.read }) told in
       record { session = rest.session; is = rest.is; stands = rest.stands }
 
-  told_at : (n : ℕ) (krate : Crate) (list : List Diagnostic) (old : MachineState) (lines : List (List ℕ)) (answers : List Reply) (new : MachineState) (done : AnswersLines old lines answers new)
+  told_at : (n : ℕ) (krate : Crate) (list : List Diagnostic) (old : MachineState) (lines : List (List ℕ)) (answers : List Reply) (new : MachineState)
+      (done : AnswersLines old lines answers new)
       → IsGood old → AsksDiagnostics lines n krate → slice_get answers n ≡ Some (reply.Diagnostics list) → AreAllTold old lines answers new done n krate list
   told_at n krate list old [] [] new done good asks told = absurd (let wrong = told in cc)
   told_at n krate list old [] (answer ∷ answers) new done good asks told = absurd done
   told_at n krate list old (line ∷ lines) [] new done good asks told = absurd done
   told_at zero krate list old (line ∷ lines) (answer ∷ answers) new done good asks told =
       let read : reading_of line ≡ Ok (diagnostics krate) = ap reading_of (first_of asks.is) ∙ asks.read in
-      let here = told_within done.0 (nat_le (length line) LINE_LIMIT) line read (subst (λ (r : Reply). AnswersInput old line r done.0) (first_of told) done.1) in
+      let here = told_within done.0 (nat_le (length line) LINE_LIMIT) line read (subst (λ (r : Reply). AnswersInput old line r done.0) (first_of told) done.1)
+      in
       record { session = here.at; is = here.before; stands = tell runs here.at krate list (good here.at here.before) here.is }
   told_at (suc n) krate list old (line ∷ lines) (answer ∷ answers) new done good asks told =
-      let rest = told_at n krate list done.0 lines answers new done.2 (good_next line answer good done.1) (record { line = asks.line; is = asks.is; read = asks.read }) told in
+      let rest = told_at n krate list done.0 lines answers new done.2 (good_next line answer good done.1)
+      (record { line = asks.line; is = asks.is; read = asks.read }) told in
       record { session = rest.session; is = rest.is; stands = rest.stands }
 
+-- the items of the traits of each number
+traits_at : (n : ℕ) (place : PlaceValue) (path : Path) (told : Items) (old : MachineState) (lines : List (List ℕ)) (answers : List Reply) (new : MachineState)
+    (done : AnswersLines old lines answers new)
+    → IsGood old → AsksTraitItems lines n place path → slice_get answers n ≡ Some (reply.Items told) → AreOfTrait old lines answers new done n place path told
+traits_at n place path told old [] [] new done good asks is = absurd (let wrong = is in cc)
+traits_at n place path told old [] (answer ∷ answers) new done good asks is = absurd done
+traits_at n place path told old (line ∷ lines) [] new done good asks is = absurd done
+traits_at zero place path told old (line ∷ lines) (answer ∷ answers) new done good asks is =
+    let read : reading_of line ≡ Ok (trait_items place path) = ap reading_of (first_of asks.is) ∙ asks.read in
+    let here = trait_within done.0 (nat_le (length line) LINE_LIMIT) line read (subst (λ (r : Reply). AnswersInput old line r done.0) (first_of is) done.1) in
+    record {
+      session = here.at;
+      is = here.before;
+      grown = here.grown;
+      is_grown = here.after;
+      grows = here.grows;
+      stands = trait_stands here.at place path here.id told here.grown (good here.at here.before) here.found here.is;
+    }
+traits_at (suc n) place path told old (line ∷ lines) (answer ∷ answers) new done good asks is =
+    let rest = traits_at n place path told done.0 lines answers new done.2 (good_next line answer good done.1)
+    (record { line = asks.line; is = asks.is; read = asks.read }) is in
+    record { session = rest.session; is = rest.is; grown = rest.grown; is_grown = rest.is_grown; grows = rest.grows; stands = rest.stands }
+
+-- the items of the impls of each number
+impls_at : (n : ℕ) (place : PlaceValue) (number : ℕ) (told : Items) (old : MachineState) (lines : List (List ℕ)) (answers : List Reply) (new : MachineState)
+    (done : AnswersLines old lines answers new)
+    → IsGood old → AsksImplItems lines n place number → slice_get answers n ≡ Some (reply.Items told) → AreOfImpl old lines answers new done n place number told
+impls_at n place number told old [] [] new done good asks is = absurd (let wrong = is in cc)
+impls_at n place number told old [] (answer ∷ answers) new done good asks is = absurd done
+impls_at n place number told old (line ∷ lines) [] new done good asks is = absurd done
+impls_at zero place number told old (line ∷ lines) (answer ∷ answers) new done good asks is =
+    let read : reading_of line ≡ Ok (impl_items place number) = ap reading_of (first_of asks.is) ∙ asks.read in
+    let here = impl_within done.0 (nat_le (length line) LINE_LIMIT) line read (subst (λ (r : Reply). AnswersInput old line r done.0) (first_of is) done.1) in
+    record {
+      session = here.at;
+      is = here.before;
+      grown = here.grown;
+      is_grown = here.after;
+      grows = here.grows;
+      stands = impl_stands here.at place number here.id told here.grown (good here.at here.before) here.found here.is;
+    }
+impls_at (suc n) place number told old (line ∷ lines) (answer ∷ answers) new done good asks is =
+    let rest = impls_at n place number told done.0 lines answers new done.2 (good_next line answer good done.1)
+    (record { line = asks.line; is = asks.is; read = asks.read }) is in
+    record { session = rest.session; is = rest.is; grown = rest.grown; is_grown = rest.is_grown; grows = rest.grows; stands = rest.stands }
+
 -- where what is behind a place was as it is in a session, it is so up to a number, or a line before altered a key that was asked for
-record IsKeptUpTo (from : SessionState) (id : MapId) (old : MachineState) (lines : List (List ℕ)) (answers : List Reply) (new : MachineState) (done : AnswersLines old lines answers new) (n : ℕ) : Type 0 where
+record IsKeptUpTo (from : SessionState) (id : MapId) (old : MachineState) (lines : List (List ℕ)) (answers : List Reply) (new : MachineState)
+    (done : AnswersLines old lines answers new) (n : ℕ) : Type 0 where
   session : SessionState
   is : state_at n old lines answers new done ≡ Some session
   same : IsSame from session id
 
-record IsAlteredBefore (from : SessionState) (id : MapId) (old : MachineState) (lines : List (List ℕ)) (answers : List Reply) (new : MachineState) (done : AnswersLines old lines answers new) (n : ℕ) : Type 0 where
+record IsAlteredBefore (from : SessionState) (id : MapId) (old : MachineState) (lines : List (List ℕ)) (answers : List Reply) (new : MachineState)
+    (done : AnswersLines old lines answers new) (n : ℕ) : Type 0 where
   key : Key
   asked : IsAskedBehind from id key
   at : ℕ
@@ -226,7 +300,8 @@ record IsAlteredBefore (from : SessionState) (id : MapId) (old : MachineState) (
   is : slice_get lines at ≡ Some line
   alters : Alters (state_at at old lines answers new done) line (state_at (suc at) old lines answers new done) key
 
-kept_up_to : (from : SessionState) (id : MapId) (n : ℕ) (old : MachineState) (lines : List (List ℕ)) (answers : List Reply) (new : MachineState) (done : AnswersLines old lines answers new)
+kept_up_to : (from : SessionState) (id : MapId) (n : ℕ) (old : MachineState) (lines : List (List ℕ)) (answers : List Reply) (new : MachineState)
+    (done : AnswersLines old lines answers new)
     (s : SessionState) → old ≡ Some s → IsSame from s id → n < length lines
     → IsKeptUpTo from id old lines answers new done n ⊎ IsAlteredBefore from id old lines answers new done n
 kept_up_to from id n old [] [] new done s is same within = absurd (omega arith)
@@ -238,7 +313,15 @@ kept_up_to from id (suc n) old (line ∷ lines) (answer ∷ answers) new done s 
     elim next.2 [
       | inl still ↦ elim (kept_up_to from id n done.0 lines answers new done.2 next.0 next.1 still (omega arith)) [
         | inl kept ↦ inl (record { session = kept.session; is = kept.is; same = kept.same })
-        | inr hit ↦ inr (record { key = hit.key; asked = hit.asked; at = suc hit.at; before = (let low : hit.at < n = hit.before in omega arith); line = hit.line; is = hit.is; alters = hit.alters })
+        | inr hit ↦ inr (record {
+          key = hit.key;
+          asked = hit.asked;
+          at = suc hit.at;
+          before = (let low : hit.at < n = hit.before in omega arith);
+          line = hit.line;
+          is = hit.is;
+          alters = hit.alters;
+        })
       ]
       | inr hit ↦ inr (record { key = hit.0; asked = hit.1; at = 0; before = omega arith; line = line; is = refl; alters = hit.2 })
     ]
@@ -249,8 +332,10 @@ within_list (y ∷ xs) zero is = omega arith
 within_list (y ∷ xs) (suc n) is = let low : n < length xs = within_list xs n is in omega arith
 
 -- the answer of a number, from the session in which it was given
-answered_at : (n : ℕ) (q : Query) (a : Answer) (old : MachineState) (lines : List (List ℕ)) (answers : List Reply) (new : MachineState) (done : AnswersLines old lines answers new)
-    → Asks lines n q → slice_get answers n ≡ Some (reply.Answer a) → (s : SessionState) × (state_at n old lines answers new done ≡ Some s) × (answer_of s q.place q.path q.shadow q.style ≡ Ok a)
+answered_at : (n : ℕ) (q : Query) (a : Answer) (old : MachineState) (lines : List (List ℕ)) (answers : List Reply) (new : MachineState)
+    (done : AnswersLines old lines answers new)
+    → Asks lines n q → slice_get answers n ≡ Some (reply.Answer a) → (s : SessionState) × (state_at n old lines answers new done ≡ Some s)
+    × (answer_of s q.place q.path q.shadow q.style ≡ Ok a)
 answered_at n q a old [] [] new done asks told = absurd (let wrong = told in cc)
 answered_at n q a old [] (answer ∷ answers) new done asks told = absurd done
 answered_at n q a old (line ∷ lines) [] new done asks told = absurd done
@@ -261,7 +346,8 @@ answered_at zero q a old (line ∷ lines) (answer ∷ answers) new done asks tol
 answered_at (suc n) q a old (line ∷ lines) (answer ∷ answers) new done asks told =
     answered_at n q a done.0 lines answers new done.2 (record { line = asks.line; is = asks.is; read = asks.read }) told
 
-differ_at : RunsBindFromSources → PathsAnswerFromSources → PathsLeadToWhatIsThere → (m n : ℕ) (q : Query) (one other : Answer) (old : MachineState) (lines : List (List ℕ)) (answers : List Reply) (new : MachineState) (done : AnswersLines old lines answers new)
+differ_at : RunsBindFromSources → PathsAnswerFromSources → PathsLeadToWhatIsThere → (m n : ℕ) (q : Query) (one other : Answer) (old : MachineState)
+    (lines : List (List ℕ)) (answers : List Reply) (new : MachineState) (done : AnswersLines old lines answers new)
     → IsGood old → m < n → Asks lines m q → Asks lines n q → slice_get answers m ≡ Some (reply.Answer one) → slice_get answers n ≡ Some (reply.Answer other)
     → (other ≡ one) ⊎ IsAlteredBetween old lines answers new done m n q.place
 differ_at runs paths leads m n q one other old [] [] new done good low first second told again = absurd (let wrong = told in cc)
@@ -295,7 +381,8 @@ differ_at runs paths leads zero (suc n) q one other old (line ∷ lines) (answer
     elim (kept_up_to was.at m.map n done.0 lines answers new done.2 was.at was.after (same_at_first sound off) (within_list lines n second.is)) [
       | inl kept ↦
           let there : kept.session ≡ now.0 = one_value (sym kept.is ∙ now.1) in
-          let alike = same_answer q.place q.path q.shadow q.style sound runs paths leads m.map ends (subst (λ (x : SessionState). IsSame was.at x m.map) there kept.same) in
+          let alike = same_answer q.place q.path q.shadow q.style sound runs paths leads m.map ends
+          (subst (λ (x : SessionState). IsSame was.at x m.map) there kept.same) in
           inl (let given : (Ok other) ≡ (Ok one) = sym now.2 ∙ alike ∙ was.is in cc)
       | inr hit ↦ inr (record {
         key = hit.key;
@@ -313,5 +400,9 @@ pub headline : RunsBindFromSources → PathsAnswerFromSources → PathsLeadToWha
 headline runs paths leads lines answers last done = record {
   stands = λ n query answer asks told. stands_at runs paths leads n query answer first_state lines answers last done good_first asks told;
   tells = λ n krate told asks is. told_at runs paths leads n krate told first_state lines answers last done good_first asks is;
-  differ = λ m n query one other low first second told again. differ_at runs paths leads m n query one other first_state lines answers last done good_first low first second told again;
+  lists_traits = λ n place path told asks is. traits_at n place path told first_state lines answers last done good_first asks is;
+  lists_impls = λ n place number told asks is. impls_at n place number told first_state lines answers last done good_first asks is;
+  differ =
+      λ m n query one other low first second told again. differ_at runs paths leads m n query one other first_state lines answers last done good_first low first
+      second told again;
 }

@@ -1,4 +1,5 @@
-use Rattle.std.proofs.Common.{◌≡◌, ◌⊎◌, inl, inr, ℕ, ◌≤◌, Bool, true, false, nat_le, nat_lt, List, [], ◌∷◌, length, Option, Some, None, Ok, refl, sym, subst, arith}
+use Rattle.std.proofs.Common.{◌≡◌, ◌⊎◌, inl, inr, ℕ, ◌≤◌, Bool, true, false, nat_le, nat_lt, List, [], ◌∷◌, length, Option, Some, None, Ok, refl, sym, subst}
+use Rattle.std.proofs.Common.{arith}
 use Rattle.std.proofs.lemmas.Bool.Decides.{nat_tests}
 use Rattle.std.specs.List.{list_any}
 use Rattle.hir_base.specs.declared.ids.Crate.{Crate}
@@ -9,14 +10,15 @@ use Rattle.hir_session_state.specs.Refusals.{first_out_of_order, is_too_deep, is
 use Rattle.hir_session_state.proofs.Truth.{on_bool}
 use Rattle.hir_session_sources.proofs.Start.{begins_sound}
 use Rattle.hir_session_machine.specs.Machine.{MachineState, Moves, AnswersCommand, AnswersLine}
-use Rattle.hir_session_machine.specs.Machine.Moves.{applies, refuses, refreshes, refreshes_partly, resolves, tells, shows, shows_none, dumps, dumps_none, lists}
+use Rattle.hir_session_machine.specs.Machine.Moves.{applies, refuses, refreshes, refreshes_partly, resolves, tells, shows, shows_none, dumps, dumps_none}
+use Rattle.hir_session_machine.specs.Machine.Moves.{asks_for_trait, asks_for_impl, lists}
 use Rattle.hir_session_machine.specs.Machine.AnswersCommand.{finds_no_memory, begins, refuses_session, comes_too_soon, comes_too_late, calls}
 use Rattle.hir_session_machine.specs.Machine.AnswersLine.{finds_no_memory_for_line, reads_no_command, carries_out}
 use Rattle.hir_lines.specs.declared.open_line.TheConstants.{LINE_LIMIT}
 use Rattle.hir_session_machine.specs.AnsweredLines.{AnswersInput, AnswersWithin, AnswersLines}
 use Rattle.hir_session_answers.specs.Histories.{History}
 use Rattle.hir_session_machine.specs.MachineHistories.{HasBegun, LinesBeginHistories}
-use Rattle.hir_session_answers.specs.Histories.History.{none, edit, refresh}
+use Rattle.hir_session_answers.specs.Histories.History.{none, edit, refresh, numbers}
 
 -- one call lengthens the history, or changes nothing
 pub after_call : {from s t : SessionState} {c : CommandValue} {answer : Reply} → History from s → Moves s c answer t → History from t
@@ -30,6 +32,8 @@ after_call {from} h (shows krate path text is_tree same found told) = subst (λ 
 after_call {from} h (shows_none krate path why is_tree same refused told) = subst (λ (x : SessionState). History from x) (sym same) h
 after_call {from} h (dumps at text is_dump same found told) = subst (λ (x : SessionState). History from x) (sym same) h
 after_call {from} h (dumps_none at why is_dump same refused told) = subst (λ (x : SessionState). History from x) (sym same) h
+after_call h (asks_for_trait at path is_trait grown told) = numbers _ _ h grown
+after_call h (asks_for_impl at number is_impl grown told) = numbers _ _ h grown
 after_call {from} h (lists krate is_list same told) = subst (λ (x : SessionState). History from x) (sym same) h
 
 -- a session is there, and its history goes on
@@ -44,7 +48,8 @@ one_value h = cc
 no_session : {A : Type 0} {s : SessionState} → (Some s) ≡ None → A
 no_session h = absurd (let wrong : ⊥ = cc in wrong)
 
-pub after_command : {from s : SessionState} {c : CommandValue} {answer : Reply} {new : MachineState} → History from s → AnswersCommand (Some s) c answer new → HasHistory from new
+pub after_command : {from s : SessionState} {c : CommandValue} {answer : Reply} {new : MachineState} → History from s → AnswersCommand (Some s) c answer new
+    → HasHistory from new
 after_command {s = s} h (finds_no_memory told same) = (s, same, h)
 after_command h (begins inputs t is_crates before accepted made told same) = no_session before
 after_command h (refuses_session inputs why is_crates before refused told same) = no_session before
@@ -53,7 +58,8 @@ after_command {from} {s = s} h (comes_too_late t makes before told same) = (t, s
 after_command {from} {s = s} {c = c} {answer = answer} h (calls u t before moves same) =
     (t, same, after_call h (subst (λ (x : SessionState). Moves x c answer t) (sym (one_value before)) moves))
 
-pub after_line : {from s : SessionState} {answer : Reply} {new : MachineState} {line : List ℕ} → History from s → AnswersLine (Some s) line answer new → HasHistory from new
+pub after_line : {from s : SessionState} {answer : Reply} {new : MachineState} {line : List ℕ} → History from s → AnswersLine (Some s) line answer new
+    → HasHistory from new
 after_line {s = s} h (finds_no_memory_for_line told same) = (s, same, h)
 after_line {s = s} h (reads_no_command why read told same) = (s, same, h)
 after_line h (carries_out c read done) = after_command h done
@@ -64,7 +70,8 @@ after_within true line answer h (inl done) = after_line h done
 after_within {s = s} true line answer h (inr lost) = (s, lost.1, h)
 after_within {s = s} false line answer h skipped = (s, skipped.1, h)
 
-pub after_input : {from s : SessionState} {new : MachineState} (line : List ℕ) (answer : Reply) → History from s → AnswersInput (Some s) line answer new → HasHistory from new
+pub after_input : {from s : SessionState} {new : MachineState} (line : List ℕ) (answer : Reply) → History from s → AnswersInput (Some s) line answer new
+    → HasHistory from new
 after_input line answer h done = after_within (nat_le (length line) LINE_LIMIT) line answer h done
 
 pub after_lines : {from : SessionState} {new : MachineState} (lines : List (List ℕ)) (answers : List Reply) {s : SessionState} → History from s
@@ -81,6 +88,7 @@ pub history_sound : {from to : SessionState} → IsSound from → History from t
 history_sound sound none = sound
 history_sound sound (edit mid to e earlier is) = is.sound
 history_sound sound (refresh mid to done earlier is) = is.sound
+history_sound sound (numbers mid to earlier grown) = grown.sound
 
 -- crates that are within the limits are few
 within_limits : (inputs : List CrateInputValue) → verdict_of_limits inputs ≡ Ok tt → length inputs ≤ 10000
@@ -151,7 +159,16 @@ begun_by {new} (line ∷ lines) (answer ∷ answers) done = elim (first_within (
   | inl same ↦ begun_by lines answers (subst (λ (m : MachineState). AnswersLines m lines answers new) same done.2)
   | inr so_far ↦
       let next = after_lines lines answers so_far.history (subst (λ (m : MachineState). AnswersLines m lines answers new) so_far.is done.2) in
-      inr (record { inputs = so_far.inputs; accepted = so_far.accepted; from = so_far.from; begun = so_far.begun; to = next.0; is = next.1; history = next.2; sound = history_sound (begun_sound so_far) next.2 })
+      inr (record {
+        inputs = so_far.inputs;
+        accepted = so_far.accepted;
+        from = so_far.from;
+        begun = so_far.begun;
+        to = next.0;
+        is = next.1;
+        history = next.2;
+        sound = history_sound (begun_sound so_far) next.2;
+      })
 ]
 begun_by [] (answer ∷ answers) wrong = absurd wrong
 begun_by (line ∷ lines) [] wrong = absurd wrong

@@ -1,4 +1,5 @@
 pub mod Replies
 pub mod Histories
 pub mod Telling
+pub mod Listing
 pub mod Headline

@@ -10,7 +10,8 @@ use Rattle.hir_session_state.specs.declared.error.DiagnosticsError.TheVariants a
 use Rattle.hir_session_state.specs.SessionState.{SessionState}
 use Rattle.hir_session_answers.specs.Diagnostics.{diagnostics_of}
 use Rattle.hir_session_machine.specs.Machine.{MachineState, diagnostics_reply, Moves, AnswersCommand, AnswersLine}
-use Rattle.hir_session_machine.specs.Machine.Moves.{applies, refuses, refreshes, refreshes_partly, resolves, tells, shows, shows_none, dumps, dumps_none, lists}
+use Rattle.hir_session_machine.specs.Machine.Moves.{applies, refuses, refreshes, refreshes_partly, resolves, tells, shows, shows_none, dumps, dumps_none}
+use Rattle.hir_session_machine.specs.Machine.Moves.{asks_for_trait, asks_for_impl, lists}
 use Rattle.hir_session_machine.specs.Machine.AnswersCommand.{finds_no_memory, begins, refuses_session, comes_too_soon, comes_too_late, calls}
 use Rattle.hir_session_machine.specs.Machine.AnswersLine.{finds_no_memory_for_line, reads_no_command, carries_out}
 use Rattle.hir_session_machine.specs.AnsweredLines.{AnswersWithin}
@@ -40,16 +41,19 @@ told_by_call asks (shows other page text is_tree same found told) = absurd (let 
 told_by_call asks (shows_none other page why is_tree same refused told) = absurd (let wrong : ⊥ = cc in wrong)
 told_by_call asks (dumps at text is_dump same found told) = absurd (let wrong : ⊥ = cc in wrong)
 told_by_call asks (dumps_none at why is_dump same refused told) = absurd (let wrong : ⊥ = cc in wrong)
+told_by_call asks (asks_for_trait at query is_trait grown told) = absurd (let wrong : ⊥ = cc in wrong)
+told_by_call asks (asks_for_impl at number is_impl grown told) = absurd (let wrong : ⊥ = cc in wrong)
 told_by_call {s} {krate = krate} {list = list} asks (lists other is_list same told) =
     let is_crate : other ≡ krate = cc in told_ok (diagnostics_of s krate) list (rw is_crate at told)
 
-told_by_command : {old new : MachineState} {c : CommandValue} {krate : Crate} {list : List Diagnostic} → c ≡ diagnostics krate → AnswersCommand old c (reply.Diagnostics list) new
+told_by_command : {old new : MachineState} {c : CommandValue} {krate : Crate} {list : List Diagnostic} → c ≡ diagnostics krate
+    → AnswersCommand old c (reply.Diagnostics list) new
     → IsTold old krate list
-told_by_command asks (finds_no_memory told same) = absurd (let wrong : ⊥ = cc in wrong)
-told_by_command asks (begins inputs s is_crates before accepted made told same) = absurd (let wrong : ⊥ = cc in wrong)
-told_by_command asks (refuses_session inputs why is_crates before refused told same) = absurd (let wrong : ⊥ = cc in wrong)
-told_by_command asks (comes_too_soon other before told same) = absurd (let wrong : ⊥ = cc in wrong)
-told_by_command asks (comes_too_late s makes before told same) = absurd (let wrong : ⊥ = cc in wrong)
+told_by_command asks (finds_no_memory answer same) = absurd (let wrong : ⊥ = cc in wrong)
+told_by_command asks (begins inputs s is_crates before accepted made answer same) = absurd (let wrong : ⊥ = cc in wrong)
+told_by_command asks (refuses_session inputs why is_crates before refused answer same) = absurd (let wrong : ⊥ = cc in wrong)
+told_by_command asks (comes_too_soon other before answer same) = absurd (let wrong : ⊥ = cc in wrong)
+told_by_command asks (comes_too_late s makes before answer same) = absurd (let wrong : ⊥ = cc in wrong)
 told_by_command asks (calls s t before moves same) = record { at = s; before = before; is = told_by_call asks moves }
 
 -- a line that asks for diagnostics, and that is answered by some
@@ -59,7 +63,8 @@ told_by_line asks (finds_no_memory_for_line told same) = absurd (let wrong : ⊥
 told_by_line asks (reads_no_command why read told same) = absurd (let wrong : ⊥ = cc in wrong)
 told_by_line asks (carries_out c read done) = told_by_command (cc) done
 
-pub told_within : {old : MachineState} {krate : Crate} {list : List Diagnostic} (new : MachineState) (fits : Bool) (line : List ℕ) → reading_of line ≡ Ok (diagnostics krate)
+pub told_within : {old : MachineState} {krate : Crate} {list : List Diagnostic} (new : MachineState) (fits : Bool) (line : List ℕ) → reading_of line
+    ≡ Ok (diagnostics krate)
     → AnswersWithin fits old line (reply.Diagnostics list) new → IsTold old krate list
 told_within new true line asks (inl done) = told_by_line asks done
 told_within new true line asks (inr lost) = let told = lost.0 in absurd (let wrong : ⊥ = cc in wrong)

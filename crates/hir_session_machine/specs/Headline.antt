@@ -5,21 +5,23 @@ use Rattle.hir_base.specs.Place.{PlaceValue}
 use Rattle.hir_base.specs.declared.ids.Crate.{Crate}
 use Rattle.hir_base.specs.declared.ids.ModuleId.{ModuleId}
 use Rattle.hir_collector_rules.specs.declared.source_database.Key.{Key}
-use Rattle.hir_wire.specs.CommandValue.{diagnostics, edit, resolve}
+use Rattle.hir_wire.specs.CommandValue.{diagnostics, edit, impl_items, resolve, trait_items}
 use Rattle.hir_wire.specs.Commands.{reading_of}
 use Rattle.hir_wire.specs.Edits.{EditValue}
 use Rattle.hir_wire.specs.declared.answer.Answer.{Answer}
-use Rattle.hir_wire.specs.declared.command.Shadow.{Shadow}
-use Rattle.hir_wire.specs.declared.command.MacroStyle.{MacroStyle}
 use Rattle.hir_wire.specs.declared.diagnostic.Diagnostic.{Diagnostic}
+use Rattle.hir_wire.specs.declared.items.Items.{Items}
+use Rattle.hir_wire.specs.declared.command.MacroStyle.{MacroStyle}
 use Rattle.hir_wire.specs.declared.reply.Reply.{Reply}
+use Rattle.hir_wire.specs.declared.command.Shadow.{Shadow}
 use Rattle.hir_wire.specs.declared.reply.Reply.TheVariants as reply
 use Rattle.hir_session_state.specs.SessionState.{SessionState, module_of, workspace_of}
 use Rattle.hir_session_state.specs.Marks.{IsAltered}
-use Rattle.hir_session_state.specs.Due.{IsAskedBehind}
+use Rattle.hir_session_state.specs.Due.{Grows, IsAskedBehind}
 use Rattle.hir_session_state.specs.Changes.{Applies}
 use Rattle.hir_session_answers.specs.AnswersStand.{AnswersStand}
 use Rattle.hir_session_answers.specs.DiagnosticsStand.{DiagnosticsStand}
+use Rattle.hir_session_answers.specs.ItemsStand.{ImplStands, TraitStands}
 use Rattle.hir_session_machine.specs.Machine.{MachineState, first_state}
 use Rattle.hir_session_machine.specs.AnsweredLines.{AnswersLines}
 
@@ -42,8 +44,21 @@ pub record AsksDiagnostics (lines : List (List ℕ)) (n : ℕ) (krate : Crate) :
   pub is : slice_get lines n ≡ Some line
   pub read : reading_of line ≡ Ok (diagnostics krate)
 
+-- the line of this number asks for the items of the trait that a path names
+pub record AsksTraitItems (lines : List (List ℕ)) (n : ℕ) (place : PlaceValue) (path : Path) : Type 0 where
+  pub line : List ℕ
+  pub is : slice_get lines n ≡ Some line
+  pub read : reading_of line ≡ Ok (trait_items place path)
+
+-- the line of this number asks for the items of an impl
+pub record AsksImplItems (lines : List (List ℕ)) (n : ℕ) (place : PlaceValue) (number : ℕ) : Type 0 where
+  pub line : List ℕ
+  pub is : slice_get lines n ≡ Some line
+  pub read : reading_of line ≡ Ok (impl_items place number)
+
 -- the state in which the line of a number is answered
-abbrev pub state_at : ℕ → (old : MachineState) (lines : List (List ℕ)) (answers : List Reply) (new : MachineState) → AnswersLines old lines answers new → MachineState
+abbrev pub state_at : ℕ → (old : MachineState) (lines : List (List ℕ)) (answers : List Reply) (new : MachineState) → AnswersLines old lines answers new
+    → MachineState
 state_at zero old lines answers new done = old
 state_at (suc n) old [] [] new done = new
 state_at (suc n) old (line ∷ lines) (answer ∷ answers) new done = state_at n done.0 lines answers new done.2
@@ -85,6 +100,24 @@ module _ (old : MachineState) (lines : List (List ℕ)) (answers : List Reply) (
     pub is : state_before n ≡ Some session
     pub stands : DiagnosticsStand session krate told
 
+  -- the items of this number are those of the trait in the session in which they were asked for, whose calls got numbers
+  pub record AreOfTrait (n : ℕ) (place : PlaceValue) (path : Path) (told : Items) : Type 0 where
+    pub session : SessionState
+    pub is : state_before n ≡ Some session
+    pub grown : SessionState
+    pub is_grown : state_before (suc n) ≡ Some grown
+    pub grows : Grows session grown
+    pub stands : TraitStands session place path told grown
+
+  -- and these those of the impl
+  pub record AreOfImpl (n : ℕ) (place : PlaceValue) (number : ℕ) (told : Items) : Type 0 where
+    pub session : SessionState
+    pub is : state_before n ≡ Some session
+    pub grown : SessionState
+    pub is_grown : state_before (suc n) ≡ Some grown
+    pub grows : Grows session grown
+    pub stands : ImplStands session place number told grown
+
   -- a line between the two numbers is an edit that altered a key which was asked for behind the first answer
   pub record IsAlteredBetween (m n : ℕ) (place : PlaceValue) : Type 0 where
     pub key : Key
@@ -104,6 +137,13 @@ pub record Headline (lines : List (List ℕ)) (answers : List Reply) (last : Mac
   -- so are all diagnostics that are told of a crate: none of what its run reports is left out
   pub tells : (n : ℕ) (krate : Crate) (told : List Diagnostic) → AsksDiagnostics lines n krate → slice_get answers n ≡ Some (reply.Diagnostics told)
       → AreAllTold first_state lines answers last done n krate told
+  -- so are the items of traits and impls that are told
+  pub lists_traits : (n : ℕ) (place : PlaceValue) (path : Path) (told : Items) → AsksTraitItems lines n place path → slice_get answers n
+      ≡ Some (reply.Items told)
+      → AreOfTrait first_state lines answers last done n place path told
+  pub lists_impls : (n : ℕ) (place : PlaceValue) (number : ℕ) (told : Items) → AsksImplItems lines n place number → slice_get answers n
+      ≡ Some (reply.Items told)
+      → AreOfImpl first_state lines answers last done n place number told
   -- two answers to one query differ only where an edit between them altered something that was asked for behind the first
   pub differ : (m n : ℕ) (query : Query) (one other : Answer) → m < n → Asks lines m query → Asks lines n query
       → slice_get answers m ≡ Some (reply.Answer one) → slice_get answers n ≡ Some (reply.Answer other)
@@ -111,4 +151,5 @@ pub record Headline (lines : List (List ℕ)) (answers : List Reply) (last : Mac
 
 -- so it is whatever the lines are
 abbrev pub RepliesHoldTheHeadline : Type 0
-RepliesHoldTheHeadline = (lines : List (List ℕ)) (answers : List Reply) (last : MachineState) (done : AnswersLines first_state lines answers last) → Headline lines answers last done
+RepliesHoldTheHeadline =
+    (lines : List (List ℕ)) (answers : List Reply) (last : MachineState) (done : AnswersLines first_state lines answers last) → Headline lines answers last done

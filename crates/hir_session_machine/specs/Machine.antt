@@ -4,39 +4,47 @@ use Rattle.std.specs.declared.alloc.Global.{Global}
 use Rattle.hir_base.specs.ModPath.{Path}
 use Rattle.hir_base.specs.Place.{PlaceValue}
 use Rattle.hir_base.specs.declared.ids.Crate.{Crate}
+use Rattle.hir_base.specs.declared.ids.ImplId.{ImplId}
+use Rattle.hir_base.specs.declared.ids.TraitId.{TraitId}
 use Rattle.hir_wire.specs.Edits.{EditValue}
-use Rattle.hir_wire.specs.CommandValue.{CommandValue, CrateInputValue, crates, diagnostics, dump, edit, refresh, resolve, status, tree}
+use Rattle.hir_wire.specs.CommandValue.{CommandValue, CrateInputValue, crates, diagnostics, dump, edit, impl_items, refresh, resolve, status, trait_items, tree}
 use Rattle.hir_wire.specs.Commands.{reading_of}
 use Rattle.hir_wire.specs.declared.answer.Answer.{Answer}
 use Rattle.hir_wire.specs.declared.diagnostic.Diagnostic.{Diagnostic}
-use Rattle.hir_wire.specs.declared.command.Shadow.{Shadow}
+use Rattle.hir_wire.specs.declared.items.Items.{Items}
 use Rattle.hir_wire.specs.declared.command.MacroStyle.{MacroStyle}
 use Rattle.hir_wire.specs.declared.read_error.ReadError.{ReadError}
-use Rattle.hir_wire.specs.declared.read_error.ReadError.TheVariants as read_error
 use Rattle.hir_wire.specs.declared.reply.Reply.{Reply}
+use Rattle.hir_wire.specs.declared.command.Shadow.{Shadow}
+use Rattle.hir_wire.specs.declared.read_error.ReadError.TheVariants as read_error
 use Rattle.hir_wire.specs.declared.reply.Reply.TheVariants as reply
-use Rattle.hir_session_state.specs.declared.error.NewSessionError.{NewSessionError}
-use Rattle.hir_session_state.specs.declared.error.NewSessionError.TheVariants as new_error
-use Rattle.hir_session_state.specs.declared.error.EditError.{EditError}
-use Rattle.hir_session_state.specs.declared.error.EditError.TheVariants as edit_error
-use Rattle.hir_session_state.specs.declared.error.RefreshError.{RefreshError}
-use Rattle.hir_session_state.specs.declared.error.RefreshError.TheVariants as refresh_error
-use Rattle.hir_session_state.specs.declared.error.QueryError.{QueryError}
-use Rattle.hir_session_state.specs.declared.error.QueryError.TheVariants as query_error
-use Rattle.hir_session_state.specs.declared.error.TreeTextError.{TreeTextError}
-use Rattle.hir_session_state.specs.declared.error.TreeTextError.TheVariants as tree_text_error
 use Rattle.hir_session_state.specs.declared.error.DiagnosticsError.{DiagnosticsError}
+use Rattle.hir_session_state.specs.declared.error.EditError.{EditError}
+use Rattle.hir_session_state.specs.declared.error.ImplItemsError.{ImplItemsError}
+use Rattle.hir_session_state.specs.declared.error.NewSessionError.{NewSessionError}
+use Rattle.hir_session_state.specs.declared.error.QueryError.{QueryError}
+use Rattle.hir_session_state.specs.declared.error.RefreshError.{RefreshError}
+use Rattle.hir_session_state.specs.declared.error.TraitItemsError.{TraitItemsError}
+use Rattle.hir_session_state.specs.declared.error.TreeTextError.{TreeTextError}
+use Rattle.hir_session_state.specs.declared.error.NewSessionError.TheVariants as new_error
+use Rattle.hir_session_state.specs.declared.error.EditError.TheVariants as edit_error
+use Rattle.hir_session_state.specs.declared.error.RefreshError.TheVariants as refresh_error
+use Rattle.hir_session_state.specs.declared.error.QueryError.TheVariants as query_error
+use Rattle.hir_session_state.specs.declared.error.TraitItemsError.TheVariants as trait_error
+use Rattle.hir_session_state.specs.declared.error.ImplItemsError.TheVariants as impl_error
+use Rattle.hir_session_state.specs.declared.error.TreeTextError.TheVariants as tree_text_error
 use Rattle.hir_session_state.specs.declared.error.DiagnosticsError.TheVariants as diagnostics_error
 use Rattle.hir_session_state.specs.SessionState.{SessionState}
 use Rattle.hir_session_state.specs.Refusals.{verdict_of_new, verdict_of_apply}
 use Rattle.hir_session_state.specs.Beginning.{Begins}
-use Rattle.hir_session_state.specs.Due.{HasOverlongRun}
+use Rattle.hir_session_state.specs.Due.{Grows, HasOverlongRun}
 use Rattle.hir_session_state.specs.Changes.{Applies, Refreshes, RefreshesPartly}
 use Rattle.hir_session_answers.specs.Status.{status_of}
 use Rattle.hir_session_answers.specs.Answers.{answer_of}
 use Rattle.hir_session_answers.specs.TreeText.{tree_text_of}
 use Rattle.hir_session_answers.specs.Diagnostics.{diagnostics_of}
 use Rattle.hir_session_answers.specs.Dumps.{dump_at}
+use Rattle.hir_session_answers.specs.AssocItems.{impl_at, trait_at, ListsImpl, ListsTrait, RefusesImpl, RefusesTrait}
 
 -- ---- replies
 
@@ -69,6 +77,22 @@ abbrev pub query_reply : Result Answer QueryError → Reply
 query_reply (Ok a) = reply.Answer a
 query_reply (Err why) = query_error_reply why
 
+-- what is told where a trait's items aren't
+abbrev pub trait_items_reply : TraitItemsError → Reply
+trait_items_reply trait_error.StalePlace = reply.StalePlace
+trait_items_reply trait_error.UnknownPlace = reply.UnknownPlace
+trait_items_reply trait_error.NotATrait = reply.NotATrait
+trait_items_reply trait_error.TooMany = reply.TooMany
+trait_items_reply trait_error.Memory = reply.Memory
+
+-- what is told where an impl's items aren't
+abbrev pub impl_items_reply : ImplItemsError → Reply
+impl_items_reply impl_error.StalePlace = reply.StalePlace
+impl_items_reply impl_error.UnknownPlace = reply.UnknownPlace
+impl_items_reply impl_error.NoSuchImpl = reply.NoSuchImpl
+impl_items_reply impl_error.TooMany = reply.TooMany
+impl_items_reply impl_error.Memory = reply.Memory
+
 -- what is told where there is no page
 abbrev pub tree_text_reply : TreeTextError → Reply
 tree_text_reply tree_text_error.UnknownCrate = reply.UnknownCrate
@@ -92,6 +116,28 @@ read_reply read_error.Command = reply.Command
 read_reply (read_error.TooLarge limit) = reply.TooLarge limit
 read_reply read_error.Memory = reply.Memory
 
+-- ---- items of traits and impls
+
+-- what is told of the items of a trait
+pub data AnswersTrait (s : SessionState) (at : PlaceValue) (path : Path) (answer : Reply) (t : SessionState) : Type 0 where
+  -- they are listed
+  lists : (id : TraitId) (told : Items) → trait_at s at path ≡ Ok id → ListsTrait s id told t → answer ≡ reply.Items told → AnswersTrait s at path answer t
+  -- memory or numbers run out meanwhile
+  gives_up : (id : TraitId) (why : TraitItemsError) → trait_at s at path ≡ Ok id → RefusesTrait s id why t → answer ≡ trait_items_reply why
+      → AnswersTrait s at path answer t
+  -- no trait is named, and nothing changes
+  refuses : (why : TraitItemsError) → trait_at s at path ≡ Err why → t ≡ s → answer ≡ trait_items_reply why → AnswersTrait s at path answer t
+
+-- what is told of the items of an impl
+pub data AnswersImpl (s : SessionState) (at : PlaceValue) (number : ℕ) (answer : Reply) (t : SessionState) : Type 0 where
+  -- they are listed
+  lists : (id : ImplId) (told : Items) → impl_at s at number ≡ Ok id → ListsImpl s id told t → answer ≡ reply.Items told → AnswersImpl s at number answer t
+  -- memory or numbers run out meanwhile
+  gives_up : (id : ImplId) (why : ImplItemsError) → impl_at s at number ≡ Ok id → RefusesImpl s id why t → answer ≡ impl_items_reply why
+      → AnswersImpl s at number answer t
+  -- there is no impl of that number, and nothing changes
+  refuses : (why : ImplItemsError) → impl_at s at number ≡ Err why → t ≡ s → answer ≡ impl_items_reply why → AnswersImpl s at number answer t
+
 -- ---- one call
 
 -- what a command does to a session, and what is told of it
@@ -99,7 +145,8 @@ pub data Moves (s : SessionState) (c : CommandValue) (answer : Reply) (t : Sessi
   -- the edit is accepted
   applies : (e : EditValue) → c ≡ edit e → verdict_of_apply (length s.crates) e ≡ Ok tt → Applies s e t → answer ≡ reply.Done → Moves s c answer t
   -- the edit is refused, and nothing changes
-  refuses : (e : EditValue) (why : EditError) → c ≡ edit e → verdict_of_apply (length s.crates) e ≡ Err why → t ≡ s → answer ≡ edit_reply why → Moves s c answer t
+  refuses : (e : EditValue) (why : EditError) → c ≡ edit e → verdict_of_apply (length s.crates) e ≡ Err why → t ≡ s → answer ≡ edit_reply why
+      → Moves s c answer t
   -- all that was due is resolved, and listed
   refreshes : (done : List PlaceValue) → c ≡ refresh → Refreshes s done t → answer ≡ reply.Places done → Moves s c answer t
   -- some of it is, and the rest is still marked; it is too many only where the next run goes on for too long
@@ -122,6 +169,10 @@ pub data Moves (s : SessionState) (c : CommandValue) (answer : Reply) (t : Sessi
   -- or they aren't
   dumps_none : (at : PlaceValue) (why : QueryError) → c ≡ dump at → t ≡ s
       → dump_at s at ≡ Err why → answer ≡ query_error_reply why → Moves s c answer t
+  -- the items of a trait are asked for: calls may get numbers
+  asks_for_trait : (at : PlaceValue) (path : Path) → c ≡ trait_items at path → Grows s t → AnswersTrait s at path answer t → Moves s c answer t
+  -- and those of an impl
+  asks_for_impl : (at : PlaceValue) (number : ℕ) → c ≡ impl_items at number → Grows s t → AnswersImpl s at number answer t → Moves s c answer t
   -- what couldn't be resolved in a crate is told
   lists : (krate : Crate) → c ≡ diagnostics krate → t ≡ s → answer ≡ diagnostics_reply (diagnostics_of s krate) → Moves s c answer t
 
@@ -142,6 +193,8 @@ makes_session (edit e) = false
 makes_session refresh = false
 makes_session (resolve at path shadow style) = false
 makes_session (status at) = false
+makes_session (trait_items at path) = false
+makes_session (impl_items at number) = false
 makes_session (dump at) = false
 makes_session (tree krate path) = false
 makes_session (diagnostics krate) = false

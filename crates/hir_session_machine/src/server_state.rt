@@ -1,10 +1,10 @@
 //! What answers lines: a session, or none before the first that is made.
 ghost use Rattle.std.specs.Prelude.{◌≡◌, map, false, None, Some, Option};
-ghost use Rattle.hir_wire.specs.CommandValue.{command_view, crate_input_view, crates as makes, edit as edits, refresh as refreshes, resolve as resolves, tree as asks_for_tree, diagnostics as asks_for_diagnostics, dump as asks_for_dump};
+ghost use Rattle.hir_wire.specs.CommandValue.{command_view, crate_input_view, crates as makes, edit as edits, refresh as refreshes, resolve as resolves, tree as asks_for_tree, diagnostics as asks_for_diagnostics, dump as asks_for_dump, trait_items as asks_for_trait, impl_items as asks_for_impl};
 ghost use Rattle.hir_wire.specs.Edits.{edit_view};
 ghost use Rattle.hir_wire.specs.Replies.{is_fixed};
 ghost use Rattle.hir_wire.specs.declared.reply.Reply.TheVariants as reply;
-ghost use Rattle.hir_session_machine.specs.Machine.{MachineState, first_state, new_reply, edit_reply, refresh_reply, query_error_reply, tree_text_reply, diagnostics_error_reply, read_reply, AnswersCommand, AnswersLine};
+ghost use Rattle.hir_session_machine.specs.Machine.{MachineState, first_state, new_reply, edit_reply, refresh_reply, query_error_reply, trait_items_reply, impl_items_reply, tree_text_reply, diagnostics_error_reply, read_reply, AnswersCommand, AnswersLine};
 
 use hir_base::file_path::FilePath;
 use hir_base::ids::Crate;
@@ -12,7 +12,8 @@ use hir_base::mod_path::ModPath;
 use hir_base::place::Place;
 use hir_session_core::session::Session;
 use hir_session_state::error::{
-    DiagnosticsError, EditError, NewSessionError, QueryError, RefreshError, TreeTextError,
+    DiagnosticsError, EditError, ImplItemsError, NewSessionError, QueryError, RefreshError,
+    TraitItemsError, TreeTextError,
 };
 use hir_wire::command::{Command, CrateInput, MacroStyle, Shadow};
 use hir_wire::edit::Edit;
@@ -76,6 +77,30 @@ fn reply_to_query(error: QueryError) -> Reply
         QueryError::StalePlace => Reply::StalePlace,
         QueryError::UnknownPlace => Reply::UnknownPlace,
         QueryError::Memory => Reply::Memory,
+    }
+}
+
+fn reply_to_trait(error: TraitItemsError) -> Reply
+    ensures value { result ≡ trait_items_reply error }
+{
+    match error {
+        TraitItemsError::StalePlace => Reply::StalePlace,
+        TraitItemsError::UnknownPlace => Reply::UnknownPlace,
+        TraitItemsError::NotATrait => Reply::NotATrait,
+        TraitItemsError::TooMany => Reply::TooMany,
+        TraitItemsError::Memory => Reply::Memory,
+    }
+}
+
+fn reply_to_impl(error: ImplItemsError) -> Reply
+    ensures value { result ≡ impl_items_reply error }
+{
+    match error {
+        ImplItemsError::StalePlace => Reply::StalePlace,
+        ImplItemsError::UnknownPlace => Reply::UnknownPlace,
+        ImplItemsError::NoSuchImpl => Reply::NoSuchImpl,
+        ImplItemsError::TooMany => Reply::TooMany,
+        ImplItemsError::Memory => Reply::Memory,
     }
 }
 
@@ -150,6 +175,30 @@ fn answered(
     }
 }
 
+/// The items of a trait.
+fn trait_listed(alloc: Global, session: &mut Session, at: &Place, path: &ModPath) -> Reply
+    ensures step { AnswersCommand (Some session.old) (asks_for_trait at.now path.now) result (Some session.new) }
+    ensures or_memory { is_fixed result ≡ false
+        → AnswersCommand (Some session.old) (asks_for_trait at.now path.now) reply.Memory (Some session.new) }
+{
+    match session.trait_items(alloc, at, path) {
+        Ok(items) => Reply::Items(items),
+        Err(error) => reply_to_trait(error),
+    }
+}
+
+/// The items of an impl.
+fn impl_listed(alloc: Global, session: &mut Session, at: &Place, number: u32) -> Reply
+    ensures step { AnswersCommand (Some session.old) (asks_for_impl at.now number) result (Some session.new) }
+    ensures or_memory { is_fixed result ≡ false
+        → AnswersCommand (Some session.old) (asks_for_impl at.now number) reply.Memory (Some session.new) }
+{
+    match session.impl_items(alloc, at, number) {
+        Ok(items) => Reply::Items(items),
+        Err(error) => reply_to_impl(error),
+    }
+}
+
 /// The page of a file's tree.
 fn shown(alloc: Global, session: &Session, krate: Crate, file: &FilePath) -> Reply
     ensures step { AnswersCommand (Some session.now) (asks_for_tree krate file.now) result (Some session.now) }
@@ -198,6 +247,8 @@ fn called(alloc: Global, session: &mut Session, command: Command) -> Reply
         } => answered(alloc, session, &at, &path, shadow, sub),
         Command::Tree { krate, file } => shown(alloc, session, krate, &file),
         Command::Diagnostics { krate } => listed(alloc, session, krate),
+        Command::TraitItems { at, path } => trait_listed(alloc, session, &at, &path),
+        Command::ImplItems { at, number } => impl_listed(alloc, session, &at, number),
         Command::Dump { at } => dumped(alloc, session, &at),
         Command::Status { at } => Reply::Status(session.status(&at)),
     }

@@ -1,5 +1,6 @@
 -- Blocks that are stored by crate and steps: what is found of them, and what a change makes of them.
-use Rattle.std.proofs.Common.{◌≡◌, Bool, true, false, ◌&&◌, ◌||◌, cond, not, filter, map, Bor, Ordering, Less, Equal, Greater, List, [], ◌∷◌, ◌++◌, append_assoc, Option, Some, None, option_map, refl, sym, ap, subst, ◌∙◌}
+use Rattle.std.proofs.Common.{◌≡◌, Bool, true, false, ◌&&◌, ◌||◌, cond, not, filter, map, Bor, Ordering, Less, Equal, Greater, List, [], ◌∷◌, ◌++◌}
+use Rattle.std.proofs.Common.{append_assoc, Option, Some, None, option_map, refl, sym, ap, subst, ◌∙◌}
 use Rattle.std.specs.Prelude.{IfSome, is_some}
 use Rattle.std.specs.BTreeMap.{insert_entry, is_at}
 use Rattle.std.specs.Cmp.{tied_itself}
@@ -20,18 +21,21 @@ use Rattle.hir_base.specs.contracts.place.BlockPlacePartialEq.TheImpl as block_e
 use Rattle.hir_base.specs.contracts.place.PlaceElementOrd.TheImpl as element_order
 use Rattle.hir_base.specs.contracts.place.PlaceElementOrd.TheImpl.Laws.{total-law as elements_total, matches_eq-law as elements_tie}
 use Rattle.hir_base.specs.contracts.place.PlaceElementPartialEq.TheImpl as element_eq
-use Rattle.hir_base.specs.declared.ids.Crate.{Crate}
 use Rattle.hir_base.specs.declared.place.BlockPlace.{BlockPlace}
+use Rattle.hir_base.specs.declared.ids.Crate.{Crate}
 use Rattle.hir_base.specs.declared.place.PlaceElement.{PlaceElement}
 use Rattle.hir_base.specs.declared.place.PlaceElement.TheVariants as element
 use Rattle.hir_item_tree.specs.Source.{SourceValue}
-use Rattle.hir_session_state.specs.Blocks.{Blocks, CrateBlocks, block_in, blocks_in, blocks_of, blocks_with, place_of_block, steps_cmp, steps_with, with_block, without_block, without_in}
+use Rattle.hir_session_state.specs.Blocks.{Blocks, CrateBlocks, block_in, blocks_in, blocks_of, blocks_with, place_of_block, steps_cmp, steps_with, with_block}
+use Rattle.hir_session_state.specs.Blocks.{without_block, without_in}
 use Rattle.hir_session_state.proofs.Places.{exact_block}
 use Rattle.hir_session_state.proofs.Truth.{clash, no_value, on_bool, one_value}
 use Rattle.hir_session_sources.specs.BlockPlaces.{places_in, places_of}
-use Rattle.hir_session_sources.specs.BlockTables.{AreInPlace, ArePlacedIn, SetBlockValue, SetBlocks, SetTables, by_steps, has_place, left_by, of_crate, or_none, sources_by_crate, sources_of, steps_in, with_set, without_set, without_steps}
+use Rattle.hir_session_sources.specs.BlockTables.{AreInPlace, ArePlacedIn, SetBlockValue, SetBlocks, SetTables, by_steps, has_place, left_by, of_crate, or_none}
+use Rattle.hir_session_sources.specs.BlockTables.{sources_by_crate, sources_of, steps_in, with_set, without_set, without_steps}
 use Rattle.hir_session_sources.proofs.Changing.{equal_crate}
-use Rattle.hir_session_sources.proofs.Lookups.{IsExact, at_same, insert_entry-there, lookup-insert_entry, lookup-keyed, lookup-valued, lookup-without, renamed-insert_entry, keyed-without, valued-insert_entry, valued-without}
+use Rattle.hir_session_sources.proofs.Lookups.{IsExact, at_same, insert_entry-there, lookup-insert_entry, lookup-keyed, lookup-valued, lookup-without}
+use Rattle.hir_session_sources.proofs.Lookups.{renamed-insert_entry, keyed-without, valued-insert_entry, valued-without}
 
 -- ---- steps, places and crates that are tied are the same
 
@@ -74,11 +78,14 @@ pub compared_as_steps : (a b : Vec PlaceElement Global) → slice_cmp element_or
 compared_as_steps a b = refl
 
 pub set_by_steps : (es : StepEntries) (steps : Vec PlaceElement Global) (b : SetBlockValue)
-    → by_steps (insert_entry (λ (x y : Vec PlaceElement Global). slice_cmp element_order.ghosts.cmp x.items y.items) es steps b) ≡ insert_entry steps_cmp (by_steps es) steps.items b
+    → by_steps (insert_entry (λ (x y : Vec PlaceElement Global). slice_cmp element_order.ghosts.cmp x.items y.items) es steps b)
+    ≡ insert_entry steps_cmp (by_steps es) steps.items b
 set_by_steps es steps b =
-    renamed-insert_entry (λ (v : Vec PlaceElement Global). v.items) (λ (x y : Vec PlaceElement Global). slice_cmp element_order.ghosts.cmp x.items y.items) steps_cmp compared_as_steps es steps b
+    renamed-insert_entry (λ (v : Vec PlaceElement Global). v.items) (λ (x y : Vec PlaceElement Global). slice_cmp element_order.ghosts.cmp x.items y.items)
+    steps_cmp compared_as_steps es steps b
 
-pub found_by_steps : (steps : List PlaceElement) (es : StepEntries) → lookup (λ (k : Vec PlaceElement Global). is_at (steps_cmp steps) k.items) es ≡ lookup (is_at (steps_cmp steps)) (by_steps es)
+pub found_by_steps : (steps : List PlaceElement) (es : StepEntries) → lookup (λ (k : Vec PlaceElement Global). is_at (steps_cmp steps) k.items) es
+    ≡ lookup (is_at (steps_cmp steps)) (by_steps es)
 found_by_steps steps es = lookup-keyed (λ (v : Vec PlaceElement Global). v.items) (is_at (steps_cmp steps)) es
 
 pub left_by_steps : (steps : List PlaceElement) (es : StepEntries)
@@ -90,7 +97,8 @@ left_by_steps steps es = keyed-without (λ (v : Vec PlaceElement Global). v.item
 abbrev source : SetBlockValue → SourceValue
 source b = b.source
 
-pub source_found : (steps : List PlaceElement) (own : SetBlocks) → lookup (is_at (steps_cmp steps)) (sources_of own) ≡ option_map (λ (b : SetBlockValue). b.source) (lookup (is_at (steps_cmp steps)) own)
+pub source_found : (steps : List PlaceElement) (own : SetBlocks) → lookup (is_at (steps_cmp steps)) (sources_of own)
+    ≡ option_map (λ (b : SetBlockValue). b.source) (lookup (is_at (steps_cmp steps)) own)
 source_found steps own = lookup-valued source (is_at (steps_cmp steps)) own
 
 pub own_found : (krate : Crate) (tables : SetTables)
@@ -98,12 +106,14 @@ pub own_found : (krate : Crate) (tables : SetTables)
 own_found krate tables = lookup-valued sources_of (is_at (crate_order.ghosts.cmp krate)) tables
 
 -- those of a crate that has a table, and of one that hasn't
-pub in_own : (blocks : Blocks) (krate : Crate) (steps : List PlaceElement) (own : SetBlocks) → Some (sources_of own) ≡ lookup (is_at (crate_order.ghosts.cmp krate)) blocks
+pub in_own : (blocks : Blocks) (krate : Crate) (steps : List PlaceElement) (own : SetBlocks) → Some (sources_of own)
+    ≡ lookup (is_at (crate_order.ghosts.cmp krate)) blocks
     → option_map (λ (b : SetBlockValue). b.source) (lookup (is_at (steps_cmp steps)) own) ≡ block_in blocks (steps_in krate steps)
 in_own blocks krate steps own is =
     sym (source_found steps own) ∙ ap (λ (o : Option CrateBlocks). lookup (is_at (steps_cmp steps)) (blocks_of o)) is
 
-pub in_none : (blocks : Blocks) (krate : Crate) (steps : List PlaceElement) → None ≡ lookup (is_at (crate_order.ghosts.cmp krate)) blocks → None ≡ block_in blocks (steps_in krate steps)
+pub in_none : (blocks : Blocks) (krate : Crate) (steps : List PlaceElement) → None ≡ lookup (is_at (crate_order.ghosts.cmp krate)) blocks → None
+    ≡ block_in blocks (steps_in krate steps)
 in_none blocks krate steps none = ap (λ (o : Option CrateBlocks). lookup (is_at (steps_cmp steps)) (blocks_of o)) none
 
 own_blocks : (krate : Crate) (tables : SetTables) → sources_of (of_crate tables krate) ≡ blocks_in (sources_by_crate tables) krate
@@ -124,7 +134,8 @@ sources-set tables place steps b is =
     ∙ (λ i. insert_entry steps_cmp (own_blocks krate tables i) (is i) b.source))
 
 -- where the code has set it
-pub sources-new : (old new : SetTables) (place : BlockPlace) (s : SourceValue) (krate : Crate) (steps : List PlaceElement) → krate ≡ place.holder.krate → steps ≡ (place_of_block place).elements
+pub sources-new : (old new : SetTables) (place : BlockPlace) (s : SourceValue) (krate : Crate) (steps : List PlaceElement) → krate ≡ place.holder.krate → steps
+    ≡ (place_of_block place).elements
     → new ≡ with_set old krate steps (record { place = place; source = s }) → sources_by_crate new ≡ with_block (sources_by_crate old) (place_of_block place) s
 sources-new old new place s krate steps of to is =
     let b : SetBlockValue = record { place = place; source = s } in
@@ -137,14 +148,16 @@ sources-left tables place steps is =
     go (lookup (is_at (crate_order.ghosts.cmp place.holder.krate)) tables)
     ∙ ap (without_in (sources_by_crate tables) (place_of_block place)) (sym (own_found place.holder.krate tables))
   where
-    go : (o : Option SetBlocks) → sources_by_crate (left_by tables place.holder.krate steps o) ≡ without_in (sources_by_crate tables) (place_of_block place) (option_map sources_of o)
+    go : (o : Option SetBlocks) → sources_by_crate (left_by tables place.holder.krate steps o) ≡ without_in (sources_by_crate tables) (place_of_block place)
+        (option_map sources_of o)
     go None = refl
     go (Some own) =
         valued-insert_entry sources_of crate_order.ghosts.cmp tables place.holder.krate (without_steps own steps)
         ∙ ap (λ (left : CrateBlocks). insert_entry crate_order.ghosts.cmp (sources_by_crate tables) place.holder.krate left)
         (valued-without source (is_at (steps_cmp steps)) own ∙ ap (λ (xs : List PlaceElement). steps_with (sources_of own) xs None) is)
 
-pub sources-gone : (old new : SetTables) (place : BlockPlace) (krate : Crate) (steps : List PlaceElement) → krate ≡ place.holder.krate → steps ≡ (place_of_block place).elements
+pub sources-gone : (old new : SetTables) (place : BlockPlace) (krate : Crate) (steps : List PlaceElement) → krate ≡ place.holder.krate → steps
+    ≡ (place_of_block place).elements
     → new ≡ without_set old krate steps → sources_by_crate new ≡ without_block (sources_by_crate old) (place_of_block place)
 sources-gone old new place krate steps of to is =
     ap (λ (tables : SetTables). sources_by_crate tables) (is ∙ ap (λ (k : Crate). without_set old k steps) of) ∙ sources-left old place steps to
@@ -152,24 +165,31 @@ sources-gone old new place krate steps of to is =
 -- ---- a table that is written over
 
 -- where the crate has a table
-pub set_there : (krate : Crate) (old new : SetTables) (own now : SetBlocks) (steps : List PlaceElement) (b : SetBlockValue) → IsStrictlySortedBy crate_order.ghosts.cmp (keys_of old)
-    → Some own ≡ lookup (is_at (crate_order.ghosts.cmp krate)) old → new ≡ set_value (is_at (crate_order.ghosts.cmp krate)) old now → now ≡ insert_entry steps_cmp own steps b
+pub set_there : (krate : Crate) (old new : SetTables) (own now : SetBlocks) (steps : List PlaceElement) (b : SetBlockValue)
+    → IsStrictlySortedBy crate_order.ghosts.cmp (keys_of old)
+    → Some own ≡ lookup (is_at (crate_order.ghosts.cmp krate)) old → new ≡ set_value (is_at (crate_order.ghosts.cmp krate)) old now → now
+    ≡ insert_entry steps_cmp own steps b
     → new ≡ with_set old krate steps b
 set_there krate old new own now steps b sorted there written is =
     written ∙ sym (insert_entry-there crate_order.ghosts.cmp crates_total old krate now own sorted (sym there))
-    ∙ ap (λ (x : SetBlocks). insert_entry crate_order.ghosts.cmp old krate x) (is ∙ ap (λ (o : Option SetBlocks). insert_entry steps_cmp (or_none o) steps b) there)
+    ∙ ap (λ (x : SetBlocks). insert_entry crate_order.ghosts.cmp old krate x) (is ∙ ap (λ (o : Option SetBlocks). insert_entry steps_cmp (or_none o) steps b)
+    there)
 
 -- and where it gets one
-pub set_first : (krate : Crate) (old mid new : SetTables) (fresh now : SetBlocks) (steps : List PlaceElement) (b : SetBlockValue) → None ≡ lookup (is_at (crate_order.ghosts.cmp krate)) old
-    → mid ≡ old → new ≡ insert_entry crate_order.ghosts.cmp mid krate now → now ≡ insert_entry steps_cmp fresh steps b → fresh ≡ [] → new ≡ with_set old krate steps b
+pub set_first : (krate : Crate) (old mid new : SetTables) (fresh now : SetBlocks) (steps : List PlaceElement) (b : SetBlockValue) → None
+    ≡ lookup (is_at (crate_order.ghosts.cmp krate)) old
+    → mid ≡ old → new ≡ insert_entry crate_order.ghosts.cmp mid krate now → now ≡ insert_entry steps_cmp fresh steps b → fresh ≡ [] → new
+    ≡ with_set old krate steps b
 set_first krate old mid new fresh now steps b none same written is empty =
     written
     ∙ (λ i. insert_entry crate_order.ghosts.cmp (same i) krate (is i))
     ∙ ap (λ (x : SetBlocks). insert_entry crate_order.ghosts.cmp old krate (insert_entry steps_cmp x steps b)) (empty ∙ ap or_none none)
 
 -- where one of its blocks is removed
-pub left_there : (krate : Crate) (old new : SetTables) (own now : SetBlocks) (steps : List PlaceElement) → IsStrictlySortedBy crate_order.ghosts.cmp (keys_of old)
-    → Some own ≡ lookup (is_at (crate_order.ghosts.cmp krate)) old → new ≡ set_value (is_at (crate_order.ghosts.cmp krate)) old now → now ≡ without_steps own steps → new ≡ without_set old krate steps
+pub left_there : (krate : Crate) (old new : SetTables) (own now : SetBlocks) (steps : List PlaceElement) → IsStrictlySortedBy crate_order.ghosts.cmp
+    (keys_of old)
+    → Some own ≡ lookup (is_at (crate_order.ghosts.cmp krate)) old → new ≡ set_value (is_at (crate_order.ghosts.cmp krate)) old now → now
+    ≡ without_steps own steps → new ≡ without_set old krate steps
 left_there krate old new own now steps sorted there written is =
     written ∙ sym (insert_entry-there crate_order.ghosts.cmp crates_total old krate now own sorted (sym there))
     ∙ ap (λ (x : SetBlocks). insert_entry crate_order.ghosts.cmp old krate x) is
@@ -177,7 +197,8 @@ left_there krate old new own now steps sorted there written is =
 
 -- ---- their places
 
-placed-found : (krate : Crate) (steps : List PlaceElement) (own : SetBlocks) → ArePlacedIn krate own → (b : SetBlockValue) → lookup (is_at (steps_cmp steps)) own ≡ Some b
+placed-found : (krate : Crate) (steps : List PlaceElement) (own : SetBlocks) → ArePlacedIn krate own → (b : SetBlockValue) → lookup (is_at (steps_cmp steps))
+    own ≡ Some b
     → place_of_block b.place ≡ steps_in krate steps
 placed-found krate steps [] placed b is = no_value is
 placed-found krate steps (e ∷ es) placed b is = on_bool (is_at (steps_cmp steps) e.0)
@@ -186,14 +207,16 @@ placed-found krate steps (e ∷ es) placed b is = on_bool (is_at (steps_cmp step
     ap (λ (x : SetBlockValue). place_of_block x.place) (sym same) ∙ placed.0 ∙ ap (steps_in krate) (sym (exact_steps.same steps e.0 on)))
     (λ off. placed-found krate steps es placed.1 b (sym (ap (λ (t : Bool). cond t (Some e.1) (lookup (is_at (steps_cmp steps)) es)) off) ∙ is))
 
-pub placed_at : (krate : Crate) (steps : List PlaceElement) (own : SetBlocks) → ArePlacedIn krate own → IfSome (lookup (is_at (steps_cmp steps)) own) (λ (b : SetBlockValue). place_of_block b.place ≡ steps_in krate steps)
+pub placed_at : (krate : Crate) (steps : List PlaceElement) (own : SetBlocks) → ArePlacedIn krate own → IfSome (lookup (is_at (steps_cmp steps)) own)
+    (λ (b : SetBlockValue). place_of_block b.place ≡ steps_in krate steps)
 placed_at krate steps own placed = go (lookup (is_at (steps_cmp steps)) own) refl
   where
     go : (o : Option SetBlockValue) → lookup (is_at (steps_cmp steps)) own ≡ o → IfSome o (λ (b : SetBlockValue). place_of_block b.place ≡ steps_in krate steps)
     go None e = tt
     go (Some b) e = placed-found krate steps own placed b e
 
-pub placed-own : (krate : Crate) (tables : SetTables) → AreInPlace tables → (own : SetBlocks) → lookup (is_at (crate_order.ghosts.cmp krate)) tables ≡ Some own → ArePlacedIn krate own
+pub placed-own : (krate : Crate) (tables : SetTables) → AreInPlace tables → (own : SetBlocks) → lookup (is_at (crate_order.ghosts.cmp krate)) tables ≡ Some own
+    → ArePlacedIn krate own
 placed-own krate [] placed own is = no_value is
 placed-own krate (e ∷ es) placed own is = on_bool (is_at (crate_order.ghosts.cmp krate) e.0)
     (λ on.
@@ -208,7 +231,8 @@ placed_of_crate krate tables placed = go (lookup (is_at (crate_order.ghosts.cmp 
     go None e = tt
     go (Some own) e = placed-own krate tables placed own e
 
-placed-insert : (krate : Crate) (own : SetBlocks) (steps : List PlaceElement) (b : SetBlockValue) → ArePlacedIn krate own → place_of_block b.place ≡ steps_in krate steps
+placed-insert : (krate : Crate) (own : SetBlocks) (steps : List PlaceElement) (b : SetBlockValue) → ArePlacedIn krate own → place_of_block b.place
+    ≡ steps_in krate steps
     → ArePlacedIn krate (insert_entry steps_cmp own steps b)
 placed-insert krate [] steps b placed here = (here, tt)
 placed-insert krate (e ∷ es) steps b placed here = by (steps_cmp steps e.0) refl (placed-insert krate es steps b placed.1 here)
@@ -225,7 +249,8 @@ placed-without krate (e ∷ es) steps placed = on_bool (is_at (steps_cmp steps) 
     (λ on. rw on (placed-without krate es steps placed.1))
     (λ off. rw off (placed.0, placed-without krate es steps placed.1))
 
-in_place-insert : (tables : SetTables) (krate : Crate) (own : SetBlocks) → AreInPlace tables → ArePlacedIn krate own → AreInPlace (insert_entry crate_order.ghosts.cmp tables krate own)
+in_place-insert : (tables : SetTables) (krate : Crate) (own : SetBlocks) → AreInPlace tables → ArePlacedIn krate own
+    → AreInPlace (insert_entry crate_order.ghosts.cmp tables krate own)
 in_place-insert [] krate own placed here = (here, tt)
 in_place-insert (e ∷ es) krate own placed here = by (crate_order.ghosts.cmp krate e.0) refl (in_place-insert es krate own placed.1 here)
   where
@@ -235,10 +260,12 @@ in_place-insert (e ∷ es) krate own placed here = by (crate_order.ghosts.cmp kr
     by Equal p more = (subst (λ (k : Crate). ArePlacedIn k own) (equal_crate krate e.0 (ap is_eq p)) here, placed.1)
     by Greater p more = (placed.0, more)
 
-pub in_place-set : (tables : SetTables) (krate : Crate) (steps : List PlaceElement) (b : SetBlockValue) → AreInPlace tables → place_of_block b.place ≡ steps_in krate steps
+pub in_place-set : (tables : SetTables) (krate : Crate) (steps : List PlaceElement) (b : SetBlockValue) → AreInPlace tables → place_of_block b.place
+    ≡ steps_in krate steps
     → AreInPlace (with_set tables krate steps b)
 in_place-set tables krate steps b placed here =
-    in_place-insert tables krate (insert_entry steps_cmp (of_crate tables krate) steps b) placed (placed-insert krate (of_crate tables krate) steps b (placed_of_crate krate tables placed) here)
+    in_place-insert tables krate (insert_entry steps_cmp (of_crate tables krate) steps b) placed
+    (placed-insert krate (of_crate tables krate) steps b (placed_of_crate krate tables placed) here)
 
 pub in_place-left : (tables : SetTables) (krate : Crate) (steps : List PlaceElement) → AreInPlace tables → AreInPlace (without_set tables krate steps)
 in_place-left tables krate steps placed = go (lookup (is_at (crate_order.ghosts.cmp krate)) tables) refl
@@ -248,7 +275,8 @@ in_place-left tables krate steps placed = go (lookup (is_at (crate_order.ghosts.
     go (Some own) e = in_place-insert tables krate (without_steps own steps) placed (placed-without krate own steps (placed-own krate tables placed own e))
 
 -- the same of what the code has set or removed
-pub in_place-new : (old new : SetTables) (place : BlockPlace) (s : SourceValue) (krate : Crate) (steps : List PlaceElement) → AreInPlace old → krate ≡ place.holder.krate
+pub in_place-new : (old new : SetTables) (place : BlockPlace) (s : SourceValue) (krate : Crate) (steps : List PlaceElement) → AreInPlace old → krate
+    ≡ place.holder.krate
     → steps ≡ (place_of_block place).elements → new ≡ with_set old krate steps (record { place = place; source = s }) → AreInPlace new
 in_place-new old new place s krate steps placed of to is =
     let b : SetBlockValue = record { place = place; source = s } in
@@ -260,7 +288,8 @@ in_place-gone old new krate steps placed is = subst (λ (tables : SetTables). Ar
 -- ---- all places
 
 -- those of a crate's blocks
-pub places_by_steps : (es : StepEntries) → map (λ (b : SetBlockValue). b.place) (values_of es) ≡ map (λ (e : List PlaceElement × SetBlockValue). e.1.place) (by_steps es)
+pub places_by_steps : (es : StepEntries) → map (λ (b : SetBlockValue). b.place) (values_of es) ≡ map (λ (e : List PlaceElement × SetBlockValue). e.1.place)
+    (by_steps es)
 places_by_steps [] = refl
 places_by_steps (e ∷ es) = ap (λ (ps : List BlockPlace). e.1.place ∷ ps) (places_by_steps es)
 
@@ -277,7 +306,8 @@ all_roots [] placed = refl
 all_roots (e ∷ es) placed = λ i. roots-placed e.0 e.1 placed.0 i ++ all_roots es placed.1 i
 
 -- more places, by the roots of the blocks
-pub more_roots : (ps : List BlockPlace) (own : SetBlocks) → map place_of_block (ps ++ map (λ (e : List PlaceElement × SetBlockValue). e.1.place) own) ≡ map place_of_block ps ++ roots_of own
+pub more_roots : (ps : List BlockPlace) (own : SetBlocks) → map place_of_block (ps ++ map (λ (e : List PlaceElement × SetBlockValue). e.1.place) own)
+    ≡ map place_of_block ps ++ roots_of own
 more_roots [] [] = refl
 more_roots [] (e ∷ es) = ap (λ (rs : List PlaceValue). place_of_block e.1.place ∷ rs) (more_roots [] es)
 more_roots (p ∷ ps) own = ap (λ (rs : List PlaceValue). place_of_block p ∷ rs) (more_roots ps own)
@@ -296,7 +326,8 @@ pub roots_turn : (ps qs : List (Bor BlockPlace)) (own : SetBlocks) (left rest : 
     → roots_lent ps ++ flat_map roots_of left ≡ all → roots_lent qs ++ flat_map roots_of rest ≡ all
 roots_turn ps qs own left rest all first more so_far =
     let longer : roots_lent qs ≡ roots_lent ps ++ roots_of own =
-    lent qs ∙ ap (map place_of_block) more ∙ more_roots (map (λ (p : Bor BlockPlace). p.now) ps) own ∙ ap (λ (rs : List PlaceValue). rs ++ roots_of own) (sym (lent ps)) in
+    lent qs ∙ ap (map place_of_block) more ∙ more_roots (map (λ (p : Bor BlockPlace). p.now) ps) own ∙ ap (λ (rs : List PlaceValue). rs ++ roots_of own)
+    (sym (lent ps)) in
     ap (λ (rs : List PlaceValue). rs ++ flat_map roots_of rest) longer
     ∙ append_assoc (roots_lent ps) (roots_of own) (flat_map roots_of rest)
     ∙ ap (λ (ls : List SetBlocks). roots_lent ps ++ flat_map roots_of ls) (sym first)
@@ -351,21 +382,25 @@ blocks_in-with blocks krate own c =
 abbrev pub is_root : PlaceValue → PlaceValue → Bool
 is_root p q = cond (is_at (crate_order.ghosts.cmp p.krate) q.krate) (is_at (steps_cmp p.elements) q.elements) false
 
-pub block_in-edited : (blocks : Blocks) (p : PlaceValue) (there : Option SourceValue) (q : PlaceValue) → block_in (blocks_with blocks p there) q ≡ cond (is_root p q) there (block_in blocks q)
+pub block_in-edited : (blocks : Blocks) (p : PlaceValue) (there : Option SourceValue) (q : PlaceValue) → block_in (blocks_with blocks p there) q
+    ≡ cond (is_root p q) there (block_in blocks q)
 block_in-edited blocks p (Some s) q =
     ap (lookup (is_at (steps_cmp q.elements))) (blocks_in-with blocks p.krate (steps_with (blocks_in blocks p.krate) p.elements (Some s)) q.krate)
     ∙ on_bool (is_at (crate_order.ghosts.cmp p.krate) q.krate)
     (λ on. rw on (
     lookup-insert_entry steps_cmp exact_steps (blocks_in blocks p.krate) p.elements s q.elements
-    ∙ ap (λ (k : Crate). cond (is_at (steps_cmp p.elements) q.elements) (Some s) (lookup (is_at (steps_cmp q.elements)) (blocks_in blocks k))) (equal_crate p.krate q.krate on)))
+    ∙ ap (λ (k : Crate). cond (is_at (steps_cmp p.elements) q.elements) (Some s) (lookup (is_at (steps_cmp q.elements)) (blocks_in blocks k)))
+    (equal_crate p.krate q.krate on)))
     (λ off. rw off refl)
 block_in-edited blocks p None q = go (lookup (is_at (crate_order.ghosts.cmp p.krate)) blocks) refl
   where
-    go : (o : Option CrateBlocks) → lookup (is_at (crate_order.ghosts.cmp p.krate)) blocks ≡ o → block_in (without_in blocks p o) q ≡ cond (is_root p q) None (block_in blocks q)
+    go : (o : Option CrateBlocks) → lookup (is_at (crate_order.ghosts.cmp p.krate)) blocks ≡ o → block_in (without_in blocks p o) q
+        ≡ cond (is_root p q) None (block_in blocks q)
     go None none = on_bool (is_at (crate_order.ghosts.cmp p.krate) q.krate)
         (λ on.
         let empty : block_in blocks q ≡ None =
-        ap (λ (o : Option CrateBlocks). lookup (is_at (steps_cmp q.elements)) (blocks_of o)) (ap (λ (k : Crate). lookup (is_at (crate_order.ghosts.cmp k)) blocks) (sym (equal_crate p.krate q.krate on)) ∙ none) in
+        ap (λ (o : Option CrateBlocks). lookup (is_at (steps_cmp q.elements)) (blocks_of o))
+        (ap (λ (k : Crate). lookup (is_at (crate_order.ghosts.cmp k)) blocks) (sym (equal_crate p.krate q.krate on)) ∙ none) in
         rw (on, empty) (on_bool (is_at (steps_cmp p.elements) q.elements) (λ here. rw here refl) (λ off. rw off refl)))
         (λ off. rw off refl)
     go (Some own) some =
@@ -382,7 +417,8 @@ pub root-block : (a b : BlockPlace) → is_root (place_of_block a) (place_of_blo
 root-block a b = on_bool (is_at (block_order.ghosts.cmp a) b)
     (λ on.
     let same : a ≡ b = exact_blocks.same a b on in
-    let here : is_root (place_of_block a) (place_of_block b) ≡ true = subst (λ (x : BlockPlace). is_root (place_of_block a) (place_of_block x) ≡ true) same (own (place_of_block a)) in
+    let here : is_root (place_of_block a) (place_of_block b) ≡ true = subst (λ (x : BlockPlace). is_root (place_of_block a) (place_of_block x) ≡ true) same
+    (own (place_of_block a)) in
     here ∙ sym on)
     (λ off. on_bool (is_root (place_of_block a) (place_of_block b))
     (λ root. clash (at_same block_order.ghosts.cmp exact_blocks a b (same_root a b (one_root (place_of_block a) (place_of_block b) root))) off)

@@ -28,18 +28,24 @@ equal_crate a b e = λ i. record { 0 = (unsigned_Decides a.0 b.0).0 (crates_tie 
 module _ (crates : List CrateValue) (place : SourcePlaceValue) (source : Option SourceValue) where
   pub no_trees : (trees : CrateTrees) → IsEmpty trees → AreTreesOf crates place source trees
   no_trees trees empty = record {
-    each = λ krate t is. absurd (let wrong : ⊥ = cc (ap (λ (es : List (Crate × Rc SourceTreeValue Global)). option_map (λ (r : Rc SourceTreeValue Global). r.value) (lookup (is_at (crate_order.ghosts.cmp krate)) es)) empty) in wrong);
+    each =
+        λ krate t is. absurd (let wrong : ⊥ = cc
+        (ap (λ (es : List (Crate × Rc SourceTreeValue Global)). option_map (λ (r : Rc SourceTreeValue Global). r.value)
+        (lookup (is_at (crate_order.ghosts.cmp krate)) es)) empty) in wrong);
   }
 
   -- one more
-  pub one_more_tree : (old new : CrateTrees) (krate : Crate) (tree : Rc SourceTreeValue Global) → tree.value ≡ tree_under crates krate.0 place source → AreTreesOf crates place source old
+  pub one_more_tree : (old new : CrateTrees) (krate : Crate) (tree : Rc SourceTreeValue Global) → tree.value ≡ tree_under crates krate.0 place source
+      → AreTreesOf crates place source old
       → ((c : Crate) → get crate_order.ghosts.cmp new c ≡ cond (is_at (crate_order.ghosts.cmp krate) c) (Some tree) (get crate_order.ghosts.cmp old c))
       → AreTreesOf crates place source new
   one_more_tree old new krate tree right are updates = record {
     each = λ c t is. on_bool (is_at (crate_order.ghosts.cmp krate) c)
         (λ on.
-        let now : Some tree.value ≡ Some t = sym (ap (option_map (λ (r : Rc SourceTreeValue Global). r.value)) (updates c ∙ ap (λ (b : Bool). cond b (Some tree) (get crate_order.ghosts.cmp old c)) on)) ∙ is in
+        let now : Some tree.value ≡ Some t = sym (ap (option_map (λ (r : Rc SourceTreeValue Global). r.value))
+        (updates c ∙ ap (λ (b : Bool). cond b (Some tree) (get crate_order.ghosts.cmp old c)) on)) ∙ is in
         let same : tree.value ≡ t = cc in
         sym same ∙ right ∙ ap (λ (k : Crate). tree_under crates k.0 place source) (equal_crate krate c on))
-        (λ off. are.each c t (sym (ap (option_map (λ (r : Rc SourceTreeValue Global). r.value)) (updates c ∙ ap (λ (b : Bool). cond b (Some tree) (get crate_order.ghosts.cmp old c)) off)) ∙ is));
+        (λ off. are.each c t (sym (ap (option_map (λ (r : Rc SourceTreeValue Global). r.value))
+        (updates c ∙ ap (λ (b : Bool). cond b (Some tree) (get crate_order.ghosts.cmp old c)) off)) ∙ is));
   }

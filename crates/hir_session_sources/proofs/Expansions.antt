@@ -15,9 +15,9 @@ use Rattle.hir_base.specs.contracts.macro_kind.MacroTextOrd.TheImpl as text_orde
 use Rattle.hir_base.specs.contracts.macro_kind.MacroTextOrd.TheImpl.Laws.{total-law as macros_total, matches_eq-law as macros_tie}
 use Rattle.hir_base.specs.contracts.macro_kind.MacroTextPartialEq.TheImpl as text_eq
 use Rattle.hir_base.specs.declared.macro_kind.CallStyle.{CallStyle}
-use Rattle.hir_base.specs.declared.macro_kind.CallStyle.TheVariants as style
 use Rattle.hir_base.specs.declared.macro_kind.ExpansionKey.{ExpansionKey}
 use Rattle.hir_base.specs.declared.macro_kind.MacroText.{MacroText}
+use Rattle.hir_base.specs.declared.macro_kind.CallStyle.TheVariants as style
 use Rattle.hir_tables.specs.SourcePlaces.{ExpansionValue, expansion_value}
 use Rattle.hir_session_state.specs.Entries.{expansion_cmp}
 use Rattle.hir_session_sources.proofs.Changing.{equal_crate}
@@ -42,7 +42,8 @@ same_macros [] [] e = refl
 same_macros [] (y ∷ ys) e = absurd (true≢false (sym e))
 same_macros (x ∷ xs) [] e = absurd (true≢false (sym e))
 same_macros (x ∷ xs) (y ∷ ys) e =
-    ap₂ ◌∷◌ (same_macro x y (first_so (text_eq.ghosts.eq x y) (pointwise text_eq.ghosts.eq xs ys) e)) (same_macros xs ys (second_so (text_eq.ghosts.eq x y) (pointwise text_eq.ghosts.eq xs ys) e))
+    ap₂ ◌∷◌ (same_macro x y (first_so (text_eq.ghosts.eq x y) (pointwise text_eq.ghosts.eq xs ys) e))
+    (same_macros xs ys (second_so (text_eq.ghosts.eq x y) (pointwise text_eq.ghosts.eq xs ys) e))
 
 -- ---- the whole
 
@@ -72,14 +73,21 @@ expansions_total =
 same_expansion : (a b : ExpansionValue) → is_at (expansion_cmp a) b ≡ true → a ≡ b
 same_expansion a b e =
     let all = sym (ties (on (λ (v : ExpansionValue). v.caller) crate_order.ghosts.cmp) by_called a b) ∙ e in
-    let called = sym (ties (on (λ (v : ExpansionValue). v.called) text_order.ghosts.cmp) by_call a b) ∙ second_so (is_at (crate_order.ghosts.cmp a.caller) b.caller) (is_at (by_called a) b) all in
-    let call = sym (ties (on (λ (v : ExpansionValue). v.call) style_order.ghosts.cmp) by_input a b) ∙ second_so (is_at (text_order.ghosts.cmp a.called) b.called) (is_at (by_call a) b) called in
-    let input = sym (ties (on (λ (v : ExpansionValue). v.input) (slice_cmp nat_cmp)) by_reached a b) ∙ second_so (is_at (style_order.ghosts.cmp a.call) b.call) (is_at (by_input a) b) call in
+    let called = sym (ties (on (λ (v : ExpansionValue). v.called) text_order.ghosts.cmp) by_call a b) ∙ second_so
+    (is_at (crate_order.ghosts.cmp a.caller) b.caller) (is_at (by_called a) b) all in
+    let call = sym (ties (on (λ (v : ExpansionValue). v.call) style_order.ghosts.cmp) by_input a b) ∙ second_so
+    (is_at (text_order.ghosts.cmp a.called) b.called) (is_at (by_call a) b) called in
+    let input = sym (ties (on (λ (v : ExpansionValue). v.input) (slice_cmp nat_cmp)) by_reached a b) ∙ second_so (is_at (style_order.ghosts.cmp a.call) b.call)
+    (is_at (by_input a) b) call in
     λ i. record {
       caller = equal_crate a.caller b.caller (first_so (is_at (crate_order.ghosts.cmp a.caller) b.caller) (is_at (by_called a) b) all) i;
-      called = same_macro a.called b.called (macros_tie a.called b.called ∙ first_so (is_at (text_order.ghosts.cmp a.called) b.called) (is_at (by_call a) b) called) i;
+      called =
+          same_macro a.called b.called (macros_tie a.called b.called ∙ first_so (is_at (text_order.ghosts.cmp a.called) b.called) (is_at (by_call a) b) called)
+          i;
       call = same_style a.call b.call (styles_tie a.call b.call ∙ first_so (is_at (style_order.ghosts.cmp a.call) b.call) (is_at (by_input a) b) call) i;
-      input = (bytes_decides a.input b.input).0 (texts_ties a.input b.input ∙ first_so (is_at (slice_cmp nat_cmp a.input) b.input) (is_at (by_reached a) b) input) i;
+      input =
+          (bytes_decides a.input b.input).0 (texts_ties a.input b.input ∙ first_so (is_at (slice_cmp nat_cmp a.input) b.input) (is_at (by_reached a) b) input)
+          i;
       reached = same_macros a.reached b.reached (lists_ties text_order.ghosts.cmp macros_tie a.reached b.reached
           ∙ second_so (is_at (slice_cmp nat_cmp a.input) b.input) (is_at (by_reached a) b) input) i;
     }

@@ -1,5 +1,6 @@
 -- What is found in lists of entries by exact keys, before a change and after it.
-use Rattle.std.proofs.Common.{◌≡◌, Bool, true, false, cond, not, filter, map, Ordering, Less, Equal, Greater, List, [], ◌∷◌, Option, Some, None, option_map, refl, sym, ap, ◌∙◌}
+use Rattle.std.proofs.Common.{◌≡◌, Bool, true, false, cond, not, filter, map, Ordering, Less, Equal, Greater, List, [], ◌∷◌, Option, Some, None, option_map}
+use Rattle.std.proofs.Common.{refl, sym, ap, ◌∙◌}
 use Rattle.std.specs.Ordering.{match_ordering, is_eq}
 use Rattle.std.specs.BTreeMap.{insert_entry, is_at}
 use Rattle.std.specs.Cmp.{IsTotalOrder}
@@ -29,12 +30,14 @@ module _ {K : Type 0} (cmp : K → K → Ordering) (exact : IsExact cmp) where
 
 module _ {K X : Type 0} (cmp : K → K → Ordering) (exact : IsExact cmp) where
   -- what is set is there, and all else is as it was
-  pub lookup-insert_entry : (es : List (K × X)) (k : K) (x : X) (q : K) → lookup (is_at (cmp q)) (insert_entry cmp es k x) ≡ cond (is_at (cmp k) q) (Some x) (lookup (is_at (cmp q)) es)
+  pub lookup-insert_entry : (es : List (K × X)) (k : K) (x : X) (q : K) → lookup (is_at (cmp q)) (insert_entry cmp es k x) ≡ cond (is_at (cmp k) q) (Some x)
+      (lookup (is_at (cmp q)) es)
   lookup-insert_entry [] k x q = rw (test-flip cmp exact q k) refl
   lookup-insert_entry (e ∷ es) k x q = by (cmp k e.0) refl (lookup-insert_entry es k x q)
     where
       by : (r : Ordering) → cmp k e.0 ≡ r → lookup (is_at (cmp q)) (insert_entry cmp es k x) ≡ cond (is_at (cmp k) q) (Some x) (lookup (is_at (cmp q)) es)
-          → lookup (is_at (cmp q)) (match_ordering r ((k, x) ∷ e ∷ es) ((e.0, x) ∷ es) (e ∷ insert_entry cmp es k x)) ≡ cond (is_at (cmp k) q) (Some x) (lookup (is_at (cmp q)) (e ∷ es))
+          → lookup (is_at (cmp q)) (match_ordering r ((k, x) ∷ e ∷ es) ((e.0, x) ∷ es) (e ∷ insert_entry cmp es k x)) ≡ cond (is_at (cmp k) q) (Some x)
+          (lookup (is_at (cmp q)) (e ∷ es))
       by Less p more = rw (test-flip cmp exact q k) refl
       by Equal p more =
           let same : k ≡ e.0 = exact.same k e.0 (ap is_eq p) in
@@ -50,7 +53,8 @@ module _ {K X : Type 0} (cmp : K → K → Ordering) (exact : IsExact cmp) where
           (λ off. rw (more, off) refl)
 
   -- what is removed isn't there, and all else is as it was
-  pub lookup-without : (es : List (K × X)) (k q : K) → lookup (is_at (cmp q)) (filter (λ (e : K × X). not (is_at (cmp k) e.0)) es) ≡ cond (is_at (cmp k) q) None (lookup (is_at (cmp q)) es)
+  pub lookup-without : (es : List (K × X)) (k q : K) → lookup (is_at (cmp q)) (filter (λ (e : K × X). not (is_at (cmp k) e.0)) es)
+      ≡ cond (is_at (cmp k) q) None (lookup (is_at (cmp q)) es)
   lookup-without [] k q = on_bool (is_at (cmp k) q) (λ on. rw on refl) (λ off. rw off refl)
   lookup-without (e ∷ es) k q = on_bool (is_at (cmp k) e.0)
       (λ gone. on_bool (is_at (cmp k) q)
@@ -80,7 +84,8 @@ module _ {K L X : Type 0} (f : K → L) (cmp : K → K → Ordering) (other : L 
   renamed-insert_entry [] k x = refl
   renamed-insert_entry (e ∷ es) k x =
       by (cmp k e.0) (renamed-insert_entry es k x)
-      ∙ ap (λ (r : Ordering). match_ordering r ((f k, x) ∷ (f e.0, e.1) ∷ renamed es) ((f e.0, x) ∷ renamed es) ((f e.0, e.1) ∷ insert_entry other (renamed es) (f k) x)) (alike k e.0)
+      ∙ ap (λ (r : Ordering). match_ordering r ((f k, x) ∷ (f e.0, e.1) ∷ renamed es) ((f e.0, x) ∷ renamed es)
+      ((f e.0, e.1) ∷ insert_entry other (renamed es) (f k) x)) (alike k e.0)
     where
       by : (r : Ordering) → renamed (insert_entry cmp es k x) ≡ insert_entry other (renamed es) (f k) x
           → renamed (match_ordering r ((k, x) ∷ e ∷ es) ((e.0, x) ∷ es) (e ∷ insert_entry cmp es k x))
@@ -89,7 +94,8 @@ module _ {K L X : Type 0} (f : K → L) (cmp : K → K → Ordering) (other : L 
       by Equal more = refl
       by Greater more = ap (λ (rest : List (L × X)). (f e.0, e.1) ∷ rest) more
 
-  pub renamed-without : (k : K) (es : List (K × X)) → renamed (filter (λ (e : K × X). not (is_at (cmp k) e.0)) es) ≡ filter (λ (e : L × X). not (is_at (other (f k)) e.0)) (renamed es)
+  pub renamed-without : (k : K) (es : List (K × X)) → renamed (filter (λ (e : K × X). not (is_at (cmp k) e.0)) es)
+      ≡ filter (λ (e : L × X). not (is_at (other (f k)) e.0)) (renamed es)
   renamed-without k [] = refl
   renamed-without k (e ∷ es) = on_bool (is_at (cmp k) e.0)
       (λ on. let too : is_at (other (f k)) (f e.0) ≡ true = ap is_eq (sym (alike k e.0)) ∙ on in rw (on, too) (renamed-without k es))
@@ -122,7 +128,8 @@ module _ {K X Y : Type 0} (g : X → Y) where
   lookup-valued test [] = refl
   lookup-valued test (e ∷ es) = on_bool (test e.0) (λ on. rw on refl) (λ off. rw off (lookup-valued test es))
 
-  pub valued-insert_entry : (cmp : K → K → Ordering) (es : List (K × X)) (k : K) (x : X) → valued (insert_entry cmp es k x) ≡ insert_entry cmp (valued es) k (g x)
+  pub valued-insert_entry : (cmp : K → K → Ordering) (es : List (K × X)) (k : K) (x : X) → valued (insert_entry cmp es k x) ≡ insert_entry cmp (valued es) k
+      (g x)
   valued-insert_entry cmp [] k x = refl
   valued-insert_entry cmp (e ∷ es) k x = by (cmp k e.0) (valued-insert_entry cmp es k x)
     where
@@ -133,7 +140,8 @@ module _ {K X Y : Type 0} (g : X → Y) where
       by Equal more = refl
       by Greater more = ap (λ (rest : List (K × Y)). (e.0, g e.1) ∷ rest) more
 
-  pub valued-without : (test : K → Bool) (es : List (K × X)) → valued (filter (λ (e : K × X). not (test e.0)) es) ≡ filter (λ (e : K × Y). not (test e.0)) (valued es)
+  pub valued-without : (test : K → Bool) (es : List (K × X)) → valued (filter (λ (e : K × X). not (test e.0)) es) ≡ filter (λ (e : K × Y). not (test e.0))
+      (valued es)
   valued-without test [] = refl
   valued-without test (e ∷ es) = on_bool (test e.0)
       (λ on. rw on (valued-without test es))
@@ -143,12 +151,14 @@ module _ {K X Y : Type 0} (g : X → Y) where
 
 module _ {K X : Type 0} (cmp : K → K → Ordering) (total : IsTotalOrder cmp) where
   -- what is set at a key that is there stands where that stood
-  pub insert_entry-there : (es : List (K × X)) (k : K) (x w : X) → IsStrictlySortedBy cmp (keys_of es) → lookup (is_at (cmp k)) es ≡ Some w → insert_entry cmp es k x ≡ set_value (is_at (cmp k)) es x
+  pub insert_entry-there : (es : List (K × X)) (k : K) (x w : X) → IsStrictlySortedBy cmp (keys_of es) → lookup (is_at (cmp k)) es ≡ Some w
+      → insert_entry cmp es k x ≡ set_value (is_at (cmp k)) es x
   insert_entry-there [] k x w sorted found = no_value found
   insert_entry-there (e ∷ es) k x w sorted found = by (cmp k e.0) refl (λ more. insert_entry-there es k x w (sorted_tail cmp e.0 (keys_of es) sorted) more)
     where
       by : (r : Ordering) → cmp k e.0 ≡ r → (lookup (is_at (cmp k)) es ≡ Some w → insert_entry cmp es k x ≡ set_value (is_at (cmp k)) es x)
-          → match_ordering r ((k, x) ∷ e ∷ es) ((e.0, x) ∷ es) (e ∷ insert_entry cmp es k x) ≡ cond (is_eq (cmp k e.0)) ((e.0, x) ∷ es) (e ∷ set_value (is_at (cmp k)) es x)
+          → match_ordering r ((k, x) ∷ e ∷ es) ((e.0, x) ∷ es) (e ∷ insert_entry cmp es k x) ≡ cond (is_eq (cmp k e.0)) ((e.0, x) ∷ es)
+          (e ∷ set_value (is_at (cmp k)) es x)
       by Less p more = no_value (sym (lookup-none (is_at (cmp k)) (e ∷ es) (none_below_head total k e es sorted p)) ∙ found)
       by Equal p more = rw p refl
       by Greater p more =

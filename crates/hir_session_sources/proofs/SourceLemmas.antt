@@ -6,8 +6,8 @@ use Rattle.std.specs.BTreeMap.{is_at}
 use Rattle.std.proofs.lemmas.Map.Text.{is_eq-slice_cmp}
 use Rattle.hir_base.specs.declared.ast_id.AstKind.TheVariants.{MacroDef, MacroRules}
 use Rattle.hir_base.specs.contracts.place.BlockPlaceOrd.TheImpl as block_order
-use Rattle.hir_base.specs.declared.ast_id.EntryId.{EntryId}
 use Rattle.hir_base.specs.declared.place.BlockPlace.{BlockPlace}
+use Rattle.hir_base.specs.declared.ast_id.EntryId.{EntryId}
 use Rattle.hir_base.specs.declared.macro_kind.MacroId.TheVariants as macros
 use Rattle.hir_item_tree.specs.Source.{SourceValue}
 use Rattle.hir_item_tree.specs.SourceTree.{SourceTreeValue, variants_of}
@@ -59,9 +59,11 @@ entry_at-entries_with entries key None q = lookup-without expansion_cmp exact_ex
 
 -- and so is the block of one
 block_at-edited : (blocks : Blocks) (place : BlockPlace) (there : Option SourceValue) (q : BlockPlace)
-    → block_in (blocks_with blocks (place_of_block place) there) (place_of_block q) ≡ cond (is_at (block_order.ghosts.cmp place) q) there (block_in blocks (place_of_block q))
+    → block_in (blocks_with blocks (place_of_block place) there) (place_of_block q) ≡ cond (is_at (block_order.ghosts.cmp place) q) there
+    (block_in blocks (place_of_block q))
 block_at-edited blocks place there q =
-    block_in-edited blocks (place_of_block place) there (place_of_block q) ∙ ap (λ (b : Bool). cond b there (block_in blocks (place_of_block q))) (root-block place q)
+    block_in-edited blocks (place_of_block place) there (place_of_block q) ∙ ap (λ (b : Bool). cond b there (block_in blocks (place_of_block q)))
+    (root-block place q)
 
 -- ---- places
 
@@ -111,11 +113,14 @@ module _ (t : SourceTable) (edit : SourceEditValue) where
 -- ---- what is seen at a key
 
 -- at one that asks for something of a source's is seen what the source has
-pub look-tree : (tables : TablesValue) (w : Workspace) (key : Key) (tree : TreeKey) → key_tree key ≡ Some tree → look tables w no_maps key ≡ seen_at (source_in tables w tree) key
+pub look-tree : (tables : TablesValue) (w : Workspace) (key : Key) (tree : TreeKey) → key_tree key ≡ Some tree → look tables w no_maps key
+    ≡ seen_at (source_in tables w tree) key
 look-tree tables w (keys.Tree key) tree e = ap (λ (k : TreeKey). of_tree (seen_of (source_in tables w k))) (one_value e)
 look-tree tables w (keys.Variants id) tree e = ap (λ (k : TreeKey). of_variants (variants_of (source_in tables w k) id.loc.id)) (one_value e)
-look-tree tables w (keys.Text (macros.Macro2Id id)) tree e = ap (λ (k : TreeKey). of_text (text_of (source_in tables w k) (node_id MacroDef id.loc.id))) (one_value e)
-look-tree tables w (keys.Text (macros.MacroRulesId id)) tree e = ap (λ (k : TreeKey). of_text (text_of (source_in tables w k) (node_id MacroRules id.loc.id))) (one_value e)
+look-tree tables w (keys.Text (macros.Macro2Id id)) tree e =
+    ap (λ (k : TreeKey). of_text (text_of (source_in tables w k) (node_id MacroDef id.loc.id))) (one_value e)
+look-tree tables w (keys.Text (macros.MacroRulesId id)) tree e =
+    ap (λ (k : TreeKey). of_text (text_of (source_in tables w k) (node_id MacroRules id.loc.id))) (one_value e)
 look-tree tables w (keys.Text (macros.ProcMacroId id)) tree e = no_value e
 look-tree tables w (keys.Input krate ast) tree e = ap (λ (k : TreeKey). of_input (input_of (source_in tables w k) (node_id ast.kind ast.id))) (one_value e)
 look-tree tables w (keys.Expansion id) tree e = no_value e
@@ -149,14 +154,18 @@ module _ (crates : List CrateValue) (tables : TablesValue) (t : SourceTable) (ed
     where
       go : (o : Option SourcePlaceValue) → o ≢ Some (place_of edit) → source_under after key.krate o ≡ source_under now key.krate o
       go None ne = refl
-      go (Some q) ne = ap (λ (x : Option SourceValue). tree_under crates key.krate.0 q x) (source-other t edit q (other_place t edit q (λ same. ne (ap (λ (p : SourcePlaceValue). Some p) (sym same)))))
+      go (Some q) ne =
+          ap (λ (x : Option SourceValue). tree_under crates key.krate.0 q x)
+          (source-other t edit q (other_place t edit q (λ same. ne (ap (λ (p : SourcePlaceValue). Some p) (sym same)))))
 
   -- that which is has what it has with its source
-  tree-was : (key : TreeKey) → source_of tables key.id ≡ Some (place_of edit) → source_in tables now key ≡ tree_under crates key.krate.0 (place_of edit) (source_at t (place_of edit))
+  tree-was : (key : TreeKey) → source_of tables key.id ≡ Some (place_of edit) → source_in tables now key ≡ tree_under crates key.krate.0 (place_of edit)
+      (source_at t (place_of edit))
   tree-was key at = ap (λ (o : Option SourcePlaceValue). source_under now key.krate o) at
 
   -- and after the edit with the one that it gets
-  tree-there : (key : TreeKey) → source_of tables key.id ≡ Some (place_of edit) → source_in tables after key ≡ tree_under crates key.krate.0 (place_of edit) (source_by edit)
+  tree-there : (key : TreeKey) → source_of tables key.id ≡ Some (place_of edit) → source_in tables after key ≡ tree_under crates key.krate.0 (place_of edit)
+      (source_by edit)
   tree-there key at =
       ap (λ (o : Option SourcePlaceValue). source_under after key.krate o) at
       ∙ ap (λ (x : Option SourceValue). tree_under crates key.krate.0 (place_of edit) x) (source-there t edit (place_of edit) refl)
@@ -185,7 +194,8 @@ module _ (crates : List CrateValue) (tables : TablesValue) (t : SourceTable) (ed
   entry-edited (of_expansion k new) key same n n_is a a_is =
       let is : key ≡ k = cc in
       let there : a ≡ look_of new =
-      a_is ∙ ap look_of (entry_at-entries_with t.entries k new key ∙ ap (λ (b : Bool). cond b new (entry_at t.entries key)) (at_same expansion_cmp exact_expansions k key (sym is))) in
+      a_is ∙ ap look_of (entry_at-entries_with t.entries k new key ∙ ap (λ (b : Bool). cond b new (entry_at t.entries key))
+      (at_same expansion_cmp exact_expansions k key (sym is))) in
       let was : n ≡ look_of (entry_at t.entries k) = n_is ∙ ap (λ (x : ExpansionValue). look_of (entry_at t.entries x)) is in
       ((λ alike. there ∙ sym alike ∙ sym was), (λ e. sym was ∙ sym e ∙ there))
 
@@ -224,12 +234,14 @@ module _ (crates : List CrateValue) (tables : TablesValue) (t : SourceTable) (ed
     look-there = look-tree tables after key tree of_tree_is ∙ ap (λ (s : SourceTreeValue). seen_at s key) (tree-there tree tree_at)
 
     -- so it stays exactly where that has the same for it
-    pub look-same : (was is : SourceTreeValue) → was ≡ tree_under crates tree.krate.0 (place_of edit) (source_at t (place_of edit)) → is ≡ tree_under crates tree.krate.0 (place_of edit) (source_by edit)
+    pub look-same : (was is : SourceTreeValue) → was ≡ tree_under crates tree.krate.0 (place_of edit) (source_at t (place_of edit)) → is
+        ≡ tree_under crates tree.krate.0 (place_of edit) (source_by edit)
         → seen_at is key ≡ seen_at was key → IsSame key
     look-same was is was_is is_is same =
         look-there ∙ ap (λ (s : SourceTreeValue). seen_at s key) (sym is_is) ∙ same ∙ ap (λ (s : SourceTreeValue). seen_at s key) was_is ∙ sym look-was
 
-    pub look-differs : (was is : SourceTreeValue) → was ≡ tree_under crates tree.krate.0 (place_of edit) (source_at t (place_of edit)) → is ≡ tree_under crates tree.krate.0 (place_of edit) (source_by edit)
+    pub look-differs : (was is : SourceTreeValue) → was ≡ tree_under crates tree.krate.0 (place_of edit) (source_at t (place_of edit)) → is
+        ≡ tree_under crates tree.krate.0 (place_of edit) (source_by edit)
         → seen_at is key ≢ seen_at was key → look tables after no_maps key ≢ look tables now no_maps key
     look-differs was is was_is is_is other e = other (
         ap (λ (s : SourceTreeValue). seen_at s key) is_is ∙ sym look-there ∙ e ∙ look-was ∙ ap (λ (s : SourceTreeValue). seen_at s key) (sym was_is))
@@ -245,10 +257,13 @@ module _ (crates : List CrateValue) (tables : TablesValue) (t : SourceTable) (ed
     beside-same alike = ap (λ (l : EntryLook). of_entry l) ((key_in (numbers.entry_at tables id) asks).0 alike)
 
     pub beside-differs : ¬ IsSeenAlike t edit → look tables after no_maps (keys.Expansion id) ≢ look tables now no_maps (keys.Expansion id)
-    beside-differs ne e = ne ((key_in (numbers.entry_at tables id) asks).1 (let same : entry_under after (numbers.entry_at tables id) ≡ entry_under now (numbers.entry_at tables id) = cc in same))
+    beside-differs ne e =
+        ne ((key_in (numbers.entry_at tables id) asks).1 (let same : entry_under after (numbers.entry_at tables id)
+        ≡ entry_under now (numbers.entry_at tables id) = cc in same))
 
   -- a key that asks for what is edited, and for nothing of a tree's, asks for what stands beside the items of an expansion
-  pub treeless : {A : Type 0} (key : Key) → key_tree key ≡ None → key_place tables key ≡ Some (place_of edit) → ((id : EntryId) → key ≡ keys.Expansion id → A) → A
+  pub treeless : {A : Type 0} (key : Key) → key_tree key ≡ None → key_place tables key ≡ Some (place_of edit) → ((id : EntryId) → key ≡ keys.Expansion id → A)
+      → A
   treeless (keys.Tree k) e asks f = no_value (sym e)
   treeless (keys.Variants id) e asks f = no_value (sym e)
   treeless (keys.Text (macros.Macro2Id id)) e asks f = no_value (sym e)
@@ -262,7 +277,8 @@ module _ (crates : List CrateValue) (tables : TablesValue) (t : SourceTable) (ed
   treeless-same key e asks alike = treeless key e asks (λ id is.
       subst (λ (k : Key). IsSame k) (sym is) (beside-same id (subst (λ (k : Key). key_place tables k ≡ Some (place_of edit)) is asks) alike))
 
-  pub treeless-differs : (key : Key) → key_tree key ≡ None → key_place tables key ≡ Some (place_of edit) → ¬ IsSeenAlike t edit → look tables after no_maps key ≢ look tables now no_maps key
+  pub treeless-differs : (key : Key) → key_tree key ≡ None → key_place tables key ≡ Some (place_of edit) → ¬ IsSeenAlike t edit → look tables after no_maps key
+      ≢ look tables now no_maps key
   treeless-differs key e asks ne = treeless key e asks (λ id is.
       subst (λ (k : Key). look tables after no_maps k ≢ look tables now no_maps k) (sym is)
       (beside-differs id (subst (λ (k : Key). key_place tables k ≡ Some (place_of edit)) is asks) ne))

@@ -1,6 +1,8 @@
-use Rattle.std.proofs.Common.{◌≡◌, ℕ, zero, suc, ◌+◌, ◌<◌, ◌≤◌, true, false, List, [], ◌∷◌, ◌++◌, length, map, is_none, slice_get, drop, get_or, drop-cons, add-one, append_assoc, append-nil, drop_of_length-le, Option, None, Some, refl, sym, ap, subst, ◌∙◌, Contains, arith, nat_le}
+use Rattle.std.proofs.Common.{◌≡◌, ℕ, zero, suc, ◌+◌, ◌<◌, ◌≤◌, true, false, List, [], ◌∷◌, ◌++◌, length, map, is_none, slice_get, drop, get_or, drop-cons}
+use Rattle.std.proofs.Common.{add-one, append_assoc, append-nil, drop_of_length-le, Option, None, Some, refl, sym, ap, subst, ◌∙◌, Contains, arith, nat_le}
 use Rattle.std.proofs.lemmas.List.Folds.{list_any_at}
 use Rattle.hir_base.specs.declared.ids.Crate.{Crate}
+use Rattle.hir_base.specs.declared.ast_id.FileId.{FileId}
 use Rattle.hir_base.specs.declared.ids.MapId.{MapId}
 use Rattle.hir_collector_rules.specs.Calls.{AreCallsPlaced}
 use Rattle.hir_collector_rules.specs.declared.source_database.Dependency.{Dependency}
@@ -13,7 +15,6 @@ use Rattle.hir_session_state.specs.Kept.{Resolutions, kept_in}
 use Rattle.hir_session_state.specs.SessionState.{SessionState, Resolution, is_marked, IsSound}
 use Rattle.hir_session_state.specs.Refusals.{dependency_crates, has_late, first_out_of_order}
 use Rattle.hir_session_state.specs.Beginning.{dependency_of, IsAdded, IsMade, AreMade, AreRooted, Begins}
-use Rattle.hir_base.specs.declared.ast_id.FileId.{FileId}
 use Rattle.hir_tables.specs.Tables.{KeepsTables, TablesValue, file_at}
 use Rattle.hir_session_state.proofs.Truth.{clash, on_bool, on_same}
 use Rattle.std.proofs.lemmas.List.{get_or_append_left, get_or_push}
@@ -44,14 +45,17 @@ beginning-start inputs crates tables none = subst (λ (cs : List CrateValue). Is
 })
 
 -- one more crate is made
-pub beginning-more : (k : ℕ) (inputs : List CrateInput) (crates next : List CrateValue) (first before after : TablesValue) (i other : CrateInput) → k < length inputs
-    → i ≡ get_or inputs k other → IsAdded (crate_input_view i) crates next before after → IsBeginning k inputs crates first before → IsBeginning (k + 1) inputs next first after
+pub beginning-more : (k : ℕ) (inputs : List CrateInput) (crates next : List CrateValue) (first before after : TablesValue) (i other : CrateInput)
+    → k < length inputs
+    → i ≡ get_or inputs k other → IsAdded (crate_input_view i) crates next before after → IsBeginning k inputs crates first before
+    → IsBeginning (k + 1) inputs next first after
 beginning-more k inputs crates next first before after i other within is added so_far = record {
   making = λ rest h.
       let here : drop k inputs ≡ i ∷ drop (k + 1) inputs = rw (add-one, drop-cons inputs k other, is) refl in
       let from : AreMade (map crate_input_view (drop k inputs)) (added.made ∷ rest) = rw here (added.is, h) in
       subst (λ (cs : List CrateValue). AreMade (map crate_input_view inputs) cs)
-      (sym (append_assoc crates (added.made ∷ []) rest) ∙ ap (λ (cs : List CrateValue). cs ++ rest) (sym added.longer)) (so_far.making (added.made ∷ rest) from);
+      (sym (append_assoc crates (added.made ∷ []) rest) ∙ ap (λ (cs : List CrateValue). cs ++ rest) (sym added.longer))
+      (so_far.making (added.made ∷ rest) from);
   rooted = subst (λ (cs : List CrateValue). AreRooted after cs) (sym added.longer) (λ j low. on_same j (length crates)
       (λ e. number_of j added.made (sym (get_or_push crates added.made no_crate j (sym e))) added.number)
       (λ ne.
@@ -71,7 +75,8 @@ beginning-more k inputs crates next first before after i other within is added s
     length_more (x ∷ cs) = let e : length (cs ++ added.made ∷ []) ≡ length cs + 1 = length_more cs in omega arith
 
 -- all crates are made
-pub beginning-end : (k : ℕ) (inputs : List CrateInput) (crates : List CrateValue) (first tables : TablesValue) → length inputs ≤ k → IsBeginning k inputs crates first tables
+pub beginning-end : (k : ℕ) (inputs : List CrateInput) (crates : List CrateValue) (first tables : TablesValue) → length inputs ≤ k
+    → IsBeginning k inputs crates first tables
     → AreMade (map crate_input_view inputs) crates
 beginning-end k inputs crates first tables past so_far =
     let none : drop k inputs ≡ [] = drop_of_length-le inputs past in
@@ -115,7 +120,8 @@ below_from n (i ∷ is) [] made none k d among = absurd made
 below_from n (i ∷ is) (c ∷ cs) made none zero d among = on_bool (has_late n (dependency_crates i.deps))
     (λ late. absurd (let wrong : ⊥ = cc (rw late at none) in wrong))
     (λ early. let lower : d.0 < n = before_all n (dependency_crates i.deps) d early
-    (subst (λ (ds : List Crate). Contains ds d) (ap (λ (ds : List Dependency). map (λ d. d.krate) ds) made.0.config.dependencies ∙ crates_named i.deps) among) in omega arith)
+    (subst (λ (ds : List Crate). Contains ds d) (ap (λ (ds : List Dependency). map (λ d. d.krate) ds) made.0.config.dependencies ∙ crates_named i.deps) among)
+    in omega arith)
 below_from n (i ∷ is) (c ∷ cs) made none (suc k) d among = on_bool (has_late n (dependency_crates i.deps))
     (λ late. absurd (let wrong : ⊥ = cc (rw late at none) in wrong))
     (λ early. let lower : d.0 < n + 1 + k = below_from (n + 1) is cs made.1 (rw early at none) k d among in omega arith)
@@ -144,7 +150,8 @@ begins_sound inputs s few ordered is =
 
 -- the parts of a session that begins
 pub begins_with : (inputs : List CrateInput) (crates : List CrateValue) (tables : TablesValue) (sources : SourceTable) (kept : Resolutions)
-    → AreMade (map crate_input_view inputs) crates → AreRooted tables crates → sources ≡ record { files = []; blocks = []; entries = [] } → ((id : MapId) → kept_in kept id ≡ None)
+    → AreMade (map crate_input_view inputs) crates → AreRooted tables crates → sources ≡ record { files = []; blocks = []; entries = [] }
+    → ((id : MapId) → kept_in kept id ≡ None)
     → (first : TablesValue) → first ≡ record { files = []; blocks = []; entries = []; calls = [] } → tables ≡ record first { files = tables.files }
     → Begins (map crate_input_view inputs) (record { crates = crates; tables = tables; sources = sources; kept = kept })
 begins_with inputs crates tables sources kept made rooted none is_kept first empty others = record {

@@ -1,5 +1,6 @@
 -- The lists that are kept are those of the transitive dependencies of the crates.
-use Rattle.std.proofs.Common.{◌≡◌, inl, inr, ℕ, zero, suc, ◌+◌, ◌<◌, ◌≤◌, List, [], ◌∷◌, ◌++◌, length, map, Option, Some, None, option_map, slice_get, slice_index_or, refl, sym, ap, ◌∙◌, arith}
+use Rattle.std.proofs.Common.{◌≡◌, inl, inr, ℕ, zero, suc, ◌+◌, ◌<◌, ◌≤◌, List, [], ◌∷◌, ◌++◌, length, map, Option, Some, None, option_map, slice_get}
+use Rattle.std.proofs.Common.{slice_index_or, refl, sym, ap, ◌∙◌, arith}
 use Rattle.std.proofs.lemmas.Bool.{cases_lt}
 use Rattle.hir_base.specs.declared.ids.Crate.{Crate}
 use Rattle.hir_crate_graph.specs.Dependencies.{AreTransitive}
@@ -27,12 +28,15 @@ listed_at crates lists are krate = elim (cases_lt krate.0 (length lists)) [
   | inl lt ↦
       let there : krate.0 < length crates = omega (arith, are.count) in
       some_at lists krate.0 [] lt
-      ∙ ap (λ (cs : List Crate). Some cs) (ap (λ (all : List (List Crate)). slice_index_or all krate.0 []) are.each.each ∙ transitive_at (dependencies_in crates) (length lists) krate.0 lt)
-      ∙ ap (λ (o : Option CrateValue). option_map (λ (c : ConfigValue). transitive_in crates krate.0) (option_map (λ (c : CrateValue). c.config) o)) (sym (some_at crates krate.0 (crate_in crates krate.0) there))
+      ∙ ap (λ (cs : List Crate). Some cs) (ap (λ (all : List (List Crate)). slice_index_or all krate.0 []) are.each.each ∙ transitive_at
+      (dependencies_in crates) (length lists) krate.0 lt)
+      ∙ ap (λ (o : Option CrateValue). option_map (λ (c : ConfigValue). transitive_in crates krate.0) (option_map (λ (c : CrateValue). c.config) o))
+      (sym (some_at crates krate.0 (crate_in crates krate.0) there))
   | inr le ↦
       let past : length crates ≤ krate.0 = omega (arith, are.count) in
       none_at lists krate.0 le
-      ∙ ap (λ (o : Option CrateValue). option_map (λ (c : ConfigValue). transitive_in crates krate.0) (option_map (λ (c : CrateValue). c.config) o)) (sym (none_at crates krate.0 past))
+      ∙ ap (λ (o : Option CrateValue). option_map (λ (c : ConfigValue). transitive_in crates krate.0) (option_map (λ (c : CrateValue). c.config) o))
+      (sym (none_at crates krate.0 past))
 ]
 
 -- the lists of the crates below a number
@@ -54,8 +58,10 @@ direct_at crates k c other lt is =
     (some_at crates k other lt ∙ ap (λ (x : CrateValue). Some x) (sym is))
 
 -- one more
-pub listed-more : (crates : List CrateValue) (old new : List (List Crate)) (k : ℕ) (c other : CrateValue) → k < length crates → c ≡ slice_index_or crates k other → AreListed crates old k
-    → ((direct : ℕ → List Crate) → AreTransitive direct old → direct (length old) ≡ map (λ (d : Dependency). d.krate) c.config.dependencies → AreTransitive direct new)
+pub listed-more : (crates : List CrateValue) (old new : List (List Crate)) (k : ℕ) (c other : CrateValue) → k < length crates → c
+    ≡ slice_index_or crates k other → AreListed crates old k
+    → ((direct : ℕ → List Crate) → AreTransitive direct old → direct (length old) ≡ map (λ (d : Dependency). d.krate) c.config.dependencies
+    → AreTransitive direct new)
     → length new ≡ length old + 1 → AreListed crates new (k + 1)
 listed-more crates old new k c other lt is so_far added longer = record {
   count = let count = so_far.count in omega arith;

@@ -1,5 +1,6 @@
 -- What is kept of sources under crates, by place, before a change and after it.
-use Rattle.std.proofs.Common.{◌≡◌, nat_eq, Bool, true, false, ◌&&◌, cond, not, filter, if◌then◌else◌, List, ℕ, Option, Some, None, option_map, refl, sym, ap, ◌∙◌}
+use Rattle.std.proofs.Common.{◌≡◌, nat_eq, Bool, true, false, ◌&&◌, cond, not, filter, if◌then◌else◌, List, ℕ, Option, Some, None, option_map, refl, sym, ap}
+use Rattle.std.proofs.Common.{◌∙◌}
 use Rattle.std.specs.BTreeMap.{is_at, insert_entry}
 use Rattle.std.specs.Map.{lookup}
 use Rattle.std.specs.Option.{option_and_then}
@@ -11,9 +12,9 @@ use Rattle.std.specs.declared.rc.Rc.{Rc}
 use Rattle.hir_base.specs.contracts.ids.CrateOrd.TheImpl as crate_order
 use Rattle.hir_base.specs.contracts.macro_kind.ExpansionKeyOrd.TheImpl as key_order
 use Rattle.hir_base.specs.contracts.place.BlockPlaceOrd.TheImpl as block_order
+use Rattle.hir_base.specs.declared.place.BlockPlace.{BlockPlace}
 use Rattle.hir_base.specs.declared.ids.Crate.{Crate}
 use Rattle.hir_base.specs.declared.macro_kind.ExpansionKey.{ExpansionKey}
-use Rattle.hir_base.specs.declared.place.BlockPlace.{BlockPlace}
 use Rattle.hir_item_tree.specs.SourceTree.{SourceTreeValue}
 use Rattle.hir_tables.specs.SourcePlaces.{ExpansionValue, SourcePlaceValue, expansion_value, block, expansion, file}
 use Rattle.hir_session_state.specs.Entries.{by_value, expansion_cmp}
@@ -30,24 +31,30 @@ ByKey V = List (ExpansionKey × V)
 
 module _ {V : Type 0} where
   -- it is found by what its key says
-  pub found_by_value : (key : ExpansionKey) (es : ByKey V) → lookup (is_at (key_order.ghosts.cmp key)) es ≡ lookup (is_at (expansion_cmp (expansion_value key))) (by_value es)
+  pub found_by_value : (key : ExpansionKey) (es : ByKey V) → lookup (is_at (key_order.ghosts.cmp key)) es ≡ lookup (is_at (expansion_cmp (expansion_value key)))
+      (by_value es)
   found_by_value key es = lookup-renamed expansion_value key_order.ghosts.cmp expansion_cmp compared_alike key es
 
-  pub set_by_value : (es : ByKey V) (key : ExpansionKey) (v : V) → by_value (insert_entry key_order.ghosts.cmp es key v) ≡ insert_entry expansion_cmp (by_value es) (expansion_value key) v
+  pub set_by_value : (es : ByKey V) (key : ExpansionKey) (v : V) → by_value (insert_entry key_order.ghosts.cmp es key v)
+      ≡ insert_entry expansion_cmp (by_value es) (expansion_value key) v
   set_by_value es key v = renamed-insert_entry expansion_value key_order.ghosts.cmp expansion_cmp compared_alike es key v
 
   pub without_by_value : (key : ExpansionKey) (es : ByKey V)
-      → by_value (filter (λ (e : ExpansionKey × V). not (is_at (key_order.ghosts.cmp key) e.0)) es) ≡ filter (λ (e : ExpansionValue × V). not (is_at (expansion_cmp (expansion_value key)) e.0)) (by_value es)
+      → by_value (filter (λ (e : ExpansionKey × V). not (is_at (key_order.ghosts.cmp key) e.0)) es)
+      ≡ filter (λ (e : ExpansionValue × V). not (is_at (expansion_cmp (expansion_value key)) e.0)) (by_value es)
   without_by_value key es = renamed-without expansion_value key_order.ghosts.cmp expansion_cmp compared_alike key es
 
   pub found-set : (es : ByKey V) (key : ExpansionKey) (v : V) (q : ExpansionValue)
-      → lookup (is_at (expansion_cmp q)) (by_value (insert_entry key_order.ghosts.cmp es key v)) ≡ cond (is_at (expansion_cmp (expansion_value key)) q) (Some v) (lookup (is_at (expansion_cmp q)) (by_value es))
-  found-set es key v q = ap (lookup (is_at (expansion_cmp q))) (set_by_value es key v) ∙ lookup-insert_entry expansion_cmp exact_expansions (by_value es) (expansion_value key) v q
+      → lookup (is_at (expansion_cmp q)) (by_value (insert_entry key_order.ghosts.cmp es key v)) ≡ cond (is_at (expansion_cmp (expansion_value key)) q) (Some v)
+      (lookup (is_at (expansion_cmp q)) (by_value es))
+  found-set es key v q =
+      ap (lookup (is_at (expansion_cmp q))) (set_by_value es key v) ∙ lookup-insert_entry expansion_cmp exact_expansions (by_value es) (expansion_value key) v q
 
   pub found-without : (es : ByKey V) (key : ExpansionKey) (q : ExpansionValue)
       → lookup (is_at (expansion_cmp q)) (by_value (filter (λ (e : ExpansionKey × V). not (is_at (key_order.ghosts.cmp key) e.0)) es))
       ≡ cond (is_at (expansion_cmp (expansion_value key)) q) None (lookup (is_at (expansion_cmp q)) (by_value es))
-  found-without es key q = ap (lookup (is_at (expansion_cmp q))) (without_by_value key es) ∙ lookup-without expansion_cmp exact_expansions (by_value es) (expansion_value key) q
+  found-without es key q =
+      ap (lookup (is_at (expansion_cmp q))) (without_by_value key es) ∙ lookup-without expansion_cmp exact_expansions (by_value es) (expansion_value key) q
 
 -- ---- trees
 
@@ -66,7 +73,8 @@ pub expansion_kept : (old new : Trees) (key copy : ExpansionKey) (krate : Crate)
 expansion_kept old new key copy krate tree copied becomes calls q c =
     ap (λ (es : Trees). expansion_tree es q c) becomes
     ∙ ap (λ (o : Option (Rc SourceTreeValue Global)). if nat_eq q.caller.0 c.0 then option_map (λ t. t.value) o else None)
-    (found-set old copy tree q ∙ ap (λ (k : ExpansionValue). cond (is_at (expansion_cmp k) q) (Some tree) (lookup (is_at (expansion_cmp q)) (by_value old))) copied)
+    (found-set old copy tree q ∙ ap (λ (k : ExpansionValue). cond (is_at (expansion_cmp k) q) (Some tree) (lookup (is_at (expansion_cmp q)) (by_value old)))
+    copied)
     ∙ on_bool (is_at (expansion_cmp (expansion_value key)) q)
     (λ on.
     let same : expansion_value key ≡ q = exact_expansions.same (expansion_value key) q on in
@@ -97,7 +105,8 @@ block_kept old new place krate tree becomes own q c =
     ∙ on_bool (is_at (block_order.ghosts.cmp place) q)
     (λ on.
     let by : nat_eq q.holder.krate.0 c.0 ≡ nat_eq krate.0 c.0 =
-    ap (λ (k : BlockPlace). nat_eq k.holder.krate.0 c.0) (sym (exact_blocks.same place q on)) ∙ ap (λ (n : ℕ). nat_eq n c.0) (eqb-true place.holder.krate.0 krate.0 own) in
+    ap (λ (k : BlockPlace). nat_eq k.holder.krate.0 c.0) (sym (exact_blocks.same place q on)) ∙ ap (λ (n : ℕ). nat_eq n c.0)
+    (eqb-true place.holder.krate.0 krate.0 own) in
     on_bool (nat_eq krate.0 c.0)
     (λ there. let here = by ∙ there in rw (on, here, own, there) refl)
     (λ other. let there = by ∙ other in rw (on, there, own, other) refl))
@@ -119,7 +128,8 @@ FilesStay old new = new.by_path.entries ≡ old.by_path.entries
 
 module _ (old new : SourceTrees) where
   of_files : FilesStay old new → (j : List ℕ) (c : Crate) → tree_in new (file j) c ≡ tree_in old (file j) c
-  of_files stay j c = ap (λ (es : List (List ℕ × CrateTrees)). option_and_then (λ (kept : CrateTrees). tree_by kept c) (lookup (is_at (slice_cmp nat_cmp j)) es)) stay
+  of_files stay j c =
+      ap (λ (es : List (List ℕ × CrateTrees)). option_and_then (λ (kept : CrateTrees). tree_by kept c) (lookup (is_at (slice_cmp nat_cmp j)) es)) stay
 
   of_blocks : BlocksStay old new → (q : BlockPlace) (c : Crate) → tree_in new (block q) c ≡ tree_in old (block q) c
   of_blocks stay q c = ap (λ (es : BlockTrees). block_tree es q c) stay
@@ -129,7 +139,8 @@ module _ (old new : SourceTrees) where
 
   -- what is kept of files becomes so, and all else is as it was
   pub files_become : (path : List ℕ) (krate : Crate) (tree : SourceTreeValue) → BlocksStay old new → ExpansionsStay old new
-      → ((j : List ℕ) (k : Crate) → tree_in new (file j) k ≡ cond (is_at (slice_cmp nat_cmp path) j && is_at (crate_order.ghosts.cmp krate) k) (Some tree) (tree_in old (file j) k))
+      → ((j : List ℕ) (k : Crate) → tree_in new (file j) k ≡ cond (is_at (slice_cmp nat_cmp path) j && is_at (crate_order.ghosts.cmp krate) k) (Some tree)
+      (tree_in old (file j) k))
       → (p : SourcePlaceValue) (c : Crate) → tree_in new p c ≡ (if is_kept_at (file path) krate p c then Some tree else tree_in old p c)
   files_become path krate tree blocks expansions becomes (file j) c = becomes j c
   files_become path krate tree blocks expansions becomes (block q) c = of_blocks blocks q c
@@ -153,11 +164,13 @@ module _ (old new : SourceTrees) where
       → new.by_block.entries ≡ insert_entry block_order.ghosts.cmp old.by_block.entries place tree → nat_eq place.holder.krate.0 krate.0 ≡ true
       → (p : SourcePlaceValue) (c : Crate) → tree_in new p c ≡ (if is_kept_at (block place) krate p c then Some tree.value else tree_in old p c)
   blocks_become place krate tree files expansions becomes own (file j) c = of_files files j c
-  blocks_become place krate tree files expansions becomes own (block q) c = block_kept old.by_block.entries new.by_block.entries place krate tree becomes own q c
+  blocks_become place krate tree files expansions becomes own (block q) c =
+      block_kept old.by_block.entries new.by_block.entries place krate tree becomes own q c
   blocks_become place krate tree files expansions becomes own (expansion q) c = of_expansions expansions q c
 
   -- what is dropped of a block is gone, and all else is as it was
-  pub block_gone : (place : BlockPlace) → new.by_block.entries ≡ filter (λ (e : BlockPlace × Rc SourceTreeValue Global). not (is_at (block_order.ghosts.cmp place) e.0)) old.by_block.entries
+  pub block_gone : (place : BlockPlace) → new.by_block.entries
+      ≡ filter (λ (e : BlockPlace × Rc SourceTreeValue Global). not (is_at (block_order.ghosts.cmp place) e.0)) old.by_block.entries
       → (c : Crate) → tree_in new (block place) c ≡ None
   block_gone place becomes c =
       ap (λ (es : BlockTrees). block_tree es place c) becomes
@@ -178,21 +191,26 @@ module _ (old new : SourceTrees) where
   other_blocks place files expansions becomes (expansion q) c off = of_expansions expansions q c
 
   -- and so what is kept of expansions
-  pub expansions_become : (key copy : ExpansionKey) (krate : Crate) (tree : Rc SourceTreeValue Global) → FilesStay old new → BlocksStay old new → expansion_value copy ≡ expansion_value key
+  pub expansions_become : (key copy : ExpansionKey) (krate : Crate) (tree : Rc SourceTreeValue Global) → FilesStay old new → BlocksStay old new
+      → expansion_value copy ≡ expansion_value key
       → new.by_key.entries ≡ insert_entry key_order.ghosts.cmp old.by_key.entries copy tree → nat_eq key.caller.0 krate.0 ≡ true
-      → (p : SourcePlaceValue) (c : Crate) → tree_in new p c ≡ (if is_kept_at (expansion (expansion_value key)) krate p c then Some tree.value else tree_in old p c)
+      → (p : SourcePlaceValue) (c : Crate) → tree_in new p c ≡ (if is_kept_at (expansion (expansion_value key)) krate p c then Some tree.value
+      else tree_in old p c)
   expansions_become key copy krate tree files blocks copied becomes calls (file j) c = of_files files j c
   expansions_become key copy krate tree files blocks copied becomes calls (block q) c = of_blocks blocks q c
-  expansions_become key copy krate tree files blocks copied becomes calls (expansion q) c = expansion_kept old.by_key.entries new.by_key.entries key copy krate tree copied becomes calls q c
+  expansions_become key copy krate tree files blocks copied becomes calls (expansion q) c =
+      expansion_kept old.by_key.entries new.by_key.entries key copy krate tree copied becomes calls q c
 
   -- what is dropped of an expansion is gone, and all else is as it was
-  pub expansion_gone : (key : ExpansionKey) → new.by_key.entries ≡ filter (λ (e : ExpansionKey × Rc SourceTreeValue Global). not (is_at (key_order.ghosts.cmp key) e.0)) old.by_key.entries
+  pub expansion_gone : (key : ExpansionKey) → new.by_key.entries
+      ≡ filter (λ (e : ExpansionKey × Rc SourceTreeValue Global). not (is_at (key_order.ghosts.cmp key) e.0)) old.by_key.entries
       → (c : Crate) → tree_in new (expansion (expansion_value key)) c ≡ None
   expansion_gone key becomes c =
       ap (λ (es : Trees). expansion_tree es (expansion_value key) c) becomes
       ∙ ap (λ (o : Option (Rc SourceTreeValue Global)). if nat_eq key.caller.0 c.0 then option_map (λ t. t.value) o else None)
       (found-without old.by_key.entries key (expansion_value key)
-      ∙ ap (λ (b : Bool). cond b None (lookup (is_at (expansion_cmp (expansion_value key))) (by_value old.by_key.entries))) (exact_expansions.own (expansion_value key)))
+      ∙ ap (λ (b : Bool). cond b None (lookup (is_at (expansion_cmp (expansion_value key))) (by_value old.by_key.entries)))
+      (exact_expansions.own (expansion_value key)))
       ∙ on_bool (nat_eq key.caller.0 c.0) (λ on. rw on refl) (λ off. rw off refl)
 
   pub other_expansions : (key : ExpansionKey) → FilesStay old new → BlocksStay old new

@@ -62,4 +62,5 @@ pub record AreCurrent (w : Workspace) (trees : SourceTrees) : Type 0 where
 
 -- that is a fact
 pub current_prop : (w : Workspace) (trees : SourceTrees) → IsProp (AreCurrent w trees)
-current_prop w trees x y = λ i. record { each = λ place krate t kept. Coded-set coded_source_tree _ _ (x.each place krate t kept) (y.each place krate t kept) i }
+current_prop w trees x y =
+    λ i. record { each = λ place krate t kept. Coded-set coded_source_tree _ _ (x.each place krate t kept) (y.each place krate t kept) i }

@@ -7,7 +7,8 @@ use Rattle.hir_base.specs.declared.ids.MapId.{MapId}
 use Rattle.hir_base.specs.declared.ids.ModuleId.{ModuleId}
 use Rattle.hir_def_map_rules.specs.State.{crate_map}
 use Rattle.hir_session_state.specs.Crates.{dependencies_in, id_of}
-use Rattle.hir_session_state.specs.SessionState.{SessionState, Resolution, dependencies_of, follows, follows_by, held_maps, holder_maps, is_marked, kept_of, IsSound}
+use Rattle.hir_session_state.specs.SessionState.{SessionState, Resolution, dependencies_of, follows, follows_by, held_maps, holder_maps, is_marked, kept_of}
+use Rattle.hir_session_state.specs.SessionState.{IsSound}
 use Rattle.hir_crate_graph.specs.Dependencies.{DependsOn}
 use Rattle.hir_crate_graph.specs.Dependencies.DependsOn.{directly, through}
 use Rattle.hir_session_state.specs.Spread.{Spread}
@@ -34,15 +35,18 @@ pub followed : (s : SessionState) (krate d : Crate) → Contains (dependencies_i
 followed s krate d among = mapped (dependencies_in s.crates krate.0) d among
 
 -- and what is followed is the map of a dependency
-pub dependency_behind : (s : SessionState) (krate : Crate) (d : MapId) → Contains (follows s (crate_map krate)) d → (c : Crate) × Contains (dependencies_in s.crates krate.0) c × (d ≡ crate_map c)
+pub dependency_behind : (s : SessionState) (krate : Crate) (d : MapId) → Contains (follows s (crate_map krate)) d → (c : Crate)
+    × Contains (dependencies_in s.crates krate.0) c × (d ≡ crate_map c)
 dependency_behind s krate d among = of_mapped (dependencies_in s.crates krate.0) d among
 
 -- the map of a dependency of an unmarked crate is unmarked
-pub follows_unmarked : {s : SessionState} → IsSound s → (k : ℕ) (d : Crate) → is_marked s (id_of k) ≡ false → Contains (dependencies_of s k) d → is_marked s (crate_map d) ≡ false
+pub follows_unmarked : {s : SessionState} → IsSound s → (k : ℕ) (d : Crate) → is_marked s (id_of k) ≡ false → Contains (dependencies_of s k) d
+    → is_marked s (crate_map d) ≡ false
 follows_unmarked {s} sound k d off among = sound.closed (id_of k) (crate_map d) off (followed s (record { 0 = k }) d among)
 
 -- what is spread to the map of a crate is spread to those of all that stand on it
-pub spread_on : (s : SessionState) {P : MapId → Type 0} {k i : ℕ} → DependsOn (dependencies_of s) k i → Spread (follows s) P (id_of i) → Spread (follows s) P (id_of k)
+pub spread_on : (s : SessionState) {P : MapId → Type 0} {k i : ℕ} → DependsOn (dependencies_of s) k i → Spread (follows s) P (id_of i)
+    → Spread (follows s) P (id_of k)
 spread_on s (directly k d among) sp = depends (id_of k) (crate_map d) (followed s (record { 0 = k }) d among) sp
 spread_on s (through k j d among rest) sp = depends (id_of k) (crate_map d) (followed s (record { 0 = k }) d among) (spread_on s rest sp)
 
@@ -53,7 +57,8 @@ pub followed_crate : (s : SessionState) (id : MapId) (b : BlockId) → id.block 
 followed_crate s id b of = subst (λ (o : Option BlockId). Contains (follows_by s id o) (crate_map id.krate)) (sym of) (zero, omega arith, refl)
 
 -- so is that in which the module lies that holds what is kept of it
-pub followed_holder : (s : SessionState) (id : MapId) (b : BlockId) (r : Resolution) (h : ModuleId) → id.block ≡ Some b → kept_of s id ≡ Some r → r.map.holder ≡ Some h
+pub followed_holder : (s : SessionState) (id : MapId) (b : BlockId) (r : Resolution) (h : ModuleId) → id.block ≡ Some b → kept_of s id ≡ Some r → r.map.holder
+    ≡ Some h
     → Contains (follows s id) h.map
 followed_holder s id b r h of is held =
     subst (λ (o : Option BlockId). Contains (follows_by s id o) h.map) (sym of)
@@ -68,7 +73,8 @@ pub record IsHolderMap (s : SessionState) (id d : MapId) : Type 0 where
   pub held : found.map.holder ≡ Some holder
   pub at : d ≡ holder.map
 
-pub behind_block : (s : SessionState) (id : MapId) (b : BlockId) → id.block ≡ Some b → (d : MapId) → Contains (follows s id) d → (d ≡ crate_map id.krate) ⊎ IsHolderMap s id d
+pub behind_block : (s : SessionState) (id : MapId) (b : BlockId) → id.block ≡ Some b → (d : MapId) → Contains (follows s id) d → (d ≡ crate_map id.krate)
+    ⊎ IsHolderMap s id d
 behind_block s id b of d among = go (subst (λ (o : Option BlockId). Contains (follows_by s id o) d) of among)
   where
     none : {A : Type 0} → Contains [] d → A

@@ -7,7 +7,8 @@ use Rattle.hir_import_resolution.specs.State.{ImportState}
 use Rattle.hir_tables.specs.Tables.{TablesValue}
 use Rattle.hir_collector_rules.specs.Keys.{Environment}
 use Rattle.hir_collector_rules.specs.State.{Core, State, import_state}
-use Rattle.hir_collector_rules.specs.Changes.{Change, lists, makes, gives_variants, begins_paths, reaches, awaits, ends, settles, changes_imports, adds_textual, takes_textual, defines, describes, helps, lists_derive, exports, uses_macros, tells, goes_on, act, perform}
+use Rattle.hir_collector_rules.specs.Changes.{Change, lists, makes, gives_variants, begins_paths, reaches, awaits, ends, settles, changes_imports, adds_textual}
+use Rattle.hir_collector_rules.specs.Changes.{takes_textual, defines, describes, helps, lists_derive, notes, exports, uses_macros, tells, goes_on, act, perform}
 use Rattle.hir_collector_rules.specs.Derivation.{CollectedValue, Ends}
 use Rattle.hir_collector_rules.specs.Ended.{ended, exporting_scope}
 use Rattle.hir_collector_rules.specs.Start.{Beginning, holder_of}
@@ -22,27 +23,10 @@ edited_holder m None = refl
 edited_holder m (Some e) = refl
 
 act_holder : (s : State) (c : Change) → (act s c).core.map.holder ≡ s.core.map.holder
-act_holder s (lists home d) = refl
-act_holder s (makes home name origin visibility) = refl
-act_holder s (gives_variants id variants) = refl
-act_holder s (begins_paths r) = refl
-act_holder s (reaches rs) = refl
-act_holder s (awaits calls) = refl
-act_holder s (ends i fate) = refl
-act_holder s settles = refl
 act_holder s (changes_imports c) =
     let i : ImportState = import_state s in
     ap (λ (m : Map). m.holder) (map_after i c) ∙ edited_holder i.map (edit_of i c)
-act_holder s (adds_textual home name makro) = refl
-act_holder s (takes_textual home from) = refl
-act_holder s (defines node makro) = refl
-act_holder s (describes makro what) = refl
-act_holder s (helps node helper) = refl
-act_holder s (lists_derive home imp) = refl
-act_holder s (exports f makro) = refl
-act_holder s (uses_macros macros by) = refl
-act_holder s (tells d) = refl
-act_holder s (goes_on tasks) = refl
+act_holder s other = refl
 
 perform_holder : (cs : List Change) (s : State) → (perform s cs).core.map.holder ≡ s.core.map.holder
 perform_holder [] s = refl
@@ -67,5 +51,6 @@ ended_holder c = go c.is_proc_macro
     go true = refl
     go false = refl
 
-pub ends_held : {tables : TablesValue} {w : Workspace} {finished : Maps} {from : Beginning} {answer : CollectedValue} → Ends tables w finished from answer → answer.map.holder ≡ holder_of from.start
+pub ends_held : {tables : TablesValue} {w : Workspace} {finished : Maps} {from : Beginning} {answer : CollectedValue} → Ends tables w finished from answer
+    → answer.map.holder ≡ holder_of from.start
 ends_held e = ap (λ (m : Map). m.holder) e.map_is ∙ ended_holder e.last.core ∙ steps_holder e.derived

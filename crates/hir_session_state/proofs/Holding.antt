@@ -1,5 +1,6 @@
 -- The modules that hold a block are kept, and what is kept of a block knows them all.
-use Rattle.std.proofs.Common.{◌≡◌, ◌∙◌, ap, sym, subst, refl, zero, suc, ◌<◌, Bool, true, false, not, ◌&&◌, ◌||◌, cond, is_some, Option, Some, None, option_map, List, [], ◌∷◌, arith, Contains}
+use Rattle.std.proofs.Common.{◌≡◌, ◌∙◌, ap, sym, subst, refl, zero, suc, ◌<◌, Bool, true, false, not, ◌&&◌, ◌||◌, cond, is_some, Option, Some, None, option_map}
+use Rattle.std.proofs.Common.{List, [], ◌∷◌, arith, Contains}
 use Rattle.std.specs.Option.{option_and_then}
 use Rattle.hir_base.specs.contracts.ids.MapIdPartialEq.TheImpl as map_id
 use Rattle.hir_base.specs.declared.ast_id.BlockId.{BlockId}
@@ -42,10 +43,13 @@ module _ (s : SessionState) (id : MapId) (r : Resolution) (p : IsResolutionOf s 
   read_there h held =
       let there : is_holder_for (overlay read r.map) r.map.id (Some h) ≡ true = ap (is_holder_for (overlay read r.map) r.map.id) (sym held) ∙ p.names.held in
       let out : not (map_id.ghosts.eq h.map r.map.id) ≡ true = ap (is_held_outside r.map.id) (sym held) ∙ p.names.outside in
-      let one : same_crate h.map.krate r.map.id.krate ≡ true = and_left (same_crate h.map.krate r.map.id.krate) (is_some (module_in (overlay read r.map) h)) there in
-      let other : is_some (module_in (overlay read r.map) h) ≡ true = and_right (same_crate h.map.krate r.map.id.krate) (is_some (module_in (overlay read r.map) h)) there in (
+      let one : same_crate h.map.krate r.map.id.krate ≡ true = and_left (same_crate h.map.krate r.map.id.krate) (is_some (module_in (overlay read r.map) h))
+      there in
+      let other : is_some (module_in (overlay read r.map) h) ≡ true = and_right (same_crate h.map.krate r.map.id.krate)
+      (is_some (module_in (overlay read r.map) h)) there in (
         ap (λ (x : MapId). same_crate h.map.krate x.krate) (sym p.own) ∙ one,
-        ap (λ (b : Bool). is_some (option_and_then (λ (q : Placed). module_at q.map h.index) (cond b (Some (placed_in read r.map)) (read h.map)))) (sym (off (map_id.ghosts.eq h.map r.map.id) out)) ∙ other,
+        ap (λ (b : Bool). is_some (option_and_then (λ (q : Placed). module_at q.map h.index) (cond b (Some (placed_in read r.map)) (read h.map))))
+            (sym (off (map_id.ghosts.eq h.map r.map.id) out)) ∙ other,
       )
     where
       off : (b : Bool) → not b ≡ true → b ≡ false
@@ -65,7 +69,8 @@ module _ (s : SessionState) (id : MapId) (r : Resolution) (p : IsResolutionOf s 
           ∙ ap (λ (b : Bool). cond (b && is_some (finished_of s h.map)) (h ∷ holders_of (finished_of s h.map)) []) same
           ∙ ap (λ (o : Option Resolution). cond (is_some (option_map placed_by o)) (h ∷ holders_of (option_map placed_by o)) []) is
 
-      kept : same_crate h.map.krate id.krate ≡ true → (q : Placed) → is_some (module_at q.map h.index) ≡ true → (o : Option Resolution) → kept_of s h.map ≡ o → option_map placed_by o ≡ Some q
+      kept : same_crate h.map.krate id.krate ≡ true → (q : Placed) → is_some (module_at q.map h.index) ≡ true → (o : Option Resolution) → kept_of s h.map ≡ o
+          → option_map placed_by o ≡ Some q
           → IsHolderKept s id r h
       kept same q there None is e = no_value e
       kept same q there (Some f) is e = record {
@@ -77,7 +82,8 @@ module _ (s : SessionState) (id : MapId) (r : Resolution) (p : IsResolutionOf s 
         holders = holders_there same f is;
       }
 
-      go : same_crate h.map.krate id.krate ≡ true → (o : Option Placed) → read h.map ≡ o → is_some (option_and_then (λ (q : Placed). module_at q.map h.index) o) ≡ true → IsHolderKept s id r h
+      go : same_crate h.map.krate id.krate ≡ true → (o : Option Placed) → read h.map ≡ o → is_some (option_and_then (λ (q : Placed). module_at q.map h.index) o)
+          ≡ true → IsHolderKept s id r h
       go same None e there = clash there refl
       go same (Some q) e there =
           let only = among-only (transitive_in s.crates id.krate.0) r.holders (finished_of s) h.map q e in
@@ -86,7 +92,8 @@ module _ (s : SessionState) (id : MapId) (r : Resolution) (p : IsResolutionOf s 
   -- a crate has none
   pub crate_holders : id.block ≡ None → r.holders ≡ []
   crate_holders of =
-      let alone : r.map.holder ≡ None = p.holder ∙ crate_unheld s id.krate p.from (subst (λ (o : Option BlockId). beginning_by s id.krate o ≡ Some p.from) of p.begun) in
+      let alone : r.map.holder ≡ None = p.holder ∙ crate_unheld s id.krate p.from (subst (λ (o : Option BlockId). beginning_by s id.krate o ≡ Some p.from) of
+      p.begun) in
       p.holders ∙ ap (holders_under (finished_of s) r.map.id) alone
 
   -- a block has one
@@ -106,11 +113,13 @@ module _ (s : SessionState) (id : MapId) (r : Resolution) (p : IsResolutionOf s 
   held_block h held = go id.block refl
     where
       go : (o : Option BlockId) → id.block ≡ o → (b : BlockId) × (id.block ≡ Some b)
-      go None of = no_value (sym (p.holder ∙ crate_unheld s id.krate p.from (subst (λ (o : Option BlockId). beginning_by s id.krate o ≡ Some p.from) of p.begun)) ∙ held)
+      go None of =
+          no_value (sym (p.holder ∙ crate_unheld s id.krate p.from (subst (λ (o : Option BlockId). beginning_by s id.krate o ≡ Some p.from) of p.begun)) ∙ held)
       go (Some b) of = (b, of)
 
   -- the first of several holders is the holder
-  pub first_holder : (h : ModuleId) (hs : List ModuleId) → r.holders ≡ h ∷ hs → (r.map.holder ≡ Some h) × ((f : Resolution) → kept_of s h.map ≡ Some f → f.holders ≡ hs)
+  pub first_holder : (h : ModuleId) (hs : List ModuleId) → r.holders ≡ h ∷ hs → (r.map.holder ≡ Some h)
+      × ((f : Resolution) → kept_of s h.map ≡ Some f → f.holders ≡ hs)
   first_holder h hs e = go r.map.holder refl
     where
       go : (o : Option ModuleId) → r.map.holder ≡ o → (r.map.holder ≡ Some h) × ((f : Resolution) → kept_of s h.map ≡ Some f → f.holders ≡ hs)
@@ -169,7 +178,8 @@ module _ (s : SessionState) (sound : IsSound s) where
       record { block = block.0; of = block.1; held = first.0; kept = kept; rest = first.1 kept.found kept.is }
 
   -- what holds of a place and, with a place, of those that it follows, holds of the maps in which its holders lie
-  pub holders_hold : {P : MapId → Type 0} → ((id d : MapId) → P id → Contains (follows s id) d → P d) → (hs : List ModuleId) (id : MapId) (r : Resolution) → kept_of s id ≡ Some r → r.holders ≡ hs
+  pub holders_hold : {P : MapId → Type 0} → ((id d : MapId) → P id → Contains (follows s id) d → P d) → (hs : List ModuleId) (id : MapId) (r : Resolution)
+      → kept_of s id ≡ Some r → r.holders ≡ hs
       → P id → (h : ModuleId) → Contains hs h → P h.map
   holders_hold outwards [] id r is e p h among = absurd (let past : among.0 < 0 = among.1 in omega arith)
   holders_hold {P} outwards (x ∷ xs) id r is e p h (zero, within, same) =
@@ -181,7 +191,8 @@ module _ (s : SessionState) (sound : IsSound s) where
       (outwards id x.map p (followed_holder s id first.block r x first.of is first.held)) h (n, omega arith, same)
 
   -- all of them lie in maps of one crate
-  pub same_krate : (hs : List ModuleId) (h : ModuleId) (r : Resolution) → kept_of s h.map ≡ Some r → r.holders ≡ hs → (id : MapId) → holds (h ∷ hs) id ≡ true → id.krate ≡ h.map.krate
+  pub same_krate : (hs : List ModuleId) (h : ModuleId) (r : Resolution) → kept_of s h.map ≡ Some r → r.holders ≡ hs → (id : MapId) → holds (h ∷ hs) id ≡ true
+      → id.krate ≡ h.map.krate
   same_krate [] h r is e id lies = on_bool (map_id.ghosts.eq h.map id)
       (λ same. sym (ap (λ (x : MapId). x.krate) (exact_map h.map id same)))
       (λ other. clash (or_first (map_id.ghosts.eq h.map id) false lies other) refl)
@@ -192,7 +203,8 @@ module _ (s : SessionState) (sound : IsSound s) where
       same_krate xs x first.kept.found first.kept.is first.rest id (or_first (map_id.ghosts.eq h.map id) (holds (x ∷ xs) id) lies other) ∙ first.kept.krate)
 
   -- one of them lies in the map of the block's crate
-  pub in_own_crate : (hs : List ModuleId) (id : MapId) (r : Resolution) (b : BlockId) → kept_of s id ≡ Some r → r.holders ≡ hs → id.block ≡ Some b → holds hs (crate_map id.krate) ≡ true
+  pub in_own_crate : (hs : List ModuleId) (id : MapId) (r : Resolution) (b : BlockId) → kept_of s id ≡ Some r → r.holders ≡ hs → id.block ≡ Some b
+      → holds hs (crate_map id.krate) ≡ true
   in_own_crate [] id r b is e of =
       let one = block_held s id r (kept_gives s sound id r is) b of in
       absurd (let wrong : [] ≡ one.begun.holder ∷ one.kept.found.holders = sym e ∙ one.kept.holders in let no : ⊥ = cc in no)

@@ -1,5 +1,6 @@
 -- What maps in a world, and what else is kept of each run, tell together.
-use Rattle.std.proofs.Common.{◌≡◌, ◌≢◌, ◌∙◌, ap, sym, subst, refl, ℕ, zero, suc, ◌<◌, ◌+◌, Bool, true, false, not, is_some, cond, Option, Some, None, List, [], ◌∷◌, ◌⊎◌, inl, inr, length, get_or, map, arith}
+use Rattle.std.proofs.Common.{◌≡◌, ◌≢◌, ◌∙◌, ap, sym, subst, refl, ℕ, zero, suc, ◌<◌, ◌+◌, Bool, true, false, not, is_some, cond, Option, Some, None, List, []}
+use Rattle.std.proofs.Common.{◌∷◌, ◌⊎◌, inl, inr, length, get_or, map, arith}
 use Rattle.std.specs.Option.{option_map}
 use Rattle.std.specs.BTreeMap.{BTreeMap, get, is_at, IsUnchanged}
 use Rattle.std.specs.Map.{lookup}
@@ -8,8 +9,8 @@ use Rattle.hir_base.specs.declared.ids.ModuleId.{ModuleId}
 use Rattle.hir_base.specs.contracts.ids.MapIdOrd.TheImpl as map_order
 use Rattle.hir_base.specs.contracts.ids.MapIdPartialEq.TheImpl as map_id
 use Rattle.hir_def_map.specs.declared.world.finished.Finished.{Finished}
-use Rattle.hir_def_map_rules.specs.Inner.OverlayLaws.{exact_map, same_id}
 use Rattle.hir_def_map.specs.declared.world.insert.InsertError.{InsertError}
+use Rattle.hir_def_map_rules.specs.Inner.OverlayLaws.{exact_map, same_id}
 use Rattle.hir_def_map.specs.declared.world.insert.InsertError.TheVariants.{Unchecked, Memory}
 use Rattle.hir_def_map.specs.Insertion.{may_join, IsReason}
 use Rattle.hir_def_map_rules.specs.References.{is_well_formed}
@@ -18,8 +19,9 @@ use Rattle.hir_def_map.specs.Removal.Depends.{itself, through}
 use Rattle.hir_def_map_rules.specs.State.{Local, Map}
 use Rattle.hir_def_map_rules.specs.Overlay.{Maps, Placed, holders_or, holders_under, no_maps, placed_with, with_map}
 use Rattle.hir_def_map.specs.World.{finished_in, placed_of}
-use Rattle.hir_session_state.specs.declared.runs.KeptRun.{KeptRun}
-use Rattle.hir_session_state.specs.Kept.{Resolution, Resolutions, finished_by, held, kept_in, names_in, names_of, entry_with, placed_by, resolution_at, resolution_from, resolutions_in, AreForgotten}
+use Rattle.hir_session_state.specs.Types.{KeptRun}
+use Rattle.hir_session_state.specs.Kept.{Resolution, Resolutions, finished_by, held, kept_in, names_in, names_of, entry_with, placed_by, resolution_at}
+use Rattle.hir_session_state.specs.Kept.{resolution_from, resolutions_in, AreForgotten}
 use Rattle.hir_session_state.proofs.Ids.{equal_id, other_id}
 use Rattle.hir_session_state.proofs.Truth.{both_true, clash, on_bool, on_same}
 
@@ -43,7 +45,8 @@ found_from : (runs : Runs) (id : MapId) (es : List (MapId × Finished))
 found_from runs id [] = refl
 found_from runs id (e ∷ es) = go (found_from runs id es) (is_at (map_order.ghosts.cmp id) e.0) refl
   where
-    go : lookup (is_at (map_order.ghosts.cmp id)) (map (entry_with runs) es) ≡ option_map (λ (f : Finished). resolution_at f (run_in runs id)) (lookup (is_at (map_order.ghosts.cmp id)) es)
+    go : lookup (is_at (map_order.ghosts.cmp id)) (map (entry_with runs) es) ≡ option_map (λ (f : Finished). resolution_at f (run_in runs id))
+        (lookup (is_at (map_order.ghosts.cmp id)) es)
         → (b : Bool) → is_at (map_order.ghosts.cmp id) e.0 ≡ b
         → cond b (Some (resolution_at e.1 (run_in runs e.0))) (lookup (is_at (map_order.ghosts.cmp id)) (map (entry_with runs) es))
         ≡ option_map (λ (f : Finished). resolution_at f (run_in runs id)) (cond b (Some e.1) (lookup (is_at (map_order.ghosts.cmp id)) es))
@@ -129,7 +132,8 @@ run_aside maps old new id alike none = runs_aside old new id alike maps.entries 
 -- ---- one more
 
 -- no map stands where nothing is kept
-pub absent : (maps : Store) (runs : Runs) (kept : Resolutions) → resolutions_in maps runs ≡ kept → (id : MapId) → kept_in kept id ≡ None → finished_in maps id ≡ None
+pub absent : (maps : Store) (runs : Runs) (kept : Resolutions) → resolutions_in maps runs ≡ kept → (id : MapId) → kept_in kept id ≡ None → finished_in maps id
+    ≡ None
 absent maps runs kept is id free = ap (λ (all : Maps). all id) (told maps runs ∙ ap finished_by is) ∙ ap (option_map placed_by) free
 
 -- so a complete one may join
@@ -197,7 +201,8 @@ module _ (old new : Store) (runs : Runs) (on : MapId)
   pub kept_gone : (id : MapId) → Depends (names_in (resolutions_in old runs)) on id → kept_in (resolutions_in new runs) id ≡ None
   kept_gone id d = kept_none new runs id (gone id (Depends-more (λ j k n. sym (names_alike j k) ∙ n) d))
 
-  pub kept_stays : (id : MapId) → ¬ Depends (names_in (resolutions_in old runs)) on id → kept_in (resolutions_in new runs) id ≡ kept_in (resolutions_in old runs) id
+  pub kept_stays : (id : MapId) → ¬ Depends (names_in (resolutions_in old runs)) on id → kept_in (resolutions_in new runs) id
+      ≡ kept_in (resolutions_in old runs) id
   kept_stays id none =
       kept_at new runs id
       ∙ ap (option_map (λ (f : Finished). resolution_at f (run_in runs id))) (stays id (λ d. none (Depends-more (λ j k n. names_alike j k ∙ n) d)))
@@ -258,7 +263,8 @@ module _ (old mid new : Resolutions) (ids : List MapId) (n : ℕ) (on : MapId) (
   named_still : (id other : MapId) → names_in old id other ≡ true → is_some (kept_in old other) ≡ true → kept_in new other ≡ None → kept_in new id ≡ None
   named_still id other names was none = go (kept_in new id) refl
     where
-      falls : (r : Resolution) → kept_in new id ≡ Some r → kept_in mid id ≡ kept_in new id → (o : Option Resolution) → kept_in mid other ≡ o → kept_in new id ≡ None
+      falls : (r : Resolution) → kept_in new id ≡ Some r → kept_in mid id ≡ kept_in new id → (o : Option Resolution) → kept_in mid other ≡ o → kept_in new id
+          ≡ None
       falls r s stayed None e = sym stayed ∙ so_far.named id other names was e
       falls r s stayed (Some q) e =
           let names_mid : names_in mid id other ≡ true =
@@ -301,5 +307,11 @@ forgetting-end old new ids n done all = record {
       subst (λ (x : MapId). kept_in new x ≡ None) among.2 (done.gone among.0 id (omega arith));
   named = done.named;
   fewer = done.fewer;
-  stay = λ id none. done.stay id (λ k d below. none (get_or ids k d) (k, (let within : k < length ids = omega arith in within), listed ids k d (get_or ids k d) (omega arith)));
+  stay =
+      λ id none. done.stay id (λ k d below. none (get_or ids k d) (
+        k,
+        (let within : k < length ids = omega arith in within),
+        listed ids k d (get_or ids k d)
+            (omega arith),
+      ));
 }

@@ -1,5 +1,6 @@
 -- What a map names is there, also among more maps.
-use Rattle.std.proofs.Common.{◌≡◌, ◌∙◌, ap, sym, subst, refl, ℕ, Bool, true, false, not, ◌&&◌, ◌||◌, is_none, is_some, cond, Option, Some, None, List, [], ◌∷◌, ◌⊎◌, inl, inr}
+use Rattle.std.proofs.Common.{◌≡◌, ◌∙◌, ap, sym, subst, refl, ℕ, Bool, true, false, not, ◌&&◌, ◌||◌, is_none, is_some, cond, Option, Some, None, List, [], ◌∷◌}
+use Rattle.std.proofs.Common.{◌⊎◌, inl, inr}
 use Rattle.std.specs.Option.{option_map, option_and_then}
 use Rattle.std.specs.List.{list_any}
 use Rattle.std.specs.BTreeMap.{is_at}
@@ -16,7 +17,8 @@ use Rattle.hir_def_map.specs.Inner.PartLaws.{among-only, among-there}
 use Rattle.hir_def_map_rules.specs.Inner.OverlayLaws.{exact_map}
 use Rattle.hir_def_map_rules.proofs.WellFormed.{complete, HasNoDanglingExtern-more, HasNoDanglingReference-more}
 use Rattle.hir_def_map_rules.specs.WellFormed.{AreWellFormed, HasNoDanglingExtern, Extends, IsWellFormed, HasNoDanglingReference}
-use Rattle.hir_def_map_rules.specs.References.{is_holder_for, is_well_formed, is_missing, is_there, lies_in, map_of_reference, any_reference_in, refers_to, any_own_crate, any_reference, prelude_reference, test_crate, test_extern, test_of}
+use Rattle.hir_def_map_rules.specs.References.{is_holder_for, is_well_formed, is_missing, is_there, lies_in, map_of_reference, any_reference_in, refers_to}
+use Rattle.hir_def_map_rules.specs.References.{any_own_crate, any_reference, prelude_reference, test_crate, test_extern, test_of}
 use Rattle.hir_def_map_rules.proofs.Fails.{of_less}
 use Rattle.hir_def_map_rules.proofs.Referred.{module_less}
 use Rattle.hir_def_map_rules.proofs.NoneOf.{neither, none_of_less}
@@ -39,8 +41,10 @@ module _ (test other : Reference → Bool) (less : (n : Reference) → test n �
       go false f = refl
 
   -- a map, of whose names the one test holds of none, names nothing of which the other holds
-  names_less : (map : Map) (local : Local) → any_own_crate test map.id ≡ false → test_of test (option_map named.Module map.holder) ≡ false → list_any (any_reference_in test) map.modules ≡ false
-      → test_of test (prelude_reference map.prelude) ≡ false → list_any (test_crate test) map.crate_data.dependencies ≡ false → list_any (test_extern test) local ≡ false
+  names_less : (map : Map) (local : Local) → any_own_crate test map.id ≡ false → test_of test (option_map named.Module map.holder) ≡ false
+      → list_any (any_reference_in test) map.modules ≡ false
+      → test_of test (prelude_reference map.prelude) ≡ false → list_any (test_crate test) map.crate_data.dependencies ≡ false
+      → list_any (test_extern test) local ≡ false
       → any_reference other map local ≡ false
   names_less map local own_crate holder modules prelude dependencies begins =
       let p = test_of other (prelude_reference map.prelude) in
@@ -132,7 +136,8 @@ of_some crates holders id e = go id.block refl (has_crate crates id.krate) refl 
     go (Some y) x false t false s f = clash f refl
 
 -- and those are such ids
-pub is_crate_of_some : (crates : List Crate) (holders : List ModuleId) (id : MapId) → id.block ≡ None → has_crate crates id.krate ≡ true → is_of_some crates holders id ≡ true
+pub is_crate_of_some : (crates : List Crate) (holders : List ModuleId) (id : MapId) → id.block ≡ None → has_crate crates id.krate ≡ true
+    → is_of_some crates holders id ≡ true
 is_crate_of_some crates holders id none has = λ i. (is_none (none i) && has i) || holds holders id
 
 pub is_held_of_some : (crates : List Crate) (holders : List ModuleId) (id : MapId) → holds holders id ≡ true → is_of_some crates holders id ≡ true
@@ -152,12 +157,15 @@ among_there crates f id placed e =
     ]
 
 -- a map beside those of some crates and holders names only maps of those
-pub among-names : (crates : List Crate) (holders : List ModuleId) (f : Maps) (map : Map) (local : Local) → HasNoDanglingReference (overlay (among crates holders f) map) map
+pub among-names : (crates : List Crate) (holders : List ModuleId) (f : Maps) (map : Map) (local : Local)
+    → HasNoDanglingReference (overlay (among crates holders f) map) map
     → HasNoDanglingExtern (overlay (among crates holders f) map) local → (id : MapId) → refers_to map local id ≡ true
     → ((id.block ≡ None) × (has_crate crates id.krate ≡ true)) ⊎ (holds holders id ≡ true)
-among-names crates holders f map local names begins id e = go (among crates holders f id) refl (names-within (among crates holders f) map local names begins id e)
+among-names crates holders f map local names begins id e =
+    go (among crates holders f id) refl (names-within (among crates holders f) map local names begins id e)
   where
-    go : (o : Option Placed) → among crates holders f id ≡ o → is_some o ≡ true → ((id.block ≡ None) × (has_crate crates id.krate ≡ true)) ⊎ (holds holders id ≡ true)
+    go : (o : Option Placed) → among crates holders f id ≡ o → is_some o ≡ true → ((id.block ≡ None) × (has_crate crates id.krate ≡ true))
+        ⊎ (holds holders id ≡ true)
     go None s there = clash there refl
     go (Some p) s there = of_some crates holders id (among-only crates holders f id p s).0
 
@@ -171,7 +179,8 @@ alike part (Some x) None (inr none) e = absurd cc
 alike part (Some x) (Some y) (inl same) e = let maps : x.map ≡ y.map = cc in ap (λ (m : Map). is_some (part m)) (sym maps) ∙ e
 alike part (Some x) (Some y) (inr none) e = absurd cc
 
-alike_there : (o p : Option Placed) → (option_map (λ (x : Placed). x.map) o ≡ option_map (λ (x : Placed). x.map) p) ⊎ (o ≡ None) → is_some o ≡ true → is_some p ≡ true
+alike_there : (o p : Option Placed) → (option_map (λ (x : Placed). x.map) o ≡ option_map (λ (x : Placed). x.map) p) ⊎ (o ≡ None) → is_some o ≡ true → is_some p
+    ≡ true
 alike_there None p s e = clash e refl
 alike_there (Some x) None (inl same) e = absurd cc
 alike_there (Some x) None (inr none) e = absurd cc
@@ -180,11 +189,13 @@ alike_there (Some x) (Some y) s e = refl
 -- where each map of the one is that of the other, what is there stays there
 pub Extends-by : (one other : Maps) → ((id : MapId) → (map_in one id ≡ map_in other id) ⊎ (one id ≡ None)) → Extends one other
 Extends-by one other same (named.Module m) e = alike (λ (x : Map). module_at x m.index) (one m.map) (other m.map) (same m.map) e
-Extends-by one other same (named.Enum n) e = alike (λ (x : Map). variants_at x n) (one n.loc.container.map) (other n.loc.container.map) (same n.loc.container.map) e
+Extends-by one other same (named.Enum n) e =
+    alike (λ (x : Map). variants_at x n) (one n.loc.container.map) (other n.loc.container.map) (same n.loc.container.map) e
 Extends-by one other same (named.Map id) e = alike_there (one id) (other id) (same id) e
 
 -- a map among those of some crates and holders is as it is among all
-among_or : (crates : List Crate) (holders : List ModuleId) (f : Maps) (id : MapId) → (map_in (among crates holders f) id ≡ map_in f id) ⊎ (among crates holders f id ≡ None)
+among_or : (crates : List Crate) (holders : List ModuleId) (f : Maps) (id : MapId) → (map_in (among crates holders f) id ≡ map_in f id)
+    ⊎ (among crates holders f id ≡ None)
 among_or crates holders f id = go (among crates holders f id) refl
   where
     go : (o : Option Placed) → among crates holders f id ≡ o → (map_in (among crates holders f) id ≡ map_in f id) ⊎ (among crates holders f id ≡ None)
@@ -203,7 +214,8 @@ Extends-all crates holders f map = Extends-by (overlay (among crates holders f) 
     go id false = among_or crates holders f id
 
 -- a map that names only what is there among the maps of some crates and holders may stand beside all
-pub joins : (crates : List Crate) (holders : List ModuleId) (f : Maps) (map : Map) (local : Local) → HasNoDanglingReference (overlay (among crates holders f) map) map
+pub joins : (crates : List Crate) (holders : List ModuleId) (f : Maps) (map : Map) (local : Local)
+    → HasNoDanglingReference (overlay (among crates holders f) map) map
     → HasNoDanglingExtern (overlay (among crates holders f) map) local → is_well_formed f map local ≡ true
 joins crates holders f map local names begins =
     complete f map local
@@ -222,24 +234,30 @@ pub record IsKeptWhole (behind : ℕ → List Crate) (kept : Resolutions) (id : 
   pub begins : HasNoDanglingExtern (overlay (among (behind id.krate.0) found.holders (finished_by kept)) found.map) found.local
 
 -- the map of a crate among those of some
-pub among_at : (crates : List Crate) (kept : Resolutions) (krate : Crate) (found : Resolution) → has_crate crates krate ≡ true → kept_in kept (crate_map krate) ≡ Some found → found.holders ≡ []
+pub among_at : (crates : List Crate) (kept : Resolutions) (krate : Crate) (found : Resolution) → has_crate crates krate ≡ true → kept_in kept (crate_map krate)
+    ≡ Some found → found.holders ≡ []
     → among crates [] (finished_by kept) (crate_map krate) ≡ Some (placed_by found)
 among_at crates kept krate found has is alone =
     among-there crates [] (finished_by kept) (crate_map krate) (placed_by found) (is_some_crate crates krate has)
     (ap (option_map placed_by) is) (ap (are_of_some crates []) alone)
 
 -- modules that lie in such maps
-of_all : (crates : List Crate) (holders hs : List ModuleId) (id : MapId) → are_of_some crates holders hs ≡ true → holds hs id ≡ true → is_of_some crates holders id ≡ true
+of_all : (crates : List Crate) (holders hs : List ModuleId) (id : MapId) → are_of_some crates holders hs ≡ true → holds hs id ≡ true
+    → is_of_some crates holders id ≡ true
 of_all crates holders [] id all held = clash held refl
 of_all crates holders (h ∷ hs) id all held =
-    go (λ f. of_all crates holders hs id (and_right (is_of_some crates holders h.map) (are_of_some crates holders hs) all) f) (map_id.ghosts.eq h.map id) refl held
+    go (λ f. of_all crates holders hs id (and_right (is_of_some crates holders h.map) (are_of_some crates holders hs) all) f) (map_id.ghosts.eq h.map id) refl
+    held
   where
-    go : (holds hs id ≡ true → is_of_some crates holders id ≡ true) → (b : Bool) → map_id.ghosts.eq h.map id ≡ b → (b || holds hs id) ≡ true → is_of_some crates holders id ≡ true
-    go behind true same f = ap (is_of_some crates holders) (sym (exact_map h.map id same)) ∙ and_left (is_of_some crates holders h.map) (are_of_some crates holders hs) all
+    go : (holds hs id ≡ true → is_of_some crates holders id ≡ true) → (b : Bool) → map_id.ghosts.eq h.map id ≡ b → (b || holds hs id) ≡ true
+        → is_of_some crates holders id ≡ true
+    go behind true same f =
+        ap (is_of_some crates holders) (sym (exact_map h.map id same)) ∙ and_left (is_of_some crates holders h.map) (are_of_some crates holders hs) all
     go behind false other f = behind f
 
 -- those that lie in some of the maps lie in more
-are_among : (few more : List Crate) (one other : List ModuleId) → ((id : MapId) → is_of_some few one id ≡ true → is_of_some more other id ≡ true) → (hs : List ModuleId)
+are_among : (few more : List Crate) (one other : List ModuleId) → ((id : MapId) → is_of_some few one id ≡ true → is_of_some more other id ≡ true)
+    → (hs : List ModuleId)
     → are_of_some few one hs ≡ true → are_of_some more other hs ≡ true
 are_among few more one other grows [] e = e
 are_among few more one other grows (h ∷ hs) e =
@@ -254,7 +272,8 @@ module _ (behind : ℕ → List Crate) (kept : Resolutions) (crates : List Crate
   all = among crates holders (finished_by kept)
 
   -- a map on which one of those stands is one of those
-  stands_among : (id : MapId) (hs : List ModuleId) → is_of_some crates holders id ≡ true → are_of_some crates holders hs ≡ true → (j : MapId) → is_of_some (behind id.krate.0) hs j ≡ true
+  stands_among : (id : MapId) (hs : List ModuleId) → is_of_some crates holders id ≡ true → are_of_some crates holders hs ≡ true → (j : MapId)
+      → is_of_some (behind id.krate.0) hs j ≡ true
       → is_of_some crates holders j ≡ true
   stands_among id hs here held j of = elim (of_some (behind id.krate.0) hs j of) [
     | inl crate ↦ is_crate_of_some crates holders j crate.0 (closed id j.krate here crate.1)
@@ -283,16 +302,19 @@ module _ (behind : ℕ → List Crate) (kept : Resolutions) (crates : List Crate
           ∙ sym (ap (map_in all) (exact_map j w.found.map.id e) ∙ ap (option_map (λ (p : Placed). p.map)) own_there)))
           (λ e. beside (ap (λ (b : Bool). cond b (Some (placed_in (below id w) w.found.map)) (below id w j)) e) (below id w j) refl)
         where
-          beside : overlay (below id w) w.found.map j ≡ below id w j → (o : Option Placed) → below id w j ≡ o → (map_in (overlay (below id w) w.found.map) j ≡ map_in all j) ⊎ (overlay (below id w) w.found.map j ≡ None)
+          beside : overlay (below id w) w.found.map j ≡ below id w j → (o : Option Placed) → below id w j ≡ o
+              → (map_in (overlay (below id w) w.found.map) j ≡ map_in all j) ⊎ (overlay (below id w) w.found.map j ≡ None)
           beside at None s = inr (at ∙ s)
           beside at (Some p) s =
               let only = among-only (behind id.krate.0) w.found.holders (finished_by kept) j p s in
               let is : all j ≡ Some p =
-              among-there crates holders (finished_by kept) j p (more j only.0) only.1 (are_among (behind id.krate.0) crates w.found.holders holders more p.holders only.2) in
+              among-there crates holders (finished_by kept) j p (more j only.0) only.1 (are_among (behind id.krate.0) crates w.found.holders holders more
+              p.holders only.2) in
               inl (ap (option_map (λ (x : Placed). x.map)) (at ∙ s ∙ sym is))
 
   -- the holders of one of those are among them
-  holders_among : (id : MapId) (o : Option ModuleId) (hs : List ModuleId) → hs ≡ holders_under (finished_by kept) id o → are_of_some crates holders hs ≡ true → hs ≡ holders_under all id o
+  holders_among : (id : MapId) (o : Option ModuleId) (hs : List ModuleId) → hs ≡ holders_under (finished_by kept) id o → are_of_some crates holders hs ≡ true
+      → hs ≡ holders_under all id o
   holders_among id None hs e held = e
   holders_among id (Some h) hs e held = go (same_crate h.map.krate id.krate) (finished_by kept h.map) refl e (all h.map) refl
     where
@@ -314,7 +336,8 @@ module _ (behind : ℕ → List Crate) (kept : Resolutions) (crates : List Crate
       let only = among-only crates holders (finished_by kept) id placed e in
       go (kept_in kept id) refl only.1 only.0 only.2
     where
-      go : (o : Option Resolution) → kept_in kept id ≡ o → option_map placed_by o ≡ Some placed → is_of_some crates holders id ≡ true → are_of_some crates holders placed.holders ≡ true
+      go : (o : Option Resolution) → kept_in kept id ≡ o → option_map placed_by o ≡ Some placed → is_of_some crates holders id ≡ true
+          → are_of_some crates holders placed.holders ≡ true
           → IsWellFormed all id placed
       go None s f here held = no_value f
       go (Some r) s f here held =

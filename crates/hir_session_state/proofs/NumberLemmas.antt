@@ -5,8 +5,8 @@ use Rattle.std.specs.Prelude.{IsSome}
 use mathlib.Core.Bool.{true≢false}
 use Rattle.hir_base.specs.declared.ast_id.BlockId.{BlockId}
 use Rattle.hir_base.specs.declared.ast_id.HirFileId.{HirFileId}
-use Rattle.hir_base.specs.declared.ast_id.HirFileId.TheVariants as syntax
 use Rattle.hir_base.specs.declared.macro_kind.MacroCallLoc.{MacroCallLoc}
+use Rattle.hir_base.specs.declared.ast_id.HirFileId.TheVariants as syntax
 use Rattle.hir_base.specs.declared.macro_kind.MacroId.TheVariants as macros
 use Rattle.hir_item_tree.specs.declared.tree_id.TreeKey.{TreeKey}
 use Rattle.hir_tables.specs.SourcePlaces.{SourcePlaceValue, block, expansion, file}
@@ -16,7 +16,7 @@ use Rattle.hir_collector_rules.specs.declared.source_database.Key.{Key}
 use Rattle.hir_collector_rules.specs.declared.source_database.Key.TheVariants as keys
 use Rattle.hir_session_state.specs.contracts.source_number.SourceNumberPartialEq.TheImpl as number_eq
 use Rattle.hir_session_state.specs.contracts.source_number.SourceNumberEq.TheImpl.Laws.{laws-law as number_laws}
-use Rattle.hir_session_state.specs.declared.source_number.SourceNumber.{SourceNumber}
+use Rattle.hir_session_state.specs.Types.{SourceNumber}
 use Rattle.hir_session_state.specs.declared.source_number.SourceNumber.TheVariants.{File, Block, Expansion}
 use Rattle.hir_session_state.specs.KeySources.{key_place, macro_source, tree_place}
 use Rattle.hir_session_state.specs.SourceNumbers.{IsNumberOf, asked_number, asks, is_number, number_of, number_under, place_at}
@@ -113,7 +113,8 @@ module _ (t : TablesValue) (place : SourcePlaceValue) (number : SourceNumber) (n
 
   -- a key that asks for the source by its number asks for the place
   pub asked-place : (key : Key) → asks t number key ≡ true → key_place t key ≡ Some place
-  asked-place key on = place-number t key ∙ ap (λ (o : Option SourceNumber). option_and_then (place_at t) o) (is-number (asked_number t key) on) ∙ numbered.means
+  asked-place key on =
+      place-number t key ∙ ap (λ (o : Option SourceNumber). option_and_then (place_at t) o) (is-number (asked_number t key) on) ∙ numbered.means
 
   -- and the other way round
   pub place-asked : (key : Key) → key_place t key ≡ Some place → asked_number t key ≡ Some number
@@ -127,7 +128,8 @@ module _ (t : TablesValue) (place : SourcePlaceValue) (number : SourceNumber) (n
   unasked-place key off at = clash (ap (is_number number) (place-asked key at) ∙ own_number number) off
 
 -- a place without a number is none for which a key asks
-pub unnumbered-place : (t : TablesValue) (place : SourcePlaceValue) → ((n : SourceNumber) → place_at t n ≢ Some place) → (key : Key) → key_place t key ≢ Some place
+pub unnumbered-place : (t : TablesValue) (place : SourcePlaceValue) → ((n : SourceNumber) → place_at t n ≢ Some place) → (key : Key)
+    → key_place t key ≢ Some place
 unnumbered-place t place none key at = go (asked_number t key) (sym (place-number t key) ∙ at)
   where
     go : (o : Option SourceNumber) → option_and_then (place_at t) o ≡ Some place → ⊥

@@ -1,5 +1,6 @@
 -- Places of blocks: their numbers, and their order.
-use Rattle.std.proofs.Common.{◌≡◌, ◌≢◌, ◌∙◌, ap, ap₂, sym, subst, refl, ℕ, zero, suc, ◌+◌, ◌<◌, ◌≤◌, Bool, true, false, IsTrue, cond, Some, List, [], ◌∷◌, ◌++◌, ◌||◌, nat_eq, zero-add, arith}
+use Rattle.std.proofs.Common.{◌≡◌, ◌≢◌, ◌∙◌, ap, ap₂, sym, subst, refl, ℕ, zero, suc, ◌+◌, ◌<◌, ◌≤◌, Bool, true, false, IsTrue, cond, Some, List, [], ◌∷◌, ◌++◌}
+use Rattle.std.proofs.Common.{◌||◌, nat_eq, zero-add, arith}
 use Rattle.std.specs.List.{list_any}
 use Rattle.std.specs.Prelude.{nat_lt, slice_get}
 use Rattle.std.specs.Cmp.{IsTotalOrder, first_so, second_so, nat_cmp_total, on_total, then_total, unsigned_Decides}
@@ -18,9 +19,9 @@ use Rattle.hir_base.specs.contracts.place.PlaceElementPartialEq.TheImpl as eleme
 use Rattle.hir_base.specs.contracts.place.PlaceOrd.TheImpl.Laws.{total-law as place_total}
 use Rattle.hir_base.specs.contracts.place.PlacePartialEq.TheImpl as place_eq
 use Rattle.hir_base.specs.declared.ast_id.BlockId.{BlockId}
-use Rattle.hir_base.specs.declared.ast_id.SyntaxId.{SyntaxId}
 use Rattle.hir_base.specs.declared.place.BlockPlace.{BlockPlace}
 use Rattle.hir_base.specs.declared.place.PlaceElement.{PlaceElement}
+use Rattle.hir_base.specs.declared.ast_id.SyntaxId.{SyntaxId}
 use Rattle.hir_base.specs.declared.place.PlaceElement.TheVariants as element
 use Rattle.hir_tables.specs.Tables.{TablesValue, HasEachOnce, KeepsTables, block_at}
 use Rattle.hir_session_state.specs.Blocks.{block_cmp, nesting_of, place_of_block}
@@ -102,19 +103,23 @@ has_number n (b ∷ bs) place zero e = (
 )
 has_number n (b ∷ bs) place (suc at) e = go (block_eq.ghosts.eq b place) (has_number (n + 1) bs place at e)
   where
-    go : (t : Bool) → (id : BlockId) × (number_from (n + 1) bs place ≡ Some id) → (id : BlockId) × (cond t (Some (block_id n)) (number_from (n + 1) bs place) ≡ Some id)
+    go : (t : Bool) → (id : BlockId) × (number_from (n + 1) bs place ≡ Some id) → (id : BlockId) × (cond t (Some (block_id n)) (number_from (n + 1) bs place)
+        ≡ Some id)
     go true later = (block_id n, refl)
     go false later = later
 
 -- more numbers change none
-number_stays : (n : ℕ) (old new : List BlockPlace) (place : BlockPlace) (id : BlockId) → KeepsNumbers old new → number_from n old place ≡ Some id → number_from n new place ≡ Some id
+number_stays : (n : ℕ) (old new : List BlockPlace) (place : BlockPlace) (id : BlockId) → KeepsNumbers old new → number_from n old place ≡ Some id
+    → number_from n new place ≡ Some id
 number_stays n [] new place id keeps e = no_value e
 number_stays n (b ∷ bs) [] place id keeps e = no_value (keeps zero b refl)
 number_stays n (b ∷ bs) (c ∷ cs) place id keeps e =
-    subst (λ (x : BlockPlace). cond (block_eq.ghosts.eq x place) (Some (block_id n)) (number_from (n + 1) cs place) ≡ Some id) (sym (one_value (keeps zero b refl)))
+    subst (λ (x : BlockPlace). cond (block_eq.ghosts.eq x place) (Some (block_id n)) (number_from (n + 1) cs place) ≡ Some id)
+    (sym (one_value (keeps zero b refl)))
     (go (λ f. number_stays (n + 1) bs cs place id (λ k x h. keeps (suc k) x h) f) (block_eq.ghosts.eq b place) e)
   where
-    go : (number_from (n + 1) bs place ≡ Some id → number_from (n + 1) cs place ≡ Some id) → (t : Bool) → cond t (Some (block_id n)) (number_from (n + 1) bs place) ≡ Some id
+    go : (number_from (n + 1) bs place ≡ Some id → number_from (n + 1) cs place ≡ Some id) → (t : Bool)
+        → cond t (Some (block_id n)) (number_from (n + 1) bs place) ≡ Some id
         → cond t (Some (block_id n)) (number_from (n + 1) cs place) ≡ Some id
     go behind true f = f
     go behind false f = behind f
@@ -167,7 +172,8 @@ any_behind test [] e = go (test e)
     go false = refl
 any_behind test (x ∷ steps) e = go (test x) (any_behind test steps e)
   where
-    go : (b : Bool) → list_any test (steps ++ e ∷ []) ≡ (list_any test steps || test e) → (b || list_any test (steps ++ e ∷ [])) ≡ ((b || list_any test steps) || test e)
+    go : (b : Bool) → list_any test (steps ++ e ∷ []) ≡ (list_any test steps || test e) → (b || list_any test (steps ++ e ∷ []))
+        ≡ ((b || list_any test steps) || test e)
     go true rest = refl
     go false rest = rest
 

@@ -1,14 +1,15 @@
 -- What a run gives for a place is its resolution, where all on which the place stands is current.
 use Rattle.std.specs.Prelude.{is_none, is_some, map}
-use Rattle.std.proofs.Common.{◌≡◌, inl, inr, ℕ, zero, suc, ◌<◌, Bool, true, false, ◌&&◌, List, [], ◌∷◌, length, arith, not, cond, Option, Some, None, option_map, refl, sym, ap, ◌∙◌, subst, Contains, eq-eqb}
+use Rattle.std.proofs.Common.{◌≡◌, inl, inr, ℕ, zero, suc, ◌<◌, Bool, true, false, ◌&&◌, List, [], ◌∷◌, length, arith, not, cond, Option, Some, None}
+use Rattle.std.proofs.Common.{option_map, refl, sym, ap, ◌∙◌, subst, Contains, eq-eqb}
 use Rattle.std.specs.List.{list_any}
 use Rattle.std.specs.Option.{IsSome, option_and_then}
 use Rattle.hir_base.specs.contracts.ids.MapIdPartialEq.TheImpl as map_id
 use Rattle.hir_base.specs.declared.ast_id.BlockId.{BlockId}
+use Rattle.hir_base.specs.declared.place.BlockPlace.{BlockPlace}
 use Rattle.hir_base.specs.declared.ids.Crate.{Crate}
 use Rattle.hir_base.specs.declared.ids.MapId.{MapId}
 use Rattle.hir_base.specs.declared.ids.ModuleId.{ModuleId}
-use Rattle.hir_base.specs.declared.place.BlockPlace.{BlockPlace}
 use Rattle.hir_scope.specs.ModuleTree.{same_crate}
 use Rattle.hir_tables.specs.SourcePlaces.{file}
 use Rattle.hir_tables.specs.Tables.{KeepsTables, TablesValue, file_at}
@@ -33,14 +34,16 @@ use Rattle.hir_session_state.specs.Crates.{CrateValue, beginning_in, begins_in_b
 use Rattle.hir_session_state.specs.Due.{Grows}
 use Rattle.hir_session_state.specs.Kept.{collected_of, held, placed_by}
 use Rattle.hir_session_state.specs.Standing.{block_map}
-use Rattle.hir_session_state.specs.SessionState.{SessionState, Resolution, workspace_of, beginning_of, finished_of, kept_of, read_under, standing_of, is_marked, IsResolved, IsResolutionOf, IsPlace, IsSound}
+use Rattle.hir_session_state.specs.SessionState.{SessionState, Resolution, workspace_of, beginning_of, finished_of, kept_of, read_under, standing_of, is_marked}
+use Rattle.hir_session_state.specs.SessionState.{IsResolved, IsResolutionOf, IsPlace, IsSound}
 use Rattle.hir_session_state.specs.SessionState.IsPlace.{of_block, of_crate}
 use Rattle.hir_session_state.proofs.Depending.{any-found, depended, none_of}
 use Rattle.hir_session_state.proofs.Following.{follows_unmarked}
 use Rattle.hir_session_state.proofs.Holders.{ends_held}
 use Rattle.hir_session_state.proofs.Holding.{crate_holders, holder_kept, in_own_crate, own_first, same_krate}
 use Rattle.hir_session_state.proofs.Names.{Extends-behind, IsKeptWhole, among_there, holds, is_crate_of_some, is_held_of_some, joins, of_some, whole-among}
-use Rattle.hir_session_state.proofs.Standing.{IsBlockBegun, IsModuleKept, at_module, beginning_stays, begun_block, block_begun, holder_begun, kept_gives, module_there, unmarked}
+use Rattle.hir_session_state.proofs.Standing.{IsBlockBegun, IsModuleKept, at_module, beginning_stays, begun_block, block_begun, holder_begun, kept_gives}
+use Rattle.hir_session_state.proofs.Standing.{module_there, unmarked}
 use Rattle.hir_session_state.proofs.Truth.{both_true, clash, no_value, one_value}
 use Rattle.hir_session_state.proofs.Worlds.{AgreeOn-refl, DependsOn-below, DependsOn-holds, DependsOn-trans, has_listed}
 
@@ -59,7 +62,8 @@ abbrev own_dependencies : List CrateValue → ℕ → List Dependency
 own_dependencies crates k = named_by (config_in crates (record { 0 = k }))
 
 -- what is kept of a place names only what is kept of those on which it stands
-pub kept_whole : (s : SessionState) → IsSound s → (id : MapId) (r : Resolution) → kept_of s id ≡ Some r → IsKeptWhole (λ (k : ℕ). transitive_in s.crates k) s.kept id
+pub kept_whole : (s : SessionState) → IsSound s → (id : MapId) (r : Resolution) → kept_of s id ≡ Some r → IsKeptWhole (λ (k : ℕ). transitive_in s.crates k)
+    s.kept id
 kept_whole s sound id r is =
     let p = kept_gives s sound id r is in
     record {
@@ -72,7 +76,8 @@ kept_whole s sound id r is =
     }
 
 -- a crate that stands on one on which a crate stands is one on which that stands
-behind_closed : (s : SessionState) → IsSound s → (k : ℕ) (j c : Crate) → has_crate (transitive_in s.crates k) j ≡ true → has_crate (transitive_in s.crates j.0) c ≡ true
+behind_closed : (s : SessionState) → IsSound s → (k : ℕ) (j c : Crate) → has_crate (transitive_in s.crates k) j ≡ true → has_crate (transitive_in s.crates j.0)
+    c ≡ true
     → has_crate (transitive_in s.crates k) c ≡ true
 behind_closed s sound k j c one other = (depended sound k c).1 (DependsOn-trans ((depended sound k j).0 one) ((depended sound j.0 c).0 other))
 
@@ -85,7 +90,8 @@ kept_there s id off = go (kept_of s id) refl off
     go (Some r) is e = (r, is)
 
 -- what an unmarked crate stands on is unmarked
-pub behind_unmarked : (s : SessionState) → IsSound s → (k : ℕ) → is_marked s (id_of k) ≡ false → (c : Crate) → has_crate (transitive_in s.crates k) c ≡ true → is_marked s (crate_map c) ≡ false
+pub behind_unmarked : (s : SessionState) → IsSound s → (k : ℕ) → is_marked s (id_of k) ≡ false → (c : Crate) → has_crate (transitive_in s.crates k) c ≡ true
+    → is_marked s (crate_map c) ≡ false
 behind_unmarked s sound k off c behind =
     DependsOn-holds {P = λ (i : ℕ). is_marked s (id_of i) ≡ false} (λ i d p among. follows_unmarked sound i d p among) ((depended sound k c).0 behind) off
 
@@ -135,15 +141,18 @@ module _ (s : SessionState) (sound : IsSound s) (krate : Crate) (hs : List Modul
       → are_of_some (transitive_in s.crates krate.0) hs r.holders ≡ true → Extends (overlay (read_under s id r.holders) r.map) reads
   unfolding kept_whole
   behind_extends id r is of held_too =
-      Extends-behind (λ (k : ℕ). transitive_in s.crates k) s.kept (transitive_in s.crates krate.0) hs (kept_whole s sound) reads_closed id (kept_whole s sound id r is) of held_too
+      Extends-behind (λ (k : ℕ). transitive_in s.crates k) s.kept (transitive_in s.crates krate.0) hs (kept_whole s sound) reads_closed id
+      (kept_whole s sound id r is) of held_too
 
   -- the map of an unmarked crate is there, if it may be read
-  crate_read : (c : Crate) → is_of_some (transitive_in s.crates krate.0) hs (crate_map c) ≡ true → is_marked s (crate_map c) ≡ false → is_some (reads (crate_map c)) ≡ true
+  crate_read : (c : Crate) → is_of_some (transitive_in s.crates krate.0) hs (crate_map c) ≡ true → is_marked s (crate_map c) ≡ false
+      → is_some (reads (crate_map c)) ≡ true
   crate_read c of off =
       let r = kept_there s (crate_map c) off in
       let alone : r.0.holders ≡ [] = crate_holders s (crate_map c) r.0 (kept_gives s sound (crate_map c) r.0 r.1) refl in
       ap (λ (o : Option Placed). is_some o)
-      (among-there (transitive_in s.crates krate.0) hs (finished_of s) (crate_map c) (placed_by r.0) of (ap (option_map placed_by) r.1) (ap (are_of_some (transitive_in s.crates krate.0) hs) alone))
+      (among-there (transitive_in s.crates krate.0) hs (finished_of s) (crate_map c) (placed_by r.0) of (ap (option_map placed_by) r.1)
+      (ap (are_of_some (transitive_in s.crates krate.0) hs) alone))
 
   not_missing : (c : Crate) → has_crate (transitive_in s.crates krate.0) c ≡ true → test_crate (is_missing reads) c ≡ false
   not_missing c behind = ap not (crate_read c (is_crate_of_some (transitive_in s.crates krate.0) hs (crate_map c) refl behind) (unmarked_behind c behind))
@@ -158,17 +167,21 @@ module _ (s : SessionState) (sound : IsSound s) (krate : Crate) (hs : List Modul
 
   -- the maps of the crates on which it stands are there
   pub stands_behind : list_any (test_crate (is_missing reads)) (transitive_in s.crates krate.0) ≡ false
-  stands_behind = none_of (test_crate (is_missing reads)) (transitive_in s.crates krate.0) (λ c among. not_missing c (has_listed (transitive_in s.crates krate.0) c among))
+  stands_behind =
+      none_of (test_crate (is_missing reads)) (transitive_in s.crates krate.0) (λ c among. not_missing c (has_listed (transitive_in s.crates krate.0) c among))
 
   pub stands_direct : list_any (λ (d : Dependency). test_crate (is_missing reads) d.krate) (own_dependencies s.crates krate.0) ≡ false
   stands_direct = none_of (λ (d : Dependency). test_crate (is_missing reads) d.krate) (own_dependencies s.crates krate.0)
       (λ d among. not_missing d.krate ((depended sound krate.0 d.krate).1 (directly krate.0 d.krate (mapped (own_dependencies s.crates krate.0) d among))))
 
 -- what a run gives is a resolution, where it reads only what names what is there
-resolution_by : (s : SessionState) (id : MapId) (from : Beginning) → beginning_of s id ≡ Some from → IsMeantAt s.tables (root_site from.tree) → (r : CollectedValue) → RunsNameWhatIsThere
-    → AreWellFormed (read_by (workspace_of s) (finished_of s) from.start) → StandsOnWhole (workspace_of s) (read_by (workspace_of s) (finished_of s) from.start) from.start
+resolution_by : (s : SessionState) (id : MapId) (from : Beginning) → beginning_of s id ≡ Some from → IsMeantAt s.tables (root_site from.tree)
+    → (r : CollectedValue) → RunsNameWhatIsThere
+    → AreWellFormed (read_by (workspace_of s) (finished_of s) from.start) → StandsOnWhole (workspace_of s) (read_by (workspace_of s) (finished_of s) from.start)
+    from.start
     → IsResolved s.tables (workspace_of s) (finished_of s) from r → r.map.id ≡ id → krate_of from.start ≡ id.krate
-    → holders_under (finished_of s) r.map.id r.map.holder ≡ holders_by (finished_of s) from.start → IsResolutionOf s id (held r (holders_under (finished_of s) r.map.id r.map.holder))
+    → holders_under (finished_of s) r.map.id r.map.holder ≡ holders_by (finished_of s) from.start
+    → IsResolutionOf s id (held r (holders_under (finished_of s) r.map.id r.map.holder))
 resolution_by s id from begun meant r law whole stands resolved own krate same =
     let ended : Ends s.tables (workspace_of s) (finished_of s) from r = resolved.ends (workspace_of s) (finished_of s) AgreeOn-refl in
     let there = law s.tables (workspace_of s) (finished_of s) from r whole stands ended in
@@ -209,13 +222,16 @@ root_means s sound k within = record {
 }
 
 -- what a run gives for a crate that comes after no marked one
-pub resolution_of : (s : SessionState) (k : ℕ) → IsSound s → k < length s.crates → ((j : ℕ) → j < k → is_marked s (id_of j) ≡ false) → (r : CollectedValue) → RunsNameWhatIsThere
-    → IsResolved s.tables (workspace_of s) (finished_of s) (beginning_in s.crates k) r → IsResolutionOf s (id_of k) (held r (holders_under (finished_of s) r.map.id r.map.holder))
+pub resolution_of : (s : SessionState) (k : ℕ) → IsSound s → k < length s.crates → ((j : ℕ) → j < k → is_marked s (id_of j) ≡ false) → (r : CollectedValue)
+    → RunsNameWhatIsThere
+    → IsResolved s.tables (workspace_of s) (finished_of s) (beginning_in s.crates k) r
+    → IsResolutionOf s (id_of k) (held r (holders_under (finished_of s) r.map.id r.map.holder))
 resolution_of s k sound within first r law resolved =
     let behind : (c : Crate) → has_crate (transitive_in s.crates k) c ≡ true → is_marked s (crate_map c) ≡ false =
     λ c behind. first c.0 (DependsOn-below sound.below ((depended sound k c).0 behind)) in
     let ended : Ends s.tables (workspace_of s) (finished_of s) (beginning_in s.crates k) r = resolved.ends (workspace_of s) (finished_of s) AgreeOn-refl in
-    resolution_by s (id_of k) (beginning_in s.crates k) refl (root_means s sound k within) r law (crate_whole s k sound behind) (stands_on_whole s k sound behind) resolved ended.own refl
+    resolution_by s (id_of k) (beginning_in s.crates k) refl (root_means s sound k within) r law (crate_whole s k sound behind)
+    (stands_on_whole s k sound behind) resolved ended.own refl
     (ap (holders_under (finished_of s) r.map.id) (ends_held ended))
 
 -- ---- a block
@@ -279,29 +295,41 @@ module _ (s : SessionState) (sound : IsSound s) (krate : Crate) (b : BlockId) (f
         (ap (λ (o : Option Placed). is_some (option_and_then (λ (p : Placed). module_at p.map q.holder.index) o)) holder_read ∙ held_there.there);
   }
 
+  -- it reads only what names what is there, and stands on it
+  pub block_whole : AreWellFormed (read_by (workspace_of s) (finished_of s) from.start)
+  block_whole =
+      subst (λ (x : Beginning). AreWellFormed (read_by (workspace_of s) (finished_of s) x.start)) q.is
+      (subst (λ (xs : List ModuleId). AreWellFormed (among (transitive_in s.crates krate.0) xs (finished_of s))) (sym same_holders)
+      (behind_whole s sound krate all_holders behind_off lie_in))
+
+  pub block_stands : kept_of s (block_map krate b) ≡ None → StandsOnWhole (workspace_of s) (read_by (workspace_of s) (finished_of s) from.start) from.start
+  block_stands none =
+      subst (λ (x : Beginning). StandsOnWhole (workspace_of s) (read_by (workspace_of s) (finished_of s) x.start) x.start) q.is
+      (subst (λ (xs : List ModuleId). StandsOnWhole (workspace_of s) (among (transitive_in s.crates krate.0) xs (finished_of s)) begins.start)
+      (sym same_holders) (stands none))
+
   -- what a run gives for it
   pub block_resolution : kept_of s (block_map krate b) ≡ None → IsMeantAt s.tables (root_site from.tree) → (r : CollectedValue) → RunsNameWhatIsThere
-      → IsResolved s.tables (workspace_of s) (finished_of s) from r → IsResolutionOf s (block_map krate b) (held r (holders_under (finished_of s) r.map.id r.map.holder))
+      → IsResolved s.tables (workspace_of s) (finished_of s) from r → IsResolutionOf s (block_map krate b)
+      (held r (holders_under (finished_of s) r.map.id r.map.holder))
   block_resolution none meant r law resolved =
       let ended : Ends s.tables (workspace_of s) (finished_of s) from r = resolved.ends (workspace_of s) (finished_of s) AgreeOn-refl in
       let own : r.map.id ≡ block_map krate b = ended.own ∙ ap (λ (x : Beginning). start_id x.start) (sym q.is) in
       let holder : r.map.holder ≡ Some q.holder = ends_held ended ∙ ap (λ (x : Beginning). holder_of x.start) (sym q.is) in
-      let whole : AreWellFormed (read_by (workspace_of s) (finished_of s) begins.start) =
-      subst (λ (xs : List ModuleId). AreWellFormed (among (transitive_in s.crates krate.0) xs (finished_of s))) (sym same_holders) (behind_whole s sound krate all_holders behind_off lie_in) in
-      let standing : StandsOnWhole (workspace_of s) (read_by (workspace_of s) (finished_of s) begins.start) begins.start =
-      subst (λ (xs : List ModuleId). StandsOnWhole (workspace_of s) (among (transitive_in s.crates krate.0) xs (finished_of s)) begins.start) (sym same_holders) (stands none) in
-      resolution_by s (block_map krate b) from (begun_block s krate b from q) meant r law
-      (subst (λ (x : Beginning). AreWellFormed (read_by (workspace_of s) (finished_of s) x.start)) q.is whole)
-      (subst (λ (x : Beginning). StandsOnWhole (workspace_of s) (read_by (workspace_of s) (finished_of s) x.start) x.start) q.is standing)
+      resolution_by s (block_map krate b) from (begun_block s krate b from q) meant r law block_whole (block_stands none)
       resolved own (ap (λ (x : Beginning). krate_of x.start) (sym q.is))
       (under r own holder ∙ ap (λ (x : Beginning). holders_by (finished_of s) x.start) q.is)
     where
-      under : (r : CollectedValue) → r.map.id ≡ block_map krate b → r.map.holder ≡ Some q.holder → holders_under (finished_of s) r.map.id r.map.holder ≡ holders_by (finished_of s) begins.start
+      under : (r : CollectedValue) → r.map.id ≡ block_map krate b → r.map.holder ≡ Some q.holder → holders_under (finished_of s) r.map.id r.map.holder
+          ≡ holders_by (finished_of s) begins.start
       under r own holder =
           (λ i. holders_under (finished_of s) (own i) (holder i))
-          ∙ ap (λ (k : Crate). cond (same_crate k krate && is_some (finished_of s q.holder.map)) (q.holder ∷ holders_of (finished_of s q.holder.map)) []) of_krate
-          ∙ ap (λ (t : Bool). cond (t && is_some (finished_of s q.holder.map)) (q.holder ∷ holders_of (finished_of s q.holder.map)) []) (eq-eqb krate.0 krate.0 refl)
-          ∙ ap (λ (t : Bool). cond t (q.holder ∷ holders_of (finished_of s q.holder.map)) []) (ap (λ (o : Option Resolution). is_some (option_map placed_by o)) held_there.is)
+          ∙ ap (λ (k : Crate). cond (same_crate k krate && is_some (finished_of s q.holder.map)) (q.holder ∷ holders_of (finished_of s q.holder.map)) [])
+          of_krate
+          ∙ ap (λ (t : Bool). cond (t && is_some (finished_of s q.holder.map)) (q.holder ∷ holders_of (finished_of s q.holder.map)) [])
+          (eq-eqb krate.0 krate.0 refl)
+          ∙ ap (λ (t : Bool). cond t (q.holder ∷ holders_of (finished_of s q.holder.map)) []) (ap (λ (o : Option Resolution). is_some (option_map placed_by o))
+          held_there.is)
 
 -- ---- a resolution may join what is kept
 
@@ -318,7 +346,8 @@ module _ (looks : LooksStand) (meaning : AskedKeysHaveMeaning) (answers : Answer
   -- what a run begins with stays
   pub grown_beginning : IsSound s → (id : MapId) (r : Resolution) (p : IsResolutionOf s id r) → beginning_of grown id ≡ Some p.from
   grown_beginning sound id r p =
-      beginning_stays s sound (λ j. is_marked s j ≡ false) (λ j d off among. sound.closed j d off among) T s.sources s.kept keeps (λ j off. refl) (λ b place means off set. set) id p.from p.begun
+      beginning_stays s sound (λ j. is_marked s j ≡ false) (λ j d off among. sound.closed j d off among) T s.sources s.kept keeps (λ j off. refl)
+      (λ b place means off set. set) id p.from p.begun
       (λ h held. let k = holder_kept s id r p h (p.holder ∙ held) in unmarked s h.map k.found k.is)
 
   -- a resolution stays
@@ -333,7 +362,8 @@ module _ (looks : LooksStand) (meaning : AskedKeysHaveMeaning) (answers : Answer
             crates = agree.crates;
             config = agree.config;
             same = λ key among.
-                let has = meaning s.tables (workspace_of s) (finished_of s) p.from (collected_of r) p.meant (p.resolved.ends (workspace_of s) (finished_of s) AgreeOn-refl) key among in
+                let has = meaning s.tables (workspace_of s) (finished_of s) p.from (collected_of r) p.meant
+                (p.resolved.ends (workspace_of s) (finished_of s) AgreeOn-refl) key among in
                 sym (looks s.tables T v finished key keeps has) ∙ agree.same key among ∙ looks s.tables T (workspace_of s) (finished_of s) key keeps has;
           }));
     };
@@ -374,7 +404,8 @@ module _ (looks : LooksStand) (meaning : AskedKeysHaveMeaning) (answers : Answer
   })
 
   -- what the run gave is the crate's resolution
-  pub found_of : (view : SessionState) → s ≡ view → IsSound s → RunsNameWhatIsThere → (k : ℕ) → k < length s.crates → ((j : ℕ) → j < k → is_marked view (id_of j) ≡ false) → (r : CollectedValue)
+  pub found_of : (view : SessionState) → s ≡ view → IsSound s → RunsNameWhatIsThere → (k : ℕ) → k < length s.crates
+      → ((j : ℕ) → j < k → is_marked view (id_of j) ≡ false) → (r : CollectedValue)
       → (finished : Maps) → finished ≡ finished_of s → IsResolved T (workspace_of s) finished (beginning_in s.crates k) r
       → IsResolutionOf grown (id_of k) (held r (holders_under (finished_of s) r.map.id r.map.holder))
   found_of view seen sound law k within first r finished is resolved =
@@ -383,14 +414,16 @@ module _ (looks : LooksStand) (meaning : AskedKeysHaveMeaning) (answers : Answer
       (subst (λ (maps : Maps). IsResolved T (workspace_of s) maps (beginning_in s.crates k) r) is resolved)
 
   -- and the block's
-  pub found_of_block : IsSound s → RunsNameWhatIsThere → (krate : Crate) (b : BlockId) (from : Beginning) (q : IsBlockBegun s krate b from) → q.place.holder.krate ≡ krate
+  pub found_of_block : IsSound s → RunsNameWhatIsThere → (krate : Crate) (b : BlockId) (from : Beginning) (q : IsBlockBegun s krate b from)
+      → q.place.holder.krate ≡ krate
       → is_marked s (crate_map krate) ≡ false → kept_of s (block_map krate b) ≡ None → IsMeantAt s.tables (root_site from.tree) → (r : CollectedValue)
       → (finished : Maps) → finished ≡ finished_of s → IsResolved T (workspace_of s) finished from r
       → IsResolutionOf grown (block_map krate b) (held r (holders_under (finished_of s) r.map.id r.map.holder))
   found_of_block sound law krate b from q own off none meant r finished is resolved =
       let k = module_there s sound q.place.holder q.holder (at_module (standing_of s q.place.holder) q.holder q.held) in
       let begun : beginning_of grown (block_map krate b) ≡ Some from =
-      beginning_stays s sound (λ j. is_marked s j ≡ false) (λ j d at among. sound.closed j d at among) T s.sources s.kept keeps (λ j at. refl) (λ c place means at set. set) (block_map krate b) from
+      beginning_stays s sound (λ j. is_marked s j ≡ false) (λ j d at among. sound.closed j d at among) T s.sources s.kept keeps (λ j at. refl)
+      (λ c place means at set. set) (block_map krate b) from
       (begun_block s krate b from q)
       (λ h held. let same : h ≡ q.holder = one_value (sym held ∙ holder_begun s krate b from q) in
       subst (λ (x : ModuleId). is_marked s x.map ≡ false) (sym same) (unmarked s q.holder.map k.found k.is)) in

@@ -1,5 +1,6 @@
 -- Where the steps of a place lead stays while what is kept on the way does.
-use Rattle.std.proofs.Common.{◌≡◌, ◌∙◌, ap, sym, subst, refl, ℕ, zero, suc, ◌<◌, Bool, true, false, cond, is_some, Option, Some, None, option_map, List, [], ◌∷◌, ◌++◌, length, not, append_assoc, append-nil, arith, Contains}
+use Rattle.std.proofs.Common.{◌≡◌, ◌∙◌, ap, sym, subst, refl, ℕ, zero, suc, ◌<◌, Bool, true, false, cond, is_some, Option, Some, None, option_map, List, []}
+use Rattle.std.proofs.Common.{◌∷◌, ◌++◌, length, not, append_assoc, append-nil, arith, Contains}
 use Rattle.std.specs.Option.{option_and_then}
 use Rattle.std.specs.BTreeMap.{is_at}
 use Rattle.std.specs.Cmp.Lexicographic.{slice_cmp}
@@ -9,16 +10,16 @@ use Rattle.std.specs.Prelude.{is_none, slice_get}
 use Rattle.hir_base.specs.Place.{PlaceValue}
 use Rattle.hir_base.specs.contracts.ids.MapIdPartialEq.TheImpl as map_id
 use Rattle.hir_base.specs.declared.ast_id.BlockId.{BlockId}
+use Rattle.hir_base.specs.declared.place.BlockPlace.{BlockPlace}
+use Rattle.hir_base.specs.declared.ids.Crate.{Crate}
 use Rattle.hir_base.specs.declared.ast_id.EditionedFileId.{EditionedFileId}
 use Rattle.hir_base.specs.declared.ast_id.HirFileId.{HirFileId}
-use Rattle.hir_base.specs.declared.ast_id.HirFileId.TheVariants.{File, Macro}
-use Rattle.hir_base.specs.declared.ast_id.SyntaxId.{SyntaxId}
-use Rattle.hir_base.specs.declared.ids.Crate.{Crate}
+use Rattle.hir_base.specs.declared.macro_kind.MacroCallLoc.{MacroCallLoc}
 use Rattle.hir_base.specs.declared.ids.MapId.{MapId}
 use Rattle.hir_base.specs.declared.ids.ModuleId.{ModuleId}
-use Rattle.hir_base.specs.declared.macro_kind.MacroCallLoc.{MacroCallLoc}
-use Rattle.hir_base.specs.declared.place.BlockPlace.{BlockPlace}
 use Rattle.hir_base.specs.declared.place.PlaceElement.{PlaceElement}
+use Rattle.hir_base.specs.declared.ast_id.SyntaxId.{SyntaxId}
+use Rattle.hir_base.specs.declared.ast_id.HirFileId.TheVariants.{File, Macro}
 use Rattle.hir_base.specs.declared.place.PlaceElement.TheVariants as element
 use Rattle.hir_def_map_rules.specs.Diagnostics.{call_node}
 use Rattle.hir_def_map_rules.specs.Inner.OverlayLaws.{exact_map, same_id}
@@ -36,9 +37,11 @@ use Rattle.hir_session_state.specs.Blocks.{Blocks}
 use Rattle.hir_session_state.specs.Crates.{begins_in_block}
 use Rattle.hir_session_state.specs.Kept.{Resolution, Resolutions, kept_in}
 use Rattle.hir_session_state.specs.SourceTable.{SourceTable}
-use Rattle.hir_session_state.specs.SessionState.{SessionState, beginning_at, beginning_by, beginning_held, beginning_of, follows, is_marked, kept_of, module_of, read_under, standing_of, IsPlace, IsResolutionOf, IsSound}
+use Rattle.hir_session_state.specs.SessionState.{SessionState, beginning_at, beginning_by, beginning_held, beginning_of, follows, is_marked, kept_of, module_of}
+use Rattle.hir_session_state.specs.SessionState.{read_under, standing_of, IsPlace, IsResolutionOf, IsSound}
 use Rattle.hir_session_state.specs.SessionState.IsPlace.{of_block, of_crate}
-use Rattle.hir_session_state.specs.Standing.{Standing, block_below, block_map, block_number, child_kept, definition_file, down, file_of_module, file_of_origin, file_within, from_crate, is_set, kept_block, module_by, most_calls, standing_in, step, to_child, to_root}
+use Rattle.hir_session_state.specs.Standing.{Standing, block_below, block_map, block_number, child_kept, definition_file, down, file_of_module, file_of_origin}
+use Rattle.hir_session_state.specs.Standing.{file_within, from_crate, is_set, kept_block, module_by, most_calls, standing_in, step, to_child, to_root}
 use Rattle.hir_session_state.specs.Standing.Standing.{at, lacks, stale, unset}
 use Rattle.hir_session_state.proofs.Following.{followed_holder}
 use Rattle.hir_session_state.proofs.Places.{has_block_number, number_kept, number_means}
@@ -48,9 +51,7 @@ use Rattle.hir_session_state.proofs.Truth.{clash, no_value, one_value}
 
 pub at_module : (st : Standing) (m : ModuleId) → module_by st ≡ Some m → st ≡ at m
 at_module (at n) m e = ap at (one_value e)
-at_module (lacks id) m e = no_value e
-at_module stale m e = no_value e
-at_module unset m e = no_value e
+at_module other m e = no_value e
 
 same_module : {m n : ModuleId} → at m ≡ at n → m ≡ n
 same_module e = cc
@@ -79,12 +80,14 @@ pub to_block_at : (tables : TablesValue) (blocks : Blocks) (kept : Resolutions) 
     → cond (is_set blocks place) (to_root (kept_block tables kept place)) unset ≡ at m → IsBlockAt tables blocks kept place m
 to_block_at tables blocks kept place m e = go (is_set blocks place) refl e
   where
-    rooted : is_set blocks place ≡ true → (n : BlockId) → block_number tables place ≡ Some n → (o : Option Resolution) → kept_in kept (block_map place.holder.krate n) ≡ o
+    rooted : is_set blocks place ≡ true → (n : BlockId) → block_number tables place ≡ Some n → (o : Option Resolution)
+        → kept_in kept (block_map place.holder.krate n) ≡ o
         → to_root o ≡ at m → IsBlockAt tables blocks kept place m
     rooted on n numbered None is f = absurd (let no : ⊥ = cc in no)
     rooted on n numbered (Some r) is f = record { set = on; number = n; numbered = numbered; found = r; is = is; root = same_module f }
 
-    numbered : is_set blocks place ≡ true → (o : Option BlockId) → block_number tables place ≡ o → to_root (option_and_then (λ (n : BlockId). kept_in kept (block_map place.holder.krate n)) o) ≡ at m
+    numbered : is_set blocks place ≡ true → (o : Option BlockId) → block_number tables place ≡ o
+        → to_root (option_and_then (λ (n : BlockId). kept_in kept (block_map place.holder.krate n)) o) ≡ at m
         → IsBlockAt tables blocks kept place m
     numbered on None is f = absurd (let no : ⊥ = cc in no)
     numbered on (Some n) is f = rooted on n is (kept_in kept (block_map place.holder.krate n)) refl f
@@ -103,13 +106,15 @@ block_step tables blocks kept place m p =
     ∙ ap at p.root
 
 -- steps behind others
-pub down-append : (tables : TablesValue) (blocks : Blocks) (kept : Resolutions) (krate : Crate) (before : List PlaceElement) (st : Standing) (xs ys : List PlaceElement)
+pub down-append : (tables : TablesValue) (blocks : Blocks) (kept : Resolutions) (krate : Crate) (before : List PlaceElement) (st : Standing)
+    (xs ys : List PlaceElement)
     → down tables blocks kept krate before st (xs ++ ys) ≡ down tables blocks kept krate (before ++ xs) (down tables blocks kept krate before st xs) ys
 down-append tables blocks kept krate before st [] ys = ap (λ (zs : List PlaceElement). down tables blocks kept krate zs st ys) (sym (append-nil before))
 down-append tables blocks kept krate before st (x ∷ xs) ys =
     let next : Standing = step tables blocks kept krate before st x in
     down-append tables blocks kept krate (before ++ x ∷ []) next xs ys
-    ∙ ap (λ (zs : List PlaceElement). down tables blocks kept krate zs (down tables blocks kept krate (before ++ x ∷ []) next xs) ys) (append_assoc before (x ∷ []) xs)
+    ∙ ap (λ (zs : List PlaceElement). down tables blocks kept krate zs (down tables blocks kept krate (before ++ x ∷ []) next xs) ys)
+    (append_assoc before (x ∷ []) xs)
 
 -- ---- what the run for a block begins with
 
@@ -126,7 +131,8 @@ pub record IsBlockBegun (s : SessionState) (krate : Crate) (b : BlockId) (from :
 pub block_begun : (s : SessionState) (krate : Crate) (b : BlockId) (from : Beginning) → beginning_by s krate (Some b) ≡ Some from → IsBlockBegun s krate b from
 block_begun s krate b from e = go (block_at s.tables b) refl e
   where
-    in_file : (place : BlockPlace) → block_at s.tables b ≡ Some place → (h : ModuleId) → module_of s place.holder ≡ Some h → (o : Option EditionedFileId) → definition_file s.tables s.kept h ≡ o
+    in_file : (place : BlockPlace) → block_at s.tables b ≡ Some place → (h : ModuleId) → module_of s place.holder ≡ Some h → (o : Option EditionedFileId)
+        → definition_file s.tables s.kept h ≡ o
         → option_map (λ (file : EditionedFileId). begins_in_block krate b h file place.id) o ≡ Some from → IsBlockBegun s krate b from
     in_file place means h held None is f = no_value f
     in_file place means h held (Some file) is f = record { place = place; means = means; holder = h; held = held; file = file; written = is; is = one_value f }
@@ -136,7 +142,8 @@ block_begun s krate b from e = go (block_at s.tables b) refl e
     in_module place means None is f = no_value f
     in_module place means (Some h) is f = in_file place means h is (definition_file s.tables s.kept h) refl f
 
-    go : (o : Option BlockPlace) → block_at s.tables b ≡ o → option_and_then (λ (place : BlockPlace). beginning_at s krate b place) o ≡ Some from → IsBlockBegun s krate b from
+    go : (o : Option BlockPlace) → block_at s.tables b ≡ o → option_and_then (λ (place : BlockPlace). beginning_at s krate b place) o ≡ Some from
+        → IsBlockBegun s krate b from
     go None is f = no_value f
     go (Some place) is f = in_module place is (module_of s place.holder) refl f
 
@@ -158,12 +165,14 @@ crate_unheld s krate from e = sym (ap (λ (x : Beginning). holder_of x.start) (o
 
 -- ---- the file in which syntax is written
 
-file_kept : (t T : TablesValue) → KeepsTables t T → (n : ℕ) (id : HirFileId) (file : EditionedFileId) → file_within n t id ≡ Some file → file_within n T id ≡ Some file
+file_kept : (t T : TablesValue) → KeepsTables t T → (n : ℕ) (id : HirFileId) (file : EditionedFileId) → file_within n t id ≡ Some file → file_within n T id
+    ≡ Some file
 file_kept t T keeps n (File f) file e = e
 file_kept t T keeps zero (Macro c) file e = e
 file_kept t T keeps (suc n) (Macro c) file e = go (λ id f. file_kept t T keeps n id file f) (call_at t c) refl e
   where
-    go : ((id : HirFileId) → file_within n t id ≡ Some file → file_within n T id ≡ Some file) → (o : Option MacroCallLoc) → call_at t c ≡ o → option_and_then (λ (call : MacroCallLoc). file_within n t (call_node call.kind).file_id) o ≡ Some file
+    go : ((id : HirFileId) → file_within n t id ≡ Some file → file_within n T id ≡ Some file) → (o : Option MacroCallLoc) → call_at t c ≡ o
+        → option_and_then (λ (call : MacroCallLoc). file_within n t (call_node call.kind).file_id) o ≡ Some file
         → option_and_then (λ (call : MacroCallLoc). file_within n T (call_node call.kind).file_id) (call_at T c) ≡ Some file
     go within None is f = no_value f
     go within (Some call) is f =
@@ -171,7 +180,8 @@ file_kept t T keeps (suc n) (Macro c) file e = go (λ id f. file_kept t T keeps 
         ∙ within (call_node call.kind).file_id f
 
 -- stays as tables grow
-pub origin_file_kept : (t T : TablesValue) → KeepsTables t T → (o : ModuleOrigin) (file : EditionedFileId) → file_of_origin t o ≡ Some file → file_of_origin T o ≡ Some file
+pub origin_file_kept : (t T : TablesValue) → KeepsTables t T → (o : ModuleOrigin) (file : EditionedFileId) → file_of_origin t o ≡ Some file → file_of_origin T o
+    ≡ Some file
 origin_file_kept t T keeps (origin.CrateRoot f) file e = e
 origin_file_kept t T keeps (origin.File is_mod_rs declared tree f) file e = e
 origin_file_kept t T keeps (origin.Inline tree declared) file e = file_kept t T keeps (most_calls tree.file) tree.file file e
@@ -191,7 +201,8 @@ module _ (s : SessionState) (sound : IsSound s) where
       subst (λ (x : Resolution). IsResolutionOf s id x) (one_value (sym now.is ∙ is)) now.gives
 
   -- a block of which something is kept has a number
-  pub kept_number : (krate : Crate) (b : BlockId) (r : Resolution) → kept_of s (block_map krate b) ≡ Some r → (place : BlockPlace) × (block_at s.tables b ≡ Some place)
+  pub kept_number : (krate : Crate) (b : BlockId) (r : Resolution) → kept_of s (block_map krate b) ≡ Some r → (place : BlockPlace)
+      × (block_at s.tables b ≡ Some place)
   kept_number krate b r is = go (sound.placed (block_map krate b) (unmarked s (block_map krate b) r is))
     where
       go : IsPlace s (block_map krate b) → (place : BlockPlace) × (block_at s.tables b ≡ Some place)
@@ -199,7 +210,8 @@ module _ (s : SessionState) (sound : IsSound s) where
       go (of_block c place is_c means own within set) = (place, ap (block_at s.tables) (one_value is_c) ∙ means)
 
 -- what a block's resolution begins with
-pub resolution_begun : (s : SessionState) (krate : Crate) (b : BlockId) (r : Resolution) (p : IsResolutionOf s (block_map krate b) r) → IsBlockBegun s krate b p.from
+pub resolution_begun : (s : SessionState) (krate : Crate) (b : BlockId) (r : Resolution) (p : IsResolutionOf s (block_map krate b) r)
+    → IsBlockBegun s krate b p.from
 resolution_begun s krate b r p = block_begun s krate b p.from p.begun
 
 -- and what holds it
@@ -230,26 +242,31 @@ abbrev named_by : SessionState → MapId → Resolution → Maps
 named_by s id r = overlay (read_under s id r.holders) r.map
 
 -- a child that lies in the map of a resolution is one of its modules
-child_there : (s : SessionState) (id : MapId) (r : Resolution) → IsResolutionOf s id r → (index : ℕ) (name : List ℕ) (c : ModuleId) → child_at r.map index name ≡ Some c → c.map ≡ id
+child_there : (s : SessionState) (id : MapId) (r : Resolution) → IsResolutionOf s id r → (index : ℕ) (name : List ℕ) (c : ModuleId) → child_at r.map index name
+    ≡ Some c → c.map ≡ id
     → is_some (module_at r.map c.index) ≡ true
 child_there s id r p index name c child of = go (module_at r.map index) refl child
   where
     inside : is_some (module_in (named_by s id r) c) ≡ true → is_some (module_at r.map c.index) ≡ true
     inside there =
         let same : map_id.ghosts.eq c.map r.map.id ≡ true = ap (λ (x : MapId). map_id.ghosts.eq x r.map.id) (of ∙ sym p.own) ∙ same_id r.map.id in
-        sym (ap (λ (b : Bool). is_some (option_and_then (λ (q : Placed). module_at q.map c.index) (cond b (Some (placed_in (read_under s id r.holders) r.map)) (read_under s id r.holders c.map)))) same) ∙ there
+        sym (ap (λ (b : Bool). is_some (option_and_then (λ (q : Placed). module_at q.map c.index) (cond b (Some (placed_in (read_under s id r.holders) r.map))
+        (read_under s id r.holders c.map)))) same) ∙ there
 
     go : (o : Option ModuleValue) → module_at r.map index ≡ o → child_of o name ≡ Some c → is_some (module_at r.map c.index) ≡ true
     go None is e = no_value e
     go (Some v) is e =
-        let none : any_reference_in (is_missing (named_by s id r)) v ≡ false = none_at (any_reference_in (is_missing (named_by s id r))) r.map.modules p.names.modules index v is in
-        let children : list_any (test_child (is_missing (named_by s id r))) v.children ≡ false = (module_parts (is_missing (named_by s id r)) v none).children in
+        let none : any_reference_in (is_missing (named_by s id r)) v ≡ false = none_at (any_reference_in (is_missing (named_by s id r))) r.map.modules
+        p.names.modules index v is in
+        let children : list_any (test_child (is_missing (named_by s id r))) v.children ≡ false = (module_parts (is_missing (named_by s id r)) v none).children
+        in
         let there : is_missing (named_by s id r) (named.Module c) ≡ false =
         none_found (λ (x : ModuleId). is_missing (named_by s id r) (named.Module x)) (is_at (slice_cmp nat_cmp name)) v.children c children e in
         inside (not_off (is_some (module_in (named_by s id r) c)) there)
 
 module _ (s : SessionState) (sound : IsSound s) where
-  pub step_kept : (krate : Crate) (before : List PlaceElement) (st : Standing) (e : PlaceElement) (m : ModuleId) → ((n : ModuleId) → st ≡ at n → IsModuleKept s krate n)
+  pub step_kept : (krate : Crate) (before : List PlaceElement) (st : Standing) (e : PlaceElement) (m : ModuleId)
+      → ((n : ModuleId) → st ≡ at n → IsModuleKept s krate n)
       → step s.tables s.sources.blocks s.kept krate before st e ≡ at m → IsModuleKept s krate m
   step_kept krate before (at n) (element.Module name) m from leads =
       let start = from n refl in
@@ -283,7 +300,8 @@ module _ (s : SessionState) (sound : IsSound s) where
   step_kept krate before unset (element.Module name) m from leads = absurd (let no : ⊥ = cc in no)
   step_kept krate before unset (element.Block b) m from leads = absurd (let no : ⊥ = cc in no)
 
-  down_kept : (krate : Crate) (before : List PlaceElement) (st : Standing) (steps : List PlaceElement) (m : ModuleId) → ((n : ModuleId) → st ≡ at n → IsModuleKept s krate n)
+  down_kept : (krate : Crate) (before : List PlaceElement) (st : Standing) (steps : List PlaceElement) (m : ModuleId)
+      → ((n : ModuleId) → st ≡ at n → IsModuleKept s krate n)
       → down s.tables s.sources.blocks s.kept krate before st steps ≡ at m → IsModuleKept s krate m
   down_kept krate before st [] m from leads = from m leads
   down_kept krate before st (e ∷ more) m from leads =
@@ -303,7 +321,8 @@ module _ (s : SessionState) (sound : IsSound s) where
             there = first_there r.map.modules gives.names.root;
           })
 
-      go : (o : Option Resolution) → kept_of s (crate_map place.krate) ≡ o → from_crate s.tables s.sources.blocks s.kept o place ≡ at m → IsModuleKept s place.krate m
+      go : (o : Option Resolution) → kept_of s (crate_map place.krate) ≡ o → from_crate s.tables s.sources.blocks s.kept o place ≡ at m
+          → IsModuleKept s place.krate m
       go None is f = absurd (let no : ⊥ = cc in no)
       go (Some r) is f = down_kept place.krate [] (at (root_of r.map.id)) place.elements m (root_kept r is) f
 
@@ -323,19 +342,22 @@ module _ (s : SessionState) (sound : IsSound s) (Stays : MapId → Type 0) (outw
     pub stays : Stays module_.map
 
   -- with a block's map that of its holder stays
-  holder_stays : (krate : Crate) (before : List PlaceElement) (id : SyntaxId) (n m : ModuleId) → standing_of s (record { krate = krate; elements = before }) ≡ at n
+  holder_stays : (krate : Crate) (before : List PlaceElement) (id : SyntaxId) (n m : ModuleId) → standing_of s (record { krate = krate; elements = before })
+      ≡ at n
       → IsBlockAt s.tables s.sources.blocks s.kept (block_below krate before id) m → Stays m.map → Stays n.map
   holder_stays krate before id n m is p stays =
       let gives = kept_gives s sound (block_map krate p.number) p.found p.is in
       let begun = resolution_begun s krate p.number p.found gives in
-      let place : begun.place ≡ block_below krate before id = one_value (sym begun.means ∙ number_means s.tables (block_below krate before id) p.number p.numbered) in
+      let place : begun.place ≡ block_below krate before id = one_value (sym begun.means ∙ number_means s.tables (block_below krate before id) p.number
+      p.numbered) in
       let holder : begun.holder ≡ n = one_value (sym begun.held ∙ ap (λ (x : BlockPlace). module_of s x.holder) place ∙ ap module_by is) in
       let held : p.found.map.holder ≡ Some n = resolution_holder s krate p.number p.found gives ∙ ap (λ (x : ModuleId). Some x) holder in
       let own : m.map ≡ block_map krate p.number = sym (ap (λ (x : ModuleId). x.map) p.root) ∙ gives.own in
       outwards (block_map krate p.number) n.map (subst Stays own stays) (followed_holder s (block_map krate p.number) p.number p.found n refl p.is held)
 
   -- where a step leads into a map that stays, it begins in one
-  back_step : (krate : Crate) (before : List PlaceElement) (st : Standing) (e : PlaceElement) (m : ModuleId) → standing_of s (record { krate = krate; elements = before }) ≡ st
+  back_step : (krate : Crate) (before : List PlaceElement) (st : Standing) (e : PlaceElement) (m : ModuleId)
+      → standing_of s (record { krate = krate; elements = before }) ≡ st
       → next krate before st e ≡ at m → Stays m.map → IsStaying st
   back_step krate before (at n) (element.Module name) m is leads stays =
       let child = to_child_at n.map (child_kept s.kept n name) m leads in
@@ -358,7 +380,8 @@ module _ (s : SessionState) (sound : IsSound s) (Stays : MapId → Type 0) (outw
 
   -- what stands behind some steps from the root of a crate that is kept
   module _ (krate : Crate) (r : Resolution) (is_kept : kept_of s (crate_map krate) ≡ Some r) where
-    reached : (before : List PlaceElement) (st : Standing) → on krate [] (at (root_of r.map.id)) before ≡ st → standing_of s (record { krate = krate; elements = before }) ≡ st
+    reached : (before : List PlaceElement) (st : Standing) → on krate [] (at (root_of r.map.id)) before ≡ st
+        → standing_of s (record { krate = krate; elements = before }) ≡ st
     reached before st leads =
         ap (λ (o : Option Resolution). from_crate s.tables s.sources.blocks s.kept o (record { krate = krate; elements = before })) is_kept ∙ leads
 
@@ -367,7 +390,8 @@ module _ (s : SessionState) (sound : IsSound s) (Stays : MapId → Type 0) (outw
     one_more before st e leads =
         down-append s.tables s.sources.blocks s.kept krate [] (at (root_of r.map.id)) before (e ∷ []) ∙ ap (λ (x : Standing). next krate before x e) leads
 
-    back : (before : List PlaceElement) (st : Standing) (more : List PlaceElement) (m : ModuleId) → on krate [] (at (root_of r.map.id)) before ≡ st → on krate before st more ≡ at m → Stays m.map
+    back : (before : List PlaceElement) (st : Standing) (more : List PlaceElement) (m : ModuleId) → on krate [] (at (root_of r.map.id)) before ≡ st
+        → on krate before st more ≡ at m → Stays m.map
         → IsStaying st
     back before st [] m is leads stays = record { module_ = m; is = leads; stays = stays }
     back before st (e ∷ more) m is leads stays =
@@ -375,21 +399,24 @@ module _ (s : SessionState) (sound : IsSound s) (Stays : MapId → Type 0) (outw
         back_step krate before st e later.module_ (reached before st is) later.is later.stays
 
   module _ (T : TablesValue) (F : SourceTable) (K : Resolutions) (keeps : KeepsTables s.tables T) (same : (id : MapId) → Stays id → kept_in K id ≡ kept_of s id)
-      (set : (b : BlockId) (place : BlockPlace) → block_at s.tables b ≡ Some place → Stays (block_map place.holder.krate b) → is_set s.sources.blocks place ≡ true → is_set F.blocks place ≡ true)
+      (set : (b : BlockId) (place : BlockPlace) → block_at s.tables b ≡ Some place → Stays (block_map place.holder.krate b) → is_set s.sources.blocks place
+      ≡ true → is_set F.blocks place ≡ true)
     where
       -- the session with other tables, sources and resolutions
       abbrev other : SessionState
       other = record { crates = s.crates; tables = T; sources = F; kept = K }
 
       -- one step
-      step_stays : (krate : Crate) (before : List PlaceElement) (n : ModuleId) (e : PlaceElement) (m : ModuleId) → Stays n.map → next krate before (at n) e ≡ at m → Stays m.map
+      step_stays : (krate : Crate) (before : List PlaceElement) (n : ModuleId) (e : PlaceElement) (m : ModuleId) → Stays n.map → next krate before (at n) e
+          ≡ at m → Stays m.map
           → step T F.blocks K krate before (at n) e ≡ at m
       step_stays krate before n (element.Module name) m here leads there =
           ap (λ (o : Option Resolution). to_child n.map (option_and_then (λ (r : Resolution). child_at r.map n.index name) o)) (same n.map here) ∙ leads
       step_stays krate before n (element.Block id) m here leads there =
           let place : BlockPlace = block_below krate before id in
           let p = to_block_at s.tables s.sources.blocks s.kept place m leads in
-          let own : m.map ≡ block_map krate p.number = sym (ap (λ (x : ModuleId). x.map) p.root) ∙ (kept_gives s sound (block_map krate p.number) p.found p.is).own in
+          let own : m.map ≡ block_map krate p.number = sym (ap (λ (x : ModuleId). x.map) p.root) ∙
+          (kept_gives s sound (block_map krate p.number) p.found p.is).own in
           let stays : Stays (block_map krate p.number) = subst Stays own there in
           block_step T F.blocks K place m (record {
             set = set p.number place (number_means s.tables place p.number p.numbered) stays p.set;
@@ -401,7 +428,8 @@ module _ (s : SessionState) (sound : IsSound s) (Stays : MapId → Type 0) (outw
           })
 
       -- all steps
-      forth : (krate : Crate) (r : Resolution) (is_kept : kept_of s (crate_map krate) ≡ Some r) (before : List PlaceElement) (st : Standing) (more : List PlaceElement) (m : ModuleId)
+      forth : (krate : Crate) (r : Resolution) (is_kept : kept_of s (crate_map krate) ≡ Some r) (before : List PlaceElement) (st : Standing)
+          (more : List PlaceElement) (m : ModuleId)
           → on krate [] (at (root_of r.map.id)) before ≡ st → on krate before st more ≡ at m → Stays m.map → down T F.blocks K krate before st more ≡ at m
       forth krate r is_kept before st [] m is leads stays = leads
       forth krate r is_kept before st (e ∷ more) m is leads stays =
@@ -409,7 +437,8 @@ module _ (s : SessionState) (sound : IsSound s) (Stays : MapId → Type 0) (outw
           let here = back_step krate before st e later.module_ (reached krate r is_kept before st is) later.is later.stays in
           let from : next krate before (at here.module_) e ≡ at later.module_ = ap (λ (x : Standing). next krate before x e) (sym here.is) ∙ later.is in
           let first : step T F.blocks K krate before st e ≡ next krate before st e =
-          ap (λ (x : Standing). step T F.blocks K krate before x e) here.is ∙ step_stays krate before here.module_ e later.module_ here.stays from later.stays ∙ sym later.is in
+          ap (λ (x : Standing). step T F.blocks K krate before x e) here.is ∙ step_stays krate before here.module_ e later.module_ here.stays from later.stays ∙
+          sym later.is in
           ap (λ (x : Standing). down T F.blocks K krate (before ++ e ∷ []) x more) first
           ∙ forth krate r is_kept (before ++ e ∷ []) (next krate before st e) more m (one_more krate r is_kept before st e is) leads stays
 
@@ -417,12 +446,14 @@ module _ (s : SessionState) (sound : IsSound s) (Stays : MapId → Type 0) (outw
       pub standing_stays : (place : PlaceValue) (m : ModuleId) → standing_of s place ≡ at m → Stays m.map → standing_in T F.blocks K place ≡ at m
       standing_stays place m leads stays = go (kept_of s (crate_map place.krate)) refl leads
         where
-          go : (o : Option Resolution) → kept_of s (crate_map place.krate) ≡ o → from_crate s.tables s.sources.blocks s.kept o place ≡ at m → standing_in T F.blocks K place ≡ at m
+          go : (o : Option Resolution) → kept_of s (crate_map place.krate) ≡ o → from_crate s.tables s.sources.blocks s.kept o place ≡ at m
+              → standing_in T F.blocks K place ≡ at m
           go None is f = absurd (let no : ⊥ = cc in no)
           go (Some r) is f =
               let root = back place.krate r is [] (at (root_of r.map.id)) place.elements m refl f stays in
               let first : root_of r.map.id ≡ root.module_ = same_module root.is in
-              let own : root.module_.map ≡ crate_map place.krate = sym (ap (λ (x : ModuleId). x.map) first) ∙ (kept_gives s sound (crate_map place.krate) r is).own in
+              let own : root.module_.map ≡ crate_map place.krate = sym (ap (λ (x : ModuleId). x.map) first) ∙
+              (kept_gives s sound (crate_map place.krate) r is).own in
               ap (λ (o : Option Resolution). from_crate T F.blocks K o place) (same (crate_map place.krate) (subst Stays own root.stays) ∙ is)
               ∙ forth place.krate r is [] (at (root_of r.map.id)) place.elements m refl f stays
 
@@ -430,7 +461,8 @@ module _ (s : SessionState) (sound : IsSound s) (Stays : MapId → Type 0) (outw
       module_stays place m leads stays = ap module_by (standing_stays place m (at_module (standing_of s place) m leads) stays)
 
       -- so does the file in which a module of such a map is written
-      pub definition_stays : (m : ModuleId) (file : EditionedFileId) → definition_file s.tables s.kept m ≡ Some file → Stays m.map → definition_file T K m ≡ Some file
+      pub definition_stays : (m : ModuleId) (file : EditionedFileId) → definition_file s.tables s.kept m ≡ Some file → Stays m.map → definition_file T K m
+          ≡ Some file
       definition_stays m file written stays =
           ap (λ (o : Option Resolution). option_and_then (λ (r : Resolution). file_of_module T (module_at r.map m.index)) o) (same m.map stays)
           ∙ go (kept_of s m.map) written
@@ -445,7 +477,8 @@ module _ (s : SessionState) (sound : IsSound s) (Stays : MapId → Type 0) (outw
           go (Some r) f = of_module (module_at r.map m.index) f
 
       -- and what a run begins with whose holder lies in such a map
-      pub beginning_stays : (id : MapId) (from : Beginning) → beginning_of s id ≡ Some from → ((h : ModuleId) → holder_of from.start ≡ Some h → Stays h.map) → beginning_of other id ≡ Some from
+      pub beginning_stays : (id : MapId) (from : Beginning) → beginning_of s id ≡ Some from → ((h : ModuleId) → holder_of from.start ≡ Some h → Stays h.map)
+          → beginning_of other id ≡ Some from
       beginning_stays id from begun held = go id.block begun
         where
           go : (o : Option BlockId) → beginning_by s id.krate o ≡ Some from → beginning_by other id.krate o ≡ Some from
@@ -470,7 +503,8 @@ module _ (s : SessionState) (sound : IsSound s) (T : TablesValue) (keeps : Keeps
   pub kept_block_grown : (place : BlockPlace) → kept_block T s.kept place ≡ kept_block s.tables s.kept place
   kept_block_grown place = go (block_number s.tables place) refl
     where
-      unnumbered : block_number s.tables place ≡ None → (n : BlockId) → block_number T place ≡ Some n → (o : Option Resolution) → kept_of s (block_map place.holder.krate n) ≡ o → o ≡ None
+      unnumbered : block_number s.tables place ≡ None → (n : BlockId) → block_number T place ≡ Some n → (o : Option Resolution)
+          → kept_of s (block_map place.holder.krate n) ≡ o → o ≡ None
       unnumbered none n numbered None is = refl
       unnumbered none n numbered (Some r) is =
           let was = kept_number s sound place.holder.krate n r is in
@@ -478,11 +512,13 @@ module _ (s : SessionState) (sound : IsSound s) (T : TablesValue) (keeps : Keeps
           let has = has_block_number s.tables place n (was.1 ∙ ap (λ (x : BlockPlace). Some x) same) in
           no_value (sym none ∙ has.1)
 
-      or_none : block_number s.tables place ≡ None → (o : Option BlockId) → block_number T place ≡ o → option_and_then (λ (n : BlockId). kept_in s.kept (block_map place.holder.krate n)) o ≡ None
+      or_none : block_number s.tables place ≡ None → (o : Option BlockId) → block_number T place ≡ o
+          → option_and_then (λ (n : BlockId). kept_in s.kept (block_map place.holder.krate n)) o ≡ None
       or_none none None is = refl
       or_none none (Some n) is = unnumbered none n is (kept_of s (block_map place.holder.krate n)) refl
 
-      go : (o : Option BlockId) → block_number s.tables place ≡ o → kept_block T s.kept place ≡ option_and_then (λ (n : BlockId). kept_in s.kept (block_map place.holder.krate n)) o
+      go : (o : Option BlockId) → block_number s.tables place ≡ o → kept_block T s.kept place
+          ≡ option_and_then (λ (n : BlockId). kept_in s.kept (block_map place.holder.krate n)) o
       go None none = or_none none (block_number T place) refl
       go (Some n) is = ap (option_and_then (λ (m : BlockId). kept_in s.kept (block_map place.holder.krate m))) (number_kept s.tables T keeps place n is)
 
@@ -490,7 +526,8 @@ module _ (s : SessionState) (sound : IsSound s) (T : TablesValue) (keeps : Keeps
       → step T s.sources.blocks s.kept krate before st e ≡ step s.tables s.sources.blocks s.kept krate before st e
   step_grown krate before (at m) (element.Module name) = refl
   step_grown krate before (at m) (element.Block id) =
-      ap (λ (o : Option Resolution). cond (is_set s.sources.blocks (block_below krate before id)) (to_root o) unset) (kept_block_grown (block_below krate before id))
+      ap (λ (o : Option Resolution). cond (is_set s.sources.blocks (block_below krate before id)) (to_root o) unset)
+      (kept_block_grown (block_below krate before id))
   step_grown krate before (lacks id) (element.Module name) = refl
   step_grown krate before (lacks id) (element.Block b) = refl
   step_grown krate before stale (element.Module name) = refl

@@ -59,5 +59,11 @@ where_ok (Err e) a f = a
 pub one_value : {A : Type 0} {x y : A} → Some x ≡ Some y → x ≡ y
 one_value e = cc
 
+pub one_error : {T E : Type 0} {x y : E} → ◌≡◌ {A = Result T E} (Err x) (Err y) → x ≡ y
+one_error e = cc
+
 pub no_value : {A B : Type 0} {x : A} → None ≡ Some x → B
 no_value e = absurd (let wrong : ⊥ = cc in wrong)
+
+pub no_error : {A T E : Type 0} {x : T} {y : E} → ◌≡◌ {A = Result T E} (Ok x) (Err y) → A
+no_error e = absurd (let wrong : ⊥ = cc in wrong)

@@ -1,12 +1,13 @@
 -- The resolution of a block makes only blocks due that lie within it.
-use Rattle.std.proofs.Common.{◌≡◌, ◌≢◌, ◌⊎◌, ◌∙◌, inl, inr, ap, sym, subst, refl, suc, ◌+◌, ◌<◌, cond, Option, Some, None, List, [], ◌∷◌, ◌++◌, append_assoc, arith}
+use Rattle.std.proofs.Common.{◌≡◌, ◌≢◌, ◌⊎◌, ◌∙◌, inl, inr, ap, sym, subst, refl, suc, ◌+◌, ◌<◌, cond, Option, Some, None, List, [], ◌∷◌, ◌++◌, append_assoc}
+use Rattle.std.proofs.Common.{arith}
 use Rattle.std.specs.Option.{option_and_then}
 use Rattle.hir_base.specs.Place.{PlaceValue}
 use Rattle.hir_base.specs.declared.ast_id.BlockId.{BlockId}
+use Rattle.hir_base.specs.declared.place.BlockPlace.{BlockPlace}
 use Rattle.hir_base.specs.declared.ids.Crate.{Crate}
 use Rattle.hir_base.specs.declared.ids.MapId.{MapId}
 use Rattle.hir_base.specs.declared.ids.ModuleId.{ModuleId}
-use Rattle.hir_base.specs.declared.place.BlockPlace.{BlockPlace}
 use Rattle.hir_base.specs.declared.place.PlaceElement.{PlaceElement}
 use Rattle.hir_base.specs.declared.place.PlaceElement.TheVariants as element
 use Rattle.hir_def_map_rules.specs.State.{child_at, crate_map, root_of}
@@ -14,7 +15,8 @@ use Rattle.hir_tables.specs.Tables.{block_at}
 use Rattle.hir_session_state.specs.Blocks.{nesting_of, place_of_block}
 use Rattle.hir_session_state.specs.Kept.{Resolution, Resolutions, kept_in}
 use Rattle.hir_session_state.specs.SessionState.{SessionState, kept_of, module_of, standing_of, IsSound}
-use Rattle.hir_session_state.specs.Standing.{Standing, block_below, block_map, block_number, down, from_crate, is_set, module_by, standing_in, step, to_child, to_root}
+use Rattle.hir_session_state.specs.Standing.{Standing, block_below, block_map, block_number, down, from_crate, is_set, module_by, standing_in, step, to_child}
+use Rattle.hir_session_state.specs.Standing.{to_root}
 use Rattle.hir_session_state.specs.Standing.Standing.{at, lacks, stale, unset}
 use Rattle.hir_session_state.proofs.Ids.{on_id}
 use Rattle.hir_session_state.proofs.Places.{nesting_below, number_means}
@@ -55,18 +57,23 @@ module _ (s : SessionState) (sound : IsSound s) (b : BlockId) (place : BlockPlac
   one_step : (krate : Crate) (before : List PlaceElement) (n : ModuleId) (e : PlaceElement) → IsModuleKept s krate n
       → (step s.tables s.sources.blocks K krate before (at n) e ≡ step s.tables s.sources.blocks s.kept krate before (at n) e) ⊎ IsStepBy krate before e
   one_step krate before n (element.Module name) from =
-      inl (ap (λ (o : Option Resolution). to_child n.map (option_and_then (λ (r : Resolution). child_at r.map n.index name) o)) (same_kept n.map from.found from.is))
+      inl (ap (λ (o : Option Resolution). to_child n.map (option_and_then (λ (r : Resolution). child_at r.map n.index name) o))
+      (same_kept n.map from.found from.is))
   one_step krate before n (element.Block id) from = go (block_number s.tables (block_below krate before id)) refl
     where
       led : (o : Option BlockId) → block_number s.tables (block_below krate before id) ≡ o
           → option_and_then (λ (x : BlockId). kept_in K (block_map krate x)) o ≡ option_and_then (λ (x : BlockId). kept_in s.kept (block_map krate x)) o
-          → step s.tables s.sources.blocks K krate before (at n) (element.Block id) ≡ step s.tables s.sources.blocks s.kept krate before (at n) (element.Block id)
+          → step s.tables s.sources.blocks K krate before (at n) (element.Block id) ≡ step s.tables s.sources.blocks s.kept krate before (at n)
+          (element.Block id)
       led o is same =
-          ap (λ (x : Option BlockId). cond (is_set s.sources.blocks (block_below krate before id)) (to_root (option_and_then (λ (y : BlockId). kept_in K (block_map krate y)) x)) unset) is
+          ap (λ (x : Option BlockId). cond (is_set s.sources.blocks (block_below krate before id))
+          (to_root (option_and_then (λ (y : BlockId). kept_in K (block_map krate y)) x)) unset) is
           ∙ ap (λ (x : Option Resolution). cond (is_set s.sources.blocks (block_below krate before id)) (to_root x) unset) same
-          ∙ sym (ap (λ (x : Option BlockId). cond (is_set s.sources.blocks (block_below krate before id)) (to_root (option_and_then (λ (y : BlockId). kept_in s.kept (block_map krate y)) x)) unset) is)
+          ∙ sym (ap (λ (x : Option BlockId). cond (is_set s.sources.blocks (block_below krate before id))
+          (to_root (option_and_then (λ (y : BlockId). kept_in s.kept (block_map krate y)) x)) unset) is)
 
-      into : (j : BlockId) → block_number s.tables (block_below krate before id) ≡ Some j → block_map krate j ≡ block_map place.holder.krate b → IsStepBy krate before (element.Block id)
+      into : (j : BlockId) → block_number s.tables (block_below krate before id) ≡ Some j → block_map krate j ≡ block_map place.holder.krate b
+          → IsStepBy krate before (element.Block id)
       into j is same =
           let number : j ≡ b = one_value (ap (λ (x : MapId). x.block) same) in
           let here : block_below krate before id ≡ place =
@@ -74,7 +81,8 @@ module _ (s : SessionState) (sound : IsSound s) (b : BlockId) (place : BlockPlac
           record { steps = ap (λ (x : BlockPlace). (place_of_block x).elements) here }
 
       go : (o : Option BlockId) → block_number s.tables (block_below krate before id) ≡ o
-          → (step s.tables s.sources.blocks K krate before (at n) (element.Block id) ≡ step s.tables s.sources.blocks s.kept krate before (at n) (element.Block id))
+          → (step s.tables s.sources.blocks K krate before (at n) (element.Block id) ≡ step s.tables s.sources.blocks s.kept krate before (at n)
+          (element.Block id))
           ⊎ IsStepBy krate before (element.Block id)
       go None is = inl (led None is refl)
       go (Some j) is = on_id (block_map krate j) (block_map place.holder.krate b)
@@ -96,10 +104,11 @@ module _ (s : SessionState) (sound : IsSound s) (b : BlockId) (place : BlockPlac
       ⊎ ((more : List PlaceElement) × (before ++ steps ≡ (place_of_block place).elements ++ more))
   steps_lead krate before st [] from = inl refl
   steps_lead krate before st (e ∷ more) from = elim (any_step krate before st e from) [
-    | inl same ↦ elim (steps_lead krate (before ++ e ∷ []) (step s.tables s.sources.blocks s.kept krate before st e) more (λ n is. step_kept s sound krate before st e n from is)) [
-      | inl rest ↦ inl (ap (λ (x : Standing). down s.tables s.sources.blocks K krate (before ++ e ∷ []) x more) same ∙ rest)
-      | inr through ↦ inr (through.0, sym (append_assoc before (e ∷ []) more) ∙ through.1)
-    ]
+    | inl same ↦ elim (steps_lead krate (before ++ e ∷ []) (step s.tables s.sources.blocks s.kept krate before st e) more
+        (λ n is. step_kept s sound krate before st e n from is)) [
+          | inl rest ↦ inl (ap (λ (x : Standing). down s.tables s.sources.blocks K krate (before ++ e ∷ []) x more) same ∙ rest)
+          | inr through ↦ inr (through.0, sym (append_assoc before (e ∷ []) more) ∙ through.1)
+        ]
     | inr here ↦ inr (more, sym (append_assoc before (e ∷ []) more) ∙ ap (λ (xs : List PlaceElement). xs ++ more) here.steps)
   ]
 

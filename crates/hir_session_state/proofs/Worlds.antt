@@ -1,11 +1,12 @@
 -- The finished maps that a place reads stay while what is kept of the crates and holders on which it stands does.
-use Rattle.std.proofs.Common.{◌≡◌, ◌≢◌, ◌⊎◌, inl, inr, ℕ, zero, suc, ◌<◌, List, [], ◌∷◌, ◌++◌, length, true, ◌&&◌, cond, is_some, arith, Option, Some, None, option_map, refl, sym, ap, ◌∙◌, subst, Contains, eq-eqb}
+use Rattle.std.proofs.Common.{◌≡◌, ◌≢◌, ◌⊎◌, inl, inr, ℕ, zero, suc, ◌<◌, List, [], ◌∷◌, ◌++◌, length, true, ◌&&◌, cond, is_some, arith, Option, Some, None}
+use Rattle.std.proofs.Common.{option_map, refl, sym, ap, ◌∙◌, subst, Contains, eq-eqb}
 use Rattle.hir_base.specs.contracts.ids.MapIdPartialEq.TheImpl as map_id
 use Rattle.hir_base.specs.declared.ast_id.BlockId.{BlockId}
 use Rattle.hir_base.specs.declared.ids.Crate.{Crate}
+use Rattle.hir_base.specs.declared.macro_kind.MacroId.{MacroId}
 use Rattle.hir_base.specs.declared.ids.MapId.{MapId}
 use Rattle.hir_base.specs.declared.ids.ModuleId.{ModuleId}
-use Rattle.hir_base.specs.declared.macro_kind.MacroId.{MacroId}
 use Rattle.hir_base.specs.declared.macro_kind.MacroId.TheVariants as macros
 use Rattle.hir_scope.specs.ModuleTree.{same_crate}
 use Rattle.hir_tables.specs.Tables.{TablesValue}
@@ -23,14 +24,15 @@ use Rattle.hir_collector_rules.specs.Start.{Beginning, held_keys, holder_keys, h
 use Rattle.hir_collector_rules.specs.State.{State}
 use Rattle.hir_collector_rules.specs.Steps.{keys_read}
 use Rattle.hir_collector_rules.specs.Workspace.{Workspace, transitive_dependencies_in}
-use Rattle.hir_collector_rules.specs.declared.macro_directive.MacroDirective.{MacroDirective}
 use Rattle.hir_collector_rules.specs.declared.source_database.Key.{Key}
+use Rattle.hir_collector_rules.specs.declared.macro_directive.MacroDirective.{MacroDirective}
 use Rattle.hir_collector_rules.specs.declared.source_database.Key.TheVariants as keys
 use Rattle.hir_crate_graph.specs.CrateSet.{has_crate}
 use Rattle.hir_session_state.specs.Crates.{begins_in_block, id_of, transitive_in}
 use Rattle.hir_session_state.specs.SourceTable.{SourceTable}
 use Rattle.hir_session_state.specs.Kept.{Resolutions, collected_of, finished_by, kept_in, placed_by}
-use Rattle.hir_session_state.specs.SessionState.{SessionState, Resolution, workspace_of, beginning_by, beginning_of, finished_of, follows, read_under, kept_of, IsResolutionOf, IsSound}
+use Rattle.hir_session_state.specs.SessionState.{SessionState, Resolution, workspace_of, beginning_by, beginning_of, finished_of, follows, read_under, kept_of}
+use Rattle.hir_session_state.specs.SessionState.{IsResolutionOf, IsSound}
 use Rattle.hir_crate_graph.specs.Dependencies.{DependsOn}
 use Rattle.hir_crate_graph.specs.Dependencies.DependsOn.{directly, through}
 use Rattle.hir_session_state.proofs.Depending.{any-found, depended, found-any}
@@ -48,7 +50,8 @@ DependsOn-trans {i = i} (directly k d among) rest = through k i d among rest
 DependsOn-trans {i = i} (through k j d among first) rest = through k i d among (DependsOn-trans first rest)
 
 -- a crate stands on crates that come before it
-pub DependsOn-below : {dependencies : ℕ → List Crate} {k j : ℕ} → ((k : ℕ) (d : Crate) → Contains (dependencies k) d → d.0 < k) → DependsOn dependencies k j → j < k
+pub DependsOn-below : {dependencies : ℕ → List Crate} {k j : ℕ} → ((k : ℕ) (d : Crate) → Contains (dependencies k) d → d.0 < k) → DependsOn dependencies k j
+    → j < k
 DependsOn-below below (directly k d among) = below k d among
 DependsOn-below below (through k j d among rest) =
     let next : d.0 < k = below k d among in
@@ -67,7 +70,8 @@ has_listed crates c among = any-found _ crates c among (eq-eqb c.0 c.0 refl)
 
 -- ---- keys
 
-pub AgreeOn-trans : {tables : TablesValue} {keys : List Key} {u v w : Workspace} {f g h : Maps} → AgreeOn tables keys u f v g → AgreeOn tables keys v g w h → AgreeOn tables keys u f w h
+pub AgreeOn-trans : {tables : TablesValue} {keys : List Key} {u v w : Workspace} {f g h : Maps} → AgreeOn tables keys u f v g → AgreeOn tables keys v g w h
+    → AgreeOn tables keys u f w h
 AgreeOn-trans a b = record {
   crates = b.crates ∙ a.crates;
   config = λ krate. b.config krate ∙ a.config krate;
@@ -101,8 +105,10 @@ of_no_call own d (macros.ProcMacroId m) x id among =
     (λ e. let wrong : ⊥ = cc in wrong) (λ e. let wrong : ⊥ = cc in wrong) (λ e. let wrong : ⊥ = cc in wrong)
 
 -- a map is asked for because the run's crate depends on its crate, or because it is that of what holds the run's block
-of_map_key : {tables : TablesValue} {w : Workspace} {finished : Maps} {from : Beginning} {last : State} {id : MapId} → HasCause tables w finished from last (keys.Map id)
-    → ((c : Crate) × Contains (transitive_dependencies_in w (krate_of from.start)) c × (keys.Map id ≡ map_key c)) ⊎ Contains (held_keys from.start (holders_by finished from.start)) (keys.Map id)
+of_map_key : {tables : TablesValue} {w : Workspace} {finished : Maps} {from : Beginning} {last : State} {id : MapId} → HasCause tables w finished from last
+    (keys.Map id)
+    → ((c : Crate) × Contains (transitive_dependencies_in w (krate_of from.start)) c × (keys.Map id ≡ map_key c))
+    ⊎ Contains (held_keys from.start (holders_by finished from.start)) (keys.Map id)
 of_map_key (root_tree is) = absurd (let wrong : ⊥ = cc in wrong)
 of_map_key (of_holder among) = inr among
 of_map_key (declared_enum home n listed is) = absurd (let wrong : ⊥ = cc in wrong)
@@ -155,7 +161,8 @@ module _ (s : SessionState) (F : SourceTable) (K : Resolutions) where
             subst (λ (x : MapId). finished_by K x ≡ finished_of s x) one.2 (finished_stays one.0.map (kept.holders one.0 one.1))
       ])
 
-  holders_stay : (id : MapId) (r : Resolution) → IsResolutionOf s id r → IsKeptBehind id r → r.holders ≡ holders_under (finished_of changed) r.map.id r.map.holder
+  holders_stay : (id : MapId) (r : Resolution) → IsResolutionOf s id r → IsKeptBehind id r → r.holders ≡ holders_under (finished_of changed) r.map.id
+      r.map.holder
   holders_stay id r p kept = p.holders ∙ sym (go r.map.holder refl)
     where
       go : (o : Option ModuleId) → r.map.holder ≡ o → holders_under (finished_of changed) r.map.id o ≡ holders_under (finished_of s) r.map.id o
@@ -163,18 +170,22 @@ module _ (s : SessionState) (F : SourceTable) (K : Resolutions) where
       go (Some h) held =
           let first = holder_kept s id r p h held in
           let among : Contains r.holders h = subst (λ (hs : List ModuleId). Contains hs h) (sym first.holders) (zero, omega arith, refl) in
-          ap (λ (o : Option Placed). cond (same_crate h.map.krate r.map.id.krate && is_some o) (h ∷ holders_of o) []) (finished_stays h.map (kept.holders h among))
+          ap (λ (o : Option Placed). cond (same_crate h.map.krate r.map.id.krate && is_some o) (h ∷ holders_of o) [])
+          (finished_stays h.map (kept.holders h among))
 
   -- what is seen at the key of such a map
-  map_stays : (j : MapId) → kept_in K j ≡ kept_of s j → look s.tables (workspace_of changed) (finished_of changed) (keys.Map j) ≡ look s.tables (workspace_of s) (finished_of s) (keys.Map j)
+  map_stays : (j : MapId) → kept_in K j ≡ kept_of s j → look s.tables (workspace_of changed) (finished_of changed) (keys.Map j) ≡ look s.tables (workspace_of s)
+      (finished_of s) (keys.Map j)
   map_stays j same = ap (λ (o : Option Placed). of_map o) (finished_stays j same)
 
   -- a key of what holds a run
-  held_stays : (id : MapId) (r : Resolution) (p : IsResolutionOf s id r) → IsKeptBehind id r → (j : MapId) → Contains (held_keys p.from.start (holders_by (finished_of s) p.from.start)) (keys.Map j)
+  held_stays : (id : MapId) (r : Resolution) (p : IsResolutionOf s id r) → IsKeptBehind id r → (j : MapId)
+      → Contains (held_keys p.from.start (holders_by (finished_of s) p.from.start)) (keys.Map j)
       → kept_in K j ≡ kept_of s j
   held_stays id r p kept j among = go id.block refl
     where
-      one_of : (b : BlockId) → id.block ≡ Some b → (hs : List ModuleId) → hs ≡ r.holders → Contains (map_key id.krate ∷ holder_keys hs) (keys.Map j) → kept_in K j ≡ kept_of s j
+      one_of : (b : BlockId) → id.block ≡ Some b → (hs : List ModuleId) → hs ≡ r.holders → Contains (map_key id.krate ∷ holder_keys hs) (keys.Map j)
+          → kept_in K j ≡ kept_of s j
       one_of b of hs same (zero, within, is) = subst (λ (x : MapId). kept_in K x ≡ kept_of s x) (same_map is) (kept.own b of)
       one_of b of hs same (suc n, within, is) =
           let one = of_holder_keys hs j (n, omega arith, is) in
@@ -183,7 +194,8 @@ module _ (s : SessionState) (F : SourceTable) (K : Resolutions) where
       go : (o : Option BlockId) → id.block ≡ o → kept_in K j ≡ kept_of s j
       go None of =
           let begun = one_value (subst (λ (o : Option BlockId). beginning_by s id.krate o ≡ Some p.from) of p.begun) in
-          let none : Contains [] (keys.Map j) = subst (λ (x : Beginning). Contains (held_keys x.start (holders_by (finished_of s) x.start)) (keys.Map j)) (sym begun) among in
+          let none : Contains [] (keys.Map j) = subst (λ (x : Beginning). Contains (held_keys x.start (holders_by (finished_of s) x.start)) (keys.Map j))
+          (sym begun) among in
           absurd (let past : none.0 < 0 = none.1 in omega arith)
       go (Some b) of =
           let one = block_held s id r p b of in
@@ -192,15 +204,12 @@ module _ (s : SessionState) (F : SourceTable) (K : Resolutions) where
           (subst (λ (x : Beginning). Contains (held_keys x.start (holders_by (finished_of s) x.start)) (keys.Map j)) (sym one.begun.is) among)
 
   -- what is seen at a key, where no map counts
-  key_stays : (finished : Maps) (from : Beginning) (last : State) (key : Key) → HasCause s.tables (workspace_of s) finished from last key → look s.tables (workspace_of changed) no_maps key ≡ look s.tables (workspace_of s) no_maps key
+  key_stays : (finished : Maps) (from : Beginning) (last : State) (key : Key) → HasCause s.tables (workspace_of s) finished from last key
+      → look s.tables (workspace_of changed) no_maps key ≡ look s.tables (workspace_of s) no_maps key
       → ((j : MapId) → key ≡ keys.Map j → HasCause s.tables (workspace_of s) finished from last (keys.Map j) → kept_in K j ≡ kept_of s j)
       → look s.tables (workspace_of changed) (finished_of changed) key ≡ look s.tables (workspace_of s) (finished_of s) key
-  key_stays finished from last (keys.Tree key) cause alike by_map = alike
-  key_stays finished from last (keys.Variants id) cause alike by_map = alike
-  key_stays finished from last (keys.Text id) cause alike by_map = alike
-  key_stays finished from last (keys.Input krate ast) cause alike by_map = alike
-  key_stays finished from last (keys.Expansion id) cause alike by_map = alike
   key_stays finished from last (keys.Map id) cause alike by_map = map_stays id (by_map id refl cause)
+  key_stays finished from last other cause alike by_map = alike
 
   -- what a run's crate is
   krate_begun : (id : MapId) (r : Resolution) (p : IsResolutionOf s id r) → krate_of p.from.start ≡ id.krate
@@ -227,8 +236,10 @@ module _ (s : SessionState) (F : SourceTable) (K : Resolutions) where
       by_cause : {last : State} (j : MapId) → HasCause s.tables (workspace_of s) (finished_of s) p.from last (keys.Map j) → kept_in K j ≡ kept_of s j
       by_cause j cause = elim (of_map_key cause) [
         | inl of ↦
-            let among : Contains (transitive_in s.crates id.krate.0) of.0 = subst (λ (k : Crate). Contains (transitive_in s.crates k.0) of.0) (krate_begun id r p) of.1 in
-            subst (λ (x : MapId). kept_in K x ≡ kept_of s x) (sym (same_map of.2)) (kept.crates of.0 (has_listed (transitive_in s.crates id.krate.0) of.0 among))
+            let among : Contains (transitive_in s.crates id.krate.0) of.0 = subst (λ (k : Crate). Contains (transitive_in s.crates k.0) of.0)
+            (krate_begun id r p) of.1 in
+            subst (λ (x : MapId). kept_in K x ≡ kept_of s x) (sym (same_map of.2))
+            (kept.crates of.0 (has_listed (transitive_in s.crates id.krate.0) of.0 among))
         | inr held ↦ held_stays id r p kept j held
       ]
 
@@ -254,10 +265,12 @@ module _ (s : SessionState) (sound : IsSound s) (F : SourceTable) (K : Resolutio
   -- so is what is kept of the crates on which a crate stands
   pub crates_stay : (krate : Crate) → Stays (crate_map krate) → (c : Crate) → has_crate (transitive_in s.crates krate.0) c ≡ true → Stays (crate_map c)
   crates_stay krate stays c behind =
-      DependsOn-holds {P = λ (i : ℕ). Stays (id_of i)} (λ j d p among. outwards (id_of j) (crate_map d) p (followed s (record { 0 = j }) d among)) ((depended sound krate.0 c).0 behind) stays
+      DependsOn-holds {P = λ (i : ℕ). Stays (id_of i)} (λ j d p among. outwards (id_of j) (crate_map d) p (followed s (record { 0 = j }) d among))
+      ((depended sound krate.0 c).0 behind) stays
 
   -- a place whose crate and whose holder stay stands on what stays
-  pub behind_stays : (id : MapId) (r : Resolution) → IsResolutionOf s id r → Stays (crate_map id.krate) → ((h : ModuleId) → r.map.holder ≡ Some h → Stays h.map) → IsKeptBehind s F K id r
+  pub behind_stays : (id : MapId) (r : Resolution) → IsResolutionOf s id r → Stays (crate_map id.krate) → ((h : ModuleId) → r.map.holder ≡ Some h → Stays h.map)
+      → IsKeptBehind s F K id r
   behind_stays id r p own held = record {
     crates = λ c behind. same (crate_map c) (crates_stay id.krate own c behind);
     own = λ b of. same (crate_map id.krate) own;
@@ -280,7 +293,8 @@ module _ (s : SessionState) (sound : IsSound s) (F : SourceTable) (K : Resolutio
   pub kept_behind : (id : MapId) (r : Resolution) → kept_of s id ≡ Some r → Stays id → IsKeptBehind s F K id r
   kept_behind id r is stays =
       let p = kept_gives s sound id r is in
-      behind_stays id r p (own id.block refl) (λ h held. let of = held_block s id r p h held in outwards id h.map stays (followed_holder s id of.0 r h of.1 is held))
+      behind_stays id r p (own id.block refl) (λ h held. let of = held_block s id r p h held
+      in outwards id h.map stays (followed_holder s id of.0 r h of.1 is held))
     where
       own : (o : Option BlockId) → id.block ≡ o → Stays (crate_map id.krate)
       own None of = let is : id ≡ crate_map id.krate = λ i. record { krate = id.krate; block = of i } in subst Stays is stays

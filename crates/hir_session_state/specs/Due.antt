@@ -3,16 +3,17 @@ use Rattle.std.specs.Prelude.{◌≡◌, ◌≢◌, IsTrue, ℕ, ◌<◌, ◌≤
 use Rattle.std.specs.Ordering.{is_le}
 use Rattle.hir_base.specs.Locations.{max_locations}
 use Rattle.hir_base.specs.Place.{PlaceValue}
+use Rattle.hir_base.specs.declared.place.BlockPlace.{BlockPlace}
 use Rattle.hir_base.specs.declared.ids.MapId.{MapId}
 use Rattle.hir_base.specs.declared.ids.ModuleId.{ModuleId}
-use Rattle.hir_base.specs.declared.place.BlockPlace.{BlockPlace}
 use Rattle.hir_collector_rules.specs.Derivation.{IsOverlong}
 use Rattle.hir_collector_rules.specs.Start.{Beginning}
 use Rattle.hir_collector_rules.specs.declared.source_database.Key.{Key}
 use Rattle.hir_session_state.specs.Blocks.{block_cmp, place_of_block}
 use Rattle.hir_session_state.specs.Crates.{id_of}
 use Rattle.hir_session_state.specs.Standing.{block_number, is_set, place_of_map}
-use Rattle.hir_session_state.specs.SessionState.{SessionState, Resolution, workspace_of, beginning_of, block_kept, follows, kept_of, is_marked, finished_of, module_of, IsSound}
+use Rattle.hir_session_state.specs.SessionState.{SessionState, Resolution, workspace_of, beginning_of, block_kept, follows, kept_of, is_marked, finished_of}
+use Rattle.hir_session_state.specs.SessionState.{module_of, IsSound}
 use Rattle.hir_tables.specs.Tables.{KeepsTables}
 
 -- the place of the root of a crate
@@ -58,7 +59,8 @@ pub record Resolved (old : SessionState) (id : MapId) (r : Resolution) (new : Se
 -- these places were resolved in this order, each the next that was to be; then tables may have grown, and nothing else changed
 pub data AreResolved : SessionState → List PlaceValue → SessionState → Type 0 where
   none : (old new : SessionState) → Grows old new → AreResolved old [] new
-  more : (old : SessionState) (place : PlaceValue) (id : MapId) (r : Resolution) (mid : SessionState) (places : List PlaceValue) (new : SessionState) → IsNext old place
+  more : (old : SessionState) (place : PlaceValue) (id : MapId) (r : Resolution) (mid : SessionState) (places : List PlaceValue) (new : SessionState)
+      → IsNext old place
       → place_of_map mid.tables id ≡ Some place → Resolved old id r mid → AreResolved mid places new → AreResolved old (place ∷ places) new
 
 -- the run for a place goes on for too long, or no number is left for its block

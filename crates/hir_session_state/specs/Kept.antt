@@ -3,13 +3,13 @@ use Rattle.std.specs.Prelude.{◌≡◌, ◌⊎◌, Bool, true, false, is_some, 
 use Rattle.std.specs.BTreeMap.{BTreeMap, get, is_at}
 use Rattle.std.specs.Map.{lookup}
 use Rattle.hir_base.specs.declared.ids.MapId.{MapId}
+use Rattle.hir_base.specs.declared.ids.ModuleId.{ModuleId}
 use Rattle.hir_base.specs.contracts.ids.MapIdOrd.TheImpl as map_order
 use Rattle.hir_scope.specs.declared.imports.ImportOrExternCrate.{ImportOrExternCrate}
 use Rattle.hir_def_map.specs.declared.world.finished.Finished.{Finished}
 use Rattle.hir_def_map_rules.specs.References.{refers_to}
 use Rattle.hir_def_map.specs.Removal.{Depends}
 use Rattle.hir_def_map_rules.specs.State.{Local, Map}
-use Rattle.hir_base.specs.declared.ids.ModuleId.{ModuleId}
 use Rattle.hir_def_map_rules.specs.Overlay.{Maps, Placed}
 use Rattle.hir_collector_rules.specs.Derivation.{CollectedValue}
 use Rattle.hir_collector_rules.specs.declared.source_database.Key.{Key}

@@ -25,3 +25,4 @@ pub mod Nesting
 pub mod Refusals
 pub mod Beginning
 pub mod Changes
+pub mod Types

@@ -1,14 +1,15 @@
 -- What are a session and an edit refused for?
-use Rattle.std.specs.Prelude.{◌≡◌, ℕ, ◌+◌, Bool, false, true, ◌&&◌, not, nat_le, nat_lt, List, [], ◌∷◌, length, map, Option, Some, None, Result, Ok, Err, if◌then◌else◌}
+use Rattle.std.specs.Prelude.{◌≡◌, ℕ, ◌+◌, Bool, false, true, ◌&&◌, not, nat_le, nat_lt, List, [], ◌∷◌, length, map, Option, Some, None, Result, Ok, Err}
+use Rattle.std.specs.Prelude.{if◌then◌else◌}
 use Rattle.std.specs.List.{list_all, list_any}
-use Rattle.hir_base.specs.declared.ids.Crate.{Crate}
-use Rattle.hir_base.specs.declared.locations.LocationsError.{LocationsError}
-use Rattle.hir_base.specs.declared.locations.LocationsError.TheVariants as number_error
-use Rattle.hir_base.specs.declared.limit.Limit.{Limit}
-use Rattle.hir_base.specs.declared.limit.Limit.TheVariants as limit
-use Rattle.hir_base.specs.declared.macro_kind.MacroText.{MacroText}
 use Rattle.hir_base.specs.declared.place.BlockPlace.{BlockPlace}
+use Rattle.hir_base.specs.declared.ids.Crate.{Crate}
+use Rattle.hir_base.specs.declared.limit.Limit.{Limit}
+use Rattle.hir_base.specs.declared.locations.LocationsError.{LocationsError}
+use Rattle.hir_base.specs.declared.macro_kind.MacroText.{MacroText}
 use Rattle.hir_base.specs.declared.place.PlaceElement.{PlaceElement}
+use Rattle.hir_base.specs.declared.locations.LocationsError.TheVariants as number_error
+use Rattle.hir_base.specs.declared.limit.Limit.TheVariants as limit
 use Rattle.hir_base.specs.declared.place.PlaceElement.TheVariants as element
 use Rattle.hir_tables.specs.SourcePlaces.{ExpansionValue}
 use Rattle.hir_item_tree.specs.Source.{SourceValue}
@@ -16,8 +17,6 @@ use Rattle.hir_item_tree.specs.Check.{verdict_of_check}
 use Rattle.hir_item_tree.specs.Limits.{are_deep, have_long_attribute}
 use Rattle.hir_item_tree.specs.declared.check.CheckError.{CheckError}
 use Rattle.hir_item_tree.specs.declared.check.CheckError.TheVariants as check_error
-use Rattle.hir_collector_rules.specs.declared.start.CollectError.{CollectError}
-use Rattle.hir_collector_rules.specs.declared.start.CollectError.TheVariants as collect_error
 use Rattle.hir_wire.specs.CommandValue.{CrateInputValue}
 use Rattle.hir_wire.specs.declared.command.Dependency.{Dependency}
 use Rattle.hir_wire.specs.Edits.{EditValue, set_file, remove_file, set_block, remove_block, set_expansion, remove_expansion}
@@ -57,13 +56,7 @@ IsTreeTextMemory e = e ≡ tree_text_error.Memory
 abbrev pub IsDiagnosticsMemory : DiagnosticsError → Type 0
 IsDiagnosticsMemory e = e ≡ diagnostics_error.Memory
 
--- why a refresh ends early where a run was given up
-abbrev pub refresh_error_of : CollectError → RefreshError
-refresh_error_of collect_error.TooMany = refresh_error.TooMany
-refresh_error_of collect_error.UnknownSource = refresh_error.Memory
-refresh_error_of collect_error.Memory = refresh_error.Memory
-
--- and where a block gets no number
+-- why a refresh ends early where a block gets no number
 abbrev pub refresh_error_of_number : LocationsError → RefreshError
 refresh_error_of_number number_error.TooMany = refresh_error.TooMany
 refresh_error_of_number number_error.Memory = refresh_error.Memory

@@ -91,7 +91,8 @@ mutual
   item_code_inj (plain h k) (holder i l is) e = absurd (omega (arith, number 0 1 (halves (gnum 0) _ (gnum 1) _ e).0))
   item_code_inj (holder h k is) (plain i l) e = absurd (omega (arith, number 1 0 (halves (gnum 1) _ (gnum 0) _ e).0))
   item_code_inj (holder h k is) (holder i l js) e =
-      let p = halves (gcons (coded_node_head.code h) (coded_node_holder.code k)) (items_code is) (gcons (coded_node_head.code i) (coded_node_holder.code l)) (items_code js) (halves (gnum 1) _ (gnum 1) _ e).1 in
+      let p = halves (gcons (coded_node_head.code h) (coded_node_holder.code k)) (items_code is) (gcons (coded_node_head.code i) (coded_node_holder.code l))
+      (items_code js) (halves (gnum 1) _ (gnum 1) _ e).1 in
       let q = halves (coded_node_head.code h) (coded_node_holder.code k) (coded_node_head.code i) (coded_node_holder.code l) p.0 in
       let same_head = coded_node_head.inj h i q.0 in
       let same_kind = coded_node_holder.inj k l q.1 in

@@ -5,16 +5,16 @@ use Rattle.hir_base.specs.Place.{PlaceValue}
 use Rattle.hir_base.specs.contracts.place.BlockPlacePartialEq.TheImpl as block_eq
 use Rattle.hir_base.specs.contracts.ids.MapIdPartialEq.TheImpl as map_id
 use Rattle.hir_base.specs.declared.ast_id.BlockId.{BlockId}
+use Rattle.hir_base.specs.declared.place.BlockPlace.{BlockPlace}
+use Rattle.hir_base.specs.declared.ids.Crate.{Crate}
 use Rattle.hir_base.specs.declared.ast_id.EditionedFileId.{EditionedFileId}
 use Rattle.hir_base.specs.declared.ast_id.HirFileId.{HirFileId}
-use Rattle.hir_base.specs.declared.ast_id.HirFileId.TheVariants.{File, Macro}
-use Rattle.hir_base.specs.declared.ast_id.SyntaxId.{SyntaxId}
-use Rattle.hir_base.specs.declared.ids.Crate.{Crate}
+use Rattle.hir_base.specs.declared.macro_kind.MacroCallLoc.{MacroCallLoc}
 use Rattle.hir_base.specs.declared.ids.MapId.{MapId}
 use Rattle.hir_base.specs.declared.ids.ModuleId.{ModuleId}
-use Rattle.hir_base.specs.declared.macro_kind.MacroCallLoc.{MacroCallLoc}
-use Rattle.hir_base.specs.declared.place.BlockPlace.{BlockPlace}
 use Rattle.hir_base.specs.declared.place.PlaceElement.{PlaceElement}
+use Rattle.hir_base.specs.declared.ast_id.SyntaxId.{SyntaxId}
+use Rattle.hir_base.specs.declared.ast_id.HirFileId.TheVariants.{File, Macro}
 use Rattle.hir_base.specs.declared.place.PlaceElement.TheVariants as element
 use Rattle.hir_def_map_rules.specs.Diagnostics.{call_node}
 use Rattle.hir_def_map_rules.specs.State.{ModuleValue, child_at, crate_map, module_at, root_of}
@@ -90,7 +90,8 @@ module _ (tables : TablesValue) (blocks : Blocks) (kept : Resolutions) where
   -- one step from where the steps before it lead
   abbrev pub step : Crate → List PlaceElement → Standing → PlaceElement → Standing
   step krate before (at m) (element.Module name) = to_child m.map (child_kept kept m name)
-  step krate before (at m) (element.Block id) = cond (is_set blocks (block_below krate before id)) (to_root (kept_block tables kept (block_below krate before id))) unset
+  step krate before (at m) (element.Block id) =
+      cond (is_set blocks (block_below krate before id)) (to_root (kept_block tables kept (block_below krate before id))) unset
   step krate before (lacks id) e = lacks id
   step krate before stale (element.Module name) = stale
   step krate before stale (element.Block id) = cond (is_set blocks (block_below krate before id)) stale unset

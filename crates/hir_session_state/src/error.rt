@@ -4,7 +4,6 @@ use hir_base::ast_id::{AstKind, SyntaxId};
 use hir_base::ids::Crate;
 use hir_base::limit::Limit;
 use hir_base::locations::LocationsError;
-use hir_collector_rules::start::CollectError;
 use hir_item_tree::check::CheckError;
 use std::alloc::{AllocError, AllocFailed};
 use thiserror::Error;
@@ -55,6 +54,41 @@ pub enum QueryError {
     StalePlace,
     #[error("there is no such crate, module or block")]
     UnknownPlace,
+    #[error("out of memory")]
+    Memory,
+}
+
+/// Why the items of a trait aren't listed.
+#[derive(Clone, Copy, Debug, PartialEq, Eq, Drop, Error)]
+pub enum TraitItemsError {
+    /// What is kept of the place may be out of date.
+    #[error("what is kept of the place may be out of date")]
+    StalePlace,
+    #[error("there is no such crate, module or block")]
+    UnknownPlace,
+    /// The path names no trait, or goes on past one.
+    #[error("the path names no trait")]
+    NotATrait,
+    /// No number was left for a macro call or for what one expands to, or more items came up than are counted.
+    #[error("more macro calls or items came up than are counted")]
+    TooMany,
+    #[error("out of memory")]
+    Memory,
+}
+
+/// Why the items of an impl aren't listed.
+#[derive(Clone, Copy, Debug, PartialEq, Eq, Drop, Error)]
+pub enum ImplItemsError {
+    /// What is kept of the place may be out of date.
+    #[error("what is kept of the place may be out of date")]
+    StalePlace,
+    #[error("there is no such crate, module or block")]
+    UnknownPlace,
+    #[error("the module has no impl of that number")]
+    NoSuchImpl,
+    /// No number was left for a macro call or for what one expands to, or more items came up than are counted.
+    #[error("more macro calls or items came up than are counted")]
+    TooMany,
     #[error("out of memory")]
     Memory,
 }
@@ -157,21 +191,6 @@ impl<T: Drop> From<AllocFailed<T>> for RefreshError {
     }
 }
 
-impl From<CollectError> for RefreshError {
-    ghost use Rattle.std.specs.Prelude.{◌≡◌};
-    ghost use Rattle.hir_session_state.specs.Refusals.{refresh_error_of};
-
-    ghost from_gives = { λ error r. r ≡ refresh_error_of error };
-
-    fn from(error: CollectError) -> RefreshError {
-        match error {
-            CollectError::TooMany => RefreshError::TooMany,
-            // The maps beside a run were made over the session's own tables, so that no source is unknown.
-            CollectError::UnknownSource | CollectError::Memory => RefreshError::Memory,
-        }
-    }
-}
-
 impl From<LocationsError> for RefreshError {
     ghost use Rattle.std.specs.Prelude.{◌≡◌};
     ghost use Rattle.hir_session_state.specs.Refusals.{refresh_error_of_number};
@@ -194,6 +213,28 @@ impl From<AllocError> for QueryError {
 
     fn from(_: AllocError) -> QueryError {
         QueryError::Memory
+    }
+}
+
+impl From<AllocError> for TraitItemsError {
+    ghost use Rattle.std.specs.Prelude.{◌≡◌};
+    ghost use Rattle.hir_session_state.specs.declared.error.TraitItemsError.TheVariants.{Memory};
+
+    ghost from_gives = { λ _ e. e ≡ Memory };
+
+    fn from(_: AllocError) -> TraitItemsError {
+        TraitItemsError::Memory
+    }
+}
+
+impl From<AllocError> for ImplItemsError {
+    ghost use Rattle.std.specs.Prelude.{◌≡◌};
+    ghost use Rattle.hir_session_state.specs.declared.error.ImplItemsError.TheVariants.{Memory};
+
+    ghost from_gives = { λ _ e. e ≡ Memory };
+
+    fn from(_: AllocError) -> ImplItemsError {
+        ImplItemsError::Memory
     }
 }
 

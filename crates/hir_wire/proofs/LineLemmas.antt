@@ -5,8 +5,7 @@ use Rattle.std.proofs.lemmas.Str.{IsUtf8-from_is_utf8, is_utf8-from_IsUtf8}
 use Rattle.serde_json.specs.Data.{Data}
 use Rattle.serde_json.specs.Read.{read}
 use Rattle.serde_json.specs.Written.{has_float}
-use Rattle.hir_wire.specs.declared.command.Command.{Command}
-use Rattle.hir_wire.specs.declared.read_error.ReadError.{ReadError}
+use Rattle.hir_wire.specs.Types.{Command, ReadError}
 use Rattle.hir_wire.specs.declared.read_error.ReadError.TheVariants as error
 use Rattle.hir_wire.specs.CommandValue.{command_view}
 use Rattle.hir_wire.specs.Commands.{command_of, data_of, reading_from}

@@ -9,7 +9,8 @@ use Rattle.serde_json.specs.Written.{has_float, items_have_float, members_have_f
 use Rattle.hir_base.specs.Place.{PlaceValue}
 use Rattle.hir_base.specs.declared.place.PlaceElement.{PlaceElement}
 use Rattle.hir_base.specs.declared.place.PlaceElement.TheVariants as element
-use Rattle.hir_wire.specs.Types.{Answer, AnswerItem, AnswerVisibility, CalledItem, Definition, Diagnostic, DiagnosticKind, ImportOrigin, ImportSource, ItemSource, Reply, SourceCall, SourceCallKind, SourceItem, SourceRoot}
+use Rattle.hir_wire.specs.Types.{Answer, AnswerItem, AnswerVisibility, AssocItem, CalledItem, Definition, Diagnostic, DiagnosticKind, ImportOrigin}
+use Rattle.hir_wire.specs.Types.{ImportSource, ItemSource, Items, Reply, SourceCall, SourceCallKind, SourceItem, SourceRoot}
 use Rattle.hir_wire.specs.Types.call
 use Rattle.hir_wire.specs.Types.definition
 use Rattle.hir_wire.specs.Types.diagnostic
@@ -17,7 +18,9 @@ use Rattle.hir_wire.specs.Types.origin
 use Rattle.hir_wire.specs.Types.reply
 use Rattle.hir_wire.specs.Types.root
 use Rattle.hir_wire.specs.Types.visibility
-use Rattle.hir_wire.specs.Replies.{element_data, place_data, root_data, call_data, call_members, source_data, definition_data, origin_data, import_data, or_null, visibility_data, item_data, item_members, number_data, answer_data, called_data, diagnostic_data, diagnostic_members, reply_data, source_item_members}
+use Rattle.hir_wire.specs.Replies.{assoc_item_data, element_data, place_data, root_data, call_data, call_members, source_data, definition_data, origin_data}
+use Rattle.hir_wire.specs.Replies.{import_data, or_null, visibility_data, item_data, item_members, number_data, answer_data, called_data, diagnostic_data}
+use Rattle.hir_wire.specs.Replies.{diagnostic_members, items_data, reply_data, source_item_members}
 
 neither : (a b : Bool) → a ≡ false → b ≡ false → (a || b) ≡ false
 neither a b p q = ap (λ x. x || b) p ∙ q
@@ -74,7 +77,8 @@ plain_item : (i : Option AnswerItem) → has_float (or_null item_data i) ≡ fal
 plain_item None = refl
 plain_item (Some i) =
     neither (has_float (definition_data i.def)) _ (plain_definition i.def)
-    (neither (has_float (or_null import_data i.import)) _ (plain_import i.import) (neither (has_float (visibility_data i.vis)) false (plain_visibility i.vis) refl))
+    (neither (has_float (or_null import_data i.import)) _ (plain_import i.import) (neither (has_float (visibility_data i.vis)) false (plain_visibility i.vis)
+    refl))
 
 plain_stop : (s : Option _) → has_float (or_null number_data s) ≡ false
 plain_stop None = refl
@@ -107,7 +111,8 @@ plain_kind (diagnostic.UnresolvedExternCrate named) within h = plain_item_member
 plain_kind (diagnostic.UnresolvedImport named place) within h =
     neither (members_have_float (source_item_members named)) _ (plain_source_item named) (neither (has_float within) false h refl)
 plain_kind (diagnostic.UnconfiguredCode cfg named) within h = plain_item_members named (codes "unconfigured code") within h
-plain_kind (diagnostic.UnresolvedMacroCall call path) within h = neither (has_float (called_data call)) _ (plain_called call) (neither (has_float within) false h refl)
+plain_kind (diagnostic.UnresolvedMacroCall call path) within h =
+    neither (has_float (called_data call)) _ (plain_called call) (neither (has_float within) false h refl)
 plain_kind (diagnostic.UnimplementedBuiltinMacro named) within h = plain_item_members named (codes "unimplemented builtin macro") within h
 plain_kind (diagnostic.InvalidDeriveTarget attr named) within h = plain_item_members named (codes "invalid derive target") within h
 plain_kind (diagnostic.MalformedDerive attr named) within h = plain_item_members named (codes "malformed derive") within h
@@ -118,7 +123,25 @@ plain_kind (diagnostic.MacroError error named path) within h =
 
 plain_diagnostics : (ds : List Diagnostic) → items_have_float (items_of (map diagnostic_data ds)) ≡ false
 plain_diagnostics [] = refl
-plain_diagnostics (d ∷ ds) = neither (has_float (diagnostic_data d)) _ (plain_kind d.kind (definition_data d.in_module) (plain_definition d.in_module)) (plain_diagnostics ds)
+plain_diagnostics (d ∷ ds) =
+    neither (has_float (diagnostic_data d)) _ (plain_kind d.kind (definition_data d.in_module) (plain_definition d.in_module)) (plain_diagnostics ds)
+
+plain_called_items : (cs : List CalledItem) → items_have_float (items_of (map called_data cs)) ≡ false
+plain_called_items [] = refl
+plain_called_items (c ∷ cs) = neither (has_float (called_data c)) _ (plain_called c) (plain_called_items cs)
+
+plain_assoc_item : (i : AssocItem) → has_float (assoc_item_data i) ≡ false
+plain_assoc_item i = neither (members_have_float (source_item_members i.def)) false (plain_source_item i.def) refl
+
+plain_assoc_items : (is : List AssocItem) → items_have_float (items_of (map assoc_item_data is)) ≡ false
+plain_assoc_items [] = refl
+plain_assoc_items (i ∷ is) = neither (has_float (assoc_item_data i)) _ (plain_assoc_item i) (plain_assoc_items is)
+
+plain_items : (i : Items) → has_float (items_data i) ≡ false
+plain_items i =
+    neither (items_have_float (items_of (map called_data i.calls))) _ (plain_called_items i.calls)
+    (neither (items_have_float (items_of (map diagnostic_data i.diagnostics))) _ (plain_diagnostics i.diagnostics)
+    (neither (items_have_float (items_of (map assoc_item_data i.items))) false (plain_assoc_items i.items) refl))
 
 pub plain_reply : (r : Reply) → has_float (reply_data r) ≡ false
 plain_reply reply.Done = refl
@@ -126,6 +149,7 @@ plain_reply (reply.Places places) = neither (items_have_float (items_of (map pla
 plain_reply (reply.Answer answer) = neither (has_float (answer_data answer)) false (plain_answer answer) refl
 plain_reply (reply.Status status) = refl
 plain_reply (reply.Diagnostics diagnostics) = neither (items_have_float (items_of (map diagnostic_data diagnostics))) false (plain_diagnostics diagnostics) refl
+plain_reply (reply.Items held) = neither (has_float (items_data held)) false (plain_items held) refl
 plain_reply (reply.Text text) = refl
 plain_reply reply.Json = refl
 plain_reply reply.Command = refl

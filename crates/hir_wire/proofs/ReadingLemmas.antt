@@ -1,5 +1,6 @@
 -- Readings of parts, and what is told of two errors.
-use Rattle.std.proofs.Common.{◌≡◌, ◌≢◌, ◌<◌, ◌+◌, ℕ, List, [], ◌∷◌, ◌++◌, map, length, drop, slice_index_or, true, false, nat_lt, if◌then◌else◌, Result, Ok, Err, IfErr, Vec, refl, sym, ap, ◌∙◌, subst, map-id, arith}
+use Rattle.std.proofs.Common.{◌≡◌, ◌≢◌, ◌<◌, ◌+◌, ℕ, List, [], ◌∷◌, ◌++◌, map, length, drop, slice_index_or, true, false, nat_lt, if◌then◌else◌, Result, Ok}
+use Rattle.std.proofs.Common.{Err, IfErr, Vec, refl, sym, ap, ◌∙◌, subst, map-id, arith}
 use Rattle.std.proofs.lemmas.Bool.Decides.{nat_tests}
 use Rattle.std.proofs.lemmas.List.{drop_more}
 use Rattle.std.specs.declared.alloc.Global.{Global}
@@ -7,7 +8,7 @@ use Rattle.serde_json.specs.Data.{Data, Items, item}
 use Rattle.serde_json.specs.View.{view, items_view}
 use Rattle.serde_json.specs.declared.value.Value.{Value}
 use Rattle.hir_base.specs.declared.limit.Limit.TheVariants as limit
-use Rattle.hir_wire.specs.declared.read_error.ReadError.{ReadError}
+use Rattle.hir_wire.specs.Types.{ReadError}
 use Rattle.hir_wire.specs.declared.read_error.ReadError.TheVariants.{Json, Command, TooLarge, Memory}
 use Rattle.hir_wire.specs.Reading.{Reading, Reads, Tells, gravity, graver, paired, made, listed, each_of}
 use Rattle.hir_wire.specs.Inner.Parts.{extended, joined}
@@ -123,7 +124,8 @@ both_err_ok f g m n (TooLarge l) b h i = rw (h, i) refl
 both_err_ok f g m n Memory b h i = tt
 
 -- two parts that were read were read as a pair
-both-told : {A B C D : Type 0} (f : A → C) (g : B → D) (m : Reading C) (n : Reading D) (r : Result A ReadError) (s : Result B ReadError) → Tells f m r → Tells g n s
+both-told : {A B C D : Type 0} (f : A → C) (g : B → D) (m : Reading C) (n : Reading D) (r : Result A ReadError) (s : Result B ReadError) → Tells f m r
+    → Tells g n s
     → Tells (λ (p : A × B). (f p.0, g p.1)) (paired m n) (paired r s)
 both-told f g m n (Ok a) (Ok b) h i = rw (h, i) refl
 both-told f g m n (Ok a) (Err k) h i = both_ok_err f g m n a k h i
@@ -162,27 +164,31 @@ made_of : {A B : Type 0} (see : A → B) (m : Reading B) (r : Result A ReadError
 made_of see m (Ok a) h other = h
 made_of see m (Err e) h other = meant see m e h (λ is. other (ap Err is))
 
-still_told : {A B : Type 0} (see : A → B) (so_far : Reading (List A)) (m : Reading B) (r : Result A ReadError) → IfErr so_far (λ e. e ≢ Json) → Tells see m r → IfErr (extended so_far r) (λ e. e ≢ Json)
+still_told : {A B : Type 0} (see : A → B) (so_far : Reading (List A)) (m : Reading B) (r : Result A ReadError) → IfErr so_far (λ e. e ≢ Json) → Tells see m r
+    → IfErr (extended so_far r) (λ e. e ≢ Json)
 still_told see (Ok xs) m (Ok a) told h = tt
 still_told see (Ok xs) m (Err f) told h = not_json see m f h
 still_told see (Err e) m (Ok a) told h = told
 still_told see (Err e) m (Err f) told h = graver_either (λ e. e ≢ Json) e f told (not_json see m f h)
 
 -- one more item was read
-pub follows-next : {A B : Type 0} (see : A → B) (all : Reading (List B)) (m : Reading B) (rest : Reading (List B)) (so_far later : Reading (List A)) (r : Result A ReadError)
+pub follows-next : {A B : Type 0} (see : A → B) (all : Reading (List B)) (m : Reading B) (rest : Reading (List B)) (so_far later : Reading (List A))
+    (r : Result A ReadError)
     → Follows see all (listed m rest) so_far → Reads see m r → r ≢ Err Memory → later ≡ extended so_far r → Follows see all rest later
 follows-next see all m rest so_far later r before h other is =
     rw is (record { meets = before.meets ∙ next see so_far m rest r (made_of see m r h.told other); told = still_told see so_far m r before.told h.told })
 
 -- what is made of two parts fails as they do
-both_refused-told : {A B C D E F : Type 0} (f : A → C) (g : B → D) (h : C × D → E) (see : F → E) (m : Reading C) (n : Reading D) (r : Result A ReadError) (s : Result B ReadError) (e : ReadError)
+both_refused-told : {A B C D E F : Type 0} (f : A → C) (g : B → D) (h : C × D → E) (see : F → E) (m : Reading C) (n : Reading D) (r : Result A ReadError)
+    (s : Result B ReadError) (e : ReadError)
     → Tells f m r → Tells g n s → Err e ≡ paired r s → Tells see (made h (paired m n)) (Err e)
 both_refused-told {A} {B} f g h see m n r s e i k is =
     made-told {A = A × B} (λ p. (f p.0, g p.1)) (paired m n) h see e
     (subst (λ (t : Result (A × B) ReadError). Tells (λ p. (f p.0, g p.1)) (paired m n) t) (sym is) (both-told f g m n r s i k))
 
 -- what is made of two parts that were read
-both_read-told : {A B C D E : Type 0} (f : A → C) (g : B → D) (h : C × D → E) (m : Reading C) (n : Reading D) (r : Result A ReadError) (s : Result B ReadError) (p : A × B)
+both_read-told : {A B C D E : Type 0} (f : A → C) (g : B → D) (h : C × D → E) (m : Reading C) (n : Reading D) (r : Result A ReadError) (s : Result B ReadError)
+    (p : A × B)
     → Tells f m r → Tells g n s → Ok p ≡ paired r s → made h (paired m n) ≡ Ok (h (f p.0, g p.1))
 both_read-told {A} {B} f g h m n r s p i k is = ok-told {A = A × B} (λ p. (f p.0, g p.1)) h (paired m n) (paired r s) p (both-told f g m n r s i k) (sym is)
 
@@ -191,7 +197,8 @@ abbrev pub readings_from : {B : Type 0} → (Data → Reading B) → ℕ → Lis
 readings_from read i xs = each_of read (items_view (drop i xs))
 
 -- one more item of a list was read
-pub each_next : {A B : Type 0} (see : A → B) (read : Data → Reading B) (xs : List Value) (i : ℕ) (x : Value) (so_far later : Reading (List A)) (r : Result A ReadError)
+pub each_next : {A B : Type 0} (see : A → B) (read : Data → Reading B) (xs : List Value) (i : ℕ) (x : Value) (so_far later : Reading (List A))
+    (r : Result A ReadError)
     → i < length xs → x ≡ slice_index_or xs i x → Follows see (each_of read (items_view xs)) (readings_from read i xs) so_far
     → Reads see (read (view x)) r → r ≢ Err Memory → later ≡ extended so_far r
     → Follows see (each_of read (items_view xs)) (readings_from read (i + 1) xs) later
@@ -201,7 +208,8 @@ each_next {A} {B} see read xs i x so_far later r below is before h other ext =
     (subst (λ (ys : List Value). Follows see (each_of read (items_view xs)) (each_of read (items_view ys)) so_far) here before) h other ext
 
 -- one more item of a list was read, where the list's reading is made of those of its items
-pub list_next : {A B : Type 0} (see : A → B) (read : Data → Reading B) (all : Items → Reading (List B)) (makes : (d : Data) (ds : Items) → all (item d ds) ≡ listed (read d) (all ds))
+pub list_next : {A B : Type 0} (see : A → B) (read : Data → Reading B) (all : Items → Reading (List B)) (makes : (d : Data) (ds : Items) → all (item d ds)
+    ≡ listed (read d) (all ds))
     (xs : List Value) (i : ℕ) (x : Value) (so_far later : Reading (List A)) (r : Result A ReadError)
     → i < length xs → x ≡ slice_index_or xs i x → Follows see (all (items_view xs)) (all (items_view (drop i xs))) so_far
     → Reads see (read (view x)) r → r ≢ Err Memory → later ≡ extended so_far r
@@ -216,7 +224,8 @@ list_next {A} {B} see read all makes xs i x so_far later r below is before h oth
 -- ---- as records, whose parts are found
 
 -- two parts that were read were read as a pair
-pub reads_pair : {A B C D : Type 0} {f : A → C} {g : B → D} {m : Reading C} {n : Reading D} {r : Result A ReadError} {s : Result B ReadError} {t : Result (A × B) ReadError}
+pub reads_pair : {A B C D : Type 0} {f : A → C} {g : B → D} {m : Reading C} {n : Reading D} {r : Result A ReadError} {s : Result B ReadError}
+    {t : Result (A × B) ReadError}
     → Reads f m r → Reads g n s → t ≡ paired r s → Reads (λ (p : A × B). (f p.0, g p.1)) (paired m n) t
 reads_pair {A} {B} {C} {D} {f} {g} {m} {n} {r} {s} {t} i k is =
     record { told = subst (λ (t : Result (A × B) ReadError). Tells (λ p. (f p.0, g p.1)) (paired m n) t) (sym is) (both-told f g m n r s i.told k.told) }
@@ -226,12 +235,14 @@ pub made_refused : {A B C D : Type 0} {f : A → B} {m : Reading B} (g : B → D
 made_refused {A} {B} {C} {D} {f} {m} g {see} {e} i = record { told = made-told f m g see e i.told }
 
 -- what is made of two parts fails as they do
-pub both_refused : {A B C D E F : Type 0} {f : A → C} {g : B → D} (h : C × D → E) {see : F → E} {m : Reading C} {n : Reading D} {r : Result A ReadError} {s : Result B ReadError} {e : ReadError}
+pub both_refused : {A B C D E F : Type 0} {f : A → C} {g : B → D} (h : C × D → E) {see : F → E} {m : Reading C} {n : Reading D} {r : Result A ReadError}
+    {s : Result B ReadError} {e : ReadError}
     → Reads f m r → Reads g n s → Err e ≡ paired r s → Reads see (made h (paired m n)) (Err e)
 both_refused {A} {B} {C} {D} {E} {F} {f} {g} h {see} {m} {n} {r} {s} {e} i k is = record { told = both_refused-told f g h see m n r s e i.told k.told is }
 
 -- what is made of two parts that were read
-pub both_read : {A B C D E : Type 0} {f : A → C} {g : B → D} (h : C × D → E) {m : Reading C} {n : Reading D} {r : Result A ReadError} {s : Result B ReadError} {p : A × B}
+pub both_read : {A B C D E : Type 0} {f : A → C} {g : B → D} (h : C × D → E) {m : Reading C} {n : Reading D} {r : Result A ReadError} {s : Result B ReadError}
+    {p : A × B}
     → Reads f m r → Reads g n s → Ok p ≡ paired r s → made h (paired m n) ≡ Ok (h (f p.0, g p.1))
 both_read {A} {B} {C} {D} {E} {f} {g} h {m} {n} {r} {s} {p} i k is = both_read-told f g h m n r s p i.told k.told is
 

@@ -5,7 +5,8 @@ use Rattle.std.specs.Cmp.Lexicographic.{slice_cmp}
 use Rattle.std.specs.Str.{bytes_eq}
 use Rattle.serde_json.specs.Data.{Data, null, boolean, number, string, array, object, Items, no_items, item, Members, no_members, member}
 use Rattle.serde_json.specs.Find.{get_member, as_str}
-use Rattle.hir_item_tree.specs.Attributes.{Attributes, Attribute, meta, cfg, cfg_attr, Input, literal, parentheses, paths, tokens, derive, attributes_of as in_order}
+use Rattle.hir_item_tree.specs.Attributes.{Attributes, Attribute, meta, cfg, cfg_attr, Input, literal, parentheses, paths, tokens, derive}
+use Rattle.hir_item_tree.specs.Attributes.{attributes_of as in_order}
 use Rattle.hir_wire.specs.declared.read.attribute.AttrForm.{AttrForm}
 use Rattle.hir_wire.specs.declared.read.attribute.AttrForm.TheVariants as form
 use Rattle.hir_wire.specs.declared.read.attribute.InputForm.{InputForm}

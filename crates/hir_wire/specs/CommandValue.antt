@@ -3,8 +3,8 @@ use Rattle.std.specs.Prelude.{ℕ, List, Bool, Option, map}
 use Rattle.hir_base.specs.ModPath.{Path}
 use Rattle.hir_base.specs.Place.{PlaceValue}
 use Rattle.hir_base.specs.declared.cfg.CfgAtom.{CfgAtom}
-use Rattle.hir_base.specs.declared.edition.Edition.{Edition}
 use Rattle.hir_base.specs.declared.ids.Crate.{Crate}
+use Rattle.hir_base.specs.declared.edition.Edition.{Edition}
 use Rattle.hir_item_tree.specs.Attributes.{Attributes, attributes_view}
 use Rattle.hir_wire.specs.Types.{Command, CrateInput, Dependency, MacroStyle, Shadow}
 use Rattle.hir_wire.specs.Types.command
@@ -36,6 +36,10 @@ pub data CommandValue : Type 0 where
   edit : EditValue → CommandValue
   refresh : CommandValue
   resolve : PlaceValue → Path → Shadow → Option MacroStyle → CommandValue
+  -- of a trait, by a path
+  trait_items : PlaceValue → Path → CommandValue
+  -- of an impl, by its number
+  impl_items : PlaceValue → ℕ → CommandValue
   dump : PlaceValue → CommandValue
   status : PlaceValue → CommandValue
   -- of a crate
@@ -49,6 +53,8 @@ command_view (command.Crates inputs) = crates (map crate_input_view inputs.items
 command_view (command.Edit e) = edit (edit_view e)
 command_view command.Refresh = refresh
 command_view (command.Resolve at path shadow sub) = resolve at path shadow sub
+command_view (command.TraitItems at path) = trait_items at path
+command_view (command.ImplItems at number) = impl_items at number
 command_view (command.Dump at) = dump at
 command_view (command.Status at) = status at
 command_view (command.Diagnostics krate) = diagnostics krate

@@ -14,12 +14,12 @@ use Rattle.hir_wire.specs.declared.read.line.Verb.{Verb}
 use Rattle.hir_wire.specs.declared.read.line.Verb.TheVariants as verb
 use Rattle.hir_wire.specs.declared.read_error.ReadError.TheVariants.{Json, Command}
 use Rattle.hir_wire.specs.Attributes.{attributes_of}
-use Rattle.hir_wire.specs.CommandValue.{CommandValue, CrateInputValue, crates, diagnostics, dump, edit, refresh, resolve, status, tree}
+use Rattle.hir_wire.specs.CommandValue.{CommandValue, CrateInputValue, crates, diagnostics, dump, edit, impl_items, refresh, resolve, status, trait_items, tree}
 use Rattle.hir_wire.specs.Conditions.{option_of}
 use Rattle.hir_wire.specs.Edits.{set_file, remove_file, set_block, remove_block, set_expansion, remove_expansion}
 use Rattle.hir_wire.specs.Expansions.{entry_in, key_of}
 use Rattle.hir_wire.specs.Nodes.{source_of}
-use Rattle.hir_wire.specs.Paths.{name_of, path_of, file_of, bool_of, crate_of, place_of, block_place_of}
+use Rattle.hir_wire.specs.Paths.{name_of, path_of, file_of, bool_of, crate_of, number_of, place_of, block_place_of}
 use Rattle.hir_wire.specs.Reading.{Reading, made, paired, required, optional, word_as, list_of}
 
 -- the edition that a word stands for
@@ -86,10 +86,12 @@ verb_of_word word =
     (if bytes_eq word (codes "remove expansion") then Some verb.RemoveExpansion else
     (if bytes_eq word (codes "refresh") then Some verb.Refresh else
     (if bytes_eq word (codes "resolve") then Some verb.Resolve else
+    (if bytes_eq word (codes "trait items") then Some verb.TraitItems else
+    (if bytes_eq word (codes "impl items") then Some verb.ImplItems else
     (if bytes_eq word (codes "dump") then Some verb.Dump else
     (if bytes_eq word (codes "status") then Some verb.Status else
     (if bytes_eq word (codes "diagnostics") then Some verb.Diagnostics else
-    (if bytes_eq word (codes "tree") then Some verb.Tree else None))))))))))))
+    (if bytes_eq word (codes "tree") then Some verb.Tree else None))))))))))))))
 
 -- the file and the source of an edit
 unfoldable pub set_file_in : Members → Reading CommandValue
@@ -114,6 +116,14 @@ resolve_in ms =
     (paired (paired (required place_of (codes "at") ms) (required path_of (codes "path") ms))
     (paired (optional shadow.Other (word_as shadow_of_word) (codes "shadow") ms) (optional None (word_as style_of_word) (codes "sub") ms)))
 
+-- the trait of which the items are asked
+unfoldable pub trait_items_in : Members → Reading CommandValue
+trait_items_in ms = made (λ p. trait_items p.0 p.1) (paired (required place_of (codes "at") ms) (required path_of (codes "path") ms))
+
+-- the impl of which the items are asked
+unfoldable pub impl_items_in : Members → Reading CommandValue
+impl_items_in ms = made (λ p. impl_items p.0 p.1) (paired (required place_of (codes "at") ms) (required number_of (codes "impl") ms))
+
 -- the fields of a command
 abbrev pub fields_of : Verb → Members → Reading CommandValue
 fields_of verb.Crates ms = made crates (required (list_of crate_input_of) (codes "crates") ms)
@@ -125,6 +135,8 @@ fields_of verb.SetExpansion ms = set_expansion_in ms
 fields_of verb.RemoveExpansion ms = made (λ key. edit (remove_expansion key)) (required key_of (codes "key") ms)
 fields_of verb.Refresh ms = Ok refresh
 fields_of verb.Resolve ms = resolve_in ms
+fields_of verb.TraitItems ms = trait_items_in ms
+fields_of verb.ImplItems ms = impl_items_in ms
 fields_of verb.Dump ms = made dump (required place_of (codes "at") ms)
 fields_of verb.Status ms = made status (required place_of (codes "at") ms)
 fields_of verb.Diagnostics ms = made diagnostics (required crate_of (codes "crate") ms)

@@ -4,8 +4,8 @@ use Rattle.std.specs.Str.{bytes_eq}
 use Rattle.serde_json.specs.Data.{Data, null, boolean, number, string, array, object, Items, Members}
 use Rattle.serde_json.specs.Find.{as_str}
 use Rattle.hir_base.specs.declared.macro_kind.CallStyle.{CallStyle}
-use Rattle.hir_base.specs.declared.macro_kind.CallStyle.TheVariants.{Bang, Derive, Attribute}
 use Rattle.hir_base.specs.declared.macro_kind.MacroText.{MacroText}
+use Rattle.hir_base.specs.declared.macro_kind.CallStyle.TheVariants.{Bang, Derive, Attribute}
 use Rattle.hir_tables.specs.SourcePlaces.{ExpansionValue}
 use Rattle.hir_wire.specs.declared.read_error.ReadError.TheVariants.{Command}
 use Rattle.hir_wire.specs.Edits.{EntryValue}

@@ -3,7 +3,8 @@ use Rattle.std.specs.Prelude.{ℕ, List, [], Ok, if◌then◌else◌, codes}
 use Rattle.std.specs.Str.{bytes_eq}
 use Rattle.serde_json.specs.Data.{Data, Members}
 use Rattle.serde_json.specs.Find.{as_str}
-use Rattle.hir_item_tree.specs.Source.{NodeHead, import, extern_crate, function, constant, static_item, type_alias, macro_call, Item, plain, kind_step, node_step}
+use Rattle.hir_item_tree.specs.Source.{NodeHead, import, extern_crate, function, constant, static_item, type_alias, macro_call, Item, plain, kind_step}
+use Rattle.hir_item_tree.specs.Source.{node_step}
 use Rattle.hir_item_tree.specs.declared.shape.ExternCrateName.{ExternCrateName}
 use Rattle.hir_item_tree.specs.declared.shape.ExternCrateName.TheVariants.{SelfCrate, Name}
 use Rattle.hir_item_tree.specs.declared.source.NodeKind.{NodeKind, fold-NodeKind}

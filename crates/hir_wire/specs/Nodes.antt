@@ -7,7 +7,8 @@ use Rattle.serde_json.specs.Data.{Data, null, boolean, number, string, array, ob
 use Rattle.hir_base.specs.declared.ast_id.AstKind.{AstKind}
 use Rattle.hir_base.specs.declared.ast_id.AstKind.TheVariants as kind
 use Rattle.hir_item_tree.specs.Attributes.{no_attributes}
-use Rattle.hir_item_tree.specs.Source.{NodeHead, Item, plain, outline_module, holder, extern_block, trait_item, implementation, inline_module, items_of as forest, SourceValue, broken, unit}
+use Rattle.hir_item_tree.specs.Source.{NodeHead, Item, plain, outline_module, holder, extern_block, trait_item, implementation, inline_module}
+use Rattle.hir_item_tree.specs.Source.{items_of as forest, SourceValue, broken, unit}
 use Rattle.hir_item_tree.specs.declared.raw_visibility.RawVisibility.TheVariants as vis
 use Rattle.hir_item_tree.specs.declared.raw_visibility.VisibilityExplicitness.TheVariants.{Implicit}
 use Rattle.hir_wire.specs.declared.read_error.ReadError.TheVariants.{Command}

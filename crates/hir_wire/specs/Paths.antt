@@ -7,15 +7,15 @@ use Rattle.hir_base.specs.Name.{name_verdict}
 use Rattle.hir_base.specs.ParseFile.{folded_path}
 use Rattle.hir_base.specs.ParsePath.{path_of_text}
 use Rattle.hir_base.specs.Place.{PlaceValue}
-use Rattle.hir_base.specs.declared.ast_id.SyntaxId.{SyntaxId}
-use Rattle.hir_base.specs.declared.ids.Crate.{Crate}
-use Rattle.hir_base.specs.declared.limit.Limit.TheVariants.{Name}
-use Rattle.hir_base.specs.declared.mod_path.ParseError.{ParseError}
-use Rattle.hir_base.specs.declared.mod_path.ParseError.TheVariants as parse
-use Rattle.hir_base.specs.declared.name.NameError.{NameError}
-use Rattle.hir_base.specs.declared.name.NameError.TheVariants as naming
 use Rattle.hir_base.specs.declared.place.BlockPlace.{BlockPlace}
+use Rattle.hir_base.specs.declared.ids.Crate.{Crate}
+use Rattle.hir_base.specs.declared.name.NameError.{NameError}
+use Rattle.hir_base.specs.declared.mod_path.ParseError.{ParseError}
 use Rattle.hir_base.specs.declared.place.PlaceElement.{PlaceElement}
+use Rattle.hir_base.specs.declared.ast_id.SyntaxId.{SyntaxId}
+use Rattle.hir_base.specs.declared.limit.Limit.TheVariants.{Name}
+use Rattle.hir_base.specs.declared.mod_path.ParseError.TheVariants as parse
+use Rattle.hir_base.specs.declared.name.NameError.TheVariants as naming
 use Rattle.hir_base.specs.declared.place.PlaceElement.TheVariants.{Module, Block}
 use Rattle.hir_wire.specs.declared.read_error.ReadError.TheVariants.{Command, TooLarge, Memory}
 use Rattle.hir_wire.specs.Reading.{Reading, made, paired, each_of, required, formed, if_there}
@@ -101,6 +101,10 @@ id_of d = option_and_then id_of_items (as_array d)
 -- a value as an id that has to be there
 abbrev pub id_meant : Data → Reading SyntaxId
 id_meant d = formed (id_of d)
+
+-- a value as a number of 32 bits
+abbrev pub number_of : Data → Reading ℕ
+number_of d = formed (natural_of 32 d)
 
 -- a value as a crate's number
 abbrev pub crate_of : Data → Reading Crate

@@ -7,10 +7,11 @@ use Rattle.hir_base.specs.BuiltinType.{builtin_text}
 use Rattle.hir_base.specs.Display.{path_shown}
 use Rattle.hir_base.specs.Limit.{limit_text}
 use Rattle.hir_base.specs.Place.{PlaceValue}
-use Rattle.hir_base.specs.declared.ast_id.SyntaxId.{SyntaxId}
 use Rattle.hir_base.specs.declared.place.PlaceElement.{PlaceElement}
+use Rattle.hir_base.specs.declared.ast_id.SyntaxId.{SyntaxId}
 use Rattle.hir_base.specs.declared.place.PlaceElement.TheVariants as element
-use Rattle.hir_wire.specs.Types.{Answer, AnswerItem, AnswerVisibility, CalledItem, Definition, Diagnostic, DiagnosticKind, ImportOrigin, ImportSource, ItemSource, Reply, SourceCall, SourceCallKind, SourceItem, SourceRoot}
+use Rattle.hir_wire.specs.Types.{Answer, AnswerItem, AnswerVisibility, AssocItem, CalledItem, Definition, Diagnostic, DiagnosticKind, ImportOrigin}
+use Rattle.hir_wire.specs.Types.{ImportSource, ItemSource, Items, Reply, SourceCall, SourceCallKind, SourceItem, SourceRoot}
 use Rattle.hir_wire.specs.Types.call
 use Rattle.hir_wire.specs.Types.definition
 use Rattle.hir_wire.specs.Types.diagnostic
@@ -150,6 +151,19 @@ diagnostic_members (diagnostic.MacroError error named path) within =
 abbrev pub diagnostic_data : Diagnostic → Data
 diagnostic_data d = object (diagnostic_members d.kind (definition_data d.in_module))
 
+-- ---- items of traits and impls
+
+-- an item, by its name
+abbrev pub assoc_item_data : AssocItem → Data
+assoc_item_data named = object (member (codes "def") (source_item_data named.def) (member (codes "name") (string named.name) no_members))
+
+-- what a trait or an impl holds
+abbrev pub items_data : Items → Data
+items_data held =
+    object (member (codes "calls") (array (items_of (map called_data held.calls)))
+    (member (codes "diagnostics") (array (items_of (map diagnostic_data held.diagnostics)))
+    (member (codes "items") (array (items_of (map assoc_item_data held.items))) no_members)))
+
 -- ---- replies
 
 -- what went well
@@ -167,6 +181,7 @@ reply_data (reply.Places places) = success (array (items_of (map place_data plac
 reply_data (reply.Answer answer) = success (answer_data answer)
 reply_data (reply.Status status) = success (string (status_word status))
 reply_data (reply.Diagnostics diagnostics) = success (array (items_of (map diagnostic_data diagnostics)))
+reply_data (reply.Items held) = success (items_data held)
 reply_data (reply.Text text) = success (string (string_bytes text))
 reply_data reply.Json = refusal (codes "json") no_members
 reply_data reply.Command = refusal (codes "command") no_members
@@ -194,6 +209,7 @@ is_fixed (reply.Places places) = false
 is_fixed (reply.Answer answer) = false
 is_fixed (reply.Status status) = true
 is_fixed (reply.Diagnostics diagnostics) = false
+is_fixed (reply.Items held) = false
 is_fixed (reply.Text text) = false
 is_fixed reply.Json = true
 is_fixed reply.Command = true

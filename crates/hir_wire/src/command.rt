@@ -114,6 +114,16 @@ pub enum Command {
         shadow: Shadow,
         sub: Option<MacroStyle>,
     },
+    /// The items of a trait, which a path names.
+    TraitItems {
+        at: Place,
+        path: ModPath,
+    },
+    /// The items of an impl, by its number among those of the module.
+    ImplItems {
+        at: Place,
+        number: u32,
+    },
     /// The names of each module of the map that holds a place.
     Dump {
         at: Place,

@@ -5,6 +5,7 @@ pub mod answer;
 pub mod command;
 pub mod diagnostic;
 pub mod edit;
+pub mod items;
 pub mod json;
 pub mod read;
 pub mod read_error;
@@ -19,6 +20,7 @@ pub use command::{Command, CrateInput, Dependencies, Dependency, MacroStyle, Sha
 pub use diagnostic::{CalledItem, Diagnostic, DiagnosticKind, Diagnostics, Texts};
 pub use edit::{Edit, ExpansionEntry};
 pub use hir_base::place::{BlockPlace, Place, PlaceElement};
+pub use items::{AssocItem, AssocItems, CalledItems, Items};
 pub use read::line::read_command;
 pub use read_error::ReadError;
 pub use reply::{Places, Reply, Status};

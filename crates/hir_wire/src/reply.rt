@@ -3,6 +3,7 @@ ghost use Rattle.std.specs.Prelude.{◌≡◌};
 
 use crate::answer::Answer;
 use crate::diagnostic::Diagnostics;
+use crate::items::Items;
 use hir_base::ast_id::{AstKind, SyntaxId};
 use hir_base::ids::Crate;
 use hir_base::limit::Limit;
@@ -55,6 +56,7 @@ pub enum Reply {
     Answer(Answer),
     Status(Status),
     Diagnostics(Diagnostics),
+    Items(Items),
     /// A page.
     Text(String),
     /// The line is no JSON.

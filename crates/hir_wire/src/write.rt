@@ -3,4 +3,5 @@
 pub mod answer;
 pub mod definition;
 pub mod diagnostic;
+pub mod items;
 pub mod reply;

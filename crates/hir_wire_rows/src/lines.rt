@@ -3,7 +3,7 @@ use crate::answers::{answer_below, answer_in, places_with};
 use crate::diagnostics::{diagnostics_below, diagnostics_of};
 use crate::keys::{push_entry, push_key};
 use crate::parts::push_parts;
-use crate::places::{push_block, push_place};
+use crate::places::{push_block, push_impl, push_place, push_trait};
 use hir_base::cfg_options::CfgOptions;
 use hir_base::edition::Edition::Edition2021;
 use hir_base::file_path::FilePath;
@@ -146,6 +146,8 @@ fn with_command(
             read(alloc, &entry.source, out)
         }
         Command::Edit(Edit::RemoveExpansion { key }) => push_key(out, key),
+        Command::TraitItems { at, path } => push_trait(out, at, path),
+        Command::ImplItems { at, number } => push_impl(out, at, *number),
         Command::Dump { at } => push_place(out, at),
         Command::Status { at } if word == "list" => list(alloc, at, out),
         Command::Status { at } => name(alloc, at, out),

@@ -6,8 +6,8 @@
 //! - `read` writes the page of the file that the command sets, under no options, and below it a line for each node at its
 //!   top: its input, and its body, its fields' visibilities, or its macro's text, expander and helpers. Texts stand between backquotes.
 //!   Of an expansion that the command sets it first writes a line with what is in its key and a line with its error, if it
-//!   has one; of one that it removes the key alone. Of a block it first writes a line with its place, and of a place that is
-//!   dumped nothing else.
+//!   has one; of one that it removes the key alone. Of a block it first writes a line with its place, of a place that is
+//!   dumped nothing else, of a trait or an impl whose items are asked its place with its path or its number.
 //! - `diagnose` makes a diagnostic of each node of that file, by its kind. The path of an attribute or a derive that names
 //!   no macro is that of the node's attribute; a macro call with an attribute has failed, and its input says why.
 //! - `name` names the last node of that file, and `expand` makes a diagnostic of it, as if it stood below the expansions of

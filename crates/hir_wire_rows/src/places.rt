@@ -1,5 +1,6 @@
 //! Places, and blocks.
 use hir_base::edition::Edition::Edition2021;
+use hir_base::mod_path::ModPath;
 use hir_base::place::{BlockPlace, Place, PlaceElement};
 use std::alloc::AllocError;
 use std::fmt::Write;
@@ -34,4 +35,17 @@ pub fn push_block(out: &mut String, block: &BlockPlace) -> Result<(), AllocError
     let hash = block.id.hash;
     let index = block.id.index;
     write!(out, ": [{hash}, {index}]")
+}
+
+/// Writes the place from which a trait is named, and its path behind a colon.
+pub fn push_trait(out: &mut String, at: &Place, path: &ModPath) -> Result<(), AllocError> {
+    push_place(out, at)?;
+    let path = path.display(Edition2021);
+    write!(out, ": {path}")
+}
+
+/// Writes the place of an impl, and its number behind a colon.
+pub fn push_impl(out: &mut String, at: &Place, number: u32) -> Result<(), AllocError> {
+    push_place(out, at)?;
+    write!(out, ": {number}")
 }

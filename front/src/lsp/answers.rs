@@ -50,14 +50,6 @@ struct Source<'a> {
     place: Vec<Step>,
 }
 
-impl Source<'_> {
-    /// The place in which a node is declared.
-    fn place_of(&self, node: &Node) -> Vec<Step> {
-        let modules = node.modules.iter().map(|it| Step::Module(it.to_string()));
-        self.place.iter().cloned().chain(modules).collect()
-    }
-}
-
 /// A file in a crate, and its blocks.
 fn sources<'a>(space: &'a Workspace, krate: u32, key: &Key) -> Vec<Source<'a>> {
     let module = space.module_of(krate, key).map_or(Vec::new(), steps_of);
@@ -139,7 +131,7 @@ impl<W: Write> Server<W> {
         let is_own = |it: &Node| is_declaration(it) && contains(it.span) && is_named(it);
         for source in sources(space, krate, key) {
             if let Some(node) = source.built.nodes.iter().find(|it| is_own(it)) {
-                let place = source.place_of(node);
+                let place = node.place_in(&source.place);
                 return Some((Found::Node(Box::new(node.clone()), source.name), Scope { krate, place }));
             }
         }
@@ -165,10 +157,18 @@ impl<W: Write> Server<W> {
         if let (Some(at), Some(space)) = (node.of, &self.space) {
             let source = sources(space, scope.krate, key).into_iter().find(|it| it.name == *unit);
             let of = source.and_then(|it| it.built.nodes.get(at));
-            path = of.map_or(path.clone(), |it| format!("{}::{path}", it.name));
+            let holder = of.map(|it| match &it.detail {
+                Detail::Impl(head) => head.self_type.as_ref().map_or("", |it| &it.text),
+                _ => &it.name,
+            });
+            path = holder.map_or(path.clone(), |it| format!("{it}::{path}"));
         }
         let place = place_at(key, node.span);
-        let context = if node.kind == "MacroRules" { Context::Call } else { Context::Import };
+        let context = match node.kind {
+            "MacroRules" => Context::Call,
+            _ if node.is_associated() => Context::Plain,
+            _ => Context::Import,
+        };
         let (krate, at) = (scope.krate, scope.place.clone());
         let question = Question { krate, place: at, whole: path.clone(), path, context };
         let answer = self.with_space(|it| it.answer(question.clone()))?;
@@ -247,6 +247,9 @@ impl<W: Write> Server<W> {
             if let Some((what, place)) = &it.brought_by {
                 told = format!("\n\nbrought by: {what} at {}{told}", shown(place));
             }
+            if let Some((what, place)) = &it.within {
+                told = format!("\n\nin: {what} at {}{told}", shown(place));
+            }
             part.push_str(&told);
             match parts.iter_mut().find(|it| it.0 == part) {
                 Some(known) => known.2.push(it.namespace),
@@ -302,7 +305,7 @@ impl<W: Write> Server<W> {
         };
         let targets: Vec<Value> = match &found {
             // Where its type or its trait isn't known, nobody knows who names it.
-            Found::Node(node, _) if node.is_associated => Vec::new(),
+            Found::Node(node, _) if node.is_associated() => Vec::new(),
             Found::Node(node, unit) => {
                 let Some(space) = self.space.as_ref() else {
                     return Ok(Ok(Value::Null));
@@ -422,7 +425,7 @@ impl<W: Write> Server<W> {
                     let Detail::Use(leaves) = &node.detail else {
                         continue;
                     };
-                    let place = source.place_of(node);
+                    let place = node.place_in(&source.place);
                     for leaf in leaves {
                         let last = leaf.path.rsplit("::").next().unwrap_or_default();
                         if let Some(name) = leaf.binds.as_ref().filter(|it| names.contains(last) && ***it != *last) {
@@ -476,7 +479,7 @@ impl<W: Write> Server<W> {
     }
 }
 
-fn asked_file(params: &Value) -> Result<Key, Failure> {
+pub(super) fn asked_file(params: &Value) -> Result<Key, Failure> {
     let uri = params["textDocument"]["uri"].as_str();
     uri.and_then(key_of_uri).ok_or_else(|| Failure(INVALID_PARAMS, "`textDocument` has the `uri` of a file".to_owned()))
 }

@@ -62,8 +62,11 @@ fn in_blocks(blocks: &[std::sync::Arc<Block>], at: Position, text: &Text) -> Opt
 /// What the comments and attributes `doc` at the beginning of a text say: those before an item, or those at the top of
 /// what it stands in.
 pub fn documentation_of(text: &str, is_inner: bool) -> String {
-    let tokens = on_a_thread(|| tokens_of(text)).unwrap_or_default();
-    let mut rest = &tokens[..];
+    on_a_thread(|| documentation_in(&tokens_of(text).unwrap_or_default(), is_inner))
+}
+
+fn documentation_in(tokens: &[Token], is_inner: bool) -> String {
+    let mut rest = tokens;
     let mut lines: Vec<String> = Vec::new();
     loop {
         let attribute = match (rest, is_inner) {

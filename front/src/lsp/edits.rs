@@ -11,7 +11,7 @@ use serde_json::{json, Value};
 
 use super::{key_of_place, span_of, Phase, Server, ERROR};
 use crate::report::Diagnostic;
-use crate::workspace::{parse_text, path_of_key, Key};
+use crate::workspace::{bytes_of, parse_text, path_of_key, Key};
 
 impl<W: Write> Server<W> {
     /// Whether the file has the items of a module.
@@ -21,8 +21,9 @@ impl<W: Write> Server<W> {
 
     /// Reads a file that isn't open in the editor.
     pub(super) fn read_file(&mut self, key: &Key) -> Result<()> {
-        match std::fs::read_to_string(path_of_key(key)) {
-            Ok(text) if self.is_module(key) => {
+        let text = bytes_of(&path_of_key(key)).ok().and_then(|it| String::from_utf8(it).ok());
+        match text {
+            Some(text) if self.is_module(key) => {
                 let text = Arc::new(Text::new(text));
                 if self.read_text(key, &text)? {
                     self.texts.insert(key.clone(), text);
@@ -142,7 +143,10 @@ impl<W: Write> Server<W> {
             // The place is one of the text as it is now.
             let range = match self.documents.get(&key) {
                 Some(it) => it.text.range(error.at),
-                None => Text::new(std::fs::read_to_string(path_of_key(&key)).unwrap_or_default()).range(error.at),
+                None => {
+                    let read = bytes_of(&path_of_key(&key)).unwrap_or_default();
+                    Text::new(String::from_utf8_lossy(&read).into_owned()).range(error.at)
+                }
             };
             now.entry(key).or_default().push(json!({
                 "range": range,
@@ -190,7 +194,7 @@ impl<W: Write> Server<W> {
         if let Some(it) = self.texts.get(key) {
             return it.clone();
         }
-        let read = std::fs::read(path_of_key(key)).unwrap_or_default();
+        let read = bytes_of(&path_of_key(key)).unwrap_or_default();
         let text = Arc::new(Text::new(String::from_utf8_lossy(&read).into_owned()));
         self.texts.insert(key.clone(), text.clone());
         text

@@ -6,6 +6,8 @@ use serde_json::{json, Value};
 
 /// A message above this isn't read.
 const MOST_BYTES: usize = 256 << 20;
+/// Nor is one with a line of its head above this.
+const MOST_HEAD: u64 = 1 << 16;
 
 // Why a request is refused, by the numbers of the protocols.
 
@@ -32,9 +34,9 @@ pub fn read(input: &mut impl BufRead) -> Read {
     let mut length = None;
     loop {
         let mut line = Vec::new();
-        match input.read_until(b'\n', &mut line) {
-            Ok(0) | Err(_) => return Read::End,
-            Ok(_) => {}
+        match std::io::Read::take(&mut *input, MOST_HEAD).read_until(b'\n', &mut line) {
+            Ok(it) if it > 0 && (it as u64) < MOST_HEAD => {}
+            _ => return Read::End,
         }
         let line = String::from_utf8_lossy(&line);
         let line = line.trim();
@@ -96,5 +98,6 @@ mod tests {
         assert!(matches!(read(&mut input), Read::Malformed));
         assert!(matches!(read(&mut input), Read::End));
         assert!(matches!(read(&mut &b"Content-Length: many\r\n\r\n{}"[..]), Read::End));
+        assert!(matches!(read(&mut &[b'x'; 100_000][..]), Read::End));
     }
 }

@@ -48,7 +48,7 @@ fn kind_of(item: &Item, text: &Text) -> Option<u32> {
         ItemKind::Function if takes_self(text.written(item.head)) => METHOD,
         ItemKind::Function | ItemKind::Macro(_) => FUNCTION,
         ItemKind::Constant | ItemKind::Static => CONSTANT,
-        ItemKind::TypeAlias => TYPE_PARAMETER,
+        ItemKind::TypeAlias(_) => TYPE_PARAMETER,
         ItemKind::Use(_) | ItemKind::ExternCrate { .. } | ItemKind::Call(_) => return None,
     })
 }
@@ -117,7 +117,7 @@ fn detail_of(item: &Item, text: &Text) -> String {
     match &item.kind {
         ItemKind::Function => format!("fn{}", behind("")),
         ItemKind::Constant | ItemKind::Static => behind(":"),
-        ItemKind::TypeAlias => behind("").split_once("= ").map_or(String::new(), |it| it.1.to_owned()),
+        ItemKind::TypeAlias(_) => behind("").split_once("= ").map_or(String::new(), |it| it.1.to_owned()),
         _ => String::new(),
     }
 }

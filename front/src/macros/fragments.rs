@@ -6,6 +6,25 @@ use super::MOST_STEPS;
 use crate::syntax::angle;
 use crate::token::{text_of, Delimiter, Kind, Span, Token};
 
+/// Of an expression or a type that goes deeper than this nothing is read, see [`depth`].
+const DEEPEST: usize = 4_000;
+
+/// How deep syntax may be that these tokens are: as deep as there are tokens before a separator, as each `!` of `!!!x` is
+/// one level, and what stands in groups besides. What stands behind braces begins anew, but for `else`.
+fn depth(tokens: &[Token]) -> usize {
+    let (mut most, mut own) = (0, 0);
+    for (at, it) in tokens.iter().enumerate() {
+        own += 1;
+        let inner = if let Kind::Group(_, inner) = &it.kind { depth(inner) } else { 0 };
+        most = most.max(own + inner);
+        let ends = it.group(Delimiter::Brace).is_some() && !tokens.get(at + 1).is_some_and(|it| it.is_word("else"));
+        if ends || it.is(",") || it.is(";") || it.is("=>") {
+            own = 0;
+        }
+    }
+    most
+}
+
 #[derive(Clone, Copy, PartialEq, Eq, Debug)]
 pub(super) enum Fragment {
     Block,
@@ -247,23 +266,30 @@ fn binder(input: &[Token]) -> Option<usize> {
     }
 }
 
+/// A type without bounds that are joined by `+`.
 fn type_without_plus(input: &[Token]) -> Option<usize> {
+    let mut at = 0;
+    loop {
+        if input.get(at)?.is("&") || input[at].is("&&") {
+            at += 1;
+            at += usize::from(matches!(input.get(at)?.kind, Kind::Lifetime(_)));
+            at += usize::from(input.get(at)?.is_word("mut"));
+        } else if input[at].is("*") {
+            let is_pointer = input.get(at + 1)?.is_word("const") || input[at + 1].is_word("mut");
+            at += if is_pointer { 2 } else { return None };
+        } else {
+            return Some(at + type_without_pointers(&input[at..])?);
+        }
+    }
+}
+
+fn type_without_pointers(input: &[Token]) -> Option<usize> {
     let first = input.first()?;
     let word = first.word().unwrap_or("");
     match &first.kind {
         Kind::Group(Delimiter::Parenthesis | Delimiter::Bracket, _) => return Some(1),
         Kind::Group(Delimiter::None, _) if !input.get(1).is_some_and(|it| it.is("::")) => return Some(1),
         Kind::Punct("!") => return Some(1),
-        Kind::Punct("&" | "&&") => {
-            let mut at = 1;
-            at += usize::from(matches!(input.get(at)?.kind, Kind::Lifetime(_)));
-            at += usize::from(input.get(at)?.is_word("mut"));
-            return Some(at + type_without_plus(&input[at..])?);
-        }
-        Kind::Punct("*") => {
-            let is_pointer = input.get(1)?.is_word("const") || input.get(1)?.is_word("mut");
-            return if is_pointer { Some(2 + type_without_plus(&input[2..])?) } else { None };
-        }
         _ => {}
     }
     match word {
@@ -298,6 +324,10 @@ fn type_without_plus(input: &[Token]) -> Option<usize> {
 }
 
 fn type_(input: &[Token]) -> Option<usize> {
+    let arrows = input.iter().take_while(|it| !it.is(",") && !it.is(";")).filter(|it| it.is("->"));
+    if arrows.count() > DEEPEST {
+        return None;
+    }
     let mut at = type_without_plus(input)?;
     while input.get(at).is_some_and(|it| it.is("+")) {
         at += 1;
@@ -407,6 +437,9 @@ fn by_syn<T: syn::parse::Parse>(input: &[Token], behind: &[&str], steps: &mut us
             if *steps > MOST_STEPS {
                 return None;
             }
+            if depth(&input[..at]) > DEEPEST {
+                return None;
+            }
             if syn::parse_str::<T>(&readable(&input[..at])).is_ok() {
                 return Some(at);
             }
@@ -425,6 +458,9 @@ fn by_syn<T: syn::parse::Parse>(input: &[Token], behind: &[&str], steps: &mut us
 
 /// Whether what a macro is called with reads as statements, or as expressions between commas.
 pub fn reads_as_rust(input: &[Token]) -> bool {
+    if depth(input) > DEEPEST {
+        return false;
+    }
     let text = readable(input);
     let expressions = syn::punctuated::Punctuated::<syn::Expr, syn::Token![,]>::parse_terminated;
     syn::Block::parse_within.parse_str(&text).is_ok() || expressions.parse_str(&text).is_ok()

@@ -2,7 +2,7 @@
 
 use std::path::Path;
 
-use anyhow::{bail, Result};
+use anyhow::{bail, Context as _, Result};
 use serde::Serialize;
 use serde_json::Value;
 
@@ -25,6 +25,9 @@ pub struct Meaning {
     pub path: String,
     #[serde(skip_serializing_if = "Option::is_none")]
     pub place: Option<Place>,
+    /// Of an item of an impl, that impl: `impl`, or `impl of a::Trait`.
+    #[serde(skip_serializing_if = "Option::is_none")]
+    pub within: Option<(String, Place)>,
     /// The import, glob or `extern crate` that brought it.
     #[serde(skip_serializing_if = "Option::is_none")]
     pub brought_by: Option<(String, Place)>,
@@ -48,6 +51,9 @@ pub struct Answer {
     pub notes: Vec<String>,
 }
 
+/// What a path names, and the first name that isn't found where it goes on past what holds no such name.
+pub(super) type Named = (Vec<Meaning>, Option<String>);
+
 impl Answer {
     /// As `where` and `resolve` print it.
     pub fn text(&self) -> String {
@@ -60,6 +66,9 @@ impl Answer {
                 .as_ref()
                 .map_or(String::new(), |it| format!("\n      at {}:{}:{}", it.file, it.line, it.column));
             lines.push_str(&format!("{} {}{place}\n", it.what, it.path));
+            if let Some((what, place)) = &it.within {
+                lines.push_str(&format!("      in an {what} at {}:{}:{}\n", place.file, place.line, place.column));
+            }
             if let Some((what, place)) = &it.brought_by {
                 let article = if what.starts_with(['a', 'e', 'i']) { "an" } else { "a" };
                 lines.push_str(&format!(
@@ -79,7 +88,7 @@ impl Answer {
             text.push_str("  names no item, module or macro\n");
         }
         if let Some(it) = &self.stopped_at {
-            text.push_str(&format!("  the path goes on with `{it}`, which isn't looked up\n"));
+            text.push_str(&format!("  the path goes on with `{it}`, which isn't found\n"));
         }
         for it in &self.notes {
             text.push_str(&format!("  note: {it}\n"));
@@ -111,7 +120,7 @@ impl Workspace {
         let Some(krate) = self.crates_of(&key).first().copied() else {
             bail!("{} is no file of these crates", file.display());
         };
-        let text = std::fs::read_to_string(&path)?;
+        let text = std::fs::read_to_string(&path).with_context(|| format!("{} can't be read", file.display()))?;
         let (mut place, items) = self.place_and_items(krate, &key, at);
         let Some((found, inner)) = path_at(&text, items, at, &|it| self.expansion_of(krate, it)) else {
             bail!("no path stands at {}:{}:{}", file.display(), at.line, at.column);
@@ -154,20 +163,29 @@ impl Workspace {
 
     /// Asks what a path names.
     pub fn answer(&mut self, question: Question) -> Result<Answer> {
-        let reply = self.ask_paths(std::slice::from_ref(&question))?.pop().unwrap_or_default();
-        let Question { krate, place, path, context, .. } = question;
-        match reply["error"].as_str() {
-            None => {}
-            Some("unknown place") => bail!(
-                "there is no module {}; where a condition leaves it out, --test, --features or --cfg may set that",
-                self.place_text(krate, &place)
+        let found = self.meanings_of(&question, 0)?;
+        let Question { krate, place, path, .. } = question;
+        let module = self.place_text(krate, &place);
+        let (meanings, stopped_at) = match found {
+            Ok(it) => it,
+            Err(error) if error == "unknown place" => bail!(
+                "there is no module {module}; where a condition leaves it out, --test, --features or --cfg may set that"
             ),
-            Some("command") => bail!("`{path}` is no path"),
-            Some(it) => bail!("the program can't answer: {it}"),
+            Err(error) if error == "command" => bail!("`{path}` is no path"),
+            Err(error) => bail!("the program can't answer: {error}"),
+        };
+        Ok(Answer { module, path, meanings, stopped_at, notes: Vec::new() })
+    }
+
+    /// What a path names, or why the program refuses the question. So many aliases were followed.
+    pub(super) fn meanings_of(&mut self, question: &Question, aliases: usize) -> Result<Result<Named, String>> {
+        let reply = self.ask_paths(std::slice::from_ref(question))?.pop().unwrap_or_default();
+        if let Some(it) = reply["error"].as_str() {
+            return Ok(Err(it.to_owned()));
         }
         let reply = &reply["ok"];
         let mut meanings = Vec::new();
-        let namespaces: &[(&str, &str)] = match context {
+        let namespaces: &[(&str, &str)] = match question.context {
             Context::Call | Context::Attribute => &[("macros", "macro")],
             _ => &[("types", "type"), ("values", "value"), ("macros", "macro")],
         };
@@ -177,10 +195,17 @@ impl Workspace {
             }
         }
         let stop = reply["stop"].as_u64().map(|it| it as usize);
-        let names: Vec<String> =
-            names_of(&path).into_iter().filter(|it| !matches!(it.as_str(), "crate" | "self" | "super")).collect();
-        let stopped_at = stop.and_then(|it| names.get(it).cloned());
-        Ok(Answer { module: self.place_text(krate, &place), path, meanings, stopped_at, notes: Vec::new() })
+        let mut names = names_of(&question.path);
+        names.retain(|it| !matches!(it.as_str(), "crate" | "self" | "super"));
+        if let (Some(at), Some(name), Context::Plain) = (stop, names.last(), question.context) {
+            if at + 1 == names.len() {
+                let found = self.behind(question, &reply["types"], name, aliases)?;
+                if !found.is_empty() {
+                    return Ok(Ok((found, None)));
+                }
+            }
+        }
+        Ok(Ok((meanings, stop.and_then(|it| names.get(it).cloned()))))
     }
 
     /// A place in words; a block is named by the items in whose bodies it stands.
@@ -215,7 +240,7 @@ impl Workspace {
                 _ => "private".to_owned(),
             },
         };
-        Meaning { namespace, what, path, place, brought_by, visibility }
+        Meaning { namespace, what, path, place, within: None, brought_by, visibility }
     }
 
     /// The kind, the path and the place of a definition.

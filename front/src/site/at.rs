@@ -4,7 +4,7 @@ use std::borrow::Cow;
 use std::sync::Arc;
 
 use crate::question::Context;
-use crate::syntax::{plain, Call, Item, ItemKind, Unit, UseTree};
+use crate::syntax::{path_of_type, plain, Call, Item, ItemKind, Unit, UseTree};
 use crate::token::{on_a_thread, tokens_of, Delimiter, Kind, Position, Token};
 
 /// A path that stands at a place.
@@ -68,6 +68,26 @@ fn opening(tokens: &[Token], end: usize) -> Option<usize> {
     None
 }
 
+/// Whether a word is none of a path that stands behind it.
+fn ends_before(word: &str) -> bool {
+    const WORDS: [&str; 16] = [
+        "return", "in", "as", "use", "pub", "mut", "dyn", "impl", "for", "where", "else", "match", "if", "let", "ref",
+        "move",
+    ];
+    WORDS.contains(&word)
+}
+
+/// The path that stands for `<..>` at the beginning of a path: the trait of `<T as Trait>`, the type of `<Type>`.
+fn qualifier(tokens: &[Token]) -> Option<String> {
+    let mut depth = 0;
+    let is_as = |it: &Token| {
+        depth += crate::syntax::angle(it);
+        depth == 0 && it.is_word("as")
+    };
+    let from = tokens.iter().position(is_as).map_or(0, |it| it + 1);
+    path_of_type(&tokens[from..]).map(|it| it.text)
+}
+
 /// The path that ends with the word at `at`.
 pub(crate) fn path_before(tokens: &[Token], at: usize) -> Option<String> {
     let mut names = vec![plain(tokens[at].word()?).to_owned()];
@@ -77,6 +97,12 @@ pub(crate) fn path_before(tokens: &[Token], at: usize) -> Option<String> {
         let mut before = left.checked_sub(1);
         if before.is_some_and(|it| crate::syntax::angle(&tokens[it]) < 0) {
             let open = opening(tokens, before?)?;
+            let is_argument = open.checked_sub(1).map(|it| &tokens[it]);
+            let is_argument = is_argument.is_some_and(|it| it.is("::") || it.word().is_some_and(|it| !ends_before(it)));
+            if !is_argument {
+                names.insert(0, qualifier(&tokens[open + 1..before?])?);
+                break;
+            }
             before = open
                 .checked_sub(1)
                 .filter(|it| tokens[*it].is("::"))
@@ -86,27 +112,7 @@ pub(crate) fn path_before(tokens: &[Token], at: usize) -> Option<String> {
             }
         }
         match before.and_then(|it| tokens[it].word()) {
-            Some(word)
-                if !matches!(
-                    word,
-                    "return"
-                        | "in"
-                        | "as"
-                        | "use"
-                        | "pub"
-                        | "mut"
-                        | "dyn"
-                        | "impl"
-                        | "for"
-                        | "where"
-                        | "else"
-                        | "match"
-                        | "if"
-                        | "let"
-                        | "ref"
-                        | "move"
-                ) =>
-            {
+            Some(word) if !ends_before(word) => {
                 names.insert(0, plain(word).to_owned());
                 left = before?;
             }

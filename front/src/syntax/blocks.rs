@@ -30,7 +30,7 @@ pub(super) fn blocks_of(kind: &ItemKind, tokens: &[Token]) -> Vec<Arc<Block>> {
         _ => (tokens, &[][..]),
     };
     match kind {
-        ItemKind::Function | ItemKind::Constant | ItemKind::Static | ItemKind::TypeAlias => blocks_in(tokens),
+        ItemKind::Function | ItemKind::Constant | ItemKind::Static | ItemKind::TypeAlias(_) => blocks_in(tokens),
         ItemKind::Struct { .. } | ItemKind::Union { .. } | ItemKind::Enum(_) => {
             let mut made = blocks_in(head);
             blocks_in_fields(braced, &mut made);

@@ -3,6 +3,7 @@
 use std::sync::Arc;
 
 use super::blocks::blocks_of;
+use super::paths::{target_of_alias, ImplHead};
 use super::{
     angle, plain, span_of, Call, Cursor, Field, Item, ItemKind, MacroDefinition, Name, Path, Shape, UseTree, Variant,
     Where,
@@ -11,24 +12,6 @@ use crate::token::{opened, pieces_given, Delimiter, Hash, Kind, Span, SyntaxErro
 
 pub(super) fn is_qualifier(word: &str) -> bool {
     matches!(word, "fn" | "async" | "unsafe" | "extern" | "safe" | "gen" | "trait" | "auto" | "impl")
-}
-
-fn is_of_trait(head: &[Token]) -> bool {
-    let mut depth = 0;
-    for (at, it) in head.iter().enumerate() {
-        if depth == 0 && it.is_word("where") {
-            return false;
-        }
-        if depth == 0 && it.is_word("for") {
-            let is_binder = head.get(at + 1).is_some_and(|it| it.is("<"))
-                && head.get(at + 2).is_some_and(|it| matches!(it.kind, Kind::Lifetime(_)) || it.is(">"));
-            if !is_binder {
-                return true;
-            }
-        }
-        depth += angle(it);
-    }
-    false
 }
 
 /// The tokens of an item without a body, a value, or what stands in its braces.
@@ -195,8 +178,9 @@ impl Cursor<'_> {
             "type" => {
                 self.at += 1;
                 item.name = Some(self.name()?);
-                item.kind = ItemKind::TypeAlias;
+                let from = self.at;
                 self.pass_behind_semicolon();
+                item.kind = ItemKind::TypeAlias(target_of_alias(&self.tokens[from..self.at]));
             }
             "macro_rules" if is_call && self.ahead(2).is_some_and(|it| it.word().is_some()) => {
                 self.at += 2;
@@ -316,7 +300,7 @@ impl Cursor<'_> {
                     let Some(items) = self.inside(Where::Associated, &mut item.attributes)? else {
                         return self.error("the items of the impl");
                     };
-                    item.kind = ItemKind::Impl { of_trait: is_of_trait(head), items };
+                    item.kind = ItemKind::Impl { head: ImplHead::of(head), items };
                     return Ok(true);
                 }
                 "const" => is_const = true,

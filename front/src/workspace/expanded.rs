@@ -7,7 +7,7 @@ use super::expansions::expand_rules;
 use super::{CrateState, Expansion};
 use crate::macros::Rules;
 use crate::syntax::{Call, Unit};
-use crate::token::{Hash, Tokens};
+use crate::token::{on_a_thread, Hash, Tokens};
 
 /// What an expansion was made of.
 pub(super) struct Source {
@@ -41,7 +41,7 @@ impl Expanded<'_> {
         if let Some((_, unit)) = moved().get(&call.identity).filter(|it| Arc::ptr_eq(&it.0, &call.input)) {
             return Some(unit.clone());
         }
-        let unit = expand_rules(&source.rules, call, source.krate).unit;
+        let unit = on_a_thread(|| expand_rules(&source.rules, call, source.krate)).unit;
         moved().insert(call.identity, (call.input.clone(), unit.clone()));
         Some(unit)
     }

@@ -8,7 +8,7 @@ use anyhow::{bail, Context, Result};
 use serde_json::{json, Value};
 
 use super::expanded::Source;
-use super::files::{key_of, parse_text, Folder};
+use super::files::{bytes_of, key_of, parse_text, Folder};
 use super::{Expansion, How, Key, Located, NotRun, SentExpansion, Target, Workspace};
 use crate::macros::Rules;
 use crate::syntax::{statements_of, unit_of, Attribute, Call, Item, Unit};
@@ -45,7 +45,10 @@ pub(super) fn included(call: &Call, folder: &Path) -> Expansion {
     let path = folder.join(name);
     let around: Key = call.identity.text().into();
     let file = key_of(&path).ok();
-    match std::fs::read_to_string(&path) {
+    let text = bytes_of(&path).and_then(|it| {
+        String::from_utf8(it).map_err(|_| std::io::Error::new(std::io::ErrorKind::InvalidData, "it isn't UTF-8"))
+    });
+    match text {
         Ok(text) => {
             let parsed = parse_text(&path, &around, &text);
             let error = parsed.error.map(|it| format!("{}: {}", path.display(), it.message));

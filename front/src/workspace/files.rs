@@ -4,13 +4,16 @@ use std::collections::HashSet;
 use std::path::{Component, Path, PathBuf};
 use std::sync::Arc;
 
-use anyhow::{bail, Context, Result};
+use anyhow::{bail, Result};
 
 use super::{Key, Parsed, Workspace};
 use crate::cfg::Options;
 use crate::syntax::{unit_of, Item, ItemKind};
-use crate::token::{on_a_thread, tokens_of, Hash, Span, SyntaxError};
+use crate::token::{on_a_thread, spawn, tokens_of, Hash, Span, SyntaxError};
 use crate::unit::{is_enabled, text_attribute, Given};
+
+/// A file above this isn't read.
+const MOST_BYTES: u64 = 64 << 20;
 
 /// The key of the file at a path.
 pub fn key_of(path: &Path) -> Result<Key> {
@@ -35,8 +38,27 @@ pub fn path_of_key(key: &str) -> PathBuf {
     Path::new("/").join(key)
 }
 
-pub(super) fn parse(path: &Path, key: &Key) -> Result<Parsed> {
-    let bytes = std::fs::read(path).with_context(|| format!("{} can't be read", path.display()))?;
+/// The bytes of a file. What is no file, as a pipe, or has more than [`MOST_BYTES`] is refused.
+pub(crate) fn bytes_of(path: &Path) -> std::io::Result<Vec<u8>> {
+    let about = std::fs::metadata(path)?;
+    let refused = |text: String| std::io::Error::new(std::io::ErrorKind::InvalidData, text);
+    if !about.is_file() {
+        return Err(refused("it is no file".to_owned()));
+    }
+    if about.len() > MOST_BYTES {
+        return Err(refused(format!("it has more than {} MB; split it", MOST_BYTES >> 20)));
+    }
+    std::fs::read(path)
+}
+
+pub(super) fn parse(path: &Path, key: &Key) -> Parsed {
+    let bytes = match bytes_of(path) {
+        Ok(it) => it,
+        Err(error) => {
+            let message = format!("this file can't be read: {error}");
+            return broken(path, SyntaxError { at: Span::default(), message }, Hash::default());
+        }
+    };
     let text = match String::from_utf8(bytes) {
         Ok(it) => it,
         Err(error) => {
@@ -45,15 +67,20 @@ pub(super) fn parse(path: &Path, key: &Key) -> Result<Parsed> {
             let start = crate::token::Position { line, column: 1 };
             let at = Span { start, end: start };
             let message = "this file isn't UTF-8 from this line on; save it as UTF-8".to_owned();
-            return Ok(broken(path, SyntaxError { at, message }, Hash::default()));
+            return broken(path, SyntaxError { at, message }, Hash::default());
         }
     };
-    Ok(parse_text(path, key, &text))
+    parse_text(path, key, &text)
 }
 
 pub(super) fn broken(path: &Path, error: SyntaxError, text: Hash) -> Parsed {
-    let given = Given::default();
-    Parsed { path: path.to_owned(), unit: Arc::default(), error: Some(error), text, given, is_plain: true }
+    let (path, real, given) = (path.to_owned(), real_path(path), Given::default());
+    Parsed { path, real, unit: Arc::default(), error: Some(error), text, given, is_plain: true }
+}
+
+/// The path without links, by which one knows a file that is reached by several.
+fn real_path(path: &Path) -> Arc<Path> {
+    path.canonicalize().unwrap_or_else(|_| path.to_owned()).into()
 }
 
 /// What stands in the text of a file.
@@ -63,7 +90,8 @@ pub fn parse_text(path: &Path, key: &Key, text: &str) -> Parsed {
     match made {
         Ok(unit) => {
             let (given, is_plain) = (Given::by(&unit.items), unit.items.iter().all(is_plain));
-            Parsed { path: path.to_owned(), unit: Arc::new(unit), error: None, text: hash, given, is_plain }
+            let (path, real) = (path.to_owned(), real_path(path));
+            Parsed { path, real, unit: Arc::new(unit), error: None, text: hash, given, is_plain }
         }
         Err(error) => broken(path, error, hash),
     }
@@ -81,10 +109,7 @@ fn is_plain(item: &Item) -> bool {
 
 /// Does the work for each on as many threads as there are cores, at most four.
 pub(super) fn on_threads<T: Send + Sync, R: Send>(all: &[T], work: impl Fn(&T) -> R + Sync) -> Vec<R> {
-    let threads = std::thread::available_parallelism().map_or(1, |it| it.get()).min(4);
-    if all.len() < 2 || threads == 1 {
-        return all.iter().map(work).collect();
-    }
+    let threads = std::thread::available_parallelism().map_or(1, |it| it.get()).min(4).min(all.len());
     let next = std::sync::atomic::AtomicUsize::new(0);
     let mut made: Vec<(usize, R)> = std::thread::scope(|scope| {
         let run = || {
@@ -97,7 +122,7 @@ pub(super) fn on_threads<T: Send + Sync, R: Send>(all: &[T], work: impl Fn(&T) -
                 }
             }
         };
-        let running: Vec<_> = (0..threads).map(|_| scope.spawn(run)).collect();
+        let running: Vec<_> = (0..threads).map(|_| spawn(scope, run)).collect();
         let join = |it: std::thread::ScopedJoinHandle<Vec<(usize, R)>>| match it.join() {
             Ok(it) => it,
             Err(panic) => std::panic::resume_unwind(panic),
@@ -174,43 +199,64 @@ pub(super) fn declared(items: &[Item], options: &Options, folder: &Folder, found
     }
 }
 
+/// The files around a module's, without links.
+struct Around {
+    real: Arc<Path>,
+    outer: Option<Arc<Around>>,
+}
+
+impl Around {
+    fn holds(mut of: Option<&Around>, real: &Path) -> bool {
+        while let Some(it) = of {
+            if *it.real == *real {
+                return true;
+            }
+            of = it.outer.as_deref();
+        }
+        false
+    }
+}
+
 impl Workspace {
     /// Reads the files of all crates, level by level, as far as no macro brings more of them.
     pub(super) fn read_files(&mut self) -> Result<()> {
-        let mut level: Vec<(u32, PathBuf, bool)> = Vec::new();
+        let mut level: Vec<(u32, PathBuf, bool, Option<Arc<Around>>)> = Vec::new();
         for (number, krate) in self.crates.all.iter().enumerate() {
             if !krate.root.is_file() {
                 bail!("{}, the root of {}, isn't there", krate.root.display(), krate.title);
             }
-            level.push((number as u32, krate.root.clone(), true));
+            level.push((number as u32, krate.root.clone(), true, None));
         }
         let mut seen: HashSet<(u32, Key)> = HashSet::new();
         let mut done = 0;
         while !level.is_empty() {
             let mut work = Vec::new();
             let mut entries = Vec::new();
-            for (krate, path, owns_folder) in level.drain(..) {
+            for (krate, path, owns_folder, around) in level.drain(..) {
                 let key = key_of(&path)?;
                 if seen.insert((krate, key.clone())) {
                     if !self.parsed.contains_key(&key) && !work.iter().any(|it: &(Key, PathBuf)| it.0 == key) {
                         work.push((key.clone(), path.clone()));
                     }
-                    entries.push((krate, key, Folder::of(&path, owns_folder)));
+                    entries.push((krate, key, Folder::of(&path, owns_folder), around));
                 }
             }
             let parsed = on_threads(&work, |(key, path)| parse(path, key));
             for ((key, _), it) in work.into_iter().zip(parsed) {
-                self.parsed.insert(key, Arc::new(it?));
+                self.parsed.insert(key, Arc::new(it));
             }
             done += entries.len();
             (self.progress)("reading", done, done);
-            for (krate, key, folder) in entries {
+            for (krate, key, folder, around) in entries {
                 let options = &self.crates.all[krate as usize].options;
                 let parsed = &self.parsed[&key];
-                if is_enabled(&parsed.unit.attributes, options) {
+                // One that leads back to a file around it is told when the crate is walked.
+                let is_circular = Around::holds(around.as_deref(), &parsed.real);
+                if is_enabled(&parsed.unit.attributes, options) && !is_circular {
                     let mut found = Vec::new();
                     declared(&parsed.unit.items, options, &folder, &mut found);
-                    level.extend(found.into_iter().map(|(path, owns)| (krate, path, owns)));
+                    let around = Some(Arc::new(Around { real: parsed.real.clone(), outer: around }));
+                    level.extend(found.into_iter().map(|(path, owns)| (krate, path, owns, around.clone())));
                 }
             }
         }

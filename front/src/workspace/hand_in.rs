@@ -255,6 +255,7 @@ impl Workspace {
             }
             let what = match (error.as_str(), reply.get("what").and_then(Value::as_str)) {
                 (Some("too large"), Some(what)) => format!("it passes the limit of the program for `{what}`"),
+                (Some("json"), _) => "its items stand deeper in one another than the program takes them".to_owned(),
                 (Some(it), _) => format!("the program refuses it: {it}"),
                 _ => "the program refuses it".to_owned(),
             };

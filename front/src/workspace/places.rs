@@ -45,7 +45,7 @@ impl Workspace {
         }
         let node = built.find(item["kind"].as_str()?, id_of(item)?)?.clone();
         module.extend(node.modules.iter().map(|it| it.to_string()));
-        let enum_name = node.of.map(|at| built.nodes[at].name.clone());
+        let enum_name = node.of.filter(|_| node.kind == "Variant").map(|at| built.nodes[at].name.clone());
         let (file, is_expanded) = (key.clone(), span.is_some());
         Some(Located { file, span: span.unwrap_or(node.span), node, module, enum_name, is_expanded })
     }

@@ -1,19 +1,25 @@
 //! One walk over a crate, in the order in which rustc walks it: textual scope, calls, and what they expand to.
 
 use std::collections::{HashMap, HashSet};
-use std::path::PathBuf;
+use std::path::{Path, PathBuf};
 use std::sync::Arc;
 
 use anyhow::Result;
 
 use super::expansions::macro_question;
-use super::files::{key_of, parse, path_of_key, Folder};
+use super::files::{broken, key_of, parse, path_of_key, Folder};
 use super::{Endless, Expansion, How, Key, NotRun, Target, Workspace};
 use crate::cfg::Options;
 use crate::macros::MOST_TOKENS;
+use crate::report::shown;
 use crate::syntax::{Attribute, Block, Call, Item, ItemKind, MacroDefinition, Unit};
-use crate::token::Hash;
+use crate::token::{Hash, Span, SyntaxError};
 use crate::unit::{is_enabled, numbered, text_attribute, Given};
+
+/// The program takes no file of a module that more modules are around.
+const MOST_NESTED: usize = 32;
+/// A file has the items of at most so many modules.
+const MOST_MODULES: usize = 64;
 
 /// One walk over a crate, in the order in which rustc walks it.
 pub(super) struct Walk<'a> {
@@ -34,6 +40,10 @@ pub(super) struct Walk<'a> {
     /// Whether it is in what a call brings that no rules expand, so that positions are those of another text.
     is_elsewhere: bool,
     files: Vec<(Key, Vec<String>)>,
+    /// The files around, without links.
+    around: Vec<Arc<Path>>,
+    /// The files that count as broken, since their modules lead back to them or are too many.
+    circular: Vec<(Key, SyntaxError)>,
     missing: HashSet<Key>,
     pending: Vec<(Hash, String, Arc<Expansion>)>,
     replaced: HashMap<Hash, Arc<Unit>>,
@@ -78,14 +88,16 @@ impl Walk<'_> {
     }
 
     pub(super) fn file(&mut self, key: &Key, folder: &Folder, place: &[String]) {
-        // A file that is a module of itself.
-        if self.files.iter().filter(|it| it.0 == *key).count() > 8 || place.len() > 32 {
-            return;
-        }
-        let Some(parsed) = self.space.parsed.get(key).cloned() else {
+        let Some(parsed) = self.space.parsed.get(key).cloned().filter(|_| place.len() <= MOST_NESTED) else {
             return;
         };
+        if parsed.error.is_none() && self.files.iter().filter(|it| it.0 == *key).count() >= MOST_MODULES {
+            let message = format!("more than {MOST_MODULES} modules have their items in this file");
+            self.circular.push((key.clone(), SyntaxError { at: Span::default(), message }));
+            return;
+        }
         self.files.push((key.clone(), place.to_vec()));
+        self.around.push(parsed.real.clone());
         if !parsed.is_plain && is_enabled(&parsed.unit.attributes, self.options()) {
             let chain = std::mem::take(&mut self.chain);
             let (depth, is_elsewhere) = (self.depth, self.is_elsewhere);
@@ -93,6 +105,18 @@ impl Walk<'_> {
             self.items(&parsed.unit.items, folder, place, key);
             (self.chain, self.depth, self.is_elsewhere) = (chain, depth, is_elsewhere);
         }
+        self.around.pop();
+    }
+
+    /// Whether a file is one of those around. That is told of the file in which its `mod` is written.
+    fn is_circular(&mut self, found: &Key, declaring: &Key, item: &Item) -> bool {
+        let real = &self.space.parsed[found].real;
+        if !self.around.contains(real) {
+            return false;
+        }
+        let message = format!("circular modules: `mod {}` leads back to {}", item.name_text(), shown(real));
+        self.circular.push((declaring.clone(), SyntaxError { at: item.span, message }));
+        true
     }
 
     pub(super) fn module(&mut self, item: &Item, walk: impl FnOnce(&mut Self), top: &[Attribute]) {
@@ -169,6 +193,7 @@ impl Walk<'_> {
                         None if self.in_block => {}
                         None => {
                             let found = self.find(folder.candidates(&name, path.as_deref()));
+                            let found = found.filter(|it| !self.is_circular(&it.0, key, item));
                             if let Some((key, folder)) = found {
                                 let top = self.space.parsed[&key].unit.attributes.clone();
                                 self.module(item, |walk| walk.file(&key, &folder, &inside), &top);
@@ -229,7 +254,7 @@ impl Walk<'_> {
                     self.missing.insert(key);
                     continue;
                 }
-                let parsed = parse(&path, &key).ok()?;
+                let parsed = parse(&path, &key);
                 self.space.parsed.insert(key.clone(), Arc::new(parsed));
             }
             let folder = Folder::of(&path_of_key(&key), owns_folder);
@@ -369,6 +394,8 @@ impl Workspace {
             depth: 0,
             is_elsewhere: false,
             files: Vec::new(),
+            around: Vec::new(),
+            circular: Vec::new(),
             missing: HashSet::new(),
             pending: Vec::new(),
             replaced: HashMap::new(),
@@ -390,6 +417,12 @@ impl Workspace {
         walk.file(&key, &Folder::of(&root, true), &[]);
         let calls = std::mem::take(&mut walk.calls);
         walk.settle(calls);
+        if !walk.circular.is_empty() {
+            for (key, error) in std::mem::take(&mut walk.circular) {
+                self.count_as_broken(key, error);
+            }
+            return self.walk(krate, lines, expansions);
+        }
         let Walk { files, missing, pending, replaced, units, taken, looked_up, not_run, .. } = walk;
         let Walk { endless, without_end, with_blocks, expansions_with_blocks, open, included, .. } = walk;
         let mut given = Given::default();
@@ -435,6 +468,16 @@ impl Workspace {
         kept.retain(|it, _| it.0 != "macro");
         kept.extend(not_run);
         Ok(())
+    }
+
+    /// Has a file count as one that can't be read, until something changes.
+    fn count_as_broken(&mut self, key: Key, error: SyntaxError) {
+        let Some(parsed) = self.parsed.get(&key).cloned().filter(|_| !self.circular.contains_key(&key)) else {
+            return;
+        };
+        let counted = broken(&parsed.path, error, parsed.text);
+        self.circular.insert(key.clone(), parsed);
+        self.parsed.insert(key, Arc::new(counted));
     }
 
     /// The exported macro that a path most likely reaches, which is asked later on: an expansion that is there at once

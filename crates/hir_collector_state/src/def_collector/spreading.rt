@@ -13,7 +13,7 @@ use crate::def_collector::DefCollector;
 use core::mem::replace_with;
 use hir_base::name::Name;
 use hir_call_queue::Changed;
-use hir_collector_rules::start::CollectError;
+use hir_collector_rules::start::StepError;
 use hir_def_map::world::part::WorldPart;
 use hir_glob_imports::Slot;
 use hir_import_resolution::{ImportError, Imports, spread_changes};
@@ -46,9 +46,9 @@ fn note_each(changed: &mut Changed, slots: &[Slot]) -> Result<(), AllocError>
 fn note_changes(
     changed: &mut Changed,
     slots: Result<Vec<Slot>, ImportError>,
-) -> Result<(), CollectError>
+) -> Result<(), StepError>
     ensures ok { OnOk result (IsOkAnd slots (λ s. changed.new ≡ noted_along s.items changed.old)) }
-    ensures many { result ≡ Err CollectError.TooMany → slots ≡ Err ImportError.TooMany }
+    ensures many { result ≡ Err StepError.TooMany → slots ≡ Err ImportError.TooMany }
 {
     let slots = slots?;
     note_each(changed, slots.as_slice())?;
@@ -57,12 +57,12 @@ fn note_changes(
 
 impl DefCollector {
     /// Lets what was bound go along globs; the run is given back in any case.
-    fn with_changes_spread(self, world: WorldPart<'_>) -> (DefCollector, Result<(), CollectError>)
+    fn with_changes_spread(self, world: WorldPart<'_>) -> (DefCollector, Result<(), StepError>)
         ensures ok { OnOk result.1 ((env : Environment) (rest : List Task) → Steps env (part_of world.entry) (joined (core_in self) rest) (joined (core_in result.0) rest)) }
         ensures noted { OnOk result.1 (IsNotedBeside (part_of world.entry) self result.0) }
         ensures settled { OnOk result.1 (result.0.globs.pending ≡ []) }
         ensures modules { OnOk result.1 (length (core_in result.0).map.modules ≡ length (core_in self).map.modules) }
-        ensures many { result.1 ≡ Err CollectError.TooMany → (env : Environment) (rest : List Task) → IsSpent env (part_of world.entry) (joined (core_in self) rest) }
+        ensures many { result.1 ≡ Err StepError.TooMany → (env : Environment) (rest : List Task) → IsSpent env (part_of world.entry) (joined (core_in self) rest) }
     {
         let alloc = self.allocator();
         let (imports, slots) = spread_changes(
@@ -104,12 +104,12 @@ impl DefCollector {
     /// Lets what was bound go along globs, until nothing is left to go.
     ///
     /// After rust-analyzer's `DefCollector::update_recursive`.
-    pub fn spread_changes(&mut self, world: WorldPart<'_>) -> Result<(), CollectError>
+    pub fn spread_changes(&mut self, world: WorldPart<'_>) -> Result<(), StepError>
         ensures ok { OnOk result ((env : Environment) (rest : List Task) → Steps env (part_of world.entry) (joined (core_in self.old) rest) (joined (core_in self.new) rest)) }
         ensures noted { OnOk result (IsNotedBeside (part_of world.entry) self.old self.new) }
         ensures settled { OnOk result (self.new.globs.pending ≡ []) }
         ensures modules { OnOk result (length (core_in self.new).map.modules ≡ length (core_in self.old).map.modules) }
-        ensures many { result ≡ Err CollectError.TooMany → (env : Environment) (rest : List Task) → IsSpent env (part_of world.entry) (joined (core_in self.old) rest) }
+        ensures many { result ≡ Err StepError.TooMany → (env : Environment) (rest : List Task) → IsSpent env (part_of world.entry) (joined (core_in self.old) rest) }
     {
         if self.globs.is_settled() {
             return Ok(());

@@ -86,13 +86,12 @@ impl DefCollector {
         Ok(())
     }
 
-    /// Brings a helper of a derive into scope on an item. An attribute that waits and may be it has read its name in the
-    /// preludes, so that is noted.
+    /// Brings a helper of a derive into scope on an item, which is noted: an attribute that waits there may be it.
     pub fn help(&mut self, node: AstId, helper: DeriveHelper) -> Result<(), AllocError>
         ensures ok { OnOk result (core_in self.new ≡ with_map (core_in self.old) (with_derive_helper (core_in self.old).map node helper)) }
         ensures noted { OnOk result (IsNoted self.old self.new) }
     {
-        self.changed.add_prelude(&helper.name)?;
+        self.changed.add_item(node)?;
         self.map.add_derive_helper(node, helper)?;
         Ok(())
     }

@@ -3,9 +3,8 @@ ghost use Rattle.std.specs.Prelude.{◌≡◌, ◌<◌, ◌≤◌, ℕ, cond, tr
 ghost use Rattle.hir_item_tree.specs.SyntaxIds.{node_id};
 ghost use Rattle.hir_tables.specs.SourcePlaces.{expansion_value};
 ghost use Rattle.hir_tables.specs.Tables.{KeepsTables};
-ghost use Rattle.hir_def_map_rules.specs.State.{IsInOrder, Local};
+ghost use Rattle.hir_def_map_rules.specs.State.{IsInOrder};
 ghost use Rattle.hir_def_map.specs.WorldParts.{part_of};
-ghost use Rattle.hir_import_resolution.specs.Inner.State.{IsApart};
 ghost use Rattle.hir_import_resolution.specs.Rest.{IsAtRest, IsSound};
 ghost use Rattle.hir_import_resolution.specs.Rounds.{GlobsLast, IsResumable, is_apart as are_apart, is_lasting};
 ghost use Rattle.hir_import_resolution.specs.declared.directive.ImportDirective.{ImportDirective};
@@ -13,19 +12,20 @@ ghost use Rattle.hir_worklist.specs.Queue.{count_of};
 ghost use Rattle.hir_call_queue.specs.Changes.{ChangedValue, joined, nothing};
 ghost use Rattle.hir_call_queue.specs.Waking.{GoesOn, IsWoken, is_apart, worklist_of};
 ghost use Rattle.hir_collector_rules.specs.CallMoves.{ComesToRest, IsReady, NoneWaitsBefore, SeesCall, TriesCall, TriesCalls};
-ghost use Rattle.hir_def_collector.specs.Turns.{CountsOn, IsDueOf, TakesTurn};
+ghost use Rattle.hir_def_collector.specs.Turns.{CountsOn, IsDueOf, StaysBehind, TakesTurn};
 ghost use Rattle.hir_collector_rules.specs.Calls.{AreCallsPlaced, Expanding, IsMeantCall, LeadsNowhere, call_site, called_text, error_of, expansion_of_call, text_readings, waiting_item};
+ghost use Rattle.hir_collector_rules.specs.declared.macro_directive.MacroDirective.{MacroDirective};
 ghost use Rattle.hir_collector_rules.specs.declared.macro_directive.WaitingItem.{WaitingItem};
 ghost use Rattle.hir_collector_rules.specs.Derivation.{IsSpent};
 ghost use Rattle.hir_collector_rules.specs.ItemIds.{module_id};
-ghost use Rattle.hir_collector_rules.specs.declared.macro_directive.MacroDirective.{MacroDirective};
-ghost use Rattle.hir_collector_rules.specs.Keys.{Environment, IsMeant, input_at, macro_key, macro_tree, source_in, text_at, text_of};
+ghost use Rattle.hir_collector_rules.specs.Keys.{Environment, IsMeant, environment, input_at, macro_key, macro_tree, source_in, text_at, text_of};
 ghost use Rattle.hir_collector_rules.specs.Moves.{Makes, OnceGrown};
 ghost use Rattle.hir_collector_rules.specs.NumberedOut.{LacksExpansion};
+ghost use Rattle.hir_collector_rules.specs.UnknownSources.{LeadsToUnknownSource, ReachesUnknownSource};
 ghost use Rattle.hir_collector_rules.specs.State.{Run, at_rest, core_in, import_state};
 ghost use Rattle.hir_collector_rules.specs.Steps.{CallsMacro, IsDue, Steps, failing, keys_read, with_keys};
 ghost use Rattle.hir_collector_rules.specs.Workspace.{entry_look};
-ghost use Rattle.hir_collector_rules.specs.Waiting.{IsBehind, IsBetweenPasses, IsGathered, IsNoted, IsNotedBeside, IsStale, IsUpToDate, LiesApart, NotesSlots};
+ghost use Rattle.hir_collector_rules.specs.Waiting.{IsBehind, IsBetweenPasses, IsGathered, IsNoted, IsNotedBeside, IsStale, IsUpToDate, KeepsApart, LiesApart, NotesSlots, item_of};
 
 use crate::collector::resume::{give_up, skip};
 use either::Either;
@@ -41,7 +41,7 @@ use hir_collector_items::sources::source_at;
 use hir_collector_rules::macro_directive::{Fate, MacroDirective};
 use hir_collector_rules::site::Site;
 use hir_collector_rules::source_database::{ExpansionLook, Key, SourceDatabase};
-use hir_collector_rules::start::{CollectError, STEP_LIMIT};
+use hir_collector_rules::start::{CollectError, STEP_LIMIT, StepError};
 use hir_collector_state::def_collector::DefCollector;
 use hir_def_map::nameres::diagnostics::DefDiagnostic;
 use hir_def_map::world::part::WorldPart;
@@ -70,6 +70,7 @@ fn copied(alloc: Global, text: Option<&str>) -> Result<Option<Text>, AllocError>
 /// Whether the source that writes a macro has a number; a procedural macro is in no source.
 fn is_meant(locations: &Tables, makro: MacroId) -> bool
     ensures meant { result ≡ true → IsMeant locations.now makro }
+    ensures unknown { result ≡ false → ¬ IsMeant locations.now makro }
 {
     match makro {
         MacroId::Macro2Id(id) => locations.source_of(tree_of(id.loc)).is_some(),
@@ -249,19 +250,17 @@ fn look_at_call<D: SourceDatabase>(
     locations: &mut Tables,
     call: &MacroDirective,
     makro: MacroId,
-) -> Result<Expansion, CollectError>
+) -> Result<Expansion, StepError>
     requires meant { IsMeantCall locations.old call.now }
+    requires known { IsMeant locations.old makro }
     ensures kept { KeepsTables locations.old locations.new }
     ensures same { D.workspace db.new ≡ D.workspace db.old }
     ensures placed { AreCallsPlaced locations.old → AreCallsPlaced locations.new }
     ensures ok { IfOk result (λ e. (x : Expanding) × SeesCall locations.new (D.workspace db.old) (part_of world.entry) call.now makro (core_in run.old) (core_in run.new) x e.source.value
         × (e.id ≡ x.id) × (e.error ≡ error_of x.there)) }
     ensures noted { OnOk result (IsNoted run.old run.new) }
-    ensures many { result ≡ Err CollectError.TooMany → OnceGrown locations.new (D.workspace db.old) (λ env. LacksExpansion env (part_of world.entry) (core_in run.old).map call.now makro) }
+    ensures many { result ≡ Err StepError.TooMany → OnceGrown locations.new (D.workspace db.old) (λ env. LacksExpansion env (part_of world.entry) (core_in run.old).map call.now makro) }
 {
-    if !is_meant(locations, makro) {
-        return Err(CollectError::UnknownSource);
-    }
     let alloc = run.allocator();
     let krate = run.map().id().krate;
     let text = called_text(run, db, world, locations, makro)?;
@@ -322,7 +321,43 @@ fn report_failed(
     run.tell(DefDiagnostic::macro_error(at, call.ast_id, call.path().clone()?, error))
 }
 
-/// Expands what waits at the place, which reaches a macro: handles the items of its expansion, with all that is in them.
+/// Expands what waits at the place, which reaches a macro whose source has a number: notes the call in its module, and handles
+/// the items of its expansion, with all that is in them.
+fn expand_known<D: SourceDatabase>(
+    run: &mut DefCollector,
+    db: &mut D,
+    world: WorldPart<'_>,
+    locations: &mut Tables,
+    i: usize,
+    call: &MacroDirective,
+    makro: MacroId,
+) -> Result<(), StepError>
+    requires ready { IsReady locations.old (part_of world) (core_in run.old) }
+    requires called { CallsMacro (part_of world) (at_rest (core_in run.old)) i call.now makro }
+    requires shallow { call.now.site.level < (core_in run.old).map.crate_data.recursion_limit }
+    requires below { call.now.site.level < 4294967295 }
+    requires known { IsMeant locations.old makro }
+    ensures kept { KeepsTables locations.old locations.new }
+    ensures same { D.workspace db.new ≡ D.workspace db.old }
+    ensures placed { AreCallsPlaced locations.old → AreCallsPlaced locations.new }
+    ensures ok { OnOk result (OnceGrown locations.new (D.workspace db.old) (λ env. Steps env (part_of world.entry) (at_rest (core_in run.old)) (at_rest (core_in run.new)))) }
+    ensures noted { OnOk result (IsNotedBeside (part_of world.entry) run.old run.new) }
+    ensures handled { OnOk result (slice_get (core_in run.new).fates i ≡ Some Fate.Handled) }
+    ensures many { result ≡ Err StepError.TooMany → OnceGrown locations.new (D.workspace db.old) (λ env. IsSpent env (part_of world.entry) (at_rest (core_in run.old))) }
+{
+    let Expansion { id, error, source } = look_at_call(run, db, world, locations, call, makro)?;
+    let site = call_site(call, id)?;
+    run.end_call(i, Fate::Handled);
+    run.note_call(call, id)?;
+    bring_helpers(run, world, call, makro, Some(Either::Left(id)))?;
+    report_failed(run, call, error)?;
+    run.tick()?;
+    let ids = source.tree().top_level_items();
+    walk_all(run, db, world, locations, &source, &site, ids)?;
+    Ok(())
+}
+
+/// Expands what waits at the place, which reaches a macro, unless the source that writes the macro has no number.
 fn expand<D: SourceDatabase>(
     run: &mut DefCollector,
     db: &mut D,
@@ -343,15 +378,12 @@ fn expand<D: SourceDatabase>(
     ensures noted { OnOk result (IsNotedBeside (part_of world.entry) run.old run.new) }
     ensures handled { OnOk result (slice_get (core_in run.new).fates i ≡ Some Fate.Handled) }
     ensures many { result ≡ Err CollectError.TooMany → OnceGrown locations.new (D.workspace db.old) (λ env. IsSpent env (part_of world.entry) (at_rest (core_in run.old))) }
+    ensures unknown { result ≡ Err CollectError.UnknownSource → ReachesUnknownSource locations.new (part_of world.entry) (at_rest (core_in run.old)) }
 {
-    let Expansion { id, error, source } = look_at_call(run, db, world, locations, call, makro)?;
-    let site = call_site(call, id)?;
-    run.end_call(i, Fate::Handled);
-    bring_helpers(run, world, call, makro, Some(Either::Left(id)))?;
-    report_failed(run, call, error)?;
-    run.tick()?;
-    let ids = source.tree().top_level_items();
-    walk_all(run, db, world, locations, &source, &site, ids)?;
+    if !is_meant(locations, makro) {
+        return Err(CollectError::UnknownSource);
+    }
+    expand_known(run, db, world, locations, i, call, makro)?;
     Ok(())
 }
 
@@ -427,6 +459,7 @@ fn do_due<D: SourceDatabase>(
     ensures tried { IfOk result (λ done. TriesCall (part_of world.entry) (core_in run.old) (core_in run.new) i done) }
     ensures noted { OnOk result (IsNotedBeside (part_of world.entry) run.old run.new) }
     ensures many { result ≡ Err CollectError.TooMany → OnceGrown locations.new (D.workspace db.old) (λ env. IsSpent env (part_of world.entry) (at_rest (core_in run.old))) }
+    ensures unknown { result ≡ Err CollectError.UnknownSource → LeadsToUnknownSource (environment locations.new (D.workspace db.old)) (part_of world.entry) (at_rest (core_in run.old)) }
 {
     match due {
         Due::Nothing => return Ok(false),
@@ -466,6 +499,7 @@ fn try_call<D: SourceDatabase>(
     ensures noted { OnOk result (IsNotedBeside (part_of world.entry) run.old run.new) }
     ensures tried { IfOk result (λ done. TriesCall (part_of world.entry) (core_in run.old) (core_in run.new) i done) }
     ensures many { result ≡ Err CollectError.TooMany → OnceGrown locations.new (D.workspace db.old) (λ env. IsSpent env (part_of world.entry) (at_rest (core_in run.old))) }
+    ensures unknown { result ≡ Err CollectError.UnknownSource → LeadsToUnknownSource (environment locations.new (D.workspace db.old)) (part_of world.entry) (at_rest (core_in run.old)) }
 {
     let Some(call) = run.waiting(i) else {
         return Ok(false);
@@ -478,13 +512,25 @@ fn try_call<D: SourceDatabase>(
     do_due(run, db, world, locations, i, &call, due)
 }
 
-/// Has the call at the place, if it waits, watch the slots that its path reads.
+/// The item that an attribute stands on, where that is what waits.
+fn item_of(call: &MacroDirective) -> Option<AstId>
+    ensures value { result ≡ item_of call.now }
+{
+    match call.waiting_item() {
+        Some(_) => Some(call.ast_id),
+        None => None,
+    }
+}
+
+/// Has the call at the place, if it waits, watch the slots that its path reads, an attribute besides the item that it stands
+/// on.
 fn watch(
     run: &DefCollector,
     world: WorldPart<'_>,
     queue: &mut CallQueue,
     i: usize,
 ) -> Result<(), AllocError>
+    requires apart { LiesApart (part_of world) queue.old (core_in run.now) }
     requires low { (d : MacroDirective) → slice_get (core_in run.now).calls i ≡ Some d → d.site.home < length (core_in run.now).map.modules }
     requires in_order { IsInOrder (core_in run.now).map }
     requires up_to_date { IsUpToDate (part_of world) queue.old (core_in run.now) (Some i) }
@@ -495,7 +541,8 @@ fn watch(
     let Some(call) = run.waiting(i) else {
         return Ok(());
     };
-    queue.watch(i, run.call_slots(world, call), run.map().module_count())?;
+    let slots = run.call_slots(world, call);
+    queue.watch(i, slots, run.map().module_count(), item_of(call))?;
     Ok(())
 }
 
@@ -535,6 +582,7 @@ fn try_queued<D: SourceDatabase>(
     ensures stays { OnOk result (GoesOn queue.old queue.new) }
     ensures gathered { OnOk result (IsGathered (part_of world.entry) grown.old run.old grown.new run.new) }
     ensures many { result ≡ Err CollectError.TooMany → OnceGrown locations.new (D.workspace db.old) (λ env. IsSpent env (part_of world.entry) (at_rest (core_in run.old))) }
+    ensures unknown { result ≡ Err CollectError.UnknownSource → LeadsToUnknownSource (environment locations.new (D.workspace db.old)) (part_of world.entry) (at_rest (core_in run.old)) }
 {
     let done = try_call(run, db, world, locations, i)?;
     if !done {
@@ -580,6 +628,7 @@ fn try_calls<D: SourceDatabase>(
     ensures queue { OnOk result (is_apart queue.new ≡ is_apart queue.old) }
     ensures gathered { OnOk result (IsGathered (part_of world.entry) grown.old run.old grown.new run.new) }
     ensures many { result ≡ Err CollectError.TooMany → OnceGrown locations.new (D.workspace db.old) (λ env. IsSpent env (part_of world.entry) (at_rest (core_in run.old))) }
+    ensures unknown { result ≡ Err CollectError.UnknownSource → LeadsToUnknownSource (environment locations.new (D.workspace db.old)) (part_of world.entry) (at_rest (core_in run.old)) }
 {
     let mut progress = false;
     queue.open();
@@ -598,8 +647,8 @@ fn settle(
     apart: bool,
     imports: ImportQueue,
     grown: &Changed,
-) -> Result<(DefCollector, ImportQueue), CollectError>
-    requires apart { apart ≡ true → IsApart (part_of world) (core_in run).map.id (core_in run).local }
+) -> Result<(DefCollector, ImportQueue), StepError>
+    requires apart { apart ≡ true → KeepsApart (part_of world) (core_in run) }
     requires imports { (i : ℕ) (r : ImportDirective) → slice_get (core_in run).reached i ≡ Some r → r.home < length (core_in run).map.modules }
     requires in_order { IsInOrder (core_in run).map }
     requires sound { IsSound (part_of world) (import_state (at_rest (core_in run))) }
@@ -614,7 +663,7 @@ fn settle(
     ensures queue { IfOk result (λ r. are_apart r.1 ≡ apart) }
     // nothing has changed since, and it doesn't matter what is noted
     ensures behind { IfOk result (λ r. length (core_in r.0).taken ≡ length (core_in r.0).reached → (changed : ChangedValue) (now : Run) → core_in now ≡ core_in r.0 → IsBehind (part_of world.entry) r.1 changed now) }
-    ensures many { result ≡ Err CollectError.TooMany → (env : Environment) → IsSpent env (part_of world.entry) (at_rest (core_in run)) }
+    ensures many { result ≡ Err StepError.TooMany → (env : Environment) → IsSpent env (part_of world.entry) (at_rest (core_in run)) }
 {
     let (mut run, imports) = run.settle(world, apart, imports, grown)?;
     run.rest()?;
@@ -653,6 +702,48 @@ enum Turn {
     Rests,
 }
 
+/// Tries what waits, where imports rest; where nothing is handled, gives up the first attribute that waits. What has changed
+/// by that is gathered in `grown`, or noted.
+fn take_waiting<D: SourceDatabase>(
+    run: &mut DefCollector,
+    db: &mut D,
+    world: WorldPart<'_>,
+    locations: &mut Tables,
+    queue: &mut CallQueue,
+    grown: &mut Changed,
+    first: usize,
+) -> Result<Turn, CollectError>
+    requires apart { LiesApart (part_of world) queue.old (core_in run.old) }
+    requires stale { IsStale (part_of world) queue.old run.old }
+    requires between { IsBetweenPasses queue.old }
+    requires settled { (core_in run.old).settled ≡ length (core_in run.old).calls }
+    requires rests { IsAtRest (part_of world) (import_state (at_rest (core_in run.old))) }
+    requires ready { IsReady locations.old (part_of world) (core_in run.old) }
+    requires first { NoneWaitsBefore (core_in run.old) first }
+    ensures kept { KeepsTables locations.old locations.new }
+    ensures same { D.workspace db.new ≡ D.workspace db.old }
+    ensures placed { AreCallsPlaced locations.old → AreCallsPlaced locations.new }
+    ensures ok { OnOk result (OnceGrown locations.new (D.workspace db.old) (λ env. Steps env (part_of world.entry) (at_rest (core_in run.old)) (at_rest (core_in run.new)))) }
+    ensures queue { OnOk result (is_apart queue.new ≡ is_apart queue.old) }
+    ensures stale { OnOk result (IsStale (part_of world.entry) queue.new run.new) }
+    ensures between { OnOk result (IsBetweenPasses queue.new) }
+    ensures behind { OnOk result (StaysBehind (part_of world.entry) (core_in run.old) grown.new run.new) }
+    ensures counts { IfOk result (λ turn. CountsOn (core_in run.old) (core_in run.new) turn) }
+    ensures turned { IfOk result (λ turn. OnceGrown locations.new (D.workspace db.old) (λ env. TakesTurn env (part_of world.entry) (core_in run.old) (core_in run.new) first turn)) }
+    ensures many { result ≡ Err CollectError.TooMany → OnceGrown locations.new (D.workspace db.old) (λ env. IsSpent env (part_of world.entry) (at_rest (core_in run.old))) }
+    ensures unknown { result ≡ Err CollectError.UnknownSource → LeadsToUnknownSource (environment locations.new (D.workspace db.old)) (part_of world.entry) (at_rest (core_in run.old)) }
+{
+    requeue(run, world, queue)?;
+    if try_calls(run, db, world, locations, queue, grown)? {
+        return Ok(Turn::Round);
+    }
+    let given = give_up(run, db, world, locations, first)?;
+    match given {
+        Some(next) => Ok(Turn::GaveUp(next)),
+        None => Ok(Turn::Rests),
+    }
+}
+
 /// Takes imports until no more comes of them, and tries what waits; where nothing is handled, gives up the first
 /// attribute that waits. What has changed since imports rested last is gathered in `grown`.
 fn take_turn<D: SourceDatabase>(
@@ -666,7 +757,7 @@ fn take_turn<D: SourceDatabase>(
     apart: bool,
     first: usize,
 ) -> Result<(DefCollector, ImportQueue, Turn), CollectError>
-    requires apart { apart ≡ true → (local : Local) → IsApart (part_of world) (core_in run).map.id local }
+    requires apart { apart ≡ true → KeepsApart (part_of world) (core_in run) }
     requires queue { is_apart queue.old ≡ apart }
     requires stale { IsStale (part_of world) queue.old run }
     requires between { IsBetweenPasses queue.old }
@@ -686,19 +777,13 @@ fn take_turn<D: SourceDatabase>(
     ensures counts { IfOk result (λ r. CountsOn (core_in run) (core_in r.0) r.2) }
     ensures turned { IfOk result (λ r. OnceGrown locations.new (D.workspace db.old) (λ env. TakesTurn env (part_of world.entry) (core_in run) (core_in r.0) first r.2)) }
     ensures many { result ≡ Err CollectError.TooMany → OnceGrown locations.new (D.workspace db.old) (λ env. IsSpent env (part_of world.entry) (at_rest (core_in run))) }
+    ensures unknown { result ≡ Err CollectError.UnknownSource → LeadsToUnknownSource (environment locations.new (D.workspace db.old)) (part_of world.entry) (at_rest (core_in run)) }
 {
     grown.append(run.changed())?;
     let (mut run, imports) = settle(run, world, apart, imports, grown)?;
     grown.clear();
-    requeue(&mut run, world, queue)?;
-    if try_calls(&mut run, db, world, locations, queue, grown)? {
-        return Ok((run, imports, Turn::Round));
-    }
-    let given = give_up(&mut run, db, world, locations, first)?;
-    match given {
-        Some(next) => Ok((run, imports, Turn::GaveUp(next))),
-        None => Ok((run, imports, Turn::Rests)),
-    }
+    let turn = take_waiting(&mut run, db, world, locations, queue, grown, first)?;
+    Ok((run, imports, turn))
 }
 
 /// Takes imports, expands calls, derives and attributes, round by round, until no more comes of them, and whether rounds
@@ -715,7 +800,7 @@ pub fn resolve_rounds<D: SourceDatabase>(
     locations: &mut Tables,
     apart: bool,
 ) -> Result<(DefCollector, bool), CollectError>
-    requires apart { apart ≡ true → (local : Local) → IsApart (part_of world) (core_in run).map.id local }
+    requires apart { apart ≡ true → KeepsApart (part_of world) (core_in run) }
     requires ready { IsReady locations.old (part_of world) (core_in run) }
     ensures kept { KeepsTables locations.old locations.new }
     ensures same { D.workspace db.new ≡ D.workspace db.old }
@@ -723,6 +808,7 @@ pub fn resolve_rounds<D: SourceDatabase>(
     ensures ok { IfOk result (λ r. OnceGrown locations.new (D.workspace db.old) (λ env. Steps env (part_of world.entry) (at_rest (core_in run)) (at_rest (core_in r.0)))) }
     ensures rests { IfOk result (λ r. OnceGrown locations.new (D.workspace db.old) (λ env. ComesToRest env (part_of world.entry) (core_in run) (core_in r.0) r.1)) }
     ensures many { result ≡ Err CollectError.TooMany → OnceGrown locations.new (D.workspace db.old) (λ env. IsSpent env (part_of world.entry) (at_rest (core_in run))) }
+    ensures unknown { result ≡ Err CollectError.UnknownSource → LeadsToUnknownSource (environment locations.new (D.workspace db.old)) (part_of world.entry) (at_rest (core_in run)) }
 {
     let mut run = run;
     let alloc = run.allocator();

@@ -14,7 +14,7 @@ ghost use Rattle.hir_collector_rules.specs.Waiting.{IsNotedBeside};
 use hir_collector_rules::macro_directive::{Fate, MacroDirective, WaitingItem};
 use hir_collector_rules::site::Site;
 use hir_collector_rules::source_database::SourceDatabase;
-use hir_collector_rules::start::CollectError;
+use hir_collector_rules::start::StepError;
 use hir_collector_state::def_collector::DefCollector;
 use hir_def_map::nameres::diagnostics::DefDiagnostic;
 use hir_def_map::world::part::WorldPart;
@@ -47,7 +47,7 @@ pub fn skip<D: SourceDatabase>(
     i: usize,
     call: &MacroDirective,
     item: &WaitingItem,
-) -> Result<(), CollectError>
+) -> Result<(), StepError>
     requires ready { IsReady locations.old (part_of world) (core_in run.old) }
     requires due { IsDue (at_rest (core_in run.old)) i call.now }
     requires of { waiting_item call.now ≡ Some item.now }
@@ -58,7 +58,7 @@ pub fn skip<D: SourceDatabase>(
     ensures ok { OnOk result (OnceGrown locations.new (D.workspace db.old) (λ env. Steps env (part_of world.entry) (at_rest (core_in run.old)) (at_rest (core_in run.new)))) }
     ensures handled { OnOk result (slice_get (core_in run.new).fates i ≡ Some Fate.Handled) }
     ensures noted { OnOk result (IsNotedBeside (part_of world.entry) run.old run.new) }
-    ensures many { result ≡ Err CollectError.TooMany → OnceGrown locations.new (D.workspace db.old) (λ env. IsSpent env (part_of world.entry) (at_rest (core_in run.old))) }
+    ensures many { result ≡ Err StepError.TooMany → OnceGrown locations.new (D.workspace db.old) (λ env. IsSpent env (part_of world.entry) (at_rest (core_in run.old))) }
 {
     let site = site_behind(&call.site)?;
     run.end_call(i, Fate::Handled);
@@ -102,7 +102,7 @@ fn give_up_at<D: SourceDatabase>(
     i: usize,
     call: &MacroDirective,
     item: &WaitingItem,
-) -> Result<(), CollectError>
+) -> Result<(), StepError>
     requires ready { IsReady locations.old (part_of world) (core_in run.old) }
     requires rests { IsAtRest (part_of world) (import_state (at_rest (core_in run.old))) }
     requires nowhere { (j : ℕ) → LeadsNowhere (part_of world) (at_rest (core_in run.old)) j }
@@ -116,7 +116,7 @@ fn give_up_at<D: SourceDatabase>(
     ensures counts { OnOk result ((core_in run.old).count < (core_in run.new).count) }
     ensures before { OnOk result (NoneWaitsBefore (core_in run.new) (i + 1)) }
     ensures noted { OnOk result (IsNotedBeside (part_of world.entry) run.old run.new) }
-    ensures many { result ≡ Err CollectError.TooMany → OnceGrown locations.new (D.workspace db.old) (λ env. IsSpent env (part_of world.entry) (at_rest (core_in run.old))) }
+    ensures many { result ≡ Err StepError.TooMany → OnceGrown locations.new (D.workspace db.old) (λ env. IsSpent env (part_of world.entry) (at_rest (core_in run.old))) }
 {
     let site = site_behind(&call.site)?;
     let at = run.module_id(call.site.home);
@@ -145,7 +145,7 @@ pub fn give_up<D: SourceDatabase>(
     world: WorldPart<'_>,
     locations: &mut Tables,
     first: usize,
-) -> Result<Option<usize>, CollectError>
+) -> Result<Option<usize>, StepError>
     requires ready { IsReady locations.old (part_of world) (core_in run.old) }
     requires rests { IsAtRest (part_of world) (import_state (at_rest (core_in run.old))) }
     requires nowhere { (j : ℕ) → LeadsNowhere (part_of world) (at_rest (core_in run.old)) j }
@@ -156,7 +156,7 @@ pub fn give_up<D: SourceDatabase>(
     ensures ok { OnOk result (OnceGrown locations.new (D.workspace db.old) (λ env. Steps env (part_of world.entry) (at_rest (core_in run.old)) (at_rest (core_in run.new)))) }
     ensures given { IfOk result (λ next. IsGivenUp (core_in run.old) (core_in run.new) next) }
     ensures noted { OnOk result (IsNotedBeside (part_of world.entry) run.old run.new) }
-    ensures many { result ≡ Err CollectError.TooMany → OnceGrown locations.new (D.workspace db.old) (λ env. IsSpent env (part_of world.entry) (at_rest (core_in run.old))) }
+    ensures many { result ≡ Err StepError.TooMany → OnceGrown locations.new (D.workspace db.old) (λ env. IsSpent env (part_of world.entry) (at_rest (core_in run.old))) }
 {
     let Some(i) = first_waiting(run, first) else {
         return Ok(None);

@@ -23,6 +23,7 @@ use hir_base::ast_id::{BlockId, EditionedFileId};
 use hir_base::ids::{Crate, MapId, ModuleId};
 use hir_base::place::{BlockPlace, Place};
 use hir_collector_rules::collected::Collected;
+use hir_collector_rules::start::CollectError;
 use hir_session_answers::definition_files::definition_file_at;
 use hir_session_invalidation::sources::HeldBlock;
 use hir_session_sources::source_trees::copied_place;
@@ -50,6 +51,20 @@ fn note_place(done: &mut Vec<Place>, place: &Place) -> Result<(), AllocError>
 {
     done.push(place.clone()?)?;
     Ok(())
+}
+
+/// Why a refresh ends early where a run was given up. A run meets no unknown source: the maps beside it were made over the
+/// session's own tables.
+fn refresh_error(error: CollectError) -> RefreshError
+    requires known { error ≢ CollectError.UnknownSource }
+    ensures many { result ≡ RefreshError.TooMany → error ≡ CollectError.TooMany }
+    ensures memory { result ≡ RefreshError.Memory → error ≡ CollectError.Memory }
+{
+    match error {
+        CollectError::TooMany => RefreshError::TooMany,
+        CollectError::Memory => RefreshError::Memory,
+        CollectError::UnknownSource => unreachable!(),
+    }
 }
 
 impl Session {
@@ -83,8 +98,13 @@ impl Session {
         ensures found { IfOk result (λ r. IsResolutionOf self.new (id_of k) (held_in self.new (collected_view r))) }
         ensures many { result ≡ Err RefreshError.TooMany → IsStuckAt self.new (root_place k) }
     {
-        self.inputs
+        match self
+            .inputs
             .resolve(alloc, &mut self.tables, self.kept.world(), k)
+        {
+            Ok(found) => Ok(found),
+            Err(error) => Err(refresh_error(error)),
+        }
     }
 
     /// Resolves the first marked crate.
@@ -155,8 +175,13 @@ impl Session {
         ensures many { result ≡ Err RefreshError.TooMany → IsOverlong self.new.tables (workspace_of self.new) (finished_of self.new)
             (begins_in_block at.krate at.block at.holder at.file at.id) }
     {
-        self.inputs
+        match self
+            .inputs
             .resolve_block(alloc, &mut self.tables, self.kept.world(), at)
+        {
+            Ok(found) => Ok(found),
+            Err(error) => Err(refresh_error(error)),
+        }
     }
 
     /// Resolves a block that has a number, in the module that holds it.

@@ -3,9 +3,9 @@
 use hir_base::ast_id::AstKind;
 use hir_base::limit::Limit;
 use hir_session::{
-    Answer, Crate, CrateInput, EditError, Edition, Fault, FilePath, ModPath, Name, NewSessionError,
-    Node, NodeKind, Place, QueryError, RefreshError, Session, Shadow, Source, SyntaxId,
-    TreeTextError, Unit,
+    Answer, Crate, CrateInput, EditError, Edition, Fault, FilePath, ImplItemsError, ModPath, Name,
+    NewSessionError, Node, NodeKind, Place, QueryError, RefreshError, Session, Shadow, Source,
+    SyntaxId, TraitItemsError, TreeTextError, Unit,
 };
 use std::alloc::Global;
 use std::fmt::Display;
@@ -141,5 +141,9 @@ fn other_errors_have_texts(rt: HostRuntime) -> Result<(), Fail> {
     says(&rt, rt.alloc(), &RefreshError::TooMany, many)?;
     let absent = "there is no such crate";
     says(&rt, rt.alloc(), &TreeTextError::UnknownCrate, absent)?;
+    let traitless = "the path names no trait";
+    says(&rt, rt.alloc(), &TraitItemsError::NotATrait, traitless)?;
+    let past = "the module has no impl of that number";
+    says(&rt, rt.alloc(), &ImplItemsError::NoSuchImpl, past)?;
     says(&rt, rt.alloc(), &Fault::WriteFault, "write fault")
 }

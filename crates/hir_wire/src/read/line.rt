@@ -3,7 +3,7 @@ ghost use Rattle.std.specs.Prelude.{◌≡◌, ◌≢◌, MatchResult, codes};
 ghost use Rattle.serde_json.specs.View.{view, members_view};
 ghost use Rattle.hir_wire.specs.CommandValue.{command_view};
 ghost use Rattle.hir_wire.specs.Reading.{Reads, required, word_as};
-ghost use Rattle.hir_wire.specs.Commands.{verb_of_word, set_file_in, set_expansion_in, set_block_in, resolve_in, tree_in, fields_of, command_with, command_of, data_of, reading_of};
+ghost use Rattle.hir_wire.specs.Commands.{verb_of_word, set_file_in, set_expansion_in, set_block_in, resolve_in, trait_items_in, impl_items_in, tree_in, fields_of, command_with, command_of, data_of, reading_of};
 
 use crate::command::{Command, MacroStyle, Shadow};
 use crate::edit::Edit;
@@ -27,6 +27,8 @@ pub enum Verb {
     RemoveExpansion,
     Refresh,
     Resolve,
+    TraitItems,
+    ImplItems,
     Dump,
     Status,
     Diagnostics,
@@ -49,6 +51,8 @@ impl Word for Verb {
             "remove expansion" => Some(Verb::RemoveExpansion),
             "refresh" => Some(Verb::Refresh),
             "resolve" => Some(Verb::Resolve),
+            "trait items" => Some(Verb::TraitItems),
+            "impl items" => Some(Verb::ImplItems),
             "dump" => Some(Verb::Dump),
             "status" => Some(Verb::Status),
             "diagnostics" => Some(Verb::Diagnostics),
@@ -187,6 +191,32 @@ fn read_begin(alloc: Global, members: &Map<String, Value>) -> Result<Command, Re
     }
 }
 
+#[tactic(auto, unfolding(crate::specs::Commands::trait_items_in))]
+fn read_trait_items(alloc: Global, members: &Map<String, Value>) -> Result<Command, ReadError>
+    ensures value { Reads command_view (trait_items_in (members_view members.now.entries)) result }
+{
+    match both(
+        required(alloc, members, "at"),
+        required(alloc, members, "path"),
+    ) {
+        Ok((at, path)) => Ok(Command::TraitItems { at, path }),
+        Err(error) => Err(error),
+    }
+}
+
+#[tactic(auto, unfolding(crate::specs::Commands::impl_items_in))]
+fn read_impl_items(alloc: Global, members: &Map<String, Value>) -> Result<Command, ReadError>
+    ensures value { Reads command_view (impl_items_in (members_view members.now.entries)) result }
+{
+    match both(
+        required(alloc, members, "at"),
+        required(alloc, members, "impl"),
+    ) {
+        Ok((at, number)) => Ok(Command::ImplItems { at, number }),
+        Err(error) => Err(error),
+    }
+}
+
 fn read_dump(alloc: Global, members: &Map<String, Value>) -> Result<Command, ReadError>
     ensures value { Reads command_view
         (fields_of Verb.Dump (members_view members.now.entries)) result }
@@ -248,6 +278,8 @@ fn read_verb_fields(
         Verb::RemoveExpansion => read_remove_expansion(alloc, members),
         Verb::Refresh => Ok(Command::Refresh),
         Verb::Resolve => read_resolve(alloc, members),
+        Verb::TraitItems => read_trait_items(alloc, members),
+        Verb::ImplItems => read_impl_items(alloc, members),
         Verb::Dump => read_dump(alloc, members),
         Verb::Status => read_status(alloc, members),
         Verb::Diagnostics => read_diagnostics(alloc, members),

@@ -156,6 +156,24 @@ impl FromJson for SyntaxId {
     }
 }
 
+impl FromJson for u32 {
+    ghost use Rattle.std.specs.Prelude.{ℕ};
+    ghost use Rattle.hir_wire.specs.Paths.{number_of};
+
+    ghost Seen = { ℕ };
+
+    ghost seen = { λ n. n };
+
+    ghost meaning = { number_of };
+
+    fn read(_alloc: Global, value: &Value) -> Result<u32, ReadError> {
+        match read_u32(value) {
+            Some(number) => Ok(number),
+            None => Err(ReadError::Command),
+        }
+    }
+}
+
 impl FromJson for Crate {
     ghost use Rattle.hir_base.specs.declared.ids.Crate.{Crate};
     ghost use Rattle.hir_wire.specs.Paths.{crate_of};

@@ -14,7 +14,7 @@ use serde_json::{Value, json};
 use std::alloc::{AllocError, Global};
 
 /// An item: its node, and the tree in which it is written.
-fn source_item_value(alloc: Global, item: &SourceItem) -> Result<Value, AllocError>
+pub fn source_item_value(alloc: Global, item: &SourceItem) -> Result<Value, AllocError>
     ensures value { IfOk result (λ v. view v ≡ source_item_data item.now) }
 {
     let id = id_value(alloc, item.id)?;
@@ -23,7 +23,8 @@ fn source_item_value(alloc: Global, item: &SourceItem) -> Result<Value, AllocErr
     json!(in alloc; {"id": id, "in": source, "kind": kind})
 }
 
-fn called_value(alloc: Global, call: &CalledItem) -> Result<Value, AllocError>
+/// A macro call: the called or decorated item, after how it was called.
+pub fn called_value(alloc: Global, call: &CalledItem) -> Result<Value, AllocError>
     ensures value { IfOk result (λ v. view v ≡ called_data call.now) }
 {
     let id = id_value(alloc, call.item.id)?;

@@ -9,6 +9,7 @@ use crate::reply::{Reply, Status};
 use crate::write::answer::answer_value;
 use crate::write::definition::{id_value, kind_word, place_value};
 use crate::write::diagnostic::diagnostics_list;
+use crate::write::items::items_value;
 use hir_base::ast_id::{AstKind, SyntaxId};
 use hir_base::ids::Crate;
 use hir_base::limit::Limit;
@@ -94,6 +95,7 @@ fn reply_value(alloc: Global, reply: &Reply) -> Result<Value, AllocError>
             let values = diagnostics_list(alloc, diagnostics.as_slice())?;
             success(alloc, Value::Array(values))
         }
+        Reply::Items(items) => success(alloc, items_value(alloc, items)?),
         Reply::Text(text) => success(alloc, Value::try_from_str(alloc, text.as_str())?),
         Reply::Json => refusal(alloc, "json"),
         Reply::Command => refusal(alloc, "command"),

@@ -31,25 +31,30 @@ returns-in_err-source-clause-kept g c =
     KeepsTables-trans c.args.locations.now c.intern_entry.new.self c.intern_call.new.self c.intern_entry.ensures.kept c.intern_call.ensures.kept
 
 pub returns-in_err-source-clause-others : goal.returns-in_err-source-clause-others
-returns-in_err-source-clause-others g c = others_both c.args.locations.now c.intern_entry.new.self c.intern_call.new.self c.intern_entry.ensures.others c.intern_call.ensures.others
+returns-in_err-source-clause-others g c =
+    others_both c.args.locations.now c.intern_entry.new.self c.intern_call.new.self c.intern_entry.ensures.others c.intern_call.ensures.others
 
 pub returns-in_err-source-clause-placed : goal.returns-in_err-source-clause-placed
 returns-in_err-source-clause-placed g c = λ placed.
     placed_call c.intern_entry.new.self c.intern_call.new.self c.args.node c.in_ok-entry.entry c.intern_call.ensures.kept c.in_ok-id.ensures.grown
     (there_still c.args.locations.now c.intern_entry.new.self c.intern_entry.ensures.kept _ c.requires.meant)
-    (placed_still c.args.locations.now c.intern_entry.new.self c.intern_entry.ensures.kept (ap (λ (t : TablesValue). t.calls) c.intern_entry.ensures.others) placed)
+    (placed_still c.args.locations.now c.intern_entry.new.self c.intern_entry.ensures.kept (ap (λ (t : TablesValue). t.calls) c.intern_entry.ensures.others)
+    placed)
 
 pub returns-clause-kept : goal.returns-clause-kept
-returns-clause-kept g c = KeepsTables-trans c.args.locations.now c.intern_entry.new.self c.intern_call.new.self c.intern_entry.ensures.kept c.intern_call.ensures.kept
+returns-clause-kept g c =
+    KeepsTables-trans c.args.locations.now c.intern_entry.new.self c.intern_call.new.self c.intern_entry.ensures.kept c.intern_call.ensures.kept
 
 pub returns-clause-others : goal.returns-clause-others
-returns-clause-others g c = others_both c.args.locations.now c.intern_entry.new.self c.intern_call.new.self c.intern_entry.ensures.others c.intern_call.ensures.others
+returns-clause-others g c =
+    others_both c.args.locations.now c.intern_entry.new.self c.intern_call.new.self c.intern_entry.ensures.others c.intern_call.ensures.others
 
 pub returns-clause-placed : goal.returns-clause-placed
 returns-clause-placed g c = λ placed.
     placed_call c.intern_entry.new.self c.intern_call.new.self c.args.node c.in_ok-entry.entry c.intern_call.ensures.kept c.in_ok-id.ensures.grown
     (there_still c.args.locations.now c.intern_entry.new.self c.intern_entry.ensures.kept _ c.requires.meant)
-    (placed_still c.args.locations.now c.intern_entry.new.self c.intern_entry.ensures.kept (ap (λ (t : TablesValue). t.calls) c.intern_entry.ensures.others) placed)
+    (placed_still c.args.locations.now c.intern_entry.new.self c.intern_entry.ensures.kept (ap (λ (t : TablesValue). t.calls) c.intern_entry.ensures.others)
+    placed)
 
 pub returns-clause-sees : goal.returns-clause-sees
 returns-clause-sees g c =
@@ -67,10 +72,12 @@ returns-clause-sees g c =
     let is : key ≡ expansion_by (environment tables w) of node makro =
     key_of_call tables w of node makro krate c.in_ok-text.text c.in_ok-input.input key c.in_ok-key.ensures.value own c.in_ok-text.ensures.value
     (c.in_ok-input.ensures.value ∙ ap (λ (v : Workspace). input_at tables v krate node) after_text) in
-    sees_call tables w of node makro c.requires.meant of_macro key is c.intern_entry.new.self c.intern_call.new.self c.in_ok-entry.entry c.in_ok-id.id c.in_ok-error.error c.in_ok-source.source.value
+    sees_call tables w of node makro c.requires.meant of_macro key is c.intern_entry.new.self c.intern_call.new.self c.in_ok-entry.entry c.in_ok-id.id
+    c.in_ok-error.error c.in_ok-source.source.value
     c.intern_entry.ensures.kept c.intern_call.ensures.kept c.in_ok-entry.ensures.found c.in_ok-id.ensures.found
     (c.in_ok-error.ensures.value ∙ ap error_of (c.expansion.ensures.value ∙ ap (λ (v : Workspace). v.entry key) after_input))
-    (c.in_ok-source.ensures.value ∙ ap (λ (t : TreeId). source_in c.intern_call.new.self (g.D.SourceDatabase.workspace c.input_at.new.db) (record { krate = krate; id = t })) c.call_tree.ensures.value
+    (c.in_ok-source.ensures.value ∙ ap (λ (t : TreeId). source_in c.intern_call.new.self (g.D.SourceDatabase.workspace c.input_at.new.db)
+    (record { krate = krate; id = t })) c.call_tree.ensures.value
     ∙ ap (λ (v : Workspace). source_in c.intern_call.new.self v (call_key krate c.in_ok-id.id)) after_input
     ∙ ap (λ (k : Crate). source_in c.intern_call.new.self w (call_key k c.in_ok-id.id)) own)
 
@@ -117,6 +124,7 @@ returns-in_err-id-clause-many g c = λ h.
     key_of_call tables w of node makro krate c.in_ok-text.text c.in_ok-input.input key c.in_ok-key.ensures.value own c.in_ok-text.ensures.value
     (c.in_ok-input.ensures.value ∙ ap (λ (v : Workspace). input_at tables v krate node) after_text) in
     let middle = c.intern_entry.new.self in
-    let full : IsFull middle.calls (call_loc node c.in_ok-entry.entry) = c.intern_call.ensures.too_many.0 (refused_full _ _ _ c.in_err-id.was c.from_residual-in_err-id.ensures.1 h) in
+    let full : IsFull middle.calls (call_loc node c.in_ok-entry.entry) = c.intern_call.ensures.too_many.0
+    (refused_full _ _ _ c.in_err-id.was c.from_residual-in_err-id.ensures.1 h) in
     subst (λ (t : TablesValue). HasNoNumber (environment t w) of node makro) (sym c.in_err-id.ensures.err)
     (no_call tables w of node makro c.requires.meant of_macro key is middle c.in_ok-entry.entry c.intern_entry.ensures.kept c.in_ok-entry.ensures.found full)

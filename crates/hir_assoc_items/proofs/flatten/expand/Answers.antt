@@ -17,12 +17,14 @@ use Rattle.hir_assoc_items.proofs.Taking.{taken_expanded}
 use Rattle.hir_assoc_items.proofs.flatten.expand.Goals as goal
 
 pub look_at_call-requires : goal.look_at_call-requires
-look_at_call-requires g c = record { meant = subst (λ (n : AstId). IsSome (source_of c.args.locations.now (node_tree n))) (sym c.node-node.ensures.value) c.requires.meant }
+look_at_call-requires g c =
+    record { meant = subst (λ (n : AstId). IsSome (source_of c.args.locations.now (node_tree n))) (sym c.node-node.ensures.value) c.requires.meant }
 
 pub returns-in_err-id-clause-many : goal.returns-in_err-id-clause-many
 returns-in_err-id-clause-many g c = λ h.
     let w = g.D.SourceDatabase.workspace c.args.db.now in
-    subst (λ (n : AstId). HasNoNumber (environment c.look_at_call.new.locations w) (container_view c.args.container.now) n c.args.makro) c.node-node.ensures.value (c.in_err-id.ensures.many (search rules))
+    subst (λ (n : AstId). HasNoNumber (environment c.look_at_call.new.locations w) (container_view c.args.container.now) n c.args.makro)
+    c.node-node.ensures.value (c.in_err-id.ensures.many (search rules))
 
 pub returns-clause-ok : goal.returns-clause-ok
 returns-clause-ok g c =
@@ -41,7 +43,9 @@ returns-clause-ok g c =
     let items : map written_view inside ≡ written (call_tree id) (i.level + 1) (top_items source.tree.items) =
     c.in_ok-inside.ensures.value ∙ ap (λ (t : TreeId). written t (i.level + 1) (top_items (c.tree.result.now).items)) c.call_tree.ensures.value
     ∙ ap (λ (t : Tree). written (call_tree id) (i.level + 1) (top_items t.items)) tree in
-    taken_expanded tables w of i c.args.path.now makro id error source (left_of before) (left_of c.append.new.self.items) (listing_view c.args.found.now) (listing_view c.enter.new.found) c.requires.reaches
+    taken_expanded tables w of i c.args.path.now makro id error source (left_of before) (left_of c.append.new.self.items) (listing_view c.args.found.now)
+    (listing_view c.enter.new.found) c.requires.reaches
     (subst (λ (n : AstId). SeesCall tables w of n makro id error source) is_node c.in_ok-id.ensures.sees)
-    (ap left_of (c.in_ok-append.ensures.items ∙ ap (λ (is : List Written). before ++ is) c.reverse.ensures.items) ∙ left_pushed before inside ∙ ap (λ (ws : List WrittenValue). ws ++ left_of before) items)
+    (ap left_of (c.in_ok-append.ensures.items ∙ ap (λ (is : List Written). before ++ is) c.reverse.ensures.items) ∙ left_pushed before inside ∙ ap
+    (λ (ws : List WrittenValue). ws ++ left_of before) items)
     (c.in_ok-enter.ensures.ok ∙ ap (λ (n : AstId). followed_by (listing_view c.args.found.now) (one_call of n id c.args.path.now error)) is_node)

@@ -14,7 +14,8 @@ invariant-next g l = record {
   placed : AreCallsPlaced l.initial.locations → AreCallsPlaced l.locations;
   same : g.D.SourceDatabase.workspace l.db ≡ g.D.SourceDatabase.workspace l.initial.db;
   few : l.count ≤ STEP_LIMIT;
-  way : IsOnItsWay l.locations (g.D.SourceDatabase.workspace l.initial.db) (container_view l.container) (map written_view l.fn.items.items) (left_of l.left.items) (listing_view l.found) l.count;
+  way : IsOnItsWay l.locations (g.D.SourceDatabase.workspace l.initial.db) (container_view l.container) (map written_view l.fn.items.items)
+      (left_of l.left.items) (listing_view l.found) l.count;
 }
 
 abbrev pub decreases-next : goal.decreases-next

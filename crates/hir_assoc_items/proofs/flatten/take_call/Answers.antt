@@ -26,5 +26,6 @@ returns-in_default-clause-ok g c =
     let limit : c.from.result ≡ c.recursion_limit.result = search rules in
     let shallow : i.level < limit_of of = subst (λ (n : ℕ). i.level < n) (limit ∙ c.recursion_limit.ensures.value) c.if-item-from.false in
     let reaches_none : macro_called of path ≡ None = cc (c.called_macro.ensures.value, c.in_default.is) in
-    taken_alone c.args.locations.now w of i (left_of c.args.left.now.items) (listing_view c.args.found.now) (listing_view c.tell_unresolved.new.found) (unresolved of i path)
+    taken_alone c.args.locations.now w of i (left_of c.args.left.now.items) (listing_view c.args.found.now) (listing_view c.tell_unresolved.new.found)
+    (unresolved of i path)
     (λ grown k. call path (unresolved of i path) [] c.requires.is (unreached shallow reaches_none)) c.in_ok-tell_unresolved.ensures.ok

@@ -26,5 +26,6 @@ returns-in_ok-list-in-None-clause-ok g c =
     let i : WrittenValue = written_view c.args.item.now in
     let enabled : i.disabled ≡ None = sym c.condition.ensures.value ∙ ap (λ o. option_map (λ cfg. cfg_view cfg.now) o) c.in_default.is in
     let no_call : path_called i.kind ≡ None = sym c.in-None.ensures.value in
-    taken_alone c.args.locations.now w of i (left_of c.args.left.now.items) (listing_view c.args.found.now) (listing_view c.list.new.found) (listed_by (definition_of of i))
+    taken_alone c.args.locations.now w of i (left_of c.args.left.now.items) (listing_view c.args.found.now) (listing_view c.list.new.found)
+    (listed_by (definition_of of i))
     (λ grown k. listed enabled no_call) c.in_ok-list-in-None.ensures.ok

@@ -12,4 +12,5 @@ returns-clause-many g c = λ h.
     let of = container_view c.args.container.now in
     let later = c.flatten.new.locations in
     subst (λ (v : Workspace). IsTooMany (environment later v) of (items_written c.args.locations.now w c.args.loc c.args.kind)) c.in_ok-items.ensures.same
-    (subst (λ (is : List WrittenValue). IsTooMany (environment later (g.D.SourceDatabase.workspace c.written_items.new.db)) of is) c.in_ok-items.ensures.value (c.flatten.ensures.many h))
+    (subst (λ (is : List WrittenValue). IsTooMany (environment later (g.D.SourceDatabase.workspace c.written_items.new.db)) of is) c.in_ok-items.ensures.value
+    (c.flatten.ensures.many h))

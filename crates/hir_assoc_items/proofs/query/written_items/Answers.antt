@@ -21,7 +21,9 @@ returns-in-Some-clause-meant g c =
     let node = node_id c.args.kind loc.id in
     let items = map row_item c.in-Some.rows.now in
     let kept : option_and_then entry_associated (side_of (source_in tables w (loc_key loc)) node) ≡ Some items =
-    sym (c.in-Some.ensures.value ∙ ap (λ (s : SourceTreeValue). option_and_then entry_associated (side_of s node)) (c.deref.ensures ∙ c.in_ok-source.ensures.value)) in
+    sym (c.in-Some.ensures.value ∙ ap (λ (s : SourceTreeValue). option_and_then entry_associated (side_of s node))
+    (c.deref.ensures ∙ c.in_ok-source.ensures.value)) in
     let there : IsSome (source_of tables (loc_tree loc)) = there_where_kept tables w (loc_key loc) node items kept in
     let level = c.expansions_around-level.result in
-    meant_once tables (written (loc_tree loc) level items) c.of_rows.result (λ found. map written_view found.items) c.of_rows.ensures.value (written_meant tables (loc_tree loc) there level items)
+    meant_once tables (written (loc_tree loc) level items) c.of_rows.result (λ found. map written_view found.items) c.of_rows.ensures.value
+    (written_meant tables (loc_tree loc) there level items)

@@ -12,6 +12,7 @@ returns c = record {
   ok =
       c.in_ok-add.ensures.ok
       ∙ ap (λ (ws : List WrittenValue). map written_view c.args.items.now.items ++ ws)
-      (found_written c.args.tree c.args.level (all_items c.args.source.now.items) c.args.id.0 (kind_content c.index-kind.result) c.syntax_id-node.result (collected_of c.attrs-attrs.result.now)
+      (found_written c.args.tree c.args.level (all_items c.args.source.now.items) c.args.id.0 (kind_content c.index-kind.result) c.syntax_id-node.result
+      (collected_of c.attrs-attrs.result.now)
       c.requires.there c.index-kind.ensures.value c.syntax_id-node.ensures.value c.attrs-attrs.ensures.value);
 }

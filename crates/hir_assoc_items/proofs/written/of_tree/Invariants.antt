@@ -7,4 +7,5 @@ use Rattle.hir_assoc_items.proofs.written.of_tree.Given as goal
 
 abbrev pub invariant-loop-id : goal.invariant-loop-id
 invariant-loop-id l =
-    map written_view l.items.items ++ written l.tree l.level (top_items (items_at (all_items l.source.items) (numbers_of (drop l.id-index l.id-items)))) ≡ written l.tree l.level (top_items l.source.items)
+    map written_view l.items.items ++ written l.tree l.level (top_items (items_at (all_items l.source.items) (numbers_of (drop l.id-index l.id-items))))
+    ≡ written l.tree l.level (top_items l.source.items)

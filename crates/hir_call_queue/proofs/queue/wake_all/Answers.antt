@@ -8,8 +8,12 @@ use Rattle.hir_call_queue.proofs.queue.wake_all.Goals as goal
 
 pub loop-position-preserved : goal.loop-position-preserved
 loop-position-preserved c = record {
-  pass = pass_join c.args.worklist.now c.loop-position.worklist c.wake.new.self c.loop-position.invariant.pass (pass_woken c.loop-position.worklist c.wake.new.self _ c.in_ok-wake.ensures.ok);
-  queued = queued_join c.args.worklist.now c.loop-position.worklist c.wake.new.self c.loop-position.invariant.queued (queued_woken c.loop-position.worklist c.wake.new.self _ c.in_ok-wake.ensures.ok);
+  pass =
+      pass_join c.args.worklist.now c.loop-position.worklist c.wake.new.self c.loop-position.invariant.pass
+      (pass_woken c.loop-position.worklist c.wake.new.self _ c.in_ok-wake.ensures.ok);
+  queued =
+      queued_join c.args.worklist.now c.loop-position.worklist c.wake.new.self c.loop-position.invariant.queued
+      (queued_woken c.loop-position.worklist c.wake.new.self _ c.in_ok-wake.ensures.ok);
   none = below_more (λ p. ¬ IsIdle c.wake.new.self p) c.loop-position.position
       (λ p low idle. c.loop-position.invariant.none p low (idle-woken c.loop-position.worklist c.wake.new.self _ p c.in_ok-wake.ensures.ok idle).0)
       (λ idle.

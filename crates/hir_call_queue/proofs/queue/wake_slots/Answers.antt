@@ -11,10 +11,15 @@ loop-slot-init c = record { woken = λ r after each. each; pass = same_pass c.ar
 pub loop-slot-preserved : goal.loop-slot-preserved
 loop-slot-preserved c = record {
   woken = λ r after then. c.loop-slot.invariant.woken r after
-      (wakes_one c.args.slots.now c.slot-item.result c.loop-slot.slot-index r after c.loop-slot.worklist c.wake_all.new.worklist c.loop-slot.watchers c.wake_all.new.self
+      (wakes_one c.args.slots.now c.slot-item.result c.loop-slot.slot-index r after c.loop-slot.worklist c.wake_all.new.worklist c.loop-slot.watchers
+      c.wake_all.new.self
       c.loop-slot-test.true (search (rules, c.slot-item.is)) c.in_ok-wake_all.ensures.ok c.in_ok-wake_all.ensures.forgets then);
-  pass = pass_join c.args.worklist.now c.loop-slot.worklist c.wake_all.new.worklist c.loop-slot.invariant.pass (pass_woken c.loop-slot.worklist c.wake_all.new.worklist _ c.in_ok-wake_all.ensures.ok);
-  queued = queued_join c.args.worklist.now c.loop-slot.worklist c.wake_all.new.worklist c.loop-slot.invariant.queued (queued_woken c.loop-slot.worklist c.wake_all.new.worklist _ c.in_ok-wake_all.ensures.ok);
+  pass =
+      pass_join c.args.worklist.now c.loop-slot.worklist c.wake_all.new.worklist c.loop-slot.invariant.pass
+      (pass_woken c.loop-slot.worklist c.wake_all.new.worklist _ c.in_ok-wake_all.ensures.ok);
+  queued =
+      queued_join c.args.worklist.now c.loop-slot.worklist c.wake_all.new.worklist c.loop-slot.invariant.queued
+      (queued_woken c.loop-slot.worklist c.wake_all.new.worklist _ c.in_ok-wake_all.ensures.ok);
 }
 
 pub returns-clause-woken : goal.returns-clause-woken

@@ -14,6 +14,10 @@ loop-slot-preserved c =
           one_done c.loop-slot.invariant.done slot c.next.new.self c.loop-slot.slot-iterator c.into_iter-slot-iterator.result c.loop-slot.invariant.split
           (search (rules, c.in-Some.ensures.steps, c.in_ok-to_slot.ensures.value));
       each = watches_more c.loop-slot.watchers c.watch.new.self slot c.args.i c.loop-slot.invariant.done c.loop-slot.invariant.each c.in_ok-watch.ensures.ok;
-      there = All-push (IsThere c.args.modules) c.loop-slot.invariant.done slot c.loop-slot.invariant.there (search (rules, c.is_there.ensures, c.in_ok-to_slot.ensures.value));
-      others = λ other p e. keeps_besides c.loop-slot.watchers c.watch.new.self slot c.args.i c.in_ok-watch.ensures.ok other p (c.loop-slot.invariant.others other p e);
+      there =
+          All-push (IsThere c.args.modules) c.loop-slot.invariant.done slot c.loop-slot.invariant.there
+          (search (rules, c.is_there.ensures, c.in_ok-to_slot.ensures.value));
+      others =
+          λ other p e. keeps_besides c.loop-slot.watchers c.watch.new.self slot c.args.i c.in_ok-watch.ensures.ok other p
+          (c.loop-slot.invariant.others other p e);
     }

@@ -7,5 +7,7 @@ use Rattle.hir_collector_items.proofs.declare.declare_type_alias.Goals as goal
 
 pub returns-clause-ok : goal.returns-clause-ok
 returns-clause-ok c = λ env. record {
-  step = λ done passed rest. declared _ _ (visit c.args.site.now (leaf (head_of c.args.head) (type_alias c.args.name.now))) _ done passed rest c.requires.enabled refl refl (rw (c.in_ok-declare_type.ensures.ok, c.container.ensures.value) refl);
+  step =
+      λ done passed rest. declared _ _ (visit c.args.site.now (leaf (head_of c.args.head) (type_alias c.args.name.now))) _ done passed rest c.requires.enabled
+      refl refl (rw (c.in_ok-declare_type.ensures.ok, c.container.ensures.value) refl);
 }

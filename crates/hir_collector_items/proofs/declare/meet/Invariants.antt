@@ -8,4 +8,5 @@ use Rattle.hir_collector_items.proofs.declare.meet.Given as goal
 abbrev pub invariant-loop-other : goal.invariant-loop-other
 invariant-loop-other l =
     meet_of (part_of l.world) (core_in l.run).map l.fn.own (map (visibility_in (part_of l.world) (core_in l.run).local (core_in l.run).map l.at) l.others)
-    ≡ meet_of (part_of l.world) (core_in l.run).map l.least (map (visibility_in (part_of l.world) (core_in l.run).local (core_in l.run).map l.at) (drop l.other-index l.others))
+    ≡ meet_of (part_of l.world) (core_in l.run).map l.least (map (visibility_in (part_of l.world) (core_in l.run).local (core_in l.run).map l.at)
+    (drop l.other-index l.others))

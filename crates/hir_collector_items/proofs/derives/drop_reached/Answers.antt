@@ -13,14 +13,16 @@ use Rattle.hir_collector_items.proofs.derives.drop_reached.Goals as goal
 
 pub returns-clause-ok : goal.returns-clause-ok
 returns-clause-ok c = λ env.
-    dropped_reached env (part_of c.args.world) (core_in c.args.run.now) c.args.i c.args.call.now c.args.makro (core_in c.end_call.new.self) (core_in c.bring_helpers.new.run) (core_in c.tick.new.self)
+    dropped_reached env (part_of c.args.world) (core_in c.args.run.now) c.args.i c.args.call.now c.args.makro (core_in c.end_call.new.self)
+    (core_in c.bring_helpers.new.run) (core_in c.tick.new.self)
     c.requires.deep c.end_call.ensures.value c.in_ok-bring_helpers.ensures.ok c.in_ok-tick.ensures.ok
 
 pub returns-clause-handled : goal.returns-clause-handled
 returns-clause-handled c =
     let ended : Core = core_in c.end_call.new.self in
     let d : MacroDirective = c.args.call.now in
-    fate_helped (core_in c.args.run.now) ended (core_in c.bring_helpers.new.run) (core_in c.tick.new.self) c.args.i d.ast_id (helpers_brought (part_of c.args.world) ended.map d c.args.makro None)
+    fate_helped (core_in c.args.run.now) ended (core_in c.bring_helpers.new.run) (core_in c.tick.new.self) c.args.i d.ast_id
+    (helpers_brought (part_of c.args.world) ended.map d c.args.makro None)
     c.requires.deep.called.due.waiting.waits (ap (λ (e : Core). e.fates) c.end_call.ensures.value) c.in_ok-bring_helpers.ensures.ok c.in_ok-tick.ensures.ok
 
 pub returns-in_err-tick-clause-many : goal.returns-in_err-tick-clause-many
@@ -31,8 +33,10 @@ returns-in_err-tick-clause-many c = λ h env.
     let helped : Core = core_in c.bring_helpers.new.run in
     let d : MacroDirective = c.args.call.now in
     let same : helped.count ≡ old.count =
-    count_kept (bringing d.ast_id (helpers_brought part ended.map d c.args.makro None)) ended helped c.in_ok-bring_helpers.ensures.ok ∙ ap (λ (e : Core). e.count) c.end_call.ensures.value in
-    past_rule env part old (drops_reached c.args.i d c.args.makro) c.requires.deep tt tt (subst (λ n. STEP_LIMIT ≤ n) same (c.in_err-tick.ensures.many (search rules)))
+    count_kept (bringing d.ast_id (helpers_brought part ended.map d c.args.makro None)) ended helped c.in_ok-bring_helpers.ensures.ok ∙ ap
+    (λ (e : Core). e.count) c.end_call.ensures.value in
+    past_rule env part old (drops_reached c.args.i d c.args.makro) c.requires.deep tt tt
+    (subst (λ n. STEP_LIMIT ≤ n) same (c.in_err-tick.ensures.many (search rules)))
 
 pub returns-clause-noted : goal.returns-clause-noted
 returns-clause-noted c = noted_follow c.end_call.ensures.noted (noted_follow c.in_ok-bring_helpers.ensures.noted c.in_ok-tick.ensures.noted)

@@ -25,9 +25,11 @@ loop-name-preserved c =
     let now : Core = core_in c.loop-name.run in
     let new : Core = core_in c.help.new.self in
     let at : get_or names c.loop-name.name-index name ≡ name = search (rules, c.name-item.is) in
-    let split : drop c.loop-name.name-index names ≡ name ∷ left = drop_more names c.loop-name.name-index name c.loop-name-test.true ∙ ap (λ (n : List ℕ). n ∷ left) at in
+    let split : drop c.loop-name.name-index names ≡ name ∷ left = drop_more names c.loop-name.name-index name c.loop-name-test.true ∙ ap
+    (λ (n : List ℕ). n ∷ left) at in
     let helped : new ≡ with_map now (with_derive_helper now.map c.args.node (helper_by c.args.makro c.args.became name)) =
-    subst (λ (n : List ℕ). new ≡ with_map now (with_derive_helper now.map c.args.node (helper_by c.args.makro c.args.became n))) c.in_ok-clone.ensures.value c.in_ok-help.ensures.ok in
+    subst (λ (n : List ℕ). new ≡ with_map now (with_derive_helper now.map c.args.node (helper_by c.args.makro c.args.became n))) c.in_ok-clone.ensures.value
+    c.in_ok-help.ensures.ok in
     record {
       brought = one_brought c.args.node (helper_by c.args.makro c.args.became name) (by left) (by names) old now new helped
           (subst (λ (ns : List (List ℕ)). MakesWithLeft c.args.node (by ns) (by names) old now) split c.loop-name.invariant.brought);
@@ -40,7 +42,8 @@ returns-clause-ok c =
     let names : List (List ℕ) = c.args.names.now in
     let over : length names ≤ c.loop-name.name-index = c.loop-name-test.false in
     all_brought c.args.node (by names) (core_in c.args.run.now) (core_in c.loop-name.run)
-    (subst (λ (ns : List (List ℕ)). MakesWithLeft c.args.node (by ns) (by names) (core_in c.args.run.now) (core_in c.loop-name.run)) (drop_all c.loop-name.name-index names over) c.loop-name.invariant.brought)
+    (subst (λ (ns : List (List ℕ)). MakesWithLeft c.args.node (by ns) (by names) (core_in c.args.run.now) (core_in c.loop-name.run))
+    (drop_all c.loop-name.name-index names over) c.loop-name.invariant.brought)
 
 pub returns-clause-noted : goal.returns-clause-noted
 returns-clause-noted c = c.loop-name.invariant.noted

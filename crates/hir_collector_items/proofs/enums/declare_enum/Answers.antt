@@ -21,7 +21,8 @@ returns-clause-ok g c = λ grown kept.
     let finished = part_of c.args.world in
     let read : SourceTreeValue = c.in_ok-source.source.value in
     let read_is : read ≡ source_in c.args.locations.now w (record { krate = (core_in c.args.run.now).map.id.krate; id = c.args.site.now.tree }) =
-    c.in_ok-source.ensures.value ∙ ap (λ (id : MapId). source_in c.args.locations.now w (record { krate = id.krate; id = c.args.site.now.tree })) (c.id.ensures.value ∙ ap (λ (m : Map). m.id) c.map.ensures.value) in
+    c.in_ok-source.ensures.value ∙ ap (λ (id : MapId). source_in c.args.locations.now w (record { krate = id.krate; id = c.args.site.now.tree }))
+    (c.id.ensures.value ∙ ap (λ (m : Map). m.id) c.map.ensures.value) in
     let found : Option (List VariantItem) = variants_of read c.args.head.id in
     let key : Key = keys.Variants (enum_id (core_in c.args.run.now).map c.args.site.now c.args.head.id) in
     let sees : look grown w finished key ≡ of_variants found =
@@ -30,7 +31,17 @@ returns-clause-ok g c = λ grown kept.
     record {
       step = λ done passed rest.
           declared_enum _ _ c.args.site.now (head_of c.args.head) c.args.name.now found done passed rest c.requires.enabled sees
-          (rw (c.in_ok-declare.ensures.ok, c.types.ensures.value, c.visibility-vis.ensures.value, c.in_ok-add_enum.ensures.ok, c.in_ok-variants.ensures.value, c.variants.ensures.value, c.deref.ensures, c.module_id.ensures.value, c.in_ok-clone.ensures.value) refl);
+          (rw (
+            c.in_ok-declare.ensures.ok,
+            c.types.ensures.value,
+            c.visibility-vis.ensures.value,
+            c.in_ok-add_enum.ensures.ok,
+            c.in_ok-variants.ensures.value,
+            c.variants.ensures.value,
+            c.deref.ensures,
+            c.module_id.ensures.value,
+            c.in_ok-clone.ensures.value,
+          ) refl);
     }
 
 pub returns-clause-noted : goal.returns-clause-noted

@@ -9,7 +9,8 @@ use Rattle.hir_collector_items.proofs.imports.reach_use.Goals as goal
 pub returns-clause-ok : goal.returns-clause-ok
 returns-clause-ok c = λ env finished. record {
   step = λ done passed rest.
-      made (reaches_imports c.args.site.now (head_of c.args.head) (use_tree_view c.args.tree.now) rest) (record { done = done; next = refl; enabled = c.requires.enabled; passed = passed }) tt tt
+      made (reaches_imports c.args.site.now (head_of c.args.head) (use_tree_view c.args.tree.now) rest)
+      (record { done = done; next = refl; enabled = c.requires.enabled; passed = passed }) tt tt
       (rw (c.in_ok-tick.ensures.ok, c.in_ok-reach_all.ensures.ok, c.in_ok-list_use.ensures.ok, c.in_ok-imports.ensures.value, c.module_id.ensures.value) refl);
 }
 

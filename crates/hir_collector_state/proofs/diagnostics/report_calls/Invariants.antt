@@ -6,7 +6,8 @@ use Rattle.hir_collector_state.proofs.diagnostics.report_calls.Given as goal
 abbrev pub invariant-next : goal.invariant-next
 invariant-next l = record {
   id : l.map.id ≡ l.initial.map.id;
-  all : with_diagnostics l.map (unresolved_calls l.initial.map.id l.left l.left_fates) ≡ with_diagnostics l.initial.map (unresolved_calls l.initial.map.id l.calls l.fates);
+  all : with_diagnostics l.map (unresolved_calls l.initial.map.id l.left l.left_fates) ≡ with_diagnostics l.initial.map
+      (unresolved_calls l.initial.map.id l.calls l.fates);
 }
 
 abbrev pub decreases-next : goal.decreases-next

@@ -8,9 +8,11 @@ loop-i-preserved c =
     let below : c.loop-i.i < length c.args.imports.now = omega arith in
     elim c.if-is_left_over.branch [
       | then-is_left_over+in_ok-push w ↦
-          rw (w.leftover-is, w.in_ok-push.ensures.items, w.way.ensures.value)
-          (untaken_next c.loop-i.leftover.items c.args.imports.now c.args.taken.now c.loop-i.i c.index-imports-i.result below c.index-imports-i.is (sym c.is_left_over.ensures.value ∙ w.if-is_left_over.true) c.loop-i.invariant)
+          rw (w.leftover-is, w.in_ok-push.ensures.items, w.told.ensures.value)
+          (untaken_next c.loop-i.leftover.items c.args.imports.now c.args.taken.now c.loop-i.i c.index-imports-i.result below c.index-imports-i.is
+          (sym c.is_left_over.ensures.value ∙ w.if-is_left_over.true) c.loop-i.invariant)
       | else-is_left_over w ↦
           rw w.leftover-is
-          (taken_next c.loop-i.leftover.items c.args.imports.now c.args.taken.now c.loop-i.i c.index-imports-i.result below c.index-imports-i.is (sym c.is_left_over.ensures.value ∙ w.if-is_left_over.false) c.loop-i.invariant)
+          (taken_next c.loop-i.leftover.items c.args.imports.now c.args.taken.now c.loop-i.i c.index-imports-i.result below c.index-imports-i.is
+          (sym c.is_left_over.ensures.value ∙ w.if-is_left_over.false) c.loop-i.invariant)
     ]

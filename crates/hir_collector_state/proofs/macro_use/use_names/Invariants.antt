@@ -4,4 +4,5 @@ use Rattle.hir_collector_state.proofs.macro_use.use_names.Given as goal
 
 -- with those that are left, all are used
 abbrev pub invariant-loop-name : goal.invariant-loop-name
-invariant-loop-name l = with_macros_used l.map (public_at l.scope.macros (drop l.name-index l.names)) l.by ≡ with_macros_used l.initial.map (public_at l.scope.macros l.names) l.by
+invariant-loop-name l =
+    with_macros_used l.map (public_at l.scope.macros (drop l.name-index l.names)) l.by ≡ with_macros_used l.initial.map (public_at l.scope.macros l.names) l.by

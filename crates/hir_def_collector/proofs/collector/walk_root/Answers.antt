@@ -30,13 +30,16 @@ walk_all-requires-clause-meant g c =
 pub returns-then-not-is_declared-clause-ok : goal.returns-then-not-is_declared-clause-ok
 returns-then-not-is_declared-clause-ok g c = λ grown k.
     let off : is_declared c.args.id c.args.source.now.value.tree ≡ false =
-    ap (is_declared c.args.id) (sym (c.tree.ensures.value ∙ ap (λ (s : SourceTreeValue). s.tree) c.deref.ensures)) ∙ sym c.is_declared.ensures.value ∙ c.if-not-is_declared.true in
-    walks_disabled (environment grown (g.D.SourceDatabase.workspace c.args.db.now)) (part_of c.args.world) (root_site c.args.id) c.args.source.now.value.tree (core_in c.args.run.now) off
+    ap (is_declared c.args.id) (sym (c.tree.ensures.value ∙ ap (λ (s : SourceTreeValue). s.tree) c.deref.ensures)) ∙ sym c.is_declared.ensures.value ∙
+    c.if-not-is_declared.true in
+    walks_disabled (environment grown (g.D.SourceDatabase.workspace c.args.db.now)) (part_of c.args.world) (root_site c.args.id) c.args.source.now.value.tree
+    (core_in c.args.run.now) off
 
 pub walk_all-requires-clause-there : goal.walk_all-requires-clause-there
 walk_all-requires-clause-there g c =
     All-map (λ n. n < length (all_items c.args.source.now.value.tree.items)) (λ (id : ModItemId). id.0) c.top_level_items-ids.result.now
-    (subst (λ (t : Tree). All (λ (id : ModItemId). id.0 < length (all_items t.items)) c.top_level_items-ids.result.now) (c.tree-2.ensures.value ∙ ap (λ (s : SourceTreeValue). s.tree) c.deref-2.ensures) c.top_level_items-ids.ensures.there)
+    (subst (λ (t : Tree). All (λ (id : ModItemId). id.0 < length (all_items t.items)) c.top_level_items-ids.result.now)
+    (c.tree-2.ensures.value ∙ ap (λ (s : SourceTreeValue). s.tree) c.deref-2.ensures) c.top_level_items-ids.ensures.there)
 
 pub returns-clause-ok : goal.returns-clause-ok
 returns-clause-ok g c = λ grown k.
@@ -45,12 +48,18 @@ returns-clause-ok g c = λ grown k.
     let tree = c.args.source.now.value.tree in
     let ids = c.top_level_items-ids.result.now in
     let on : is_declared c.args.id tree ≡ true =
-    ap (is_declared c.args.id) (sym (c.tree.ensures.value ∙ ap (λ (s : SourceTreeValue). s.tree) c.deref.ensures)) ∙ sym c.is_declared.ensures.value ∙ c.if-not-is_declared.false in
+    ap (is_declared c.args.id) (sym (c.tree.ensures.value ∙ ap (λ (s : SourceTreeValue). s.tree) c.deref.ensures)) ∙ sym c.is_declared.ensures.value ∙
+    c.if-not-is_declared.false in
     let all : items_at (all_items tree.items) (numbers_of ids) ≡ tree.items =
-    subst (λ (t : Tree). items_at (all_items t.items) (numbers_of ids) ≡ t.items) (c.tree-2.ensures.value ∙ ap (λ (s : SourceTreeValue). s.tree) c.deref-2.ensures) c.top_level_items-ids.ensures.value in
+    subst (λ (t : Tree). items_at (all_items t.items) (numbers_of ids) ≡ t.items) (c.tree-2.ensures.value ∙ ap (λ (s : SourceTreeValue). s.tree)
+    c.deref-2.ensures) c.top_level_items-ids.ensures.value in
     let walks : Walks env part (core_in c.args.run.now) (core_in c.walk_all.new.run) (visits_at tree (root_site c.args.id) (numbers_of ids)) =
-    subst (λ (d : Directory). Walks env part (core_in c.args.run.now) (core_in c.walk_all.new.run) (visits_at tree (record { home = 0; tree = c.args.id; file = file_of_tree c.args.id; extern_block = None; dir = d; level = 0 }) (numbers_of ids))) c.root.ensures.value
-    (subst (λ (f : Option FileId). Walks env part (core_in c.args.run.now) (core_in c.walk_all.new.run) (visits_at tree (record { home = 0; tree = c.args.id; file = f; extern_block = None; dir = c.root.result; level = 0 }) (numbers_of ids))) c.file_of_tree.ensures.value
+    subst (λ (d : Directory). Walks env part (core_in c.args.run.now) (core_in c.walk_all.new.run)
+    (visits_at tree (record { home = 0; tree = c.args.id; file = file_of_tree c.args.id; extern_block = None; dir = d; level = 0 }) (numbers_of ids)))
+    c.root.ensures.value
+    (subst (λ (f : Option FileId). Walks env part (core_in c.args.run.now) (core_in c.walk_all.new.run)
+    (visits_at tree (record { home = 0; tree = c.args.id; file = f; extern_block = None; dir = c.root.result; level = 0 }) (numbers_of ids)))
+    c.file_of_tree.ensures.value
     (c.in_ok-walk_all.ensures.ok grown k)) in
     walks_present env part (root_site c.args.id) tree (core_in c.args.run.now) ids on all (core_in c.walk_all.new.run) walks
 
@@ -61,11 +70,17 @@ returns-in_err-walk_all-clause-many g c = λ h.
     let tree = c.args.source.now.value.tree in
     let ids = c.top_level_items-ids.result.now in
     let on : is_declared c.args.id tree ≡ true =
-    ap (is_declared c.args.id) (sym (c.tree.ensures.value ∙ ap (λ (s : SourceTreeValue). s.tree) c.deref.ensures)) ∙ sym c.is_declared.ensures.value ∙ c.if-not-is_declared.false in
+    ap (is_declared c.args.id) (sym (c.tree.ensures.value ∙ ap (λ (s : SourceTreeValue). s.tree) c.deref.ensures)) ∙ sym c.is_declared.ensures.value ∙
+    c.if-not-is_declared.false in
     let all : items_at (all_items tree.items) (numbers_of ids) ≡ tree.items =
-    subst (λ (t : Tree). items_at (all_items t.items) (numbers_of ids) ≡ t.items) (c.tree-2.ensures.value ∙ ap (λ (s : SourceTreeValue). s.tree) c.deref-2.ensures) c.top_level_items-ids.ensures.value in
+    subst (λ (t : Tree). items_at (all_items t.items) (numbers_of ids) ≡ t.items) (c.tree-2.ensures.value ∙ ap (λ (s : SourceTreeValue). s.tree)
+    c.deref-2.ensures) c.top_level_items-ids.ensures.value in
     let far : WalksTooFar env part (core_in c.args.run.now) (visits_at tree (root_site c.args.id) (numbers_of ids)) =
-    subst (λ (d : Directory). WalksTooFar env part (core_in c.args.run.now) (visits_at tree (record { home = 0; tree = c.args.id; file = file_of_tree c.args.id; extern_block = None; dir = d; level = 0 }) (numbers_of ids))) c.root.ensures.value
-    (subst (λ (f : Option FileId). WalksTooFar env part (core_in c.args.run.now) (visits_at tree (record { home = 0; tree = c.args.id; file = f; extern_block = None; dir = c.root.result; level = 0 }) (numbers_of ids))) c.file_of_tree.ensures.value
+    subst (λ (d : Directory). WalksTooFar env part (core_in c.args.run.now)
+    (visits_at tree (record { home = 0; tree = c.args.id; file = file_of_tree c.args.id; extern_block = None; dir = d; level = 0 }) (numbers_of ids)))
+    c.root.ensures.value
+    (subst (λ (f : Option FileId). WalksTooFar env part (core_in c.args.run.now)
+    (visits_at tree (record { home = 0; tree = c.args.id; file = f; extern_block = None; dir = c.root.result; level = 0 }) (numbers_of ids)))
+    c.file_of_tree.ensures.value
     (c.in_err-walk_all.ensures.many (search rules) c.walk_all.new.locations (tables_stay c.walk_all.new.locations))) in
     spent_present env part (root_site c.args.id) tree (core_in c.args.run.now) ids on all far

@@ -4,4 +4,6 @@ use Rattle.hir_def_collector_tests.proofs.collector.direct.Given as goal
 
 -- with those that are left, all are there
 abbrev pub invariant-loop-dependency : goal.invariant-loop-dependency
-invariant-loop-dependency l = l.crates.items ++ map (λ (d : Dependency). d.krate) (drop l.dependency-index l.config.dependencies.items) ≡ map (λ (d : Dependency). d.krate) l.config.dependencies.items
+invariant-loop-dependency l =
+    l.crates.items ++ map (λ (d : Dependency). d.krate) (drop l.dependency-index l.config.dependencies.items) ≡ map (λ (d : Dependency). d.krate)
+    l.config.dependencies.items

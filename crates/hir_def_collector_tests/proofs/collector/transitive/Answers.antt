@@ -24,5 +24,12 @@ loop-config-preserved c =
 pub returns : goal.returns
 returns c = record {
   value = are_theirs c.args.configs.now.items c.loop-config.found c.loop-config.invariant.are
-      (omega (arith, c.loop-config.invariant.count, c.loop-config-test.false, c.loop-config.auto.config-index-end, ap (λ (cs : List Config). length cs) c.deref-config-items.ensures.value));
+      (omega (
+        arith,
+        c.loop-config.invariant.count,
+        c.loop-config-test.false,
+        c.loop-config.auto.config-index-end,
+        ap (λ (cs : List Config). length cs)
+            c.deref-config-items.ensures.value,
+      ));
 }

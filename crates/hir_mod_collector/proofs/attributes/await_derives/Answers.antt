@@ -22,11 +22,13 @@ loop-path-preserved c =
     let from : ℕ → List Path → List MacroDirective = derives_from c.args.site.now c.args.node c.args.attr c.args.adt in
     let here : MacroDirective = derive_at c.args.site.now c.args.node c.args.attr c.args.adt c.loop-path.index path in
     let at : get_or paths c.loop-path.path-index path ≡ path = search (rules, c.path-item.is) in
-    let split : drop c.loop-path.path-index paths ≡ path ∷ left = drop_more paths c.loop-path.path-index path c.loop-path-test.true ∙ ap (λ (p : Path). p ∷ left) at in
+    let split : drop c.loop-path.path-index paths ≡ path ∷ left = drop_more paths c.loop-path.path-index path c.loop-path-test.true ∙ ap
+    (λ (p : Path). p ∷ left) at in
     record {
       all =
           ap (λ (n : ℕ). with_calls (core_in c.await_derive.new.run) (from n left)) c.place_after-index.ensures.value
-          ∙ ap (λ (core : Core). with_calls core (from (count_of (c.loop-path.index + 1)) left)) c.in_ok-await_derive.ensures.ok ∙ one_more_call now here (from (count_of (c.loop-path.index + 1)) left)
+          ∙ ap (λ (core : Core). with_calls core (from (count_of (c.loop-path.index + 1)) left)) c.in_ok-await_derive.ensures.ok ∙ one_more_call now here
+          (from (count_of (c.loop-path.index + 1)) left)
           ∙ ap (λ (ps : List Path). with_calls now (from c.loop-path.index ps)) (sym split) ∙ c.loop-path.invariant.all;
       noted = noted_follow c.loop-path.invariant.noted c.in_ok-await_derive.ensures.noted;
     }
@@ -36,7 +38,8 @@ returns-clause-ok c =
     let from : ℕ → List Path → List MacroDirective = derives_from c.args.site.now c.args.node c.args.attr c.args.adt in
     let over : length c.args.paths.now ≤ c.loop-path.path-index = c.loop-path-test.false in
     sym (no_more_calls (core_in c.loop-path.run))
-    ∙ subst (λ (paths : List Path). with_calls (core_in c.loop-path.run) (from c.loop-path.index paths) ≡ with_calls (core_in c.args.run.now) (from 0 c.args.paths.now)) (drop_all c.loop-path.path-index c.args.paths.now over)
+    ∙ subst (λ (paths : List Path). with_calls (core_in c.loop-path.run) (from c.loop-path.index paths) ≡ with_calls (core_in c.args.run.now)
+    (from 0 c.args.paths.now)) (drop_all c.loop-path.path-index c.args.paths.now over)
     c.loop-path.invariant.all
 
 pub returns-clause-noted : goal.returns-clause-noted

@@ -21,7 +21,9 @@ loop-at-preserved c =
     let next : suc at ≡ at + 1 = omega arith in
     record {
       behind = (let h = c.loop-at.invariant.behind in omega arith);
-      same = subst (λ (n : ℕ). first_looked_up c.args.map.now c.args.node n (drop n attributes) ≡ next_among c.args.map.now c.args.node c.args.done attributes) next (sym on ∙ c.loop-at.invariant.same);
+      same =
+          subst (λ (n : ℕ). first_looked_up c.args.map.now c.args.node n (drop n attributes) ≡ next_among c.args.map.now c.args.node c.args.done attributes)
+          next (sym on ∙ c.loop-at.invariant.same);
     }
 
 pub returns-then-not-is_passed-clause-value : goal.returns-then-not-is_passed-clause-value

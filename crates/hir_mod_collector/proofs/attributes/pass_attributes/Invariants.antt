@@ -1,6 +1,8 @@
-use Rattle.std.proofs.Common.{◌-◌, length}
+use Rattle.std.proofs.Common.{◌-◌, ◌<◌, length}
 use Rattle.hir_item_tree.specs.KeptForest.{KeptItem}
+use Rattle.hir_tables.specs.Tables.{KeepsTables}
 use Rattle.hir_def_map_rules.specs.Overlay.{Maps}
+use Rattle.hir_collector_rules.specs.Calls.{AreCallsPlaced}
 use Rattle.hir_collector_rules.specs.Keys.{Environment}
 use Rattle.hir_mod_collector.specs.Walking.{IsVisited}
 use Rattle.hir_collector_rules.specs.State.{core_in}
@@ -11,7 +13,11 @@ use Rattle.hir_mod_collector.proofs.attributes.pass_attributes.Given as goal
 -- the first so many are done with
 abbrev pub invariant-next : goal.invariant-next
 invariant-next l = record {
-  goes : (env : Environment) (finished : Maps) (item : KeptItem) → IsVisited (core_in l.initial.run).map l.visited item → PassesTo env finished (core_in l.initial.run) l.visited item l.fn.from (core_in l.run) l.done;
+  kept : KeepsTables l.initial.locations l.locations;
+  placed : AreCallsPlaced l.initial.locations → AreCallsPlaced l.locations;
+  in_range : l.visited.site.now.home < length (core_in l.run).map.modules;
+  goes : (env : Environment) (finished : Maps) (item : KeptItem) → KeepsTables l.locations env.tables → IsVisited (core_in l.initial.run).map l.visited item
+      → PassesTo env finished (core_in l.initial.run) l.visited item l.fn.from (core_in l.run) l.done;
   noted : IsNoted l.initial.run l.run;
 }
 

@@ -15,7 +15,8 @@ invariant-walk_all-loop-id g l = record {
   kept : KeepsTables l.initial.locations l.locations;
   placed : AreCallsPlaced l.initial.locations → AreCallsPlaced l.locations;
   same : g.D.SourceDatabase.workspace l.db ≡ g.D.SourceDatabase.workspace l.initial.db;
-  walked : OnceGrown l.locations (g.D.SourceDatabase.workspace l.initial.db) (λ env. WalksTo l.source.value.tree l.site env (part_of l.world) l.ids (core_in l.initial.run) (core_in l.run) l.id-index);
+  walked : OnceGrown l.locations (g.D.SourceDatabase.workspace l.initial.db) (λ env. WalksTo l.source.value.tree l.site env (part_of l.world) l.ids
+      (core_in l.initial.run) (core_in l.run) l.id-index);
   in_range : l.site.home < length (core_in l.run).map.modules;
   noted : IsNotedBeside (part_of l.world) l.initial.run l.run;
 }

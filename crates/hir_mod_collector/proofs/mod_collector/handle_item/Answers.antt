@@ -18,18 +18,21 @@ returns-in_err-visit_leaf-in_default g c = record {
   within = search rules;
   many = λ h grown k items.
       let single : is_single c.args.item ≡ true = search rules in
-      far_item (environment grown (g.D.SourceDatabase.workspace c.args.db.now)) (part_of c.args.world) c.args.site.now items (head_of c.args.head) c.args.item (core_in c.args.run.now) c.requires.enabled (single_here items (head_of c.args.head) c.args.item single)
+      far_item (environment grown (g.D.SourceDatabase.workspace c.args.db.now)) (part_of c.args.world) c.args.site.now items (head_of c.args.head) c.args.item
+      (core_in c.args.run.now) c.requires.enabled (single_here items (head_of c.args.head) c.args.item single)
       (inl (c.in_err-visit_leaf-in_default.ensures.many (search rules)));
 }
 
 pub returns-in-Inline-clause-many : goal.returns-in-Inline-clause-many
 returns-in-Inline-clause-many g c = λ h grown k items.
-    far_item (environment grown (g.D.SourceDatabase.workspace c.args.db.now)) (part_of c.args.world) c.args.site.now items (head_of c.args.head) c.args.item (core_in c.args.run.now) c.requires.enabled
+    far_item (environment grown (g.D.SourceDatabase.workspace c.args.db.now)) (part_of c.args.world) c.args.site.now items (head_of c.args.head) c.args.item
+    (core_in c.args.run.now) c.requires.enabled
     (inline_here items (head_of c.args.head) c.args.item c.in-Mod.item c.in-Inline.items c.in-Mod.is c.in-Inline.is) (c.visit_inline.ensures.many h)
 
 pub returns-in-ExternBlock-clause-many : goal.returns-in-ExternBlock-clause-many
 returns-in-ExternBlock-clause-many g c = λ h grown k items.
-    far_item (environment grown (g.D.SourceDatabase.workspace c.args.db.now)) (part_of c.args.world) c.args.site.now items (head_of c.args.head) c.args.item (core_in c.args.run.now) c.requires.enabled
+    far_item (environment grown (g.D.SourceDatabase.workspace c.args.db.now)) (part_of c.args.world) c.args.site.now items (head_of c.args.head) c.args.item
+    (core_in c.args.run.now) c.requires.enabled
     (block_here items (head_of c.args.head) c.args.item c.in-ExternBlock.item c.in-ExternBlock.is) (inl (c.enter.ensures.many h))
 
 pub returns-in_ok-visit_leaf-in_default : goal.returns-in_ok-visit_leaf-in_default

@@ -8,7 +8,8 @@ use Rattle.hir_mod_collector.proofs.mod_collector.list_const.Goals as goal
 pub returns-clause-ok : goal.returns-clause-ok
 returns-clause-ok c = λ env finished. record {
   step = λ done passed rest.
-      made (lists_constant c.args.site.now (head_of c.args.head) rest) (record { done = done; next = refl; enabled = c.requires.enabled; passed = passed }) tt tt
+      made (lists_constant c.args.site.now (head_of c.args.head) rest) (record { done = done; next = refl; enabled = c.requires.enabled; passed = passed }) tt
+      tt
       (rw (c.in_ok-tick.ensures.ok, c.in_ok-list_unnamed_const.ensures.ok, c.container.ensures.value) refl);
 }
 

@@ -1,4 +1,4 @@
-use Rattle.std.proofs.Common.{◌≡◌, ◌∙◌, ◌<◌, ℕ, List, Option, length, map, slice_get, sym, ap, subst}
+use Rattle.std.proofs.Common.{◌≡◌, ◌∙◌, List, map, slice_get, ap, subst}
 use Rattle.std.specs.Option.{IfSome}
 use Rattle.std.proofs.lemmas.Result.{IfOk-weaker}
 use Rattle.hir_item_tree.specs.Collected.{numbered}
@@ -9,15 +9,13 @@ use Rattle.hir_item_tree.specs.Rows.{item_of}
 use Rattle.hir_item_tree.specs.SourceTree.{SourceTreeValue}
 use Rattle.hir_item_tree.specs.declared.attrs.Attr.{Attr}
 use Rattle.hir_base.specs.declared.ast_id.AstKind.{AstKind}
-use Rattle.hir_def_map_rules.specs.Overlay.{Maps}
 use Rattle.hir_collector_rules.specs.ItemIds.{node_of}
-use Rattle.hir_collector_rules.specs.Keys.{Environment}
 use Rattle.hir_collector_rules.specs.Moves.{Passes, PassesTooFar}
 use Rattle.hir_mod_collector.specs.Walking.{IsVisited}
 use Rattle.hir_collector_rules.specs.State.{core_in}
 use Rattle.hir_collector_rules.specs.Steps.{visit}
 use Rattle.hir_collector_rules.specs.TreeReads.{head_of}
-use Rattle.hir_mod_collector.specs.declared.attributes.Visited.{Visited}
+use Rattle.hir_mod_collector.specs.Types.{Visited}
 use Rattle.hir_mod_collector.proofs.Walked.{holds_at_one, visited_one}
 use Rattle.hir_mod_collector.proofs.mod_collector.pass.Goals as goal
 
@@ -30,31 +28,59 @@ returns-clause-ok c =
     let item = c.index-item.result in
     let old = core_in c.args.run.now in
     let new = core_in c.pass_attributes.new.run in
-    let seen : Visited = record { site = c.args.site; source = c.args.source; id = c.args.id; node = node_of site.tree c.kind_of.result c.head_at-head.result.id; attrs = c.as_slice.result; adt = c.adt_of.result } in
+    let seen : Visited = record {
+      site = c.args.site;
+      source = c.args.source;
+      id = c.args.id;
+      node = node_of site.tree c.kind_of.result
+          c.head_at-head.result.id;
+      attrs = c.as_slice.result;
+      adt = c.adt_of.result;
+    } in
     let heads : IfSome (slice_get (all_items tree.items) n) (λ i. h ≡ item_head i) =
-    subst (λ (t : Tree). IfSome (slice_get (all_items t.items) n) (λ i. h ≡ item_head i)) (c.tree.ensures.value ∙ ap (λ (s : SourceTreeValue). s.tree) c.deref.ensures) c.head_at-head.ensures.value in
+    subst (λ (t : Tree). IfSome (slice_get (all_items t.items) n) (λ i. h ≡ item_head i)) (c.tree.ensures.value ∙ ap (λ (s : SourceTreeValue). s.tree)
+    c.deref.ensures) c.head_at-head.ensures.value in
     let contents : IfSome (slice_get (all_items tree.items) n) (λ i. item_of (all_items tree.items) (item_head i) (kind_content item) ≡ i) =
-    subst (λ (t : Tree). IfSome (slice_get (all_items t.items) n) (λ i. item_of (all_items t.items) (item_head i) (kind_content item) ≡ i)) (c.tree-2.ensures.value ∙ ap (λ (s : SourceTreeValue). s.tree) c.deref-2.ensures) c.index-item.ensures.value in
+    subst (λ (t : Tree). IfSome (slice_get (all_items t.items) n) (λ i. item_of (all_items t.items) (item_head i) (kind_content item) ≡ i))
+    (c.tree-2.ensures.value ∙ ap (λ (s : SourceTreeValue). s.tree) c.deref-2.ensures) c.index-item.ensures.value in
     let is : IsVisited old.map seen (item_of (all_items tree.items) h (kind_content item)) =
-    visited_one old.map seen h item c.requires.there heads contents c.requires.enabled (ap (λ (k : AstKind). node_of site.tree k c.head_at-head.result.id) c.kind_of.ensures.value)
+    visited_one old.map seen h item c.requires.there heads contents c.requires.enabled (ap (λ (k : AstKind). node_of site.tree k c.head_at-head.result.id)
+    c.kind_of.ensures.value)
     (ap (λ (attrs : List Attr). map numbered attrs) c.as_slice.ensures.value) (c.adt_of.ensures.value (all_items tree.items)) in
     IfOk-weaker c.pass_attributes.result _ _
-    (λ passed goes env finished. holds_at_one old.map seen h item c.requires.there heads contents (λ (i : KeptItem). Passes env finished old new (visit site i) c.args.done passed) (goes env finished _ is)) c.pass_attributes.ensures.ok
+    (λ passed goes env finished keeps. holds_at_one old.map seen h item c.requires.there heads contents
+    (λ (i : KeptItem). Passes env finished old new (visit site i) c.args.done passed) (goes env finished _ keeps is)) c.pass_attributes.ensures.ok
 
 pub returns-clause-many : goal.returns-clause-many
-returns-clause-many c = λ far env finished.
+returns-clause-many c = λ far env finished keeps.
     let n = c.args.id.0 in
     let site = c.args.site.now in
     let tree = c.args.source.now.value.tree in
     let h = head_of c.head_at-head.result in
     let item = c.index-item.result in
     let old = core_in c.args.run.now in
-    let seen : Visited = record { site = c.args.site; source = c.args.source; id = c.args.id; node = node_of site.tree c.kind_of.result c.head_at-head.result.id; attrs = c.as_slice.result; adt = c.adt_of.result } in
+    let seen : Visited = record {
+      site = c.args.site;
+      source = c.args.source;
+      id = c.args.id;
+      node = node_of site.tree c.kind_of.result
+          c.head_at-head.result.id;
+      attrs = c.as_slice.result;
+      adt = c.adt_of.result;
+    } in
     let heads : IfSome (slice_get (all_items tree.items) n) (λ i. h ≡ item_head i) =
-    subst (λ (t : Tree). IfSome (slice_get (all_items t.items) n) (λ i. h ≡ item_head i)) (c.tree.ensures.value ∙ ap (λ (s : SourceTreeValue). s.tree) c.deref.ensures) c.head_at-head.ensures.value in
+    subst (λ (t : Tree). IfSome (slice_get (all_items t.items) n) (λ i. h ≡ item_head i)) (c.tree.ensures.value ∙ ap (λ (s : SourceTreeValue). s.tree)
+    c.deref.ensures) c.head_at-head.ensures.value in
     let contents : IfSome (slice_get (all_items tree.items) n) (λ i. item_of (all_items tree.items) (item_head i) (kind_content item) ≡ i) =
-    subst (λ (t : Tree). IfSome (slice_get (all_items t.items) n) (λ i. item_of (all_items t.items) (item_head i) (kind_content item) ≡ i)) (c.tree-2.ensures.value ∙ ap (λ (s : SourceTreeValue). s.tree) c.deref-2.ensures) c.index-item.ensures.value in
+    subst (λ (t : Tree). IfSome (slice_get (all_items t.items) n) (λ i. item_of (all_items t.items) (item_head i) (kind_content item) ≡ i))
+    (c.tree-2.ensures.value ∙ ap (λ (s : SourceTreeValue). s.tree) c.deref-2.ensures) c.index-item.ensures.value in
     let is : IsVisited old.map seen (item_of (all_items tree.items) h (kind_content item)) =
-    visited_one old.map seen h item c.requires.there heads contents c.requires.enabled (ap (λ (k : AstKind). node_of site.tree k c.head_at-head.result.id) c.kind_of.ensures.value)
+    visited_one old.map seen h item c.requires.there heads contents c.requires.enabled (ap (λ (k : AstKind). node_of site.tree k c.head_at-head.result.id)
+    c.kind_of.ensures.value)
     (ap (λ (attrs : List Attr). map numbered attrs) c.as_slice.ensures.value) (c.adt_of.ensures.value (all_items tree.items)) in
-    holds_at_one old.map seen h item c.requires.there heads contents (λ (i : KeptItem). PassesTooFar env finished old (visit site i) c.args.done) (c.pass_attributes.ensures.many far env finished _ is)
+    holds_at_one old.map seen h item c.requires.there heads contents (λ (i : KeptItem). PassesTooFar env finished old (visit site i) c.args.done)
+    (c.pass_attributes.ensures.many far env finished _ keeps is)
+
+-- the node of the item lies in the tree of its site
+pub pass_attributes-requires-clause-meant : goal.pass_attributes-requires-clause-meant
+pass_attributes-requires-clause-meant c = c.requires.meant.tree

@@ -20,6 +20,9 @@ returns-in_err-drop_file-clause-many c = λ h.
     ∙ ap (λ (o : Option CfgExpr). option_map cfg_view o) c.in-Some.is in (
       inl (c.in_err-drop_file.ensures.many (search rules)),
       may_drop (cfg_view c.in-Some.cfg)
-          (record { in_module = module_id (core_in c.args.run.now).map c.args.site.now.home; kind = kinds.UnconfiguredCode (node_of c.args.site.now.tree nodes.Module c.args.head.id) c.in-Some.cfg (core_in c.args.run.now).options }) off
+          (record {
+            in_module = module_id (core_in c.args.run.now).map c.args.site.now.home;
+            kind = kinds.UnconfiguredCode (node_of c.args.site.now.tree nodes.Module c.args.head.id) c.in-Some.cfg (core_in c.args.run.now).options;
+          }) off
           (record { cfg = c.in-Some.cfg; is = refl; says = refl }),
     )

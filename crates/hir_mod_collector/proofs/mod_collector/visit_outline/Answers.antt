@@ -7,7 +7,7 @@ use Rattle.hir_mod_dir.specs.declared.candidate.Candidate.{Candidate}
 use Rattle.hir_tables.specs.Tables.{KeepsTables, TablesValue}
 use Rattle.hir_tables.proofs.Growth.{KeepsTables-trans}
 use Rattle.hir_def_map.specs.WorldParts.{part_of}
-use Rattle.hir_mod_collector.specs.declared.mod_resolution.FoundFile.{FoundFile}
+use Rattle.hir_mod_collector.specs.Types.{FoundFile}
 use Rattle.hir_collector_rules.specs.ModuleFiles.{IsNumberOf, file_tree, path_attribute}
 use Rattle.hir_collector_rules.specs.Moves.{Finds, IsHeld}
 use Rattle.hir_mod_collector.specs.Walking.{found_view}
@@ -26,12 +26,14 @@ returns-in_err-found-clause-many g c = λ h.
     let declaring : Option (List ℕ) = option_map (λ p. p.now) c.as_ref.result in
     let tried : candidates ≡ candidates_of c.args.site.now.dir c.args.name.now (path_of (head_of c.args.head)) =
     c.as_slice-2.ensures.value ∙ c.in_ok-candidates.ensures.value
-    ∙ ap (λ (p : Option (List ℕ)). candidates_of c.args.site.now.dir c.args.name.now p) (c.path_attr-path.ensures.value ∙ ap (λ (attrs : List Attr). path_attribute (map numbered attrs)) c.as_slice.ensures.value) in
+    ∙ ap (λ (p : Option (List ℕ)). candidates_of c.args.site.now.dir c.args.name.now p)
+    (c.path_attr-path.ensures.value ∙ ap (λ (attrs : List Attr). path_attribute (map numbered attrs)) c.as_slice.ensures.value) in
     let written : (grown : TablesValue) → KeepsTables tables grown → IsNumberOf grown c.args.site.now.file declaring =
     λ grown k. subst (λ (o : Option (List ℕ)). IsNumberOf grown c.args.site.now.file o) (sym c.as_ref.ensures.value)
     (c.in_ok-declaring.ensures.value grown (KeepsTables-trans c.args.locations.now tables grown c.in_err-found.ensures.kept k)) in
     let out = c.in_err-found.ensures.many (search rules) in
-    numbers_far tables w (part_of c.args.world) c.args.site.now (head_of c.args.head) c.args.name.now declaring candidates (core_in c.args.run.now) (core_in c.find_file.new.run) tried written c.requires.enabled out.0 out.1 out.2
+    numbers_far tables w (part_of c.args.world) c.args.site.now (head_of c.args.head) c.args.name.now declaring candidates (core_in c.args.run.now)
+    (core_in c.find_file.new.run) tried written c.requires.enabled out.0 out.1 out.2
 
 pub returns-in_default-clause-ok : goal.returns-in_default-clause-ok
 returns-in_default-clause-ok g c = λ grown kept items.
@@ -41,14 +43,18 @@ returns-in_default-clause-ok g c = λ grown kept items.
     let declaring : Option (List ℕ) = option_map (λ p. p.now) c.as_ref.result in
     let tried : candidates ≡ candidates_of c.args.site.now.dir c.args.name.now (path_of (head_of c.args.head)) =
     c.as_slice-in_default.ensures.value ∙ c.in_ok-candidates.ensures.value
-    ∙ ap (λ (p : Option (List ℕ)). candidates_of c.args.site.now.dir c.args.name.now p) (c.path_attr-path.ensures.value ∙ ap (λ (attrs : List Attr). path_attribute (map numbered attrs)) c.as_slice.ensures.value) in
+    ∙ ap (λ (p : Option (List ℕ)). candidates_of c.args.site.now.dir c.args.name.now p)
+    (c.path_attr-path.ensures.value ∙ ap (λ (attrs : List Attr). path_attribute (map numbered attrs)) c.as_slice.ensures.value) in
     let written : (grown : TablesValue) → KeepsTables tables grown → IsNumberOf grown c.args.site.now.file declaring =
     λ grown k. subst (λ (o : Option (List ℕ)). IsNumberOf grown c.args.site.now.file o) (sym c.as_ref.ensures.value)
     (c.in_ok-declaring.ensures.value grown (KeepsTables-trans c.args.locations.now tables grown c.in_ok-found.ensures.kept k)) in
     let finds : Finds tables w declaring candidates (core_in c.args.run.now) (core_in c.find_file.new.run) None =
-    subst (λ (cs : List Candidate). Finds tables w declaring cs (core_in c.args.run.now) (core_in c.find_file.new.run) None) (c.as_slice-2.ensures.value ∙ sym c.as_slice-in_default.ensures.value)
-    (subst (λ (o : Option FoundFile). Finds tables w declaring c.as_slice-2.result.now (core_in c.args.run.now) (core_in c.find_file.new.run) (option_map found_view o)) c.in_default.is c.in_ok-found.ensures.ok) in
-    file_missed tables w (part_of c.args.world) c.args.site.now (head_of c.args.head) c.args.name.now declaring candidates (core_in c.args.run.now) (core_in c.find_file.new.run) tried written c.requires.enabled (core_in c.miss_file.new.run) finds c.in_ok-miss_file.ensures.ok grown kept
+    subst (λ (cs : List Candidate). Finds tables w declaring cs (core_in c.args.run.now) (core_in c.find_file.new.run) None)
+    (c.as_slice-2.ensures.value ∙ sym c.as_slice-in_default.ensures.value)
+    (subst (λ (o : Option FoundFile). Finds tables w declaring c.as_slice-2.result.now (core_in c.args.run.now) (core_in c.find_file.new.run)
+    (option_map found_view o)) c.in_default.is c.in_ok-found.ensures.ok) in
+    file_missed tables w (part_of c.args.world) c.args.site.now (head_of c.args.head) c.args.name.now declaring candidates (core_in c.args.run.now)
+    (core_in c.find_file.new.run) tried written c.requires.enabled (core_in c.miss_file.new.run) finds c.in_ok-miss_file.ensures.ok grown kept
 
 pub returns-in_err-miss_file-clause-many : goal.returns-in_err-miss_file-clause-many
 returns-in_err-miss_file-clause-many g c = λ h.
@@ -58,15 +64,19 @@ returns-in_err-miss_file-clause-many g c = λ h.
     let declaring : Option (List ℕ) = option_map (λ p. p.now) c.as_ref.result in
     let tried : candidates ≡ candidates_of c.args.site.now.dir c.args.name.now (path_of (head_of c.args.head)) =
     c.as_slice-in_default.ensures.value ∙ c.in_ok-candidates.ensures.value
-    ∙ ap (λ (p : Option (List ℕ)). candidates_of c.args.site.now.dir c.args.name.now p) (c.path_attr-path.ensures.value ∙ ap (λ (attrs : List Attr). path_attribute (map numbered attrs)) c.as_slice.ensures.value) in
+    ∙ ap (λ (p : Option (List ℕ)). candidates_of c.args.site.now.dir c.args.name.now p)
+    (c.path_attr-path.ensures.value ∙ ap (λ (attrs : List Attr). path_attribute (map numbered attrs)) c.as_slice.ensures.value) in
     let written : (grown : TablesValue) → KeepsTables tables grown → IsNumberOf grown c.args.site.now.file declaring =
     λ grown k. subst (λ (o : Option (List ℕ)). IsNumberOf grown c.args.site.now.file o) (sym c.as_ref.ensures.value)
     (c.in_ok-declaring.ensures.value grown (KeepsTables-trans c.args.locations.now tables grown c.in_ok-found.ensures.kept k)) in
     let finds : Finds tables w declaring candidates (core_in c.args.run.now) (core_in c.find_file.new.run) None =
-    subst (λ (cs : List Candidate). Finds tables w declaring cs (core_in c.args.run.now) (core_in c.find_file.new.run) None) (c.as_slice-2.ensures.value ∙ sym c.as_slice-in_default.ensures.value)
-    (subst (λ (o : Option FoundFile). Finds tables w declaring c.as_slice-2.result.now (core_in c.args.run.now) (core_in c.find_file.new.run) (option_map found_view o)) c.in_default.is c.in_ok-found.ensures.ok) in
+    subst (λ (cs : List Candidate). Finds tables w declaring cs (core_in c.args.run.now) (core_in c.find_file.new.run) None)
+    (c.as_slice-2.ensures.value ∙ sym c.as_slice-in_default.ensures.value)
+    (subst (λ (o : Option FoundFile). Finds tables w declaring c.as_slice-2.result.now (core_in c.args.run.now) (core_in c.find_file.new.run)
+    (option_map found_view o)) c.in_default.is c.in_ok-found.ensures.ok) in
     let many = c.in_err-miss_file.ensures.many (search rules) in
-    missed_far tables w (part_of c.args.world) c.args.site.now (head_of c.args.head) c.args.name.now declaring candidates (core_in c.args.run.now) (core_in c.find_file.new.run) tried written c.requires.enabled many.1.0 finds many.0 many.1.1
+    missed_far tables w (part_of c.args.world) c.args.site.now (head_of c.args.head) c.args.name.now declaring candidates (core_in c.args.run.now)
+    (core_in c.find_file.new.run) tried written c.requires.enabled many.1.0 finds many.0 many.1.1
 
 pub returns-in_err-inside-clause-many : goal.returns-in_err-inside-clause-many
 returns-in_err-inside-clause-many g c = λ h.
@@ -76,14 +86,17 @@ returns-in_err-inside-clause-many g c = λ h.
     let declaring : Option (List ℕ) = option_map (λ p. p.now) c.as_ref.result in
     let tried : candidates ≡ candidates_of c.args.site.now.dir c.args.name.now (path_of (head_of c.args.head)) =
     c.as_slice-2.ensures.value ∙ c.in_ok-candidates.ensures.value
-    ∙ ap (λ (p : Option (List ℕ)). candidates_of c.args.site.now.dir c.args.name.now p) (c.path_attr-path.ensures.value ∙ ap (λ (attrs : List Attr). path_attribute (map numbered attrs)) c.as_slice.ensures.value) in
+    ∙ ap (λ (p : Option (List ℕ)). candidates_of c.args.site.now.dir c.args.name.now p)
+    (c.path_attr-path.ensures.value ∙ ap (λ (attrs : List Attr). path_attribute (map numbered attrs)) c.as_slice.ensures.value) in
     let written : (grown : TablesValue) → KeepsTables tables grown → IsNumberOf grown c.args.site.now.file declaring =
     λ grown k. subst (λ (o : Option (List ℕ)). IsNumberOf grown c.args.site.now.file o) (sym c.as_ref.ensures.value)
     (c.in_ok-declaring.ensures.value grown (KeepsTables-trans c.args.locations.now tables grown c.in_ok-found.ensures.kept k)) in
     let finds : Finds tables w declaring candidates (core_in c.args.run.now) (core_in c.find_file.new.run) (Some (found_view c.in-Some.file)) =
-    subst (λ (o : Option FoundFile). Finds tables w declaring candidates (core_in c.args.run.now) (core_in c.find_file.new.run) (option_map found_view o)) c.in-Some.is c.in_ok-found.ensures.ok in
+    subst (λ (o : Option FoundFile). Finds tables w declaring candidates (core_in c.args.run.now) (core_in c.find_file.new.run) (option_map found_view o))
+    c.in-Some.is c.in_ok-found.ensures.ok in
     let many = c.in_err-inside.ensures.many (search rules) in
-    file_far tables w (part_of c.args.world) c.args.site.now (head_of c.args.head) c.args.name.now declaring candidates (core_in c.args.run.now) (core_in c.find_file.new.run) tried written c.requires.enabled (found_view c.in-Some.file) finds many.0 many.1
+    file_far tables w (part_of c.args.world) c.args.site.now (head_of c.args.head) c.args.name.now declaring candidates (core_in c.args.run.now)
+    (core_in c.find_file.new.run) tried written c.requires.enabled (found_view c.in-Some.file) finds many.0 many.1
 
 pub returns-clause-ok : goal.returns-clause-ok
 returns-clause-ok g c =
@@ -93,13 +106,17 @@ returns-clause-ok g c =
     let declaring : Option (List ℕ) = option_map (λ p. p.now) c.as_ref.result in
     let tried : candidates ≡ candidates_of c.args.site.now.dir c.args.name.now (path_of (head_of c.args.head)) =
     c.as_slice-2.ensures.value ∙ c.in_ok-candidates.ensures.value
-    ∙ ap (λ (p : Option (List ℕ)). candidates_of c.args.site.now.dir c.args.name.now p) (c.path_attr-path.ensures.value ∙ ap (λ (attrs : List Attr). path_attribute (map numbered attrs)) c.as_slice.ensures.value) in
+    ∙ ap (λ (p : Option (List ℕ)). candidates_of c.args.site.now.dir c.args.name.now p)
+    (c.path_attr-path.ensures.value ∙ ap (λ (attrs : List Attr). path_attribute (map numbered attrs)) c.as_slice.ensures.value) in
     let written : (grown : TablesValue) → KeepsTables tables grown → IsNumberOf grown c.args.site.now.file declaring =
     λ grown k. subst (λ (o : Option (List ℕ)). IsNumberOf grown c.args.site.now.file o) (sym c.as_ref.ensures.value)
     (c.in_ok-declaring.ensures.value grown (KeepsTables-trans c.args.locations.now tables grown c.in_ok-found.ensures.kept k)) in
     let finds : Finds tables w declaring candidates (core_in c.args.run.now) (core_in c.find_file.new.run) (Some (found_view c.in-Some.file)) =
-    subst (λ (o : Option FoundFile). Finds tables w declaring candidates (core_in c.args.run.now) (core_in c.find_file.new.run) (option_map found_view o)) c.in-Some.is c.in_ok-found.ensures.ok in
-    taken_ok tables w (part_of c.args.world) c.args.site.now (head_of c.args.head) c.args.name.now declaring candidates (core_in c.args.run.now) (core_in c.find_file.new.run) (core_in c.take_file.new.run) tried written c.requires.enabled (found_view c.in-Some.file) c.in-Some.file.source.value refl finds c.in_ok-inside.inside c.in_ok-inside.ensures.ok
+    subst (λ (o : Option FoundFile). Finds tables w declaring candidates (core_in c.args.run.now) (core_in c.find_file.new.run) (option_map found_view o))
+    c.in-Some.is c.in_ok-found.ensures.ok in
+    taken_ok tables w (part_of c.args.world) c.args.site.now (head_of c.args.head) c.args.name.now declaring candidates (core_in c.args.run.now)
+    (core_in c.find_file.new.run) (core_in c.take_file.new.run) tried written c.requires.enabled (found_view c.in-Some.file) c.in-Some.file.source.value refl
+    finds c.in_ok-inside.inside c.in_ok-inside.ensures.ok
 
 pub returns-clause-within : goal.returns-clause-within
 returns-clause-within g c =
@@ -109,15 +126,22 @@ returns-clause-within g c =
     let declaring : Option (List ℕ) = option_map (λ p. p.now) c.as_ref.result in
     let tried : candidates ≡ candidates_of c.args.site.now.dir c.args.name.now (path_of (head_of c.args.head)) =
     c.as_slice-2.ensures.value ∙ c.in_ok-candidates.ensures.value
-    ∙ ap (λ (p : Option (List ℕ)). candidates_of c.args.site.now.dir c.args.name.now p) (c.path_attr-path.ensures.value ∙ ap (λ (attrs : List Attr). path_attribute (map numbered attrs)) c.as_slice.ensures.value) in
+    ∙ ap (λ (p : Option (List ℕ)). candidates_of c.args.site.now.dir c.args.name.now p)
+    (c.path_attr-path.ensures.value ∙ ap (λ (attrs : List Attr). path_attribute (map numbered attrs)) c.as_slice.ensures.value) in
     let written : (grown : TablesValue) → KeepsTables tables grown → IsNumberOf grown c.args.site.now.file declaring =
     λ grown k. subst (λ (o : Option (List ℕ)). IsNumberOf grown c.args.site.now.file o) (sym c.as_ref.ensures.value)
     (c.in_ok-declaring.ensures.value grown (KeepsTables-trans c.args.locations.now tables grown c.in_ok-found.ensures.kept k)) in
     let finds : Finds tables w declaring candidates (core_in c.args.run.now) (core_in c.find_file.new.run) (Some (found_view c.in-Some.file)) =
-    subst (λ (o : Option FoundFile). Finds tables w declaring candidates (core_in c.args.run.now) (core_in c.find_file.new.run) (option_map found_view o)) c.in-Some.is c.in_ok-found.ensures.ok in
-    let held : IsHeld tables w (core_in c.args.run.now).map.id.krate (file_tree (core_in c.args.run.now).map.crate_data.edition c.in-Some.file.id) c.in-Some.file.source.value =
-    subst (λ (o : Option FoundFile). IfSome o (λ f. IsHeld tables w (core_in c.args.run.now).map.id.krate (file_tree (core_in c.args.run.now).map.crate_data.edition f.id) f.source.value)) c.in-Some.is c.in_ok-found.ensures.held in
-    taken_within tables w (part_of c.args.world) c.args.site.now (head_of c.args.head) c.args.name.now declaring candidates (core_in c.args.run.now) (core_in c.find_file.new.run) (core_in c.take_file.new.run) tried written c.requires.enabled (found_view c.in-Some.file) c.in-Some.file.source.value refl finds
+    subst (λ (o : Option FoundFile). Finds tables w declaring candidates (core_in c.args.run.now) (core_in c.find_file.new.run) (option_map found_view o))
+    c.in-Some.is c.in_ok-found.ensures.ok in
+    let held : IsHeld tables w (core_in c.args.run.now).map.id.krate (file_tree (core_in c.args.run.now).map.crate_data.edition c.in-Some.file.id)
+    c.in-Some.file.source.value =
+    subst (λ (o : Option FoundFile). IfSome o
+    (λ f. IsHeld tables w (core_in c.args.run.now).map.id.krate (file_tree (core_in c.args.run.now).map.crate_data.edition f.id) f.source.value)) c.in-Some.is
+    c.in_ok-found.ensures.held in
+    taken_within tables w (part_of c.args.world) c.args.site.now (head_of c.args.head) c.args.name.now declaring candidates (core_in c.args.run.now)
+    (core_in c.find_file.new.run) (core_in c.take_file.new.run) tried written c.requires.enabled (found_view c.in-Some.file) c.in-Some.file.source.value refl
+    finds
     held c.in_ok-inside.inside c.in_ok-inside.ensures.ok
 
 pub returns-in_default-clause-noted : goal.returns-in_default-clause-noted

@@ -16,7 +16,8 @@ pub returns-in_default-clause-ok : goal.returns-in_default-clause-ok
 returns-in_default-clause-ok g t c =
     let w = g.D.SourceDatabase.workspace c.args.db.now in
     let declaring = option_map (λ p. p.now) c.args.declaring in
-    subst (λ (cs : List Candidate). Finds c.args.locations.now w declaring cs (core_in c.args.run.now) (core_in c.args.run.now) None) (sym (none_left c.args.candidates.now c.in_default.len_below))
+    subst (λ (cs : List Candidate). Finds c.args.locations.now w declaring cs (core_in c.args.run.now) (core_in c.args.run.now) None)
+    (sym (none_left c.args.candidates.now c.in_default.len_below))
     (finds_none c.args.locations.now w declaring (core_in c.args.run.now))
 
 pub returns-then-is_there-clause-ok : goal.returns-then-is_there-clause-ok
@@ -29,17 +30,20 @@ returns-then-is_there-clause-ok g t c =
     let file = taken_by c.candidate-item.result.dir c.candidate-item.result.is_mod_rs (option_map looked_view c.in_ok-file.file) in
     let found : option_map found_view c.in_ok-found.found ≡ file = c.in_ok-found.ensures.value in
     subst (λ (o : Option ModuleFile). Finds c.look_at.new.locations w declaring cs (core_in c.args.run.now) (core_in c.look_at.new.run) o) (sym found)
-    (subst (λ (xs : List Candidate). Finds c.look_at.new.locations w declaring xs (core_in c.args.run.now) (core_in c.look_at.new.run) file) (sym (one_first cs c.candidate-item.result _ c.in-len1-up.len_at_least c.candidate-item.is))
+    (subst (λ (xs : List Candidate). Finds c.look_at.new.locations w declaring xs (core_in c.args.run.now) (core_in c.look_at.new.run) file)
+    (sym (one_first cs c.candidate-item.result _ c.in-len1-up.len_at_least c.candidate-item.is))
     (finds_here c.look_at.new.locations w declaring _ _ (core_in c.args.run.now) (core_in c.look_at.new.run) _ c.in_ok-file.ensures.ok there))
 
 pub returns-in_err-later-clause-kept : goal.returns-in_err-later-clause-kept
-returns-in_err-later-clause-kept g t c = KeepsTables-trans c.args.locations.now c.look_at.new.locations c.find_file.new.locations c.in_ok-file.ensures.kept c.find_file.ensures.kept
+returns-in_err-later-clause-kept g t c =
+    KeepsTables-trans c.args.locations.now c.look_at.new.locations c.find_file.new.locations c.in_ok-file.ensures.kept c.find_file.ensures.kept
 
 pub returns-in_err-later-clause-placed : goal.returns-in_err-later-clause-placed
 returns-in_err-later-clause-placed g t c = λ h. c.find_file.ensures.placed (c.in_ok-file.ensures.placed h)
 
 pub returns-clause-kept : goal.returns-clause-kept
-returns-clause-kept g t c = KeepsTables-trans c.args.locations.now c.look_at.new.locations c.find_file.new.locations c.in_ok-file.ensures.kept c.find_file.ensures.kept
+returns-clause-kept g t c =
+    KeepsTables-trans c.args.locations.now c.look_at.new.locations c.find_file.new.locations c.in_ok-file.ensures.kept c.find_file.ensures.kept
 
 pub returns-clause-placed : goal.returns-clause-placed
 returns-clause-placed g t c = λ h. c.find_file.ensures.placed (c.in_ok-file.ensures.placed h)
@@ -51,9 +55,12 @@ returns-clause-ok g t c =
     let cs = c.args.candidates.now in
     let gone : option_map_or (λ (f : LookedAt). f.there.present) (option_map looked_view c.in_ok-file.file) false ≡ false =
     looked_there c.in_ok-file.file ∙ sym c.is_there.ensures.value ∙ c.if-is_there.false in
-    subst (λ (xs : List Candidate). Finds c.find_file.new.locations w declaring xs (core_in c.args.run.now) (core_in c.find_file.new.run) (option_map found_view c.in_ok-later.later)) (sym (one_first cs c.candidate-item.result _ c.in-len1-up.len_at_least c.candidate-item.is))
-    (finds_later c.look_at.new.locations c.find_file.new.locations w declaring _ _ (core_in c.args.run.now) (core_in c.look_at.new.run) (core_in c.find_file.new.run) _ _ c.find_file.ensures.kept c.in_ok-file.ensures.ok gone
-    (subst (λ (v : Workspace). Finds c.find_file.new.locations v declaring (take (length cs - 1) (drop 1 cs)) (core_in c.look_at.new.run) (core_in c.find_file.new.run) (option_map found_view c.in_ok-later.later)) c.in_ok-file.ensures.same c.in_ok-later.ensures.ok))
+    subst (λ (xs : List Candidate). Finds c.find_file.new.locations w declaring xs (core_in c.args.run.now) (core_in c.find_file.new.run)
+    (option_map found_view c.in_ok-later.later)) (sym (one_first cs c.candidate-item.result _ c.in-len1-up.len_at_least c.candidate-item.is))
+    (finds_later c.look_at.new.locations c.find_file.new.locations w declaring _ _ (core_in c.args.run.now) (core_in c.look_at.new.run)
+    (core_in c.find_file.new.run) _ _ c.find_file.ensures.kept c.in_ok-file.ensures.ok gone
+    (subst (λ (v : Workspace). Finds c.find_file.new.locations v declaring (take (length cs - 1) (drop 1 cs)) (core_in c.look_at.new.run)
+    (core_in c.find_file.new.run) (option_map found_view c.in_ok-later.later)) c.in_ok-file.ensures.same c.in_ok-later.ensures.ok))
 
 pub returns-in_default-clause-noted : goal.returns-in_default-clause-noted
 returns-in_default-clause-noted g t c = noted_itself c.args.run.now
@@ -69,7 +76,8 @@ returns-in_err-file-clause-many g t c = λ h.
     let cs = c.args.candidates.now in
     let out = c.in_err-file.ensures.many (search rules) in (
       out.0,
-      subst (λ (xs : List Candidate). IsTriedFile w krate declaring xs out.0) (sym (one_first cs c.candidate-item.result _ c.in-len1-up.len_at_least c.candidate-item.is))
+      subst (λ (xs : List Candidate). IsTriedFile w krate declaring xs out.0)
+          (sym (one_first cs c.candidate-item.result _ c.in-len1-up.len_at_least c.candidate-item.is))
           (tried_first w krate declaring c.candidate-item.result (take (length cs - 1) (drop 1 cs)) out.0 out.1),
       out.2,
     )
@@ -88,7 +96,9 @@ returns-in_err-later-clause-many g t c = λ h.
     let tried : IsTriedFile w mid.map.id.krate declaring rest out.0 =
     subst (λ (v : Workspace). IsTriedFile v mid.map.id.krate declaring rest out.0) c.in_ok-file.ensures.same out.1 in (
       out.0,
-      subst (λ (xs : List Candidate). IsTriedFile w old.map.id.krate declaring xs out.0) (sym (one_first cs c.candidate-item.result _ c.in-len1-up.len_at_least c.candidate-item.is))
-          (tried_later c.look_at.new.locations w declaring c.candidate-item.result rest old mid (option_map looked_view c.in_ok-file.file) out.0 c.in_ok-file.ensures.ok gone tried),
+      subst (λ (xs : List Candidate). IsTriedFile w old.map.id.krate declaring xs out.0)
+          (sym (one_first cs c.candidate-item.result _ c.in-len1-up.len_at_least c.candidate-item.is))
+          (tried_later c.look_at.new.locations w declaring c.candidate-item.result rest old mid (option_map looked_view c.in_ok-file.file) out.0
+          c.in_ok-file.ensures.ok gone tried),
       out.2,
     )

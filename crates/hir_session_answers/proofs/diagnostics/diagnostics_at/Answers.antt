@@ -14,10 +14,12 @@ loop-diagnostic-preserved c =
     elim c.match-branch-2.branch [
       | in-Some+in_ok-push w ↦
           rw (w.told-is, w.in_ok-push.ensures.items)
-          (some_more (λ (d : DefDiagnostic). diagnostic_source c.args.tables.now (maps_of c.args.maps.now) (diagnostic_view d)) c.args.found.now c.loop-diagnostic.diagnostic-index
+          (some_more (λ (d : DefDiagnostic). diagnostic_source c.args.tables.now (maps_of c.args.maps.now) (diagnostic_view d)) c.args.found.now
+          c.loop-diagnostic.diagnostic-index
           c.diagnostic-item.result w.in-Some.next within c.diagnostic-item.is (sym c.in_ok-next.ensures.value ∙ w.in-Some.is) _ c.loop-diagnostic.invariant)
       | in_default w ↦
           rw w.told-is
-          (none_more (λ (d : DefDiagnostic). diagnostic_source c.args.tables.now (maps_of c.args.maps.now) (diagnostic_view d)) c.args.found.now c.loop-diagnostic.diagnostic-index
+          (none_more (λ (d : DefDiagnostic). diagnostic_source c.args.tables.now (maps_of c.args.maps.now) (diagnostic_view d)) c.args.found.now
+          c.loop-diagnostic.diagnostic-index
           c.diagnostic-item.result within c.diagnostic-item.is (sym c.in_ok-next.ensures.value ∙ w.in_default.is) _ c.loop-diagnostic.invariant)
     ]

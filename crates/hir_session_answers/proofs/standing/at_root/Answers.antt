@@ -14,12 +14,16 @@ returns-in_default c = record {
 
 pub returns-in-Some-get : goal.returns-in-Some-get
 returns-in-Some-get c = record {
-  value = ap way.at c.root.ensures.value ∙ root_found c.args.tables.now c.args.kept.now c.args.place.now (Some c.in-Some.number) c.in-Some.ensures.value c.in-Some.ensures.once _
-      (c.in-Some-get.ensures.value ∙ ap (λ (k : Crate). let id : MapId = record { krate = k; block = Some c.in-Some.number } in kept_in c.args.kept.now id) c.krate.ensures.value);
+  value =
+      ap way.at c.root.ensures.value ∙ root_found c.args.tables.now c.args.kept.now c.args.place.now (Some c.in-Some.number) c.in-Some.ensures.value
+      c.in-Some.ensures.once _
+      (c.in-Some-get.ensures.value ∙ ap (λ (k : Crate). let id : MapId = record { krate = k; block = Some c.in-Some.number } in kept_in c.args.kept.now id)
+      c.krate.ensures.value);
 }
 
 pub returns-in-None : goal.returns-in-None
 returns-in-None c = record {
   value = root_found c.args.tables.now c.args.kept.now c.args.place.now (Some c.in-Some.number) c.in-Some.ensures.value c.in-Some.ensures.once None
-      (c.in-None.ensures.value ∙ ap (λ (k : Crate). let id : MapId = record { krate = k; block = Some c.in-Some.number } in kept_in c.args.kept.now id) c.krate.ensures.value);
+      (c.in-None.ensures.value ∙ ap (λ (k : Crate). let id : MapId = record { krate = k; block = Some c.in-Some.number } in kept_in c.args.kept.now id)
+      c.krate.ensures.value);
 }

@@ -12,7 +12,8 @@ pub loop-i-preserved : goal.loop-i-preserved
 loop-i-preserved c =
     let within : c.loop-i.i < length c.args.steps.now = omega (arith, c.loop-i-test.true) in
     turn c.args.tables.now c.args.blocks.now c.args.kept.now c.args.krate c.args.root c.args.steps.now c.loop-i.i c.index-steps-i.result
-    (standing_value c.loop-i.standing) (standing_value c.one_more-standing.result) within c.index-steps-i.is c.loop-i.invariant c.one_more-standing.ensures.value
+    (standing_value c.loop-i.standing) (standing_value c.one_more-standing.result) within c.index-steps-i.is c.loop-i.invariant
+    c.one_more-standing.ensures.value
 
 pub returns : goal.returns
 returns c =

@@ -16,6 +16,7 @@ invariant_of-result c = (
 
 pub returns : goal.returns
 returns c = record {
-  begins = rw c.new.ensures.value (begins_with c.args.inputs.now.items _ _ _ _ c.in_ok-crates.ensures.made c.in_ok-crates.ensures.rooted refl c.new-2.ensures.none
+  begins =
+      rw c.new.ensures.value (begins_with c.args.inputs.now.items _ _ _ _ c.in_ok-crates.ensures.made c.in_ok-crates.ensures.rooted refl c.new-2.ensures.none
       _ c.new-tables.ensures.value c.in_ok-crates.ensures.others);
 }

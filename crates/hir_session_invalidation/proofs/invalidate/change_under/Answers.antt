@@ -20,8 +20,12 @@ tree_of t = t.value
 
 pub returns-in-Some-Some-clause-change : goal.returns-in-Some-Some-clause-change
 returns-in-Some-Some-clause-change c = record {
-  before = c.in_ok-clone.ensures.cases ∙ c.requires.changes.before.each c.args.krate c.in-Some-Some.before.now.value (sym (ap (option_map tree_of) c.in-Some-Some.ensures.value));
-  after = c.in_ok-clone-2.ensures.cases ∙ c.requires.changes.after.each c.args.krate c.in-Some-Some.after.now.value (sym (ap (option_map tree_of) c.in-Some-Some.ensures'.value));
+  before =
+      c.in_ok-clone.ensures.cases ∙ c.requires.changes.before.each c.args.krate c.in-Some-Some.before.now.value
+      (sym (ap (option_map tree_of) c.in-Some-Some.ensures.value));
+  after =
+      c.in_ok-clone-2.ensures.cases ∙ c.requires.changes.after.each c.args.krate c.in-Some-Some.after.now.value
+      (sym (ap (option_map tree_of) c.in-Some-Some.ensures'.value));
 }
 
 pub returns-clause-changes : goal.returns-clause-changes
@@ -33,12 +37,16 @@ returns-clause-changes c =
       | in-None-1 w ↦ subst (λ (x : Changes). AreChanges i e x) (sym w.changes-is) c.requires.changes
     ] in
     let before : c.in_ok-before.before.value ≡ tree_under i.crates c.args.krate.0 (place_of e) (source_at i.sources (place_of e)) =
-    subst (λ (p : SourcePlaceValue). c.in_ok-before.before.value ≡ tree_under i.crates c.args.krate.0 p (source_at i.sources p)) c.place.ensures.value c.in_ok-before.ensures.value in
+    subst (λ (p : SourcePlaceValue). c.in_ok-before.before.value ≡ tree_under i.crates c.args.krate.0 p (source_at i.sources p)) c.place.ensures.value
+    c.in_ok-before.ensures.value in
     let after : c.in_ok-after.after.value ≡ tree_under i.crates c.args.krate.0 (place_of e) (source_by e) =
     subst (λ (o : Option SourceValue). c.in_ok-after.after.value ≡ tree_under i.crates c.args.krate.0 (place_of e) o) c.source.ensures.value
-    (subst (λ (p : SourcePlaceValue). c.in_ok-after.after.value ≡ tree_under i.crates c.args.krate.0 p (option_map (λ s. source_view s.now) c.source.result)) c.place-2.ensures.value c.in_ok-after.ensures.value) in
+    (subst (λ (p : SourcePlaceValue). c.in_ok-after.after.value ≡ tree_under i.crates c.args.krate.0 p (option_map (λ s. source_view s.now) c.source.result))
+    c.place-2.ensures.value c.in_ok-after.ensures.value) in
     record {
-      before = one_more_tree i.crates (place_of e) (source_at i.sources (place_of e)) c.match-get.changes.before c.insert.new.self c.args.krate c.in_ok-clone-3.field-0
+      before =
+          one_more_tree i.crates (place_of e) (source_at i.sources (place_of e)) c.match-get.changes.before c.insert.new.self c.args.krate
+          c.in_ok-clone-3.field-0
           (c.in_ok-clone-3.ensures.cases ∙ before) held.before c.in_ok-insert.ensures.updates.0;
       after = one_more_tree i.crates (place_of e) (source_by e) c.match-get.changes.after c.insert-2.new.self c.args.krate c.in_ok-clone-4.field-0
           (c.in_ok-clone-4.ensures.cases ∙ after) held.after c.in_ok-insert-2.ensures.updates.0;

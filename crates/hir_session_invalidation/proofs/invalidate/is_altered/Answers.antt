@@ -18,13 +18,15 @@ not_true false e = refl
 
 pub returns-then-not-asks-clause-same : goal.returns-then-not-asks-clause-same
 returns-then-not-asks-clause-same c = λ _.
-    look-apart c.args.source.now.inputs.now.crates c.args.source.now.tables.now c.args.source.now.inputs.now.sources (edit_value c.args.source.now.edit) c.args.key
+    look-apart c.args.source.now.inputs.now.crates c.args.source.now.tables.now c.args.source.now.inputs.now.sources (edit_value c.args.source.now.edit)
+    c.args.key
     (unasked-place c.args.source.now.tables.now (place_of (edit_value c.args.source.now.edit)) c.args.source.now.number c.args.source.now.numbered c.args.key
     (sym c.asks.ensures.value ∙ c.if-not-asks.true))
 
 pub returns-in_default-clause-same : goal.returns-in_default-clause-same
 returns-in_default-clause-same c = λ same.
-    treeless-same c.args.source.now.inputs.now.crates c.args.source.now.tables.now c.args.source.now.inputs.now.sources (edit_value c.args.source.now.edit) c.args.key
+    treeless-same c.args.source.now.inputs.now.crates c.args.source.now.tables.now c.args.source.now.inputs.now.sources (edit_value c.args.source.now.edit)
+    c.args.key
     (sym c.key_tree.ensures.value ∙ c.in_default.is)
     (asked-place c.args.source.now.tables.now (place_of (edit_value c.args.source.now.edit)) c.args.source.now.number c.args.source.now.numbered c.args.key
     (sym c.asks.ensures.value ∙ c.if-not-asks.false))
@@ -32,7 +34,8 @@ returns-in_default-clause-same c = λ same.
 
 pub returns-in_default-clause-other : goal.returns-in_default-clause-other
 returns-in_default-clause-other c = λ other.
-    treeless-differs c.args.source.now.inputs.now.crates c.args.source.now.tables.now c.args.source.now.inputs.now.sources (edit_value c.args.source.now.edit) c.args.key
+    treeless-differs c.args.source.now.inputs.now.crates c.args.source.now.tables.now c.args.source.now.inputs.now.sources (edit_value c.args.source.now.edit)
+    c.args.key
     (sym c.key_tree.ensures.value ∙ c.in_default.is)
     (asked-place c.args.source.now.tables.now (place_of (edit_value c.args.source.now.edit)) c.args.source.now.number c.args.source.now.numbered c.args.key
     (sym c.asks.ensures.value ∙ c.if-not-asks.false))
@@ -40,16 +43,20 @@ returns-in_default-clause-other c = λ other.
 
 pub returns-clause-same : goal.returns-clause-same
 returns-clause-same c = λ same.
-    look-same c.args.source.now.inputs.now.crates c.args.source.now.tables.now c.args.source.now.inputs.now.sources (edit_value c.args.source.now.edit) c.args.key
+    look-same c.args.source.now.inputs.now.crates c.args.source.now.tables.now c.args.source.now.inputs.now.sources (edit_value c.args.source.now.edit)
+    c.args.key
     c.in-Some.tree (sym c.in-Some.ensures.value)
     (asked-place c.args.source.now.tables.now (place_of (edit_value c.args.source.now.edit)) c.args.source.now.number c.args.source.now.numbered c.args.key
     (sym c.asks.ensures.value ∙ c.if-not-asks.false))
-    c.in_ok-change.change.before.value c.in_ok-change.change.after.value c.in_ok-change.ensures.change.before c.in_ok-change.ensures.change.after (c.sees_another.ensures.same same)
+    c.in_ok-change.change.before.value c.in_ok-change.change.after.value c.in_ok-change.ensures.change.before c.in_ok-change.ensures.change.after
+    (c.sees_another.ensures.same same)
 
 pub returns-clause-other : goal.returns-clause-other
 returns-clause-other c = λ other.
-    look-differs c.args.source.now.inputs.now.crates c.args.source.now.tables.now c.args.source.now.inputs.now.sources (edit_value c.args.source.now.edit) c.args.key
+    look-differs c.args.source.now.inputs.now.crates c.args.source.now.tables.now c.args.source.now.inputs.now.sources (edit_value c.args.source.now.edit)
+    c.args.key
     c.in-Some.tree (sym c.in-Some.ensures.value)
     (asked-place c.args.source.now.tables.now (place_of (edit_value c.args.source.now.edit)) c.args.source.now.number c.args.source.now.numbered c.args.key
     (sym c.asks.ensures.value ∙ c.if-not-asks.false))
-    c.in_ok-change.change.before.value c.in_ok-change.change.after.value c.in_ok-change.ensures.change.before c.in_ok-change.ensures.change.after (c.sees_another.ensures.other other)
+    c.in_ok-change.change.before.value c.in_ok-change.change.after.value c.in_ok-change.ensures.change.before c.in_ok-change.ensures.change.after
+    (c.sees_another.ensures.other other)

@@ -8,7 +8,9 @@ pub loop-key-preserved : goal.loop-key-preserved
 loop-key-preserved c =
     let within : c.loop-key.key-index < length c.args.keys.now = omega (arith, c.loop-key-test.true) in
     record {
-      same = same_more c.args.source.now.tables.now (workspace_by c.args.source.now.inputs.now) (workspace_after c.args.source.now.inputs.now (edit_value c.args.source.now.edit)) c.args.keys.now
+      same =
+          same_more c.args.source.now.tables.now (workspace_by c.args.source.now.inputs.now)
+          (workspace_after c.args.source.now.inputs.now (edit_value c.args.source.now.edit)) c.args.keys.now
           c.loop-key.key-index _ within c.loop-key.invariant.same (c.in_ok-is_altered.ensures.same c.if-branch.false);
       changes = c.in_ok-is_altered.ensures.changes;
     }
@@ -16,4 +18,5 @@ loop-key-preserved c =
 pub returns-clause-none : goal.returns-clause-none
 returns-clause-none c = λ _.
     let all : length c.args.keys.now ≤ c.loop-key.key-index = omega (arith, c.loop-key-test.false) in
-    agrees_all c.args.source.now.inputs.now.crates c.args.source.now.tables.now c.args.source.now.inputs.now.sources _ c.args.keys.now c.loop-key.key-index all c.loop-key.invariant.same
+    agrees_all c.args.source.now.inputs.now.crates c.args.source.now.tables.now c.args.source.now.inputs.now.sources _ c.args.keys.now c.loop-key.key-index all
+    c.loop-key.invariant.same

@@ -12,7 +12,10 @@ use Rattle.hir_session_invalidation.proofs.invalidate.judge.Goals as goal
 pub returns-clause-judged : goal.returns-clause-judged
 returns-clause-judged c = where_ok c.note.result c.note.ensures.noted
     (λ noted.
-    subst (λ (o : Option Resolution). IsJudged c.args.source.now.tables.now (workspace_by c.args.source.now.inputs.now) (workspace_after c.args.source.now.inputs.now (edit_value c.args.source.now.edit)) o c.args.id c.args.hits.now.items c.note.new.hits.items)
+    subst (λ (o : Option Resolution). IsJudged c.args.source.now.tables.now (workspace_by c.args.source.now.inputs.now)
+    (workspace_after c.args.source.now.inputs.now (edit_value c.args.source.now.edit)) o c.args.id c.args.hits.now.items c.note.new.hits.items)
     c.in-Some.ensures.value
-    (judged_by c.args.source.now.tables.now (workspace_by c.args.source.now.inputs.now) (workspace_after c.args.source.now.inputs.now (edit_value c.args.source.now.edit)) (resolution_of c.in-Some.found) c.own.result.now c.args.id c.args.hits.now.items c.note.new.hits.items
+    (judged_by c.args.source.now.tables.now (workspace_by c.args.source.now.inputs.now)
+    (workspace_after c.args.source.now.inputs.now (edit_value c.args.source.now.edit)) (resolution_of c.in-Some.found) c.own.result.now c.args.id
+    c.args.hits.now.items c.note.new.hits.items
     (rw c.in-Some-asked.is c.own.ensures.value) noted))

@@ -16,6 +16,7 @@ pub returns-in-Err : goal.returns-in-Err
 returns-in-Err c = record {
   step = elim c.in-Err.ensures.answer [
     | inl memory ↦ finds_no_memory (c.reply_to_query.ensures.value ∙ ap (λ (e : QueryError). query_error_reply e) memory) refl
-    | inr refused ↦ calls _ _ refl (resolves _ _ _ _ refl refl (c.reply_to_query.ensures.value ∙ sym (ap (λ (r : Result Answer QueryError). query_reply r) refused))) refl
+    | inr refused ↦ calls _ _ refl (resolves _ _ _ _ refl refl
+        (c.reply_to_query.ensures.value ∙ sym (ap (λ (r : Result Answer QueryError). query_reply r) refused))) refl
   ];
 }

@@ -27,6 +27,18 @@ returns-in-Tree-clause-step c = rw c.in-Tree.is c.shown.ensures.step
 pub returns-in-Diagnostics-clause-step : goal.returns-in-Diagnostics-clause-step
 returns-in-Diagnostics-clause-step c = rw c.in-Diagnostics.is c.listed.ensures.step
 
+pub returns-in-TraitItems-clause-step : goal.returns-in-TraitItems-clause-step
+returns-in-TraitItems-clause-step c = rw c.in-TraitItems.is c.trait_listed.ensures.step
+
+pub returns-in-TraitItems-clause-or_memory : goal.returns-in-TraitItems-clause-or_memory
+returns-in-TraitItems-clause-or_memory c = rw c.in-TraitItems.is c.trait_listed.ensures.or_memory
+
+pub returns-in-ImplItems-clause-step : goal.returns-in-ImplItems-clause-step
+returns-in-ImplItems-clause-step c = rw c.in-ImplItems.is c.impl_listed.ensures.step
+
+pub returns-in-ImplItems-clause-or_memory : goal.returns-in-ImplItems-clause-or_memory
+returns-in-ImplItems-clause-or_memory c = rw c.in-ImplItems.is c.impl_listed.ensures.or_memory
+
 pub returns-in-Dump-clause-step : goal.returns-in-Dump-clause-step
 returns-in-Dump-clause-step c = rw c.in-Dump.is c.dumped.ensures.step
 

@@ -12,7 +12,8 @@ returns-in-Ok-clause-step c = calls _ _ refl (applies _ refl c.in-Ok.ensures.ans
 
 pub returns-in-Err-clause-step : goal.returns-in-Err-clause-step
 returns-in-Err-clause-step c = elim c.in-Err.ensures.answer [
-  | inl memory ↦ finds_no_memory (c.edit_error_reply.ensures.value ∙ ap (λ (e : EditError). edit_reply e) memory) (ap (λ (s : SessionState). Some s) c.in-Err.ensures.err)
+  | inl memory ↦ finds_no_memory (c.edit_error_reply.ensures.value ∙ ap (λ (e : EditError). edit_reply e) memory)
+      (ap (λ (s : SessionState). Some s) c.in-Err.ensures.err)
   | inr refused ↦ calls _ _ refl (refuses _ _ refl refused c.in-Err.ensures.err c.edit_error_reply.ensures.value) refl
 ]
 

@@ -16,6 +16,7 @@ pub returns-in-Err : goal.returns-in-Err
 returns-in-Err c = record {
   step = elim c.in-Err.ensures.told [
     | inl memory ↦ finds_no_memory (c.reply_to_diagnostics.ensures.value ∙ ap (λ (e : DiagnosticsError). diagnostics_error_reply e) memory) refl
-    | inr refused ↦ calls _ _ refl (lists _ refl refl (c.reply_to_diagnostics.ensures.value ∙ sym (ap (λ (r : Result (List Diagnostic) DiagnosticsError). diagnostics_reply r) refused))) refl
+    | inr refused ↦ calls _ _ refl (lists _ refl refl
+        (c.reply_to_diagnostics.ensures.value ∙ sym (ap (λ (r : Result (List Diagnostic) DiagnosticsError). diagnostics_reply r) refused))) refl
   ];
 }

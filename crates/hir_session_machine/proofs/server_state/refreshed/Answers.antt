@@ -9,7 +9,8 @@ use Rattle.hir_session_machine.specs.Machine.AnswersCommand.{calls}
 use Rattle.hir_session_machine.proofs.server_state.refreshed.Goals as goal
 
 pub returns-in-Ok-clause-step : goal.returns-in-Ok-clause-step
-returns-in-Ok-clause-step c = calls _ _ refl (refreshes c.in-Ok.places.items refl c.in-Ok.ensures.refreshes (ap (λ (ps : List PlaceValue). reply.Places ps) c.new.ensures.value)) refl
+returns-in-Ok-clause-step c =
+    calls _ _ refl (refreshes c.in-Ok.places.items refl c.in-Ok.ensures.refreshes (ap (λ (ps : List PlaceValue). reply.Places ps) c.new.ensures.value)) refl
 
 pub returns-in-Ok-clause-or_memory : goal.returns-in-Ok-clause-or_memory
 returns-in-Ok-clause-or_memory c h = calls _ _ refl (refreshes_partly Memory refl

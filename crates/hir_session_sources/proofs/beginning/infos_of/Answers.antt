@@ -15,4 +15,6 @@ loop-input-preserved c =
     c.in_ok-add_crate.ensures.added c.loop-input.invariant
 
 pub returns-clause-made : goal.returns-clause-made
-returns-clause-made c = beginning-end c.loop-input.input-index c.args.inputs.now.items _ _ _ (omega (arith, c.loop-input-test.false, c.deref-input-items.ensures.len)) c.loop-input.invariant
+returns-clause-made c =
+    beginning-end c.loop-input.input-index c.args.inputs.now.items _ _ _ (omega (arith, c.loop-input-test.false, c.deref-input-items.ensures.len))
+    c.loop-input.invariant

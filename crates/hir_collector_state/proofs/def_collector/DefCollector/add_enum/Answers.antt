@@ -11,4 +11,5 @@ returns-clause-noted c =
     let before : Run = the_view c.self.inside in
     let after : Run = record before { map = c.add_enum.new.self; asked = c.push.new.self.items; changed = c.note_variants.new.changed } in
     subst (λ (r : Run). IsNoted r after) c.self.view_is
-    (noted_variants before after refl (refl, refl, refl) c.args.id c.args.variants c.in_ok-add_enum.ensures.ok c.note_variants.ensures.fresh c.note_variants.ensures.again)
+    (noted_variants before after refl (refl, refl, refl) c.args.id c.args.variants c.in_ok-add_enum.ensures.ok c.note_variants.ensures.fresh
+    c.note_variants.ensures.again)

@@ -10,4 +10,5 @@ pub returns-clause-noted : goal.returns-clause-noted
 returns-clause-noted c =
     let before : Run = the_view c.self.inside in
     let after : Run = record before { local = c.add_extern.new.self; changed = c.add_prelude.new.self } in
-    subst (λ (r : Run). IsNoted r after) c.self.view_is (noted_extern before after _ _ refl c.in_ok-add_extern.ensures.ok c.in_ok-add_prelude.ensures.ok (refl, refl, refl))
+    subst (λ (r : Run). IsNoted r after) c.self.view_is (noted_extern before after _ _ refl c.in_ok-add_extern.ensures.ok c.in_ok-add_prelude.ensures.ok
+    (refl, refl, refl))

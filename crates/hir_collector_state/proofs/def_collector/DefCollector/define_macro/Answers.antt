@@ -10,4 +10,5 @@ pub returns-clause-noted : goal.returns-clause-noted
 returns-clause-noted c =
     let before : Run = the_view c.self.inside in
     let after : Run = record before { map = c.add_macro_def.new.self } in
-    subst (λ (r : Run). IsNoted r after) c.self.view_is (noted_defined before after refl refl (refl, refl, refl) c.args.node c.args.makro c.in_ok-add_macro_def.ensures.ok)
+    subst (λ (r : Run). IsNoted r after) c.self.view_is (noted_defined before after refl refl (refl, refl, refl) c.args.node c.args.makro
+    c.in_ok-add_macro_def.ensures.ok)

@@ -10,4 +10,5 @@ pub returns-clause-noted : goal.returns-clause-noted
 returns-clause-noted c =
     let before : Run = the_view c.self.inside in
     let after : Run = record before { map = c.define.new.map; changed = c.add.new.self } in
-    subst (λ (r : Run). IsNoted r after) c.self.view_is (noted_textual before after c.args.home c.args.name c.args.makro c.in_ok-define.ensures.ok refl c.in_ok-add.ensures.ok (refl, refl, refl))
+    subst (λ (r : Run). IsNoted r after) c.self.view_is (noted_textual before after c.args.home c.args.name c.args.makro c.in_ok-define.ensures.ok refl
+    c.in_ok-add.ensures.ok (refl, refl, refl))

@@ -10,4 +10,5 @@ pub returns-clause-noted : goal.returns-clause-noted
 returns-clause-noted c =
     let before : Run = the_view c.self.inside in
     let after : Run = record before { map = c.export_proc_macro.new.self; exported = c.push.new.self.items } in
-    subst (λ (r : Run). IsNoted r after) c.self.view_is (noted_exported before after refl refl (refl, refl, refl) c.args.function.id c.args.makro c.in_ok-export_proc_macro.ensures.ok)
+    subst (λ (r : Run). IsNoted r after) c.self.view_is (noted_exported before after refl refl (refl, refl, refl) c.args.function.id c.args.makro
+    c.in_ok-export_proc_macro.ensures.ok)

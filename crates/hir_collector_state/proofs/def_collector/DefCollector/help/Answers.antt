@@ -1,4 +1,4 @@
--- The slot of the helper's name in the preludes is noted.
+-- The item on which the helper comes into scope is noted.
 use Rattle.std.proofs.Common.{refl, subst}
 use Rattle.hir_collector_state.specs.contracts.def_collector.DefCollector.{the_view}
 use Rattle.hir_collector_rules.specs.State.{Run}
@@ -9,5 +9,6 @@ use Rattle.hir_collector_state.proofs.def_collector.DefCollector.help.Goals as g
 pub returns-clause-noted : goal.returns-clause-noted
 returns-clause-noted c =
     let before : Run = the_view c.self.inside in
-    let after : Run = record before { map = c.add_derive_helper.new.self; changed = c.add_prelude.new.self } in
-    subst (λ (r : Run). IsNoted r after) c.self.view_is (noted_helper before after c.args.node c.args.helper c.in_ok-add_derive_helper.ensures.ok refl c.in_ok-add_prelude.ensures.ok (refl, refl, refl))
+    let after : Run = record before { map = c.add_derive_helper.new.self; changed = c.add_item.new.self } in
+    subst (λ (r : Run). IsNoted r after) c.self.view_is (noted_helper before after c.args.node c.args.helper c.in_ok-add_derive_helper.ensures.ok refl
+    c.in_ok-add_item.ensures.ok (refl, refl, refl))

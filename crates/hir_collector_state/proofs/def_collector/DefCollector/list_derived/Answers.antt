@@ -10,4 +10,5 @@ pub returns-clause-noted : goal.returns-clause-noted
 returns-clause-noted c =
     let before : Run = the_view c.self.inside in
     let after : Run = record before { map = c.list_in_scope.new.map } in
-    subst (λ (r : Run). IsNoted r after) c.self.view_is (noted_derived before after refl refl (refl, refl, refl) c.args.home c.args.imp c.in_ok-list_in_scope.ensures.ok)
+    subst (λ (r : Run). IsNoted r after) c.self.view_is (noted_derived before after refl refl (refl, refl, refl) c.args.home c.args.imp
+    c.in_ok-list_in_scope.ensures.ok)

@@ -11,4 +11,5 @@ pub returns-clause-noted : goal.returns-clause-noted
 returns-clause-noted c =
     let before : Run = the_view c.self.inside in
     let after : Run = record before { map = c.define_extern_crate_decl.new.self } in
-    subst (λ (r : Run). IsNoted r after) c.self.view_is (noted_list before after c.args.home (declaration.ExternCrate c.args.id) c.in_ok-define_extern_crate_decl.ensures.ok refl refl (refl, refl, refl))
+    subst (λ (r : Run). IsNoted r after) c.self.view_is (noted_list before after c.args.home (declaration.ExternCrate c.args.id)
+    c.in_ok-define_extern_crate_decl.ensures.ok refl refl (refl, refl, refl))

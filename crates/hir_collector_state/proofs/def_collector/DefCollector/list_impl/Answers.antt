@@ -11,4 +11,5 @@ pub returns-clause-noted : goal.returns-clause-noted
 returns-clause-noted c =
     let before : Run = the_view c.self.inside in
     let after : Run = record before { map = c.define_impl.new.self } in
-    subst (λ (r : Run). IsNoted r after) c.self.view_is (noted_list before after c.args.home (declaration.Impl c.args.id c.args.of_trait) c.in_ok-define_impl.ensures.ok refl refl (refl, refl, refl))
+    subst (λ (r : Run). IsNoted r after) c.self.view_is (noted_list before after c.args.home (declaration.Impl c.args.id c.args.of_trait)
+    c.in_ok-define_impl.ensures.ok refl refl (refl, refl, refl))

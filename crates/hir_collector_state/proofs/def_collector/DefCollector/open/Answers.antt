@@ -26,7 +26,9 @@ returns-clause-noted c =
     let after : Run = record before { map = c.take.new.map } in
     let parent : Option ModuleId = Some (module_id before.map c.args.home) in
     let last : c.in_ok-id.id.index ≡ length before.map.modules = search (rules, c.in_ok-id.ensures.answer) in
-    let inside : c.args.home < length before.map.modules = subst (λ (r : Run). c.args.home < length (core_in r).map.modules) (sym c.self.view_is) c.requires.in_range in
+    let inside : c.args.home < length before.map.modules = subst (λ (r : Run). c.args.home < length (core_in r).map.modules) (sym c.self.view_is)
+    c.requires.in_range in
     let map : after.map ≡ begun before.map c.args.home c.args.name (new_module c.args.origin c.args.visibility parent) =
     search (rules, last, c.in_ok-take.ensures.ok, c.in_ok-id.ensures.ok, c.new-module.ensures.value, c.module_id-parent.ensures.value) in
-    subst (λ (r : Run). IsNoted r after) c.self.view_is (noted_module before after c.args.home c.args.name c.args.origin c.args.visibility parent refl inside map refl refl (refl, refl, refl))
+    subst (λ (r : Run). IsNoted r after) c.self.view_is (noted_module before after c.args.home c.args.name c.args.origin c.args.visibility parent refl inside
+    map refl refl (refl, refl, refl))

@@ -10,4 +10,5 @@ pub returns-clause-noted : goal.returns-clause-noted
 returns-clause-noted c =
     let before : Run = the_view c.self.inside in
     let after : Run = record before { reached = c.push.new.self.items; taken = c.push-2.new.self.items } in
-    subst (λ (r : Run). IsNoted r after) c.self.view_is (noted_reached before after c.args.import c.nothing-taken.result refl refl refl refl c.in_ok-push.ensures.items c.in_ok-push-2.ensures.items)
+    subst (λ (r : Run). IsNoted r after) c.self.view_is (noted_reached before after c.args.import c.nothing-taken.result refl refl refl refl
+    c.in_ok-push.ensures.items c.in_ok-push-2.ensures.items)

@@ -19,7 +19,8 @@ use Rattle.hir_collector_state.proofs.def_collector.DefCollector.settle.Goals as
 pub take_imports-requires-clause-there : goal.take_imports-requires-clause-there
 unfolding core_in
 take_imports-requires-clause-there c =
-    subst (λ (r : Run). (i : ℕ) (d : ImportDirective) → slice_get (core_in r).reached i ≡ Some d → d.home < length (core_in r).map.modules) (sym c.self.view_is) c.requires.there
+    subst (λ (r : Run). (i : ℕ) (d : ImportDirective) → slice_get (core_in r).reached i ≡ Some d → d.home < length (core_in r).map.modules) (sym c.self.view_is)
+    c.requires.there
 
 pub take_imports-requires-clause-in_order : goal.take_imports-requires-clause-in_order
 unfolding core_in
@@ -28,7 +29,8 @@ take_imports-requires-clause-in_order c = subst (λ (r : Run). IsInOrder (core_i
 pub take_imports-requires-clause-resumable : goal.take_imports-requires-clause-resumable
 unfolding core_in
 take_imports-requires-clause-resumable c = λ lasting some.
-    subst (λ (r : Run). IsResumable (part_of c.args.world) c.args.queue (import_state (at_rest (core_in r))) c.args.grown.now.slots) (sym c.self.view_is) (c.requires.resumable lasting some)
+    subst (λ (r : Run). IsResumable (part_of c.args.world) c.args.queue (import_state (at_rest (core_in r))) c.args.grown.now.slots) (sym c.self.view_is)
+    (c.requires.resumable lasting some)
 
 pub take_imports-requires-clause-globs : goal.take_imports-requires-clause-globs
 unfolding core_in
@@ -47,7 +49,8 @@ pub returns-clause-ok : goal.returns-clause-ok
 unfolding core_in
 returns-clause-ok c = λ env.
     let before : State = at_rest (core_in (the_view c.self.inside)) in
-    subst (λ (r : Run). Steps env (part_of c.args.world) (at_rest (core_in r)) (with_import_state before (state_in c.in_ok-resting.resting.imports))) c.self.view_is
+    subst (λ (r : Run). Steps env (part_of c.args.world) (at_rest (core_in r)) (with_import_state before (state_in c.in_ok-resting.resting.imports)))
+    c.self.view_is
     (steps_from before (import_state before) refl c.in_ok-resting.ensures.derived)
 
 pub returns-clause-noted : goal.returns-clause-noted
@@ -67,5 +70,7 @@ returns-clause-noted c =
       changed = c.in_ok-changed.changed;
     } in
     subst (λ (r : Run). NotesSlots r after) c.self.view_is
-    (noted_taken (part_of c.args.world) before after c.args.apart slots c.in_ok-resting.ensures.derived c.in_ok-resting.ensures.changes c.in_ok-resting.ensures.local
-    (λ yes. subst (λ (xs : List Slot). c.in_ok-changed.changed ≡ with_slots xs before.changed) c.as_slice-slots.ensures.value (c.in_ok-changed.ensures.known yes)) c.in_ok-changed.ensures.still c.in_ok-changed.ensures.moves)
+    (noted_taken (part_of c.args.world) before after c.args.apart slots c.in_ok-resting.ensures.derived c.in_ok-resting.ensures.changes
+    c.in_ok-resting.ensures.local
+    (λ yes. subst (λ (xs : List Slot). c.in_ok-changed.changed ≡ with_slots xs before.changed) c.as_slice-slots.ensures.value
+    (c.in_ok-changed.ensures.known yes)) c.in_ok-changed.ensures.still c.in_ok-changed.ensures.moves)

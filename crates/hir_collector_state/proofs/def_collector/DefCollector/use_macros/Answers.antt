@@ -22,5 +22,7 @@ returns-clause-noted c =
 pub returns-then-not-says-clause-ok : goal.returns-then-not-says-clause-ok
 returns-then-not-says-clause-ok c =
     let now : Core = core_in c.args.self.now in
-    let none : says (codes "macro_use") (head_of c.args.head).attributes.attributes ≡ false = search (rules, c.says.ensures.value, c.as_slice-attrs.ensures.value) in
-    sym (ap (λ (macros : List (List ℕ × MacroId)). with_map now (with_macros_used now.map macros (Some c.args.by))) (none_brought (part_of c.args.world) now.map now.dependencies (head_of c.args.head) c.args.name.now none))
+    let none : says (codes "macro_use") (head_of c.args.head).attributes.attributes
+    ≡ false = search (rules, c.says.ensures.value, c.as_slice-attrs.ensures.value) in
+    sym (ap (λ (macros : List (List ℕ × MacroId)). with_map now (with_macros_used now.map macros (Some c.args.by)))
+    (none_brought (part_of c.args.world) now.map now.dependencies (head_of c.args.head) c.args.name.now none))

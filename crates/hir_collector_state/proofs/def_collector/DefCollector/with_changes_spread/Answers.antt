@@ -18,7 +18,8 @@ returns-clause-ok c =
     through_both _ _ _ c.spread_changes-imports.result.1 c.note_changes-noted.result c.note_changes-noted.ensures.ok c.spread_changes-imports.ensures.derived
     (λ slots noted steps env rest.
     let before : State = joined (core_in (the_view c.self.inside)) rest in
-    subst (λ (r : Run). Steps env (part_of c.args.world) (joined (core_in r) rest) (with_import_state before (state_in c.spread_changes-imports.result.0))) c.self.view_is
+    subst (λ (r : Run). Steps env (part_of c.args.world) (joined (core_in r) rest) (with_import_state before (state_in c.spread_changes-imports.result.0)))
+    c.self.view_is
     (steps_from before (import_state before) refl steps))
 
 pub returns-clause-noted : goal.returns-clause-noted
@@ -38,7 +39,8 @@ returns-clause-noted c =
     } in
     let slots = c.spread_changes-imports.result.1 in
     let given = c.spread_changes-imports.ensures in
-    through_both _ _ _ slots c.note_changes-noted.result c.note_changes-noted.ensures.ok (both_of_each _ _ slots (both_of_each _ _ slots given.derived given.changes) given.globs)
+    through_both _ _ _ slots c.note_changes-noted.result c.note_changes-noted.ensures.ok
+    (both_of_each _ _ slots (both_of_each _ _ slots given.derived given.changes) given.globs)
     (λ slots noted all.
     subst (λ (r : Run). IsNotedBeside (part_of c.args.world) r after) c.self.view_is
     (noted_spread (part_of c.args.world) before after slots.items all.0.0 all.0.1 given.local noted given.imports given.taken all.1))

@@ -9,7 +9,7 @@ use Rattle.hir_collector_rules.specs.declared.start.TheConstants.{STEP_LIMIT}
 use Rattle.hir_collector_rules.specs.Calls.{AreCallsPlaced}
 use Rattle.hir_collector_rules.specs.Moves.{OnceGrown}
 use Rattle.hir_collector_rules.specs.State.{at_rest, core_in}
-use Rattle.hir_collector_rules.specs.Waiting.{IsBehind, IsBetweenPasses, IsStale}
+use Rattle.hir_collector_rules.specs.Waiting.{IsBehind, IsBetweenPasses, IsStale, KeepsApart}
 use Rattle.hir_def_collector.proofs.Queued.{HasRounds}
 use Rattle.hir_def_collector.proofs.collector.calls.resolve_rounds.Given as goal
 
@@ -19,13 +19,14 @@ invariant-rounds g l = record {
   same : g.D.SourceDatabase.workspace l.db ≡ g.D.SourceDatabase.workspace l.initial.db;
   placed : AreCallsPlaced l.initial.locations → AreCallsPlaced l.locations;
   ready : IsReady l.locations (part_of l.world) (core_in l.run);
-  own : (core_in l.run).map.id ≡ (core_in l.initial.run).map.id;
+  lies : l.apart ≡ true → KeepsApart (part_of l.world) (core_in l.run);
   apart : is_apart l.queue ≡ l.apart;
   stale : IsStale (part_of l.world) l.queue l.run;
   between : IsBetweenPasses l.queue;
   imports : is_lasting l.imports ≡ true → are_apart l.imports ≡ l.apart;
   behind : IsBehind (part_of l.world) l.imports (joined l.grown l.run.changed) l.run;
-  rounds : OnceGrown l.locations (g.D.SourceDatabase.workspace l.initial.db) (λ env. HasRounds env (part_of l.world) (at_rest (core_in l.initial.run)) (at_rest (core_in l.run)) l.rounds);
+  rounds : OnceGrown l.locations (g.D.SourceDatabase.workspace l.initial.db) (λ env. HasRounds env (part_of l.world) (at_rest (core_in l.initial.run))
+      (at_rest (core_in l.run)) l.rounds);
   first : NoneWaitsBefore (core_in l.run) l.first;
 }
 

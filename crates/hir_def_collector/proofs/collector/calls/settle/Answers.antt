@@ -8,6 +8,7 @@ use Rattle.hir_collector_rules.proofs.Changes.{count-Steps}
 use Rattle.hir_collector_items.proofs.CallSteps.{count_rested, rest_rested, rested, rested_past, settled_rested}
 use Rattle.hir_collector_rules.proofs.Moves.{Steps-append, spent_after}
 use Rattle.hir_collector_state.proofs.Noted.{slots_follow}
+use Rattle.hir_def_collector.proofs.Outside.{outside-Steps}
 use Rattle.hir_def_collector.proofs.Resuming.{behind_settled}
 use Rattle.hir_mod_collector.proofs.Walked.{nowhere}
 use Rattle.hir_def_collector.proofs.collector.calls.settle.Goals as goal
@@ -18,11 +19,13 @@ returns-clause-ok c = λ env.
     (rested env (part_of c.args.world) (core_in c.in_ok-run.run') (core_in c.rest.new.self) c.in_ok-run.ensures.rests c.in_ok-rest.ensures.ok)
 
 pub returns-clause-rests : goal.returns-clause-rests
-returns-clause-rests c = rest_rested (part_of c.args.world) (core_in c.in_ok-run.run') (core_in c.rest.new.self) c.in_ok-rest.ensures.ok c.in_ok-run.ensures.rests
+returns-clause-rests c =
+    rest_rested (part_of c.args.world) (core_in c.in_ok-run.run') (core_in c.rest.new.self) c.in_ok-rest.ensures.ok c.in_ok-run.ensures.rests
 
 pub returns-in_err-rest-clause-many : goal.returns-in_err-rest-clause-many
 returns-in_err-rest-clause-many c = λ h env.
-    spent_after (c.in_ok-run.ensures.ok env) (rested_past env (part_of c.args.world) (core_in c.in_ok-run.run') c.in_ok-run.ensures.rests (c.in_err-rest.ensures.many (search rules)))
+    spent_after (c.in_ok-run.ensures.ok env) (rested_past env (part_of c.args.world) (core_in c.in_ok-run.run') c.in_ok-run.ensures.rests
+    (c.in_err-rest.ensures.many (search rules)))
 
 pub returns-clause-settled : goal.returns-clause-settled
 returns-clause-settled c = settled_rested (core_in c.in_ok-run.run') (core_in c.rest.new.self) c.in_ok-rest.ensures.ok
@@ -30,7 +33,8 @@ returns-clause-settled c = settled_rested (core_in c.in_ok-run.run') (core_in c.
 pub returns-clause-counts : goal.returns-clause-counts
 returns-clause-counts c =
     let before : (core_in c.args.run).count ≤ (core_in c.in_ok-run.run').count = count-Steps (c.in_ok-run.ensures.ok nowhere) in
-    let on : (core_in c.in_ok-run.run').count ≤ (core_in c.rest.new.self).count = count_rested (core_in c.in_ok-run.run') (core_in c.rest.new.self) c.in_ok-rest.ensures.ok in
+    let on : (core_in c.in_ok-run.run').count ≤ (core_in c.rest.new.self).count = count_rested (core_in c.in_ok-run.run') (core_in c.rest.new.self)
+    c.in_ok-rest.ensures.ok in
     omega (arith, before, on)
 
 pub returns-clause-noted : goal.returns-clause-noted
@@ -38,5 +42,6 @@ returns-clause-noted c = slots_follow c.in_ok-run.ensures.noted c.in_ok-rest.ens
 
 pub returns-clause-behind : goal.returns-clause-behind
 returns-clause-behind c = λ paired changed now same.
-    behind_settled (part_of c.args.world) c.in_ok-run.imports changed (core_in c.in_ok-run.run') (core_in c.rest.new.self) now c.in_ok-run.ensures.up_to_date c.in_ok-run.ensures.rests.stands c.in_ok-rest.ensures.ok
-    same paired
+    behind_settled (part_of c.args.world) c.in_ok-run.imports changed (core_in c.in_ok-run.run') (core_in c.rest.new.self) now c.in_ok-run.ensures.up_to_date
+    c.in_ok-run.ensures.rests.stands
+    (λ yes. outside-Steps (c.in_ok-run.ensures.ok nowhere) (c.requires.apart (sym c.in_ok-run.ensures.apart ∙ yes)).outside) c.in_ok-rest.ensures.ok same paired

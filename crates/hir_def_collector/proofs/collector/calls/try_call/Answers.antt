@@ -39,12 +39,15 @@ returns-in-Nothing-clause-noted g c = noted_beside (noted_itself c.args.run.now)
 pub do_due-requires-clause-waits : goal.do_due-requires-clause-waits
 do_due-requires-clause-waits g c =
     let old : Core = core_in c.args.run.now in
-    subst (λ (d : MacroDirective). IsDue (at_rest old) c.args.i d) (sym c.in_ok-call.ensures.value) (record { visited = refl; waiting = c.in-Some.ensures.waits; settled = c.requires.settled })
+    subst (λ (d : MacroDirective). IsDue (at_rest old) c.args.i d) (sym c.in_ok-call.ensures.value)
+    (record { visited = refl; waiting = c.in-Some.ensures.waits; settled = c.requires.settled })
 
 pub do_due-requires-clause-due : goal.do_due-requires-clause-due
 do_due-requires-clause-due g c =
-    subst (λ (d : MacroDirective). IsDueOf (part_of c.args.world) (core_in c.args.run.now) d c.due_of-due.result) (sym c.in_ok-call.ensures.value) c.due_of-due.ensures.value
+    subst (λ (d : MacroDirective). IsDueOf (part_of c.args.world) (core_in c.args.run.now) d c.due_of-due.result) (sym c.in_ok-call.ensures.value)
+    c.due_of-due.ensures.value
 
 pub do_due-requires-clause-below : goal.do_due-requires-clause-below
 do_due-requires-clause-below g c =
-    subst (λ (d : MacroDirective). (makro : MacroId) → c.due_of-due.result ≡ Reaches makro → d.site.level < 4294967295) (sym c.in_ok-call.ensures.value) c.due_of-due.ensures.below
+    subst (λ (d : MacroDirective). (makro : MacroId) → c.due_of-due.result ≡ Reaches makro → d.site.level < 4294967295) (sym c.in_ok-call.ensures.value)
+    c.due_of-due.ensures.below

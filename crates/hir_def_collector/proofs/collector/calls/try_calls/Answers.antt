@@ -11,9 +11,10 @@ use Rattle.hir_collector_rules.specs.Keys.{environment}
 use Rattle.hir_collector_rules.specs.Moves.{OnceGrown}
 use Rattle.hir_collector_rules.specs.State.{at_rest, core_in}
 use Rattle.hir_collector_rules.specs.Steps.{Steps, none}
+use Rattle.hir_collector_rules.specs.UnknownSources.{LeadsToUnknownSource}
 use Rattle.hir_collector_rules.specs.Workspace.{Workspace}
 use Rattle.hir_collector_rules.proofs.Changes.{id-Steps}
-use Rattle.hir_collector_rules.proofs.Moves.{Steps-append, spent_after}
+use Rattle.hir_collector_rules.proofs.Moves.{Steps-append, spent_after, unknown_after}
 use Rattle.hir_collector_rules.proofs.Numbers.{tables_stay}
 use Rattle.hir_def_collector.proofs.Queued.{AreTried, left_or_tried, tried_all, tried_first, tried_next}
 use Rattle.hir_def_collector.proofs.Ready.{ready_after, ready_grown}
@@ -34,30 +35,39 @@ tries-init g c =
       placed = λ placed. placed;
       steps = λ grown k. none;
       ready = c.requires.ready;
-      own = refl;
       more = omega arith;
       bounded = omega (arith, c.requires.settled);
       apart = refl;
-      up_to_date = up_to_date_opened (part_of c.args.world) c.args.queue.now c.open.new.self (core_in c.args.run.now) c.requires.up_to_date c.requires.between.over c.open.ensures.value;
+      up_to_date =
+          up_to_date_opened (part_of c.args.world) c.args.queue.now c.open.new.self (core_in c.args.run.now) c.requires.up_to_date c.requires.between.over
+          c.open.ensures.value;
       gathered = λ imports behind. behind;
-      end = let all : (worklist_of c.open.new.self).end ≡ count_of (worklist_of c.args.queue.now) = ap (λ (q : Queue). q.end) opens in omega (arith, all, c.requires.all, c.requires.settled);
+      end =
+          let all : (worklist_of c.open.new.self).end ≡ count_of (worklist_of c.args.queue.now) = ap (λ (q : Queue). q.end) opens
+          in omega (arith, all, c.requires.all, c.requires.settled);
       tried = λ grown k.
-          subst (λ (q : Queue). AreTried (environment grown (g.D.SourceDatabase.workspace c.args.db.now)) (part_of c.args.world) (core_in c.args.run.now) (core_in c.args.run.now) q.current false) (sym opens)
-          (tried_first (environment grown (g.D.SourceDatabase.workspace c.args.db.now)) (part_of c.args.world) (core_in c.args.run.now) c.args.queue.now c.requires.up_to_date c.requires.between.over c.requires.all);
+          subst (λ (q : Queue). AreTried (environment grown (g.D.SourceDatabase.workspace c.args.db.now)) (part_of c.args.world) (core_in c.args.run.now)
+          (core_in c.args.run.now) q.current false) (sym opens)
+          (tried_first (environment grown (g.D.SourceDatabase.workspace c.args.db.now)) (part_of c.args.world) (core_in c.args.run.now) c.args.queue.now
+          c.requires.up_to_date c.requires.between.over c.requires.all);
     }
 
 pub try_queued-requires-clause-settled : goal.try_queued-requires-clause-settled
 try_queued-requires-clause-settled g c =
-    let below : c.in-Some.i < (worklist_of c.tries.queue).end = taken_below (worklist_of c.tries.queue) (worklist_of c.take.new.self) c.in-Some.i c.in-Some.ensures.some in
+    let below : c.in-Some.i < (worklist_of c.tries.queue).end = taken_below (worklist_of c.tries.queue) (worklist_of c.take.new.self) c.in-Some.i
+    c.in-Some.ensures.some in
     omega (arith, below, c.tries.invariant.end, c.tries.invariant.more)
 
 pub try_queued-requires-clause-apart : goal.try_queued-requires-clause-apart
 try_queued-requires-clause-apart g c =
-    apart_later (part_of c.args.world) c.args.queue.now c.take.new.self (core_in c.args.run.now) (core_in c.tries.run) (ap is_apart c.in-Some.ensures.rest ∙ c.tries.invariant.apart ∙ ap is_apart c.open.ensures.value) c.tries.invariant.own c.requires.apart
+    apart_later (part_of c.args.world) c.args.queue.now c.take.new.self (core_in c.args.run.now) (core_in c.tries.run)
+    (ap is_apart c.in-Some.ensures.rest ∙ c.tries.invariant.apart ∙ ap is_apart c.open.ensures.value)
+    (c.tries.invariant.steps c.tries.locations (tables_stay c.tries.locations)) c.requires.apart
 
 pub try_queued-requires-clause-up_to_date : goal.try_queued-requires-clause-up_to_date
 try_queued-requires-clause-up_to_date g c =
-    up_to_date_taken (part_of c.args.world) c.tries.queue c.take.new.self (core_in c.tries.run) c.tries.invariant.up_to_date c.in-Some.i c.in-Some.ensures.some c.in-Some.ensures.rest
+    up_to_date_taken (part_of c.args.world) c.tries.queue c.take.new.self (core_in c.tries.run) c.tries.invariant.up_to_date c.in-Some.i c.in-Some.ensures.some
+    c.in-Some.ensures.rest
 
 pub tries-preserved : goal.tries-preserved
 tries-preserved g c =
@@ -80,18 +90,21 @@ tries-preserved g c =
       placed = λ placed. c.in_ok-done.ensures.placed (c.tries.invariant.placed placed);
       steps = λ grown k. Steps-append (c.tries.invariant.steps grown (KeepsTables-trans c.tries.locations later grown kept k)) (step grown k);
       ready = ready_after here (ready_grown kept c.tries.invariant.ready);
-      own = id-Steps here ∙ c.tries.invariant.own;
       more = let longer : now.settled ≤ new.settled = settled_more here c.tries.invariant.bounded in omega (arith, longer, c.tries.invariant.more);
       bounded = settled_bounded here c.tries.invariant.bounded;
       apart = on.apart ∙ ap is_apart c.in-Some.ensures.rest ∙ c.tries.invariant.apart;
       up_to_date = c.in_ok-done.ensures.up_to_date;
       gathered = λ imports behind. c.in_ok-done.ensures.gathered imports (c.tries.invariant.gathered imports behind);
-      end = let same : (worklist_of c.try_queued.new.queue).end ≡ (worklist_of c.tries.queue).end = on.pass.end ∙ takes.end in omega (arith, same, c.tries.invariant.end);
+      end =
+          let same : (worklist_of c.try_queued.new.queue).end ≡ (worklist_of c.tries.queue).end = on.pass.end ∙ takes.end
+          in omega (arith, same, c.tries.invariant.end);
       tried = λ grown k.
           subst (AreTried (environment grown w) part old new (worklist_of c.try_queued.new.queue).current) (sym c.either-progress.ensures.value)
-          (tried_next (environment grown w) part old now new c.in-Some.i (omega (arith, below, c.tries.invariant.end, c.requires.settled)) c.requires.ready.fated
+          (tried_next (environment grown w) part old now new c.in-Some.i (omega (arith, below, c.tries.invariant.end, c.requires.settled))
+          c.requires.ready.fated
           (worklist_of c.tries.queue).current (worklist_of c.try_queued.new.queue).current
-          (λ j out. left_or_tried (worklist_of c.tries.queue) (worklist_of c.take.new.self) (worklist_of c.try_queued.new.queue) c.in-Some.i takes on.queued j out)
+          (λ j out. left_or_tried (worklist_of c.tries.queue) (worklist_of c.take.new.self) (worklist_of c.try_queued.new.queue) c.in-Some.i takes on.queued j
+          out)
           (c.tries.invariant.steps grown (KeepsTables-trans c.tries.locations later grown kept k)) (step grown k) c.in_ok-done.done c.tries.progress
           (c.tries.invariant.tried grown (KeepsTables-trans c.tries.locations later grown kept k)) c.in_ok-done.ensures.tried);
     }
@@ -114,17 +127,27 @@ returns-in_err-done-clause-many g c = λ h grown k.
     let part = part_of c.args.world in
     let later = c.try_queued.new.locations in
     let far : OnceGrown later w (λ env. IsSpent env part (at_rest (core_in c.tries.run))) =
-    subst (λ (v : Workspace). OnceGrown later v (λ env. IsSpent env part (at_rest (core_in c.tries.run)))) c.tries.invariant.same (c.in_err-done.ensures.many (search rules)) in
+    subst (λ (v : Workspace). OnceGrown later v (λ env. IsSpent env part (at_rest (core_in c.tries.run)))) c.tries.invariant.same
+    (c.in_err-done.ensures.many (search rules)) in
     spent_after (c.tries.invariant.steps grown (KeepsTables-trans c.tries.locations later grown c.in_err-done.ensures.kept k)) (far grown k)
+
+pub returns-in_err-done-clause-unknown : goal.returns-in_err-done-clause-unknown
+returns-in_err-done-clause-unknown g c = λ h.
+    let later = c.try_queued.new.locations in
+    unknown_after (c.tries.invariant.steps later c.in_err-done.ensures.kept)
+    (subst (λ (v : Workspace). LeadsToUnknownSource (environment later v) (part_of c.args.world) (at_rest (core_in c.tries.run))) c.tries.invariant.same
+    (c.in_err-done.ensures.unknown (search rules)))
 
 pub returns-clause-tried : goal.returns-clause-tried
 returns-clause-tried g c = λ grown k.
-    tried_all (environment grown (g.D.SourceDatabase.workspace c.args.db.now)) (part_of c.args.world) (core_in c.args.run.now) (core_in c.tries.run) (worklist_of c.tries.queue).current c.tries.progress
+    tried_all (environment grown (g.D.SourceDatabase.workspace c.args.db.now)) (part_of c.args.world) (core_in c.args.run.now) (core_in c.tries.run)
+    (worklist_of c.tries.queue).current c.tries.progress
     c.in_default.ensures.over (c.tries.invariant.steps grown k) (c.tries.invariant.tried grown k)
 
 pub returns-clause-up_to_date : goal.returns-clause-up_to_date
 returns-clause-up_to_date g c =
-    up_to_date_closed (part_of c.args.world) c.tries.queue c.take.new.self (core_in c.tries.run) c.tries.invariant.up_to_date c.in_default.ensures.none c.in_default.ensures.rest
+    up_to_date_closed (part_of c.args.world) c.tries.queue c.take.new.self (core_in c.tries.run) c.tries.invariant.up_to_date c.in_default.ensures.none
+    c.in_default.ensures.rest
 
 pub returns-clause-between : goal.returns-clause-between
 returns-clause-between g c = record {

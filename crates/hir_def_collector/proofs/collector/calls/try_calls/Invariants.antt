@@ -16,16 +16,17 @@ invariant-tries g l = record {
   kept : KeepsTables l.initial.locations l.locations;
   same : g.D.SourceDatabase.workspace l.db ≡ g.D.SourceDatabase.workspace l.initial.db;
   placed : AreCallsPlaced l.initial.locations → AreCallsPlaced l.locations;
-  steps : OnceGrown l.locations (g.D.SourceDatabase.workspace l.initial.db) (λ env. Steps env (part_of l.world) (at_rest (core_in l.initial.run)) (at_rest (core_in l.run)));
+  steps : OnceGrown l.locations (g.D.SourceDatabase.workspace l.initial.db) (λ env. Steps env (part_of l.world) (at_rest (core_in l.initial.run))
+      (at_rest (core_in l.run)));
   ready : IsReady l.locations (part_of l.world) (core_in l.run);
-  own : (core_in l.run).map.id ≡ (core_in l.initial.run).map.id;
   more : (core_in l.initial.run).settled ≤ (core_in l.run).settled;
   bounded : (core_in l.run).settled ≤ length (core_in l.run).calls;
   apart : is_apart l.queue ≡ is_apart l.initial.queue;
   up_to_date : IsUpToDate (part_of l.world) l.queue (core_in l.run) None;
   gathered : IsGathered (part_of l.world) l.initial.grown l.initial.run l.grown l.run;
   end : (worklist_of l.queue).end ≤ (core_in l.initial.run).settled;
-  tried : OnceGrown l.locations (g.D.SourceDatabase.workspace l.initial.db) (λ env. AreTried env (part_of l.world) (core_in l.initial.run) (core_in l.run) (worklist_of l.queue).current l.progress);
+  tried : OnceGrown l.locations (g.D.SourceDatabase.workspace l.initial.db) (λ env. AreTried env (part_of l.world) (core_in l.initial.run) (core_in l.run)
+      (worklist_of l.queue).current l.progress);
 }
 
 -- each try takes a place behind those that were tried

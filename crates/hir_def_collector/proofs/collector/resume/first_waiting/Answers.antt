@@ -10,7 +10,8 @@ places-preserved c =
     none_waits_past (core_in c.args.run.now) c.places.i c.places.invariant there (c.is_attribute_waiting.ensures.none c.if-is_attribute_waiting.false)
 
 pub returns-then-is_attribute_waiting-clause-found : goal.returns-then-is_attribute_waiting-clause-found
-returns-then-is_attribute_waiting-clause-found c = record { waits = c.is_attribute_waiting.ensures.waits c.if-is_attribute_waiting.true; first = c.places.invariant }
+returns-then-is_attribute_waiting-clause-found c =
+    record { waits = c.is_attribute_waiting.ensures.waits c.if-is_attribute_waiting.true; first = c.places.invariant }
 
 pub returns-clause-none : goal.returns-clause-none
 returns-clause-none c = λ gone.

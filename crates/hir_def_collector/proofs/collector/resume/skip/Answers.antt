@@ -6,8 +6,8 @@ use Rattle.hir_item_tree.specs.SourceTree.{SourceTreeValue}
 use Rattle.hir_def_map.specs.WorldParts.{part_of}
 use Rattle.hir_collector_rules.specs.declared.start.TheConstants.{STEP_LIMIT}
 use Rattle.hir_collector_rules.specs.declared.macro_directive.Fate.TheVariants.{Handled, Waits}
-use Rattle.hir_collector_rules.specs.declared.macro_directive.WaitingItem.{WaitingItem}
 use Rattle.hir_collector_rules.specs.declared.site.Site.{Site}
+use Rattle.hir_collector_rules.specs.declared.macro_directive.WaitingItem.{WaitingItem}
 use Rattle.hir_collector_rules.specs.Calls.{IsMeantAt, IsMeantCall, item_kept}
 use Rattle.hir_collector_rules.specs.Derivation.{IsSpent}
 use Rattle.hir_collector_rules.specs.Keys.{environment}
@@ -38,7 +38,8 @@ walk_item-requires-clause-meant g c =
 pub walk_item-requires-clause-there : goal.walk_item-requires-clause-there
 walk_item-requires-clause-there g c =
     let meant : IsMeantCall c.args.locations.now c.args.call.now = c.requires.ready.meant c.args.i c.args.call.now c.requires.due.waiting.call in
-    subst (λ (s : SourceTreeValue). c.args.item.now.id.0 < length (all_items s.tree.items)) (sym c.tree.ensures.value) (kept_inside c.args.item.now (meant.item c.args.item.now c.requires.of))
+    subst (λ (s : SourceTreeValue). c.args.item.now.id.0 < length (all_items s.tree.items)) (sym c.tree.ensures.value)
+    (kept_inside c.args.item.now (meant.item c.args.item.now c.requires.of))
 
 pub returns-in_err-tick-clause-many : goal.returns-in_err-tick-clause-many
 returns-in_err-tick-clause-many g c = λ h grown k.
@@ -48,7 +49,8 @@ returns-in_err-tick-clause-many g c = λ h grown k.
     let kept = kept_item c.args.item.now (meant.item c.args.item.now c.requires.of) in
     let may : Skips (part_of c.args.world) (at_rest old) c.args.i d c.args.item.now kept.0 =
     record { due = c.requires.due; of = record { waits = c.requires.of; kept = kept.1 }; passed = c.requires.passed } in
-    past_rule (environment grown (g.D.SourceDatabase.workspace c.args.db.now)) (part_of c.args.world) old (skips_attribute c.args.i d c.args.item.now kept.0) may tt tt
+    past_rule (environment grown (g.D.SourceDatabase.workspace c.args.db.now)) (part_of c.args.world) old (skips_attribute c.args.i d c.args.item.now kept.0)
+    may tt tt
     (subst (λ (x : Core). STEP_LIMIT ≤ x.count) c.end_call.ensures.value (c.in_err-tick.ensures.many (search rules)))
 
 pub returns-in_err-walk_item-clause-many : goal.returns-in_err-walk_item-clause-many
@@ -61,8 +63,10 @@ returns-in_err-walk_item-clause-many g c = λ h grown k.
     record { due = c.requires.due; of = record { waits = c.requires.of; kept = kept.1 }; passed = c.requires.passed } in
     let env = environment grown (g.D.SourceDatabase.workspace c.args.db.now) in
     went_too_far c.args.item.now kept.0 c.in_ok-site.site d c.in_ok-site.ensures.value kept.1
-    (skipped env (part_of c.args.world) old c.args.i d c.args.item.now kept.0 (core_in c.end_call.new.self) (core_in c.tick.new.self) may c.end_call.ensures.value c.in_ok-tick.ensures.ok)
-    (subst (λ (s : SourceTreeValue). WalksTooFar env (part_of c.args.world) (core_in c.tick.new.self) (visits_behind s.tree c.in_ok-site.site c.args.item.now.id.0 c.args.item.now.done)) c.tree.ensures.value
+    (skipped env (part_of c.args.world) old c.args.i d c.args.item.now kept.0 (core_in c.end_call.new.self) (core_in c.tick.new.self) may
+    c.end_call.ensures.value c.in_ok-tick.ensures.ok)
+    (subst (λ (s : SourceTreeValue). WalksTooFar env (part_of c.args.world) (core_in c.tick.new.self)
+    (visits_behind s.tree c.in_ok-site.site c.args.item.now.id.0 c.args.item.now.done)) c.tree.ensures.value
     (c.in_err-walk_item.ensures.many (search rules) grown k))
 
 pub returns-clause-ok : goal.returns-clause-ok
@@ -75,8 +79,10 @@ returns-clause-ok g c = λ grown k.
     record { due = c.requires.due; of = record { waits = c.requires.of; kept = kept.1 }; passed = c.requires.passed } in
     let env = environment grown (g.D.SourceDatabase.workspace c.args.db.now) in
     went_on c.args.item.now kept.0 c.in_ok-site.site d c.in_ok-site.ensures.value kept.1
-    (skipped env (part_of c.args.world) old c.args.i d c.args.item.now kept.0 (core_in c.end_call.new.self) (core_in c.tick.new.self) may c.end_call.ensures.value c.in_ok-tick.ensures.ok)
-    (subst (λ (s : SourceTreeValue). Walks env (part_of c.args.world) (core_in c.tick.new.self) (core_in c.walk_item.new.run) (visits_behind s.tree c.in_ok-site.site c.args.item.now.id.0 c.args.item.now.done)) c.tree.ensures.value
+    (skipped env (part_of c.args.world) old c.args.i d c.args.item.now kept.0 (core_in c.end_call.new.self) (core_in c.tick.new.self) may
+    c.end_call.ensures.value c.in_ok-tick.ensures.ok)
+    (subst (λ (s : SourceTreeValue). Walks env (part_of c.args.world) (core_in c.tick.new.self) (core_in c.walk_item.new.run)
+    (visits_behind s.tree c.in_ok-site.site c.args.item.now.id.0 c.args.item.now.done)) c.tree.ensures.value
     (c.in_ok-walk_item.ensures.ok grown k))
 
 -- it stays handled

@@ -36,8 +36,12 @@ loop-turn-preserved g c = λ open_line.
     let n = c.in-Ok.count in
     let w1 = g.W.Write.contents c.loop-turn.writer in
     let w2 = g.W.Write.contents c.feed.new.writer in
-    let more = c.in-Ok-feed.ensures.ok _ fed.open_line in
-    (input ++ take n buf, Consumes-trans _ _ _ input (take n buf) consumed c.in-Ok.ensures.bytes.0, Fed-append c.args.self.now now c.feed.new.self [] input (take n buf) _ w1 w2 fed more)
+    let more = c.in-Ok-feed.ensures.ok _ fed.open_line in (
+      input ++ take n buf,
+      Consumes-trans _ _ _ input (take n buf) consumed c.in-Ok.ensures.bytes.0,
+      Fed-append c.args.self.now now c.feed.new.self [] input
+          (take n buf) _ w1 w2 fed more,
+    )
 
 pub returns-in-Err-feed : goal.returns-in-Err-feed
 returns-in-Err-feed g c = record {
@@ -72,6 +76,7 @@ returns-then-count-eq0 g c = record {
       let end : IsAtEnd r2 = c.in-Ok.ensures.bytes.1 c.if-count-eq0.true room in (
         input,
         subst (Consumes r0 r2) (ap (λ bs. input ++ bs) none ∙ append-nil input) all,
-        ends_at holds c.finish.result c.args.self.now now input r2 _ _ _ first end fed (c.finish.ensures.ok _ fed.open_line) (c.finish.ensures.err _ fed.open_line),
+        ends_at holds c.finish.result c.args.self.now now input r2 _ _ _ first end fed (c.finish.ensures.ok _ fed.open_line)
+            (c.finish.ensures.err _ fed.open_line),
       );
 }

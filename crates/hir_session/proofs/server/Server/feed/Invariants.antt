@@ -6,7 +6,8 @@ use Rattle.hir_session.proofs.server.Server.feed.Given as goal
 abbrev pub invariant-loop-line : goal.invariant-loop-line
 invariant-loop-line g l =
     (part : List ℕ) → Holds l.initial.self.line part
-    → (done : List ℕ) × (l.initial.rest ≡ done ++ l.rest) × Fed l.initial.self part done l.self (g.W.Write.contents l.initial.writer) (g.W.Write.contents l.writer)
+    → (done : List ℕ) × (l.initial.rest ≡ done ++ l.rest) × Fed l.initial.self part done l.self (g.W.Write.contents l.initial.writer)
+    (g.W.Write.contents l.writer)
 
 abbrev pub decreases-loop-line : goal.decreases-loop-line
 decreases-loop-line g l = length l.rest

@@ -14,5 +14,13 @@ pub returns-clause-err : goal.returns-clause-err
 returns-clause-err g c = λ line h.
     let answered = c.answer-reply.ensures in
     IfErr-weaker c.write_reply-written.result _ _
-    (λ e p. (p.0, (p.1.told, c.answer-reply.new.self.machine, told_of _ line _ p.1.told _ (answered.step line h) (answered.or_memory line h) p.1.told_as, p.1.written)))
+    (λ e p. (
+      p.0,
+      (
+        p.1.told,
+        c.answer-reply.new.self.machine,
+        told_of _ line _ p.1.told _ (answered.step line h) (answered.or_memory line h) p.1.told_as,
+        p.1.written,
+      ),
+    ))
     c.write_reply-written.ensures.err

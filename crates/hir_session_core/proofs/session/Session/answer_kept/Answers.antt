@@ -17,7 +17,8 @@ returns-clause-answer c =
     let at = c.in-Some.at in
     let found = resolution_of c.in-Some-get.found in
     let kept = sym c.in-Some-get.ensures.value in
-    let named = subst (λ (s : SessionState). module_of s c.args.place.now ≡ Some at) (sym c.self.view_is) (sym (c.in-Some.ensures.value ∙ ap module_by c.standing.ensures.value)) in
+    let named = subst (λ (s : SessionState). module_of s c.args.place.now ≡ Some at) (sym c.self.view_is)
+    (sym (c.in-Some.ensures.value ∙ ap module_by c.standing.ensures.value)) in
     let transitive = c.deref.ensures ∙ constant (config_in c.crates.result.now at.map.krate) c.in-Some-transitive_dependencies.ensures.value
     ∙ ap (λ (cs : List CrateValue). transitive_in cs at.map.krate.0) c.crates.ensures.value in
     subst (λ (s : SessionState). answer_kept s c.args.place.now c.args.path.now c.args.shadow c.args.style ≡ Ok c.in_ok-answer.answer) c.self.view_is

@@ -8,9 +8,12 @@ use Rattle.hir_session_core.proofs.session.Session.drop_expansion.Goals as goal
 
 pub invariant_of-self : goal.invariant_of-self
 invariant_of-self c = (
-  rw c.remove_expansion.ensures.value (edited_sound _ (of_expansion (expansion_value c.args.key.now) None) _ _ c.self.invariant.0 c.in_ok-hits.ensures.hit c.forget.ensures.forgotten),
+  rw c.remove_expansion.ensures.value (edited_sound _ (of_expansion (expansion_value c.args.key.now) None) _ _ c.self.invariant.0 c.in_ok-hits.ensures.hit
+      c.forget.ensures.forgotten),
   noted_fewer _ _ _ c.self.invariant.1 _ c.forget.ensures.forgotten.fewer,
 )
 
 pub returns-clause-ok : goal.returns-clause-ok
-returns-clause-ok c = rw c.remove_expansion.ensures.value (edited_becomes _ (of_expansion (expansion_value c.args.key.now) None) _ _ _ c.self.view_is c.self.invariant.0 c.in_ok-hits.ensures.hit c.forget.ensures.forgotten)
+returns-clause-ok c =
+    rw c.remove_expansion.ensures.value (edited_becomes _ (of_expansion (expansion_value c.args.key.now) None) _ _ _ c.self.view_is c.self.invariant.0
+    c.in_ok-hits.ensures.hit c.forget.ensures.forgotten)

@@ -14,7 +14,8 @@ use Rattle.hir_session_core.proofs.session.Session.due_at.Goals as goal
 
 pub due_block-requires : goal.due_block-requires
 due_block-requires c =
-    let same = c.blocks-blocks.ensures.value ∙ ap (λ (t : SourceTable). t.blocks) c.sources.ensures.value ∙ ap (λ (s : SessionState). s.sources.blocks) c.self.view_is in
+    let same = c.blocks-blocks.ensures.value ∙ ap (λ (t : SourceTable). t.blocks) c.sources.ensures.value ∙ ap (λ (s : SessionState). s.sources.blocks)
+    c.self.view_is in
     record {
       set = subst (λ (bs : Blocks). is_set bs c.in-Some.place.now ≡ true) same
           (found_set c.blocks-blocks.result.now c.in-Some.place.now (steps_in c.krate.result c.elements.result.now) c.in-Some.ensures.value).0;
@@ -28,14 +29,21 @@ returns-in-Some c =
     record {
       sound = subst (λ (s : SessionState). IsSound s) c.self.view_is c.self.invariant.0;
       place = on_some c.due_block.result (λ due same. ap place_of_block same ∙ root) c.due_block.ensures.place;
-      due = on_both c.due_block.result c.due_block.ensures.place c.due_block.ensures.due (λ due same is. subst (λ (b : BlockPlace). IsDueBlock c.args.self.now b) (sym same) is);
-      held = on_both c.due_block.result c.due_block.ensures.place c.due_block.ensures.held (λ due same is. ap (λ (b : BlockPlace). module_of c.args.self.now b.holder) same ∙ is);
-      none = λ is b of due. c.due_block.ensures.none is (subst (λ (x : BlockPlace). IsDueBlock c.args.self.now x) (same_root b c.in-Some.place.now (of ∙ sym root)) due);
+      due =
+          on_both c.due_block.result c.due_block.ensures.place c.due_block.ensures.due (λ due same is. subst (λ (b : BlockPlace). IsDueBlock c.args.self.now b)
+          (sym same) is);
+      held =
+          on_both c.due_block.result c.due_block.ensures.place c.due_block.ensures.held
+          (λ due same is. ap (λ (b : BlockPlace). module_of c.args.self.now b.holder) same ∙ is);
+      none =
+          λ is b of due. c.due_block.ensures.none is (subst (λ (x : BlockPlace). IsDueBlock c.args.self.now x) (same_root b c.in-Some.place.now (of ∙ sym root))
+          due);
     }
 
 pub returns-in-None : goal.returns-in-None
 returns-in-None c =
-    let same = c.blocks-blocks.ensures.value ∙ ap (λ (t : SourceTable). t.blocks) c.sources.ensures.value ∙ ap (λ (s : SessionState). s.sources.blocks) c.self.view_is in
+    let same = c.blocks-blocks.ensures.value ∙ ap (λ (t : SourceTable). t.blocks) c.sources.ensures.value ∙ ap (λ (s : SessionState). s.sources.blocks)
+    c.self.view_is in
     record {
       sound = subst (λ (s : SessionState). IsSound s) c.self.view_is c.self.invariant.0;
       place = tt;

@@ -11,13 +11,15 @@ use Rattle.hir_session_core.proofs.session.Session.file_of.Goals as goal
 
 pub unwrap-requires : goal.unwrap-requires
 unwrap-requires c =
-    let d = defined_there c.args.self.now (subst (λ (s : SessionState). IsSound s) c.self.view_is c.self.invariant.0) c.args.m c.requires.there.found c.requires.there.is c.requires.there.there in
+    let d = defined_there c.args.self.now (subst (λ (s : SessionState). IsSound s) c.self.view_is c.self.invariant.0) c.args.m c.requires.there.found
+    c.requires.there.is c.requires.there.there in
     subst (λ (o : Option EditionedFileId). IsSome o)
     (sym (c.definition_file_at.ensures.value ∙ ap (λ (s : SessionState). definition_file s.tables s.kept c.args.m) c.self.view_is ∙ d.is)) refl
 
 pub returns : goal.returns
 returns c =
-    let d = defined_there c.args.self.now (subst (λ (s : SessionState). IsSound s) c.self.view_is c.self.invariant.0) c.args.m c.requires.there.found c.requires.there.is c.requires.there.there in
+    let d = defined_there c.args.self.now (subst (λ (s : SessionState). IsSound s) c.self.view_is c.self.invariant.0) c.args.m c.requires.there.found
+    c.requires.there.is c.requires.there.there in
     let is = sym (c.definition_file_at.ensures.value ∙ ap (λ (s : SessionState). definition_file s.tables s.kept c.args.m) c.self.view_is) ∙ c.unwrap.ensures in
     record {
       is = is;

@@ -12,9 +12,12 @@ invariant_of-self c = rw c.in_err-set_expansion.ensures.err c.self.invariant
 
 pub invariant_of-self-2 : goal.invariant_of-self-2
 invariant_of-self-2 c = (
-  rw c.in_ok-set_expansion.ensures.ok (edited_sound _ (of_expansion (expansion_value c.args.key) (Some (entry_view c.args.entry))) _ _ c.self.invariant.0 c.in_ok-hits.ensures.hit c.forget.ensures.forgotten),
+  rw c.in_ok-set_expansion.ensures.ok (edited_sound _ (of_expansion (expansion_value c.args.key) (Some (entry_view c.args.entry))) _ _ c.self.invariant.0
+      c.in_ok-hits.ensures.hit c.forget.ensures.forgotten),
   noted_fewer _ _ _ c.self.invariant.1 _ c.forget.ensures.forgotten.fewer,
 )
 
 pub returns-clause-ok : goal.returns-clause-ok
-returns-clause-ok c = rw c.in_ok-set_expansion.ensures.ok (edited_becomes _ (of_expansion (expansion_value c.args.key) (Some (entry_view c.args.entry))) _ _ _ c.self.view_is c.self.invariant.0 c.in_ok-hits.ensures.hit c.forget.ensures.forgotten)
+returns-clause-ok c =
+    rw c.in_ok-set_expansion.ensures.ok (edited_becomes _ (of_expansion (expansion_value c.args.key) (Some (entry_view c.args.entry))) _ _ _ c.self.view_is
+    c.self.invariant.0 c.in_ok-hits.ensures.hit c.forget.ensures.forgotten)

@@ -18,11 +18,13 @@ keep-requires-clause-free c =
     let inside = state_of c.self.inside.inputs c.self.inside.tables c.self.inside.kept in
     let found : IsResolutionOf inside c.args.id (held_in inside (collected_view c.args.found)) =
     subst (λ (s : SessionState). IsResolutionOf s c.args.id (held_in s (collected_view c.args.found))) back c.requires.found in
-    free_own inside c.args.id (held_in inside (collected_view c.args.found)) found.own (subst (λ (s : SessionState). is_marked s c.args.id ≡ true) back c.requires.marked)
+    free_own inside c.args.id (held_in inside (collected_view c.args.found)) found.own (subst (λ (s : SessionState). is_marked s c.args.id ≡ true) back
+    c.requires.marked)
 
 pub keep-requires-clause-complete : goal.keep-requires-clause-complete
 keep-requires-clause-complete c =
-    may_join _ c.args.id _ (subst (λ (s : SessionState). IsResolutionOf s c.args.id (held_in s (collected_view c.args.found))) (sym c.self.view_is) c.requires.found)
+    may_join _ c.args.id _ (subst (λ (s : SessionState). IsResolutionOf s c.args.id (held_in s (collected_view c.args.found))) (sym c.self.view_is)
+    c.requires.found)
 
 -- what the run asked for was noted before
 pub invariant_of-self : goal.invariant_of-self
@@ -42,7 +44,8 @@ invariant_of-self-2 c =
           (ap (kept_in c.keep.new.self) (sym found.own) ∙ c.in_ok-keep.ensures.here) (λ j ne. c.in_ok-keep.ensures.others j (λ e. ne (e ∙ found.own))),
       noted_kept _ _ _ (noted_more _ _ _ c.self.invariant.1 _ c.note.ensures.stay) c.keep.new.self c.args.found.map.id _
           c.in_ok-keep.ensures.here c.in_ok-keep.ensures.others
-          (λ key number among asks. subst (λ (id : MapId). is_asker c.note.new.self number id ≡ true) (sym found.own) (c.in_ok-note.ensures.all key number among asks)),
+          (λ key number among asks. subst (λ (id : MapId). is_asker c.note.new.self number id ≡ true) (sym found.own)
+          (c.in_ok-note.ensures.all key number among asks)),
     )
 
 pub returns-clause-ok : goal.returns-clause-ok
@@ -50,8 +53,10 @@ returns-clause-ok c =
     let inside = state_of c.self.inside.inputs c.self.inside.tables c.self.inside.kept in
     let found : IsResolutionOf inside c.args.id (held_in inside (collected_view c.args.found)) =
     subst (λ (s : SessionState). IsResolutionOf s c.args.id (held_in s (collected_view c.args.found))) (sym c.self.view_is) c.requires.found in
-    subst (λ (s : SessionState). Resolved s c.args.id (held_in s (collected_view c.args.found)) (state_of c.self.inside.inputs c.self.inside.tables c.keep.new.self)) c.self.view_is
-    (resolved_of inside c.keep.new.self c.args.id (held_in inside (collected_view c.args.found)) found.own c.in_ok-keep.ensures.here c.in_ok-keep.ensures.others)
+    subst (λ (s : SessionState). Resolved s c.args.id (held_in s (collected_view c.args.found))
+    (state_of c.self.inside.inputs c.self.inside.tables c.keep.new.self)) c.self.view_is
+    (resolved_of inside c.keep.new.self c.args.id (held_in inside (collected_view c.args.found)) found.own c.in_ok-keep.ensures.here
+    c.in_ok-keep.ensures.others)
 
 pub returns-clause-sound : goal.returns-clause-sound
 returns-clause-sound c = (invariant_of-self-2 c).0

@@ -10,13 +10,15 @@ use Rattle.hir_session_core.proofs.session.Session.number_of.Goals as goal
 
 pub invariant_of-self : goal.invariant_of-self
 invariant_of-self c = (
-  grown_sound looks_stand asked_keys_have_meaning answers_stand _ _ c.intern_block.ensures.kept (placed_still _ _ c.intern_block.ensures.kept c.intern_block.ensures.others) c.self.invariant.0,
+  grown_sound looks_stand asked_keys_have_meaning answers_stand _ _ c.intern_block.ensures.kept
+      (placed_still _ _ c.intern_block.ensures.kept c.intern_block.ensures.others) c.self.invariant.0,
   noted_grown _ _ _ c.self.invariant.1 _ c.intern_block.ensures.kept (kept_meant asked_keys_have_meaning _ c.self.invariant.0),
 )
 
 pub invariant_of-self-2 : goal.invariant_of-self-2
 invariant_of-self-2 c = (
-  grown_sound looks_stand asked_keys_have_meaning answers_stand _ _ c.intern_block.ensures.kept (placed_still _ _ c.intern_block.ensures.kept c.intern_block.ensures.others) c.self.invariant.0,
+  grown_sound looks_stand asked_keys_have_meaning answers_stand _ _ c.intern_block.ensures.kept
+      (placed_still _ _ c.intern_block.ensures.kept c.intern_block.ensures.others) c.self.invariant.0,
   noted_grown _ _ _ c.self.invariant.1 _ c.intern_block.ensures.kept (kept_meant asked_keys_have_meaning _ c.self.invariant.0),
 )
 
@@ -25,15 +27,18 @@ returns-clause-sound c = subst (λ (s : SessionState). IsSound s) c.self.view_is
 
 pub returns-clause-grown : goal.returns-clause-grown
 returns-clause-grown c =
-    grown_of looks_stand asked_keys_have_meaning answers_stand _ _ c.intern_block.ensures.kept (placed_still _ _ c.intern_block.ensures.kept c.intern_block.ensures.others) _ c.self.view_is c.self.invariant.0
+    grown_of looks_stand asked_keys_have_meaning answers_stand _ _ c.intern_block.ensures.kept
+    (placed_still _ _ c.intern_block.ensures.kept c.intern_block.ensures.others) _ c.self.view_is c.self.invariant.0
 
 pub returns-clause-number : goal.returns-clause-number
 returns-clause-number c =
-    interned_number c.self.inside.tables c.intern_block.new.self c.args.block c.in_ok-number.number c.in_ok-number.ensures.found (λ n at. one_value (ap given_number (sym (c.in_ok-number.ensures.again n at).0))) c.in_ok-number.ensures.grown
+    interned_number c.self.inside.tables c.intern_block.new.self c.args.block c.in_ok-number.number c.in_ok-number.ensures.found
+    (λ n at. one_value (ap given_number (sym (c.in_ok-number.ensures.again n at).0))) c.in_ok-number.ensures.grown
 
 pub returns-in_err-number-clause-grown : goal.returns-in_err-number-clause-grown
 returns-in_err-number-clause-grown c =
-    grown_of looks_stand asked_keys_have_meaning answers_stand _ _ c.intern_block.ensures.kept (placed_still _ _ c.intern_block.ensures.kept c.intern_block.ensures.others) _ c.self.view_is c.self.invariant.0
+    grown_of looks_stand asked_keys_have_meaning answers_stand _ _ c.intern_block.ensures.kept
+    (placed_still _ _ c.intern_block.ensures.kept c.intern_block.ensures.others) _ c.self.view_is c.self.invariant.0
 
 pub returns-in_err-number-clause-many : goal.returns-in_err-number-clause-many
 returns-in_err-number-clause-many c = λ many.

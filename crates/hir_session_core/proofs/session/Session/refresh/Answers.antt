@@ -7,7 +7,8 @@ use Rattle.hir_session_core.proofs.session.Session.refresh.Goals as goal
 
 pub returns-clause-refreshes : goal.returns-clause-refreshes
 returns-clause-refreshes c =
-    refreshes_all _ _ _ (c.in_ok-refresh_blocks.ensures.so_far _ c.in_ok-done.ensures.so_far) c.in_ok-refresh_blocks.ensures.current c.in_ok-refresh_blocks.ensures.none_due
+    refreshes_all _ _ _ (c.in_ok-refresh_blocks.ensures.so_far _ c.in_ok-done.ensures.so_far) c.in_ok-refresh_blocks.ensures.current
+    c.in_ok-refresh_blocks.ensures.none_due
 
 pub returns-clause-none_stale : goal.returns-clause-none_stale
 returns-clause-none_stale c = c.in_ok-refresh_blocks.ensures.current

@@ -17,7 +17,8 @@ returns-clause-so_far c = c.loop-k.invariant.so_far
 pub returns-clause-current : goal.returns-clause-current
 returns-clause-current c = λ k within.
     let count = ap (λ (xs : List CrateValue). length xs) c.loop-k.invariant.so_far.crates in
-    let all : length c.crates.result.now ≡ length c.args.self.now.crates = ap (λ (xs : List CrateValue). length xs) (c.crates.ensures.value ∙ ap (λ (s : SessionState). s.crates) c.self.view_is) in
+    let all : length c.crates.result.now ≡ length c.args.self.now.crates = ap (λ (xs : List CrateValue). length xs)
+    (c.crates.ensures.value ∙ ap (λ (s : SessionState). s.crates) c.self.view_is) in
     c.loop-k.invariant.below k (omega arith)
 
 pub returns-in_err-note-clause-err : goal.returns-in_err-note-clause-err
@@ -31,7 +32,8 @@ returns-in_err-note-clause-err c =
 pub returns-in_err-resolve_at-clause-many : goal.returns-in_err-resolve_at-clause-many
 returns-in_err-resolve_at-clause-many c = λ many.
     let count = ap (λ (xs : List CrateValue). length xs) c.loop-k.invariant.so_far.crates in
-    let all : length c.crates.result.now ≡ length c.args.self.now.crates = ap (λ (xs : List CrateValue). length xs) (c.crates.ensures.value ∙ ap (λ (s : SessionState). s.crates) c.self.view_is) in
+    let all : length c.crates.result.now ≡ length c.args.self.now.crates = ap (λ (xs : List CrateValue). length xs)
+    (c.crates.ensures.value ∙ ap (λ (s : SessionState). s.crates) c.self.view_is) in
     overlong_first c.loop-k.k c.loop-k.invariant c.in_err-resolve_at.ensures.err (omega arith)
     (sym c.is_marked_at.ensures.value ∙ c.if-is_marked_at.true)
     (c.resolve_at.ensures.many (passed_on _ _ _ _ c.in_err-resolve_at.was c.from_residual-in_err-resolve_at.ensures.1 many))
@@ -47,11 +49,14 @@ returns-in_err-resolve_at-clause-err c =
 pub loop-k-preserved : goal.loop-k-preserved
 loop-k-preserved c =
     let count = ap (λ (xs : List CrateValue). length xs) c.loop-k.invariant.so_far.crates in
-    let all : length c.crates.result.now ≡ length c.args.self.now.crates = ap (λ (xs : List CrateValue). length xs) (c.crates.ensures.value ∙ ap (λ (s : SessionState). s.crates) c.self.view_is) in
+    let all : length c.crates.result.now ≡ length c.args.self.now.crates = ap (λ (xs : List CrateValue). length xs)
+    (c.crates.ensures.value ∙ ap (λ (s : SessionState). s.crates) c.self.view_is) in
     elim c.if-is_marked_at.branch [
       | then-is_marked_at+in_ok-note+in_ok-resolve_at w ↦
           let found = w.in_ok-resolve_at.ensures.ok in
           rw (w.self-is, w.done-is, w.in_ok-note.ensures.ok)
-          (refreshing-more c.loop-k.k found.0 _ c.loop-k.invariant w.in_ok-resolve_at.ensures.sound (omega arith) (sym c.is_marked_at.ensures.value ∙ w.if-is_marked_at.true) found.1)
-      | else-is_marked_at w ↦ rw (w.self-is, w.done-is) (refreshing-skip c.loop-k.k c.loop-k.invariant (sym c.is_marked_at.ensures.value ∙ w.if-is_marked_at.false))
+          (refreshing-more c.loop-k.k found.0 _ c.loop-k.invariant w.in_ok-resolve_at.ensures.sound (omega arith)
+          (sym c.is_marked_at.ensures.value ∙ w.if-is_marked_at.true) found.1)
+      | else-is_marked_at w ↦ rw (w.self-is, w.done-is)
+          (refreshing-skip c.loop-k.k c.loop-k.invariant (sym c.is_marked_at.ensures.value ∙ w.if-is_marked_at.false))
     ]

@@ -22,12 +22,14 @@ keep_found-requires-clause-marked c = subst (λ (x : MapId). is_marked c.found_a
 
 pub keep_found-requires-clause-found : goal.keep_found-requires-clause-found
 keep_found-requires-clause-found c =
-    subst (λ (x : MapId). IsResolutionOf c.found_at.new.self x (held_in c.found_at.new.self (collected_view c.in_ok-found.found))) (sym c.of_crate.ensures.value) c.in_ok-found.ensures.found
+    subst (λ (x : MapId). IsResolutionOf c.found_at.new.self x (held_in c.found_at.new.self (collected_view c.in_ok-found.found)))
+    (sym c.of_crate.ensures.value) c.in_ok-found.ensures.found
 
 pub keep_found-requires-clause-behind : goal.keep_found-requires-clause-behind
 keep_found-requires-clause-behind c =
     subst (λ (x : MapId). AreFollowedCurrent c.found_at.new.self x c.in_ok-found.found.map.holder) (sym c.of_crate.ensures.value)
-    (followed_crates c.found_at.new.self c.in_ok-found.ensures.grown.sound c.args.k (λ j low. grown_mark _ _ c.in_ok-found.ensures.grown (id_of j) ∙ c.requires.first j low)
+    (followed_crates c.found_at.new.self c.in_ok-found.ensures.grown.sound c.args.k (λ j low. grown_mark _ _ c.in_ok-found.ensures.grown (id_of j) ∙
+    c.requires.first j low)
     c.in_ok-found.found.map.holder)
 
 pub returns-clause-ok : goal.returns-clause-ok
@@ -35,7 +37,8 @@ returns-clause-ok c =
     let found = held_in c.found_at.new.self (collected_view c.in_ok-found.found) in (
       found,
       subst (λ (x : MapId). Resolved c.args.self.now x found c.keep_found.new.self) c.of_crate.ensures.value
-          (resolved_later c.args.self.now c.found_at.new.self c.keep_found.new.self c.of_crate.result found c.in_ok-found.ensures.grown c.in_ok-keep_found.ensures.ok),
+          (resolved_later c.args.self.now c.found_at.new.self c.keep_found.new.self c.of_crate.result found c.in_ok-found.ensures.grown
+          c.in_ok-keep_found.ensures.ok),
     )
 
 pub returns-clause-sound : goal.returns-clause-sound

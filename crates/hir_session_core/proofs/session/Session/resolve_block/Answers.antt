@@ -16,26 +16,34 @@ file_of-file-requires c = record {
 
 pub resolve_in-requires-clause-place : goal.resolve_in-requires-clause-place
 resolve_in-requires-clause-place c =
-    (ready _ _ c.in_ok-number.ensures.sound c.number_of.ensures.grown c.args.block c.args.holder c.in_ok-number.number c.requires.crates c.requires.due c.requires.held
-    c.in_ok-number.ensures.means c.in_ok-number.ensures.number c.krate-krate.result c.krate-krate.ensures.value c.file_of-file.result c.file_of-file.ensures.is).place
+    (ready _ _ c.in_ok-number.ensures.sound c.number_of.ensures.grown c.args.block c.args.holder c.in_ok-number.number c.requires.crates c.requires.due
+    c.requires.held
+    c.in_ok-number.ensures.means c.in_ok-number.ensures.number c.krate-krate.result c.krate-krate.ensures.value c.file_of-file.result
+    c.file_of-file.ensures.is).place
 
 pub resolve_in-requires-clause-marked : goal.resolve_in-requires-clause-marked
 resolve_in-requires-clause-marked c =
-    (ready _ _ c.in_ok-number.ensures.sound c.number_of.ensures.grown c.args.block c.args.holder c.in_ok-number.number c.requires.crates c.requires.due c.requires.held
-    c.in_ok-number.ensures.means c.in_ok-number.ensures.number c.krate-krate.result c.krate-krate.ensures.value c.file_of-file.result c.file_of-file.ensures.is).marked
+    (ready _ _ c.in_ok-number.ensures.sound c.number_of.ensures.grown c.args.block c.args.holder c.in_ok-number.number c.requires.crates c.requires.due
+    c.requires.held
+    c.in_ok-number.ensures.means c.in_ok-number.ensures.number c.krate-krate.result c.krate-krate.ensures.value c.file_of-file.result
+    c.file_of-file.ensures.is).marked
 
 pub resolve_in-requires-clause-begun : goal.resolve_in-requires-clause-begun
 resolve_in-requires-clause-begun c =
-    (ready _ _ c.in_ok-number.ensures.sound c.number_of.ensures.grown c.args.block c.args.holder c.in_ok-number.number c.requires.crates c.requires.due c.requires.held
-    c.in_ok-number.ensures.means c.in_ok-number.ensures.number c.krate-krate.result c.krate-krate.ensures.value c.file_of-file.result c.file_of-file.ensures.is).begun
+    (ready _ _ c.in_ok-number.ensures.sound c.number_of.ensures.grown c.args.block c.args.holder c.in_ok-number.number c.requires.crates c.requires.due
+    c.requires.held
+    c.in_ok-number.ensures.means c.in_ok-number.ensures.number c.krate-krate.result c.krate-krate.ensures.value c.file_of-file.result
+    c.file_of-file.ensures.is).begun
 
 pub resolve_in-requires-clause-numbered : goal.resolve_in-requires-clause-numbered
 resolve_in-requires-clause-numbered c = c.file_of-file.ensures.numbered
 
 pub resolve_in-requires-clause-behind : goal.resolve_in-requires-clause-behind
 resolve_in-requires-clause-behind c =
-    (ready _ _ c.in_ok-number.ensures.sound c.number_of.ensures.grown c.args.block c.args.holder c.in_ok-number.number c.requires.crates c.requires.due c.requires.held
-    c.in_ok-number.ensures.means c.in_ok-number.ensures.number c.krate-krate.result c.krate-krate.ensures.value c.file_of-file.result c.file_of-file.ensures.is).behind
+    (ready _ _ c.in_ok-number.ensures.sound c.number_of.ensures.grown c.args.block c.args.holder c.in_ok-number.number c.requires.crates c.requires.due
+    c.requires.held
+    c.in_ok-number.ensures.means c.in_ok-number.ensures.number c.krate-krate.result c.krate-krate.ensures.value c.file_of-file.result
+    c.file_of-file.ensures.is).behind
 
 pub returns-clause-ok : goal.returns-clause-ok
 returns-clause-ok c = where_ok c.resolve_in.result c.resolve_in.ensures.ok (λ found.
@@ -48,7 +56,8 @@ returns-clause-sound c = c.resolve_in.ensures.sound
 pub returns-clause-many : goal.returns-clause-many
 returns-clause-many c = λ many.
     block_stuck _ _ c.in_ok-number.ensures.sound c.number_of.ensures.grown c.args.block c.args.holder c.in_ok-number.number c.requires.crates c.requires.due
-    c.requires.held c.in_ok-number.ensures.means c.in_ok-number.ensures.number c.krate-krate.result c.krate-krate.ensures.value _ c.file_of-file.result c.file_of-file.ensures.is
+    c.requires.held c.in_ok-number.ensures.means c.in_ok-number.ensures.number c.krate-krate.result c.krate-krate.ensures.value _ c.file_of-file.result
+    c.file_of-file.ensures.is
     (at_err many c.resolve_in.ensures.err) (c.resolve_in.ensures.many many)
 
 pub returns-clause-err : goal.returns-clause-err

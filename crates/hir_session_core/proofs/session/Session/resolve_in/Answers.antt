@@ -19,7 +19,8 @@ keep_found-requires-clause-found c = c.in_ok-found.ensures.found
 pub keep_found-requires-clause-behind : goal.keep_found-requires-clause-behind
 keep_found-requires-clause-behind c =
     subst (λ (h : Option ModuleId). AreFollowedCurrent c.found_in.new.self (block_map c.args.at.krate c.args.at.block) h) (sym c.in_ok-found.ensures.holder)
-    (grown_followed c.args.self.now c.found_in.new.self c.in_ok-found.ensures.grown (block_map c.args.at.krate c.args.at.block) (Some c.args.at.holder) c.requires.behind)
+    (grown_followed c.args.self.now c.found_in.new.self c.in_ok-found.ensures.grown (block_map c.args.at.krate c.args.at.block) (Some c.args.at.holder)
+    c.requires.behind)
 
 pub returns-clause-ok : goal.returns-clause-ok
 returns-clause-ok c = (_, resolved_later _ _ _ _ _ c.in_ok-found.ensures.grown c.in_ok-keep_found.ensures.ok)

@@ -10,6 +10,7 @@ returns c =
     let blocks = c.blocks-blocks.ensures.value ∙ ap (λ (t : SourceTable). t.blocks) c.sources.ensures.value in
     record {
       value = c.standing_at.ensures.value
-          ∙ (λ i. standing_in c.self.inside.tables (blocks i) c.self.inside.kept (record { krate = c.krate.ensures.value i; elements = c.elements.ensures.value i }))
+          ∙ (λ i. standing_in c.self.inside.tables (blocks i) c.self.inside.kept
+          (record { krate = c.krate.ensures.value i; elements = c.elements.ensures.value i }))
           ∙ ap (λ (s : SessionState). standing_of s c.args.place.now) c.self.view_is;
     }

@@ -14,4 +14,5 @@ invariant_of-self c =
     (dropped_current c.self.inside.crates c.self.inside.sources (of_block c.args.place.now None) c.self.inside.trees c.remove_block.new.self c.self.invariant
     c.remove_block.ensures.gone c.remove_block.ensures.others))
     (λ same. current_over _ _ c.remove_block.new.self (ap (workspace_in c.self.inside.crates) (sym same))
-    (dropped_same _ (block c.args.place.now) c.self.inside.trees c.remove_block.new.self c.self.invariant c.remove_block.ensures.gone c.remove_block.ensures.others))
+    (dropped_same _ (block c.args.place.now) c.self.inside.trees c.remove_block.new.self c.self.invariant c.remove_block.ensures.gone
+    c.remove_block.ensures.others))

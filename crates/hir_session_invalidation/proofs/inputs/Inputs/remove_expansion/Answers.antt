@@ -9,5 +9,6 @@ use Rattle.hir_session_invalidation.proofs.inputs.Inputs.remove_expansion.Goals 
 pub invariant_of-self : goal.invariant_of-self
 invariant_of-self c =
     current_over _ _ c.remove.new.self (ap (workspace_in c.self.inside.crates) (sym c.remove_expansion.ensures.value))
-    (dropped_current c.self.inside.crates c.self.inside.sources (of_expansion (expansion_value c.args.key.now) None) c.self.inside.trees c.remove.new.self c.self.invariant
+    (dropped_current c.self.inside.crates c.self.inside.sources (of_expansion (expansion_value c.args.key.now) None) c.self.inside.trees c.remove.new.self
+    c.self.invariant
     c.remove.ensures.gone c.remove.ensures.others)

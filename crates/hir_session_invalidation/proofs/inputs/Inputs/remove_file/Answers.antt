@@ -11,6 +11,7 @@ use Rattle.hir_session_invalidation.proofs.inputs.Inputs.remove_file.Goals as go
 pub invariant_of-self : goal.invariant_of-self
 invariant_of-self c =
     current_over _ _ c.replace.new.self (ap (workspace_in c.self.inside.crates) (sym c.remove_file.ensures.value))
-    (replaced_current c.self.inside.crates c.self.inside.sources (of_file c.args.path.now None) c.self.inside.trees c.replace.new.self c.args.trees c.self.invariant
+    (replaced_current c.self.inside.crates c.self.inside.sources (of_file c.args.path.now None) c.self.inside.trees c.replace.new.self c.args.trees
+    c.self.invariant
     (subst (λ (i : InputsValue). AreTreesOf i.crates (file c.args.path.now) None c.args.trees) (sym c.self.view_is) c.requires.trees)
     c.replace.ensures.here c.replace.ensures.others)

@@ -12,7 +12,9 @@ pub invariant_of-self : goal.invariant_of-self
 invariant_of-self c =
     on_either c.set_block.result c.set_block.ensures.ok c.set_block.ensures.err
     (λ becomes. current_over _ _ c.remove_block.new.self (ap (workspace_in c.self.inside.crates) (sym becomes))
-    (dropped_current c.self.inside.crates c.self.inside.sources (of_block c.args.place (Some (source_view c.args.source))) c.self.inside.trees c.remove_block.new.self c.self.invariant
+    (dropped_current c.self.inside.crates c.self.inside.sources (of_block c.args.place (Some (source_view c.args.source))) c.self.inside.trees
+    c.remove_block.new.self c.self.invariant
     c.remove_block.ensures.gone c.remove_block.ensures.others))
     (λ same. current_over _ _ c.remove_block.new.self (ap (workspace_in c.self.inside.crates) (sym same))
-    (dropped_same _ (block c.args.place) c.self.inside.trees c.remove_block.new.self c.self.invariant c.remove_block.ensures.gone c.remove_block.ensures.others))
+    (dropped_same _ (block c.args.place) c.self.inside.trees c.remove_block.new.self c.self.invariant c.remove_block.ensures.gone
+    c.remove_block.ensures.others))

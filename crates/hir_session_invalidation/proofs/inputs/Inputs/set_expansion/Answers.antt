@@ -12,7 +12,9 @@ pub invariant_of-self : goal.invariant_of-self
 invariant_of-self c =
     on_either c.set_expansion.result c.set_expansion.ensures.ok c.set_expansion.ensures.err
     (λ becomes. current_over _ _ c.remove.new.self (ap (workspace_in c.self.inside.crates) (sym becomes))
-    (dropped_current c.self.inside.crates c.self.inside.sources (of_expansion (expansion_value c.args.key) (Some (entry_view c.args.entry))) c.self.inside.trees c.remove.new.self c.self.invariant
+    (dropped_current c.self.inside.crates c.self.inside.sources (of_expansion (expansion_value c.args.key) (Some (entry_view c.args.entry))) c.self.inside.trees
+    c.remove.new.self c.self.invariant
     c.remove.ensures.gone c.remove.ensures.others))
     (λ same. current_over _ _ c.remove.new.self (ap (workspace_in c.self.inside.crates) (sym same))
-    (dropped_same _ (expansion (expansion_value c.args.key)) c.self.inside.trees c.remove.new.self c.self.invariant c.remove.ensures.gone c.remove.ensures.others))
+    (dropped_same _ (expansion (expansion_value c.args.key)) c.self.inside.trees c.remove.new.self c.self.invariant c.remove.ensures.gone
+    c.remove.ensures.others))

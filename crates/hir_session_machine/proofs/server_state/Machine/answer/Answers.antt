@@ -10,4 +10,5 @@ pub returns-in-Ok-clause-or_memory : goal.returns-in-Ok-clause-or_memory
 returns-in-Ok-clause-or_memory c h = carries_out _ c.in-Ok.ensures.value (c.carry_out.ensures.or_memory h)
 
 pub returns-in-Err-clause-step : goal.returns-in-Err-clause-step
-returns-in-Err-clause-step c = read_refused c.args.self.now c.args.line.now c.in-Err.error c.reply_to_line.result c.reply_to_line.ensures.value c.in-Err.ensures.value
+returns-in-Err-clause-step c =
+    read_refused c.args.self.now c.args.line.now c.in-Err.error c.reply_to_line.result c.reply_to_line.ensures.value c.in-Err.ensures.value

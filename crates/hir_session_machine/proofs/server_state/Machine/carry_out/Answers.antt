@@ -13,7 +13,8 @@ returns-in-Some-clause-step c =
 
 pub returns-in-Some-clause-or_memory : goal.returns-in-Some-clause-or_memory
 returns-in-Some-clause-or_memory c =
-    subst (λ (o : MachineState). is_fixed c.called-told.result ≡ false → AnswersCommand o (command_view c.args.command) reply.Memory (Some c.called-told.new.session))
+    subst (λ (o : MachineState). is_fixed c.called-told.result ≡ false → AnswersCommand o (command_view c.args.command) reply.Memory
+    (Some c.called-told.new.session))
     (c.in-Some.ensures.value ∙ c.self.view_is) c.called-told.ensures.or_memory
 
 pub returns-in-Crates-clause-step : goal.returns-in-Crates-clause-step

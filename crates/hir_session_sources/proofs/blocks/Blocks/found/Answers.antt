@@ -10,15 +10,18 @@ use Rattle.hir_session_sources.specs.BlockTables.{ArePlacedIn, SetBlockValue, Se
 use Rattle.hir_session_sources.proofs.BlockLemmas.{in_none, in_own, placed_at}
 use Rattle.hir_session_sources.proofs.blocks.Blocks.found.Goals as goal
 
-of_copies : (o : Option (Bor SetBlockValue)) → option_map (λ (b : Bor SetBlockValue). b.now.source) o ≡ option_map (λ (b : SetBlockValue). b.source) (option_map (λ (b : Bor SetBlockValue). b.now) o)
+of_copies : (o : Option (Bor SetBlockValue)) → option_map (λ (b : Bor SetBlockValue). b.now.source) o ≡ option_map (λ (b : SetBlockValue). b.source)
+    (option_map (λ (b : Bor SetBlockValue). b.now) o)
 of_copies None = refl
 of_copies (Some b) = refl
 
 in_place : (krate : Crate) (steps : List PlaceElement) (own : SetBlocks) → ArePlacedIn krate own → (o : Option (Bor SetBlockValue))
-    → option_map (λ (b : Bor SetBlockValue). b.now) o ≡ lookup (is_at (steps_cmp steps)) own → IfSome o (λ (b : Bor SetBlockValue). place_of_block b.now.place ≡ steps_in krate steps)
+    → option_map (λ (b : Bor SetBlockValue). b.now) o ≡ lookup (is_at (steps_cmp steps)) own → IfSome o (λ (b : Bor SetBlockValue). place_of_block b.now.place
+    ≡ steps_in krate steps)
 in_place krate steps own placed None e = tt
 in_place krate steps own placed (Some b) e =
-    subst (λ (o : Option SetBlockValue). IfSome o (λ (x : SetBlockValue). place_of_block x.place ≡ steps_in krate steps)) (sym e) (placed_at krate steps own placed)
+    subst (λ (o : Option SetBlockValue). IfSome o (λ (x : SetBlockValue). place_of_block x.place ≡ steps_in krate steps)) (sym e)
+    (placed_at krate steps own placed)
 
 pub returns-in-Some : goal.returns-in-Some
 returns-in-Some c = record {

@@ -10,11 +10,13 @@ use Rattle.hir_session_sources.specs.BlockTables.{AreInPlace, ArePlacedIn, SetBl
 use Rattle.hir_session_sources.proofs.BlockLemmas.{own_found, placed-own}
 use Rattle.hir_session_sources.proofs.blocks.Blocks.own.Goals as goal
 
-of_copies : (o : Option (Bor SetBlocks)) → option_map (λ (own : Bor SetBlocks). sources_of own.now) o ≡ option_map sources_of (option_map (λ (own : Bor SetBlocks). own.now) o)
+of_copies : (o : Option (Bor SetBlocks)) → option_map (λ (own : Bor SetBlocks). sources_of own.now) o
+    ≡ option_map sources_of (option_map (λ (own : Bor SetBlocks). own.now) o)
 of_copies None = refl
 of_copies (Some own) = refl
 
-in_place : (krate : Crate) (tables : SetTables) → AreInPlace tables → (o : Option (Bor SetBlocks)) → option_map (λ (own : Bor SetBlocks). own.now) o ≡ lookup (is_at (crate_order.ghosts.cmp krate)) tables
+in_place : (krate : Crate) (tables : SetTables) → AreInPlace tables → (o : Option (Bor SetBlocks)) → option_map (λ (own : Bor SetBlocks). own.now) o
+    ≡ lookup (is_at (crate_order.ghosts.cmp krate)) tables
     → IfSome o (λ (own : Bor SetBlocks). ArePlacedIn krate own.now)
 in_place krate tables placed None e = tt
 in_place krate tables placed (Some own) e = placed-own krate tables placed own.now (sym e)

@@ -6,7 +6,8 @@ use Rattle.hir_session_sources.proofs.blocks.Blocks.remove.Goals as goal
 
 pub invariant_of-self : goal.invariant_of-self
 invariant_of-self c =
-    in_place-gone c.self.inside.by_crate.entries c.remove_of_crate.new.blocks.entries c.krate.result c.as_slice.result.now c.self.invariant c.remove_of_crate.ensures.value
+    in_place-gone c.self.inside.by_crate.entries c.remove_of_crate.new.blocks.entries c.krate.result c.as_slice.result.now c.self.invariant
+    c.remove_of_crate.ensures.value
 
 pub returns-clause-ok : goal.returns-clause-ok
 returns-clause-ok c =

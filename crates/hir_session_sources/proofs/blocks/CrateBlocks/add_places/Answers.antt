@@ -8,6 +8,7 @@ use Rattle.hir_session_sources.proofs.blocks.CrateBlocks.add_places.Goals as goa
 pub loop-block-init : goal.loop-block-init
 loop-block-init c =
     ap (λ (ps : List BlockPlace). map (λ (p : Bor BlockPlace). p.now) c.args.places.now.items ++ ps)
-    (ap (λ (bs : List SetBlockValue). map (λ (b : SetBlockValue). b.place) bs) (c.into_iter-block-iterator.ensures.into_iter_gives ∙ c.values-block-items.ensures.rest)
+    (ap (λ (bs : List SetBlockValue). map (λ (b : SetBlockValue). b.place) bs)
+    (c.into_iter-block-iterator.ensures.into_iter_gives ∙ c.values-block-items.ensures.rest)
     ∙ places_by_steps c.self.inside.blocks.entries
     ∙ ap (λ (own : SetBlocks). map (λ e. e.1.place) own) c.self.view_is)

@@ -15,7 +15,8 @@ returns c =
     let left = c.remove.ensures.updates.1 in
     record {
       value = ap by_steps (c.remove.ensures.entries
-          ∙ remove_entry-filter (λ (k : Vec PlaceElement Global). is_at (steps_cmp c.args.steps.now) k.items) c.self.inside.blocks.entries (rw c.remove.ensures.entries at left))
+          ∙ remove_entry-filter (λ (k : Vec PlaceElement Global). is_at (steps_cmp c.args.steps.now) k.items) c.self.inside.blocks.entries
+          (rw c.remove.ensures.entries at left))
           ∙ left_by_steps c.args.steps.now c.self.inside.blocks.entries
           ∙ ap (λ (own : SetBlocks). without_steps own c.args.steps.now) c.self.view_is;
     }

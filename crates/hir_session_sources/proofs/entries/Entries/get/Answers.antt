@@ -14,5 +14,7 @@ returns-in-Some c = record {
 
 pub returns-in-None : goal.returns-in-None
 returns-in-None c = record {
-  value = c.in-None.ensures.value ∙ found_by_value c.args.key.now c.self.inside.by_key.entries ∙ ap (λ (es : Entries). entry_at es (expansion_value c.args.key.now)) c.self.view_is;
+  value =
+      c.in-None.ensures.value ∙ found_by_value c.args.key.now c.self.inside.by_key.entries ∙ ap (λ (es : Entries). entry_at es (expansion_value c.args.key.now))
+      c.self.view_is;
 }

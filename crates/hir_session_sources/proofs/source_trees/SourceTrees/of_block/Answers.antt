@@ -12,7 +12,8 @@ values_of (Some t) = refl
 
 pub returns-then-eq : goal.returns-then-eq
 returns-then-eq c =
-    let own : nat_eq c.args.place.now.holder.krate.0 c.args.krate.0 ≡ true = ap (λ k. nat_eq k.0 c.args.krate.0) (sym c.krate.ensures.value) ∙ sym c.eq.ensures ∙ c.if-eq.true in
+    let own : nat_eq c.args.place.now.holder.krate.0 c.args.krate.0 ≡ true = ap (λ k. nat_eq k.0 c.args.krate.0) (sym c.krate.ensures.value) ∙ sym c.eq.ensures
+    ∙ c.if-eq.true in
     record {
       value = rw own (values_of c.get.result ∙ ap (option_map (λ (t : Rc SourceTreeValue Global). t.value)) c.get.ensures.value);
     }

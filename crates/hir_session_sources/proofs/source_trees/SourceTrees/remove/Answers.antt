@@ -10,10 +10,12 @@ pub returns-clause-gone : goal.returns-clause-gone
 returns-clause-gone c =
     let left = c.remove.ensures.updates.1 in
     expansion_gone c.args.self.now (record c.args.self.now { by_key = c.remove.new.self }) c.args.key.now
-    (c.remove.ensures.entries ∙ remove_entry-filter (is_at (key_order.ghosts.cmp c.args.key.now)) c.args.self.now.by_key.entries (rw c.remove.ensures.entries at left))
+    (c.remove.ensures.entries ∙ remove_entry-filter (is_at (key_order.ghosts.cmp c.args.key.now)) c.args.self.now.by_key.entries
+    (rw c.remove.ensures.entries at left))
 
 pub returns-clause-others : goal.returns-clause-others
 returns-clause-others c =
     let left = c.remove.ensures.updates.1 in
     other_expansions c.args.self.now (record c.args.self.now { by_key = c.remove.new.self }) c.args.key.now refl refl
-    (c.remove.ensures.entries ∙ remove_entry-filter (is_at (key_order.ghosts.cmp c.args.key.now)) c.args.self.now.by_key.entries (rw c.remove.ensures.entries at left))
+    (c.remove.ensures.entries ∙ remove_entry-filter (is_at (key_order.ghosts.cmp c.args.key.now)) c.args.self.now.by_key.entries
+    (rw c.remove.ensures.entries at left))

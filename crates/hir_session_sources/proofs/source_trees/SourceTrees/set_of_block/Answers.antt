@@ -5,6 +5,7 @@ use Rattle.hir_session_sources.proofs.source_trees.SourceTrees.set_of_block.Goal
 
 pub returns-in_ok-insert-clause-ok : goal.returns-in_ok-insert-clause-ok
 returns-in_ok-insert-clause-ok c =
-    let own : nat_eq c.args.place.now.holder.krate.0 c.args.krate.0 ≡ true = ap (λ k. nat_eq k.0 c.args.krate.0) (sym c.krate.ensures.value) ∙ sym c.eq.ensures ∙ c.if-eq.true in
+    let own : nat_eq c.args.place.now.holder.krate.0 c.args.krate.0 ≡ true = ap (λ k. nat_eq k.0 c.args.krate.0) (sym c.krate.ensures.value) ∙ sym c.eq.ensures
+    ∙ c.if-eq.true in
     blocks_become c.args.self.now (record c.args.self.now { by_block = c.insert.new.self }) c.args.place.now c.args.krate c.args.tree refl refl
     (rw c.in_ok-place.ensures.value at c.in_ok-insert.ensures.entries) own

@@ -5,7 +5,7 @@ use Rattle.hir_base.specs.declared.ids.MapId.{MapId}
 use Rattle.hir_base.specs.contracts.ids.MapIdOrd.TheImpl as map_order
 use Rattle.hir_def_map_rules.specs.Overlay.{Maps, holders_under}
 use Rattle.hir_scope.proofs.Rewrites.{on_err}
-use Rattle.hir_session_state.specs.declared.runs.KeptRun.{KeptRun}
+use Rattle.hir_session_state.specs.Types.{KeptRun}
 use Rattle.hir_session_state.specs.Kept.{Resolutions, finished_by, held, kept_in}
 use Rattle.hir_collector_rules.specs.Derivation.{collected_view}
 use Rattle.hir_session_state.proofs.KeptLemmas.{Runs, absent, kept_else, kept_here, may_join_there, run_aside, run_in, same_resolutions, same_runs, told}
@@ -23,7 +23,8 @@ others old new id own is stand =
 
 pub returns-in_err-put-clause-err : goal.returns-in_err-put-clause-err
 returns-in_err-put-clause-err c =
-    on_err c.from_residual.result (same_runs c.self.inside.world.maps c.self.inside.runs.by_place c.put.new.self.by_place c.in_err-put.ensures.err ∙ c.self.view_is)
+    on_err c.from_residual.result (same_runs c.self.inside.world.maps c.self.inside.runs.by_place c.put.new.self.by_place c.in_err-put.ensures.err ∙
+    c.self.view_is)
 
 pub join-requires : goal.join-requires
 join-requires c = record {

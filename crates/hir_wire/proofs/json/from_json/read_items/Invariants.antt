@@ -8,4 +8,5 @@ use Rattle.hir_wire.proofs.json.from_json.read_items.Given as goal
 -- the values so far, and those of what is left, are those of all
 abbrev pub invariant-loop-item : goal.invariant-loop-item
 invariant-loop-item g l =
-    Follows g.T.FromJson.seen (each_of g.T.FromJson.meaning (items_view l.items)) (each_of g.T.FromJson.meaning (items_view (drop l.item-index l.items))) (read_so_far l.parts)
+    Follows g.T.FromJson.seen (each_of g.T.FromJson.meaning (items_view l.items)) (each_of g.T.FromJson.meaning (items_view (drop l.item-index l.items)))
+    (read_so_far l.parts)

@@ -5,9 +5,19 @@ use Rattle.hir_wire.proofs.read.adt.read_variant_members.Goals as goal
 -- what is made of parts that were read
 pub returns-in-Ok : goal.returns-in-Ok
 unfolding variant_in
-returns-in-Ok c = record { value = record { told = both_read _ (reads_pair c.required.ensures.value c.required-2.ensures.value c.both.ensures.value) (reads_pair c.optional_word.ensures.value c.attrs_field.ensures.value c.both-2.ensures.value) c.in-Ok.ensures.value } }
+returns-in-Ok c =
+    record {
+      value = record {
+        told = both_read _ (reads_pair c.required.ensures.value c.required-2.ensures.value c.both.ensures.value)
+            (reads_pair c.optional_word.ensures.value c.attrs_field.ensures.value c.both-2.ensures.value) c.in-Ok.ensures.value;
+      };
+    }
 
 -- what is made of two parts fails as they do
 pub returns-in-Err : goal.returns-in-Err
 unfolding variant_in
-returns-in-Err c = record { value = both_refused _ (reads_pair c.required.ensures.value c.required-2.ensures.value c.both.ensures.value) (reads_pair c.optional_word.ensures.value c.attrs_field.ensures.value c.both-2.ensures.value) c.in-Err.ensures.value }
+returns-in-Err c =
+    record {
+      value = both_refused _ (reads_pair c.required.ensures.value c.required-2.ensures.value c.both.ensures.value)
+          (reads_pair c.optional_word.ensures.value c.attrs_field.ensures.value c.both-2.ensures.value) c.in-Err.ensures.value;
+    }

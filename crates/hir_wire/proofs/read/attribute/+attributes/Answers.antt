@@ -21,7 +21,8 @@ inner_field-returns-in-None t c =
 -- one more attribute was read
 pub read_attribute_items-loop-item-preserved : goal.read_attribute_items-loop-item-preserved
 read_attribute_items-loop-item-preserved t c =
-    list_next attribute_view attribute_of each_attribute_of (λ d ds. refl) c.deref-item-items.result.now c.loop-item.item-index c.item-item.result _ _ c.read_attribute.result (omega arith) c.item-item.is
+    list_next attribute_view attribute_of each_attribute_of (λ d ds. refl) c.deref-item-items.result.now c.loop-item.item-index c.item-item.result _ _
+    c.read_attribute.result (omega arith) c.item-item.is
     c.loop-item.invariant c.read_attribute.ensures.value c.in_ok-add.ensures.memory c.in_ok-add.ensures.ok
 
 -- what is made of two parts fails as they do

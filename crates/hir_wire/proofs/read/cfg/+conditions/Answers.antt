@@ -32,5 +32,6 @@ cfgs_field-returns-in-None t c =
 -- one more condition was read
 pub read_cfg_items-loop-item-preserved : goal.read_cfg_items-loop-item-preserved
 read_cfg_items-loop-item-preserved t c =
-    list_next cfg_view cfg_of each_cfg_of (λ d ds. refl) c.deref-item-items.result.now c.loop-item.item-index c.item-item.result _ _ c.read_cfg.result (omega arith) c.item-item.is
+    list_next cfg_view cfg_of each_cfg_of (λ d ds. refl) c.deref-item-items.result.now c.loop-item.item-index c.item-item.result _ _ c.read_cfg.result
+    (omega arith) c.item-item.is
     c.loop-item.invariant c.read_cfg.ensures.value c.in_ok-add.ensures.memory c.in_ok-add.ensures.ok

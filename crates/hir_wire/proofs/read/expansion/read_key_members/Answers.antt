@@ -5,4 +5,8 @@ use Rattle.hir_wire.proofs.read.expansion.read_key_members.Goals as goal
 -- what is made of two parts fails as they do
 pub returns-in-Err : goal.returns-in-Err
 unfolding key_in
-returns-in-Err c = record { value = both_refused _ (reads_pair c.required.ensures.value c.read_macro_text.ensures.value c.both.ensures.value) (reads_pair c.required-2.ensures.value c.required-3.ensures.value c.both-2.ensures.value) c.in-Err.ensures.value }
+returns-in-Err c =
+    record {
+      value = both_refused _ (reads_pair c.required.ensures.value c.read_macro_text.ensures.value c.both.ensures.value)
+          (reads_pair c.required-2.ensures.value c.required-3.ensures.value c.both-2.ensures.value) c.in-Err.ensures.value;
+    }

@@ -23,7 +23,8 @@ nodes_field-returns-in-None t c =
 -- one more node was read
 pub read_items-loop-item-preserved : goal.read_items-loop-item-preserved
 read_items-loop-item-preserved t c =
-    list_next node_view node_of nodes_of (λ d ds. refl) c.deref-item-items.result.now c.loop-item.item-index c.item-item.result _ _ c.read_node.result (omega arith) c.item-item.is
+    list_next node_view node_of nodes_of (λ d ds. refl) c.deref-item-items.result.now c.loop-item.item-index c.item-item.result _ _ c.read_node.result
+    (omega arith) c.item-item.is
     c.loop-item.invariant c.read_node.ensures.value c.in_ok-add.ensures.memory c.in_ok-add.ensures.ok
 
 -- what is made of two parts fails as they do
@@ -36,7 +37,12 @@ read_inline_module-returns-in-Err t c =
 pub read_inline_module-returns-in-Ok : goal.read_inline_module-returns-in-Ok
 unfolding inline_module_in
 read_inline_module-returns-in-Ok t c =
-    record { value = record { told = both_read _ c.required.ensures.value c.nodes_field.ensures.value c.in-Ok.ensures.value ∙ ap Ok (inline_module-view c.in-Ok.name c.in-Ok.nodes) } }
+    record {
+      value = record {
+        told = both_read _ c.required.ensures.value c.nodes_field.ensures.value c.in-Ok.ensures.value ∙ ap Ok
+            (inline_module-view c.in-Ok.name c.in-Ok.nodes);
+      };
+    }
 
 -- what is made of two parts fails as they do
 pub read_trait-returns-in-Err : goal.read_trait-returns-in-Err
@@ -54,6 +60,8 @@ read_node_members-returns-in-Err-both t c =
     let ms = members_view c.args.members.now.entries in
     let is : required (word_as kind_of_word) (codes "kind") (members_view c.args.members.now.entries) ≡ Ok c.in-Ok.kind = c.in-Ok.ensures.value.told in
     record {
-      value = subst (λ (k : Reading AstKind). Reads node_view (node_of_kind k ms (nodes_in (codes "nodes") ms) (nodes_in (codes "items") ms)) (Err c.in-Err-both.error)) (sym is)
+      value =
+          subst (λ (k : Reading AstKind). Reads node_view (node_of_kind k ms (nodes_in (codes "nodes") ms) (nodes_in (codes "items") ms))
+          (Err c.in-Err-both.error)) (sym is)
           (both_refused _ c.read_head.ensures.value c.read_parts.ensures.value c.in-Err-both.ensures.value);
     }

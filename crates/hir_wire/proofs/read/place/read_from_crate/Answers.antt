@@ -3,7 +3,8 @@ use Rattle.hir_wire.proofs.read.place.read_from_crate.Goals as goal
 
 -- what is made of parts that were read
 pub returns-in-Ok : goal.returns-in-Ok
-returns-in-Ok c = record { value = record { told = rw c.new.ensures.value (both_read _ c.read.ensures.value (as_is c.read_items.ensures.value) c.in-Ok.ensures.value) } }
+returns-in-Ok c =
+    record { value = record { told = rw c.new.ensures.value (both_read _ c.read.ensures.value (as_is c.read_items.ensures.value) c.in-Ok.ensures.value) } }
 
 -- what is made of two parts fails as they do
 pub returns-in-Err : goal.returns-in-Err

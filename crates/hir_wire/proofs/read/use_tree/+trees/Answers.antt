@@ -21,7 +21,8 @@ list_field-returns-in-None t c =
 -- one more tree was read
 pub read_items-loop-item-preserved : goal.read_items-loop-item-preserved
 read_items-loop-item-preserved t c =
-    list_next use_tree_view tree_of trees_of (λ d ds. refl) c.deref-item-items.result.now c.loop-item.item-index c.item-item.result _ _ c.read_tree.result (omega arith) c.item-item.is
+    list_next use_tree_view tree_of trees_of (λ d ds. refl) c.deref-item-items.result.now c.loop-item.item-index c.item-item.result _ _ c.read_tree.result
+    (omega arith) c.item-item.is
     c.loop-item.invariant c.read_tree.ensures.value c.in_ok-add.ensures.memory c.in_ok-add.ensures.ok
 
 -- what is made of two parts fails as they do

@@ -1,0 +1,241 @@
+#!/usr/bin/env python3
+"""Times refreshes of inputs in which much waits for one name, or much is defined again that is there: seconds of processor at a
+size, at twice and at four times that size, each the least of some runs, and the ratios.
+
+Usage, at the top of the repository: bench/hostile.py [--program FILE] [--model] [NAME [n]..]. Without a name it takes each of
+INPUTS, at the size that stands there. With --model it times nothing: each input, at the sizes given or else 1, 2, 3 and 7, has to be
+answered as the plain model (tools/model) answers it, with a dump and the diagnostics of each crate. The program is by default
+crates/hir_session_main/out/hir_session_main, which `rt run < /dev/null` builds there.
+"""
+import argparse
+import json
+import os
+import subprocess
+import sys
+
+from attributes import Attributes
+from imports import SESSION
+from measure import refresh
+
+EDITION = {"edition": "2021"}
+
+
+def block(number):
+    return {"block": [number, 0]}
+
+
+class Input:
+    """The sources of a session, and a path that has to lead to a struct once they are resolved."""
+
+    def __init__(self, *nodes, entries=(), crates=None, files=(), blocks=(), at=(0,), path):
+        self.crates = crates or [{**EDITION, "root": "lib.rs"}]
+        self.sets = [self.file("lib.rs", nodes), *files]
+        self.sets += [{"do": "set block", "at": list(place), "unit": {"nodes": list(inside)}} for place, inside in blocks]
+        self.sets += entries
+        self.at, self.path = list(at), path
+
+    @staticmethod
+    def file(name, nodes):
+        return {"do": "set file", "file": name, "unit": {"nodes": list(nodes)}}
+
+    def begin(self):
+        return [{"do": "crates", "crates": self.crates}, *self.sets]
+
+
+def with_input(made, name, *attributes):
+    """A struct under attributes, whose derives have its name as their input."""
+    return {**made.under(made.struct(name), *attributes), "input": name}
+
+
+# ---- helpers of derives
+
+def structs_with_helpers(made, n, below=False):
+    """n structs, each under an attribute `serde` that stands above the derive which brings it, or above and below."""
+    behind = ["serde"] if below else []
+    structs = [with_input(made, f"s{k}", "serde", made.derive("Serialize"), *behind) for k in range(n)]
+    for struct in structs:
+        made.expand_derive("Serialize", struct, made.struct("impl_" + struct["name"]))
+    return structs
+
+
+def helpers_above_derives(n):
+    """A helper above its derive, which is declarative."""
+    made = Attributes()
+    structs = structs_with_helpers(made, n)
+    return Input(made.macro("Serialize", styles=["derive"], helpers=["serde"]), *structs, entries=made.entries, path=f"impl_s{n - 1}")
+
+
+def helpers_around_derives(n):
+    """A helper above its derive and one below it."""
+    made = Attributes()
+    structs = structs_with_helpers(made, n, below=True)
+    return Input(made.macro("Serialize", styles=["derive"], helpers=["serde"]), *structs, entries=made.entries, path=f"impl_s{n - 1}")
+
+
+def helpers_above_builtin_derives(n):
+    """A helper above its derive, which is builtin."""
+    made = Attributes()
+    macro = made.macro("Default", expander="builtin_derive", helpers=["default"])
+    structs = [made.under(made.struct(f"s{k}"), "default", made.derive("Default")) for k in range(n)]
+    return Input(macro, *structs, path=f"s{n - 1}")
+
+
+def helpers_above_procedural_derives(n):
+    """A helper above its derive, which another crate has as a procedural macro."""
+    made = Attributes()
+    exporting = {**made.function("derive_serialize"), "attrs": [{"path": "proc_macro_derive", "derive": "Serialize", "helpers": ["serde"]}]}
+    structs = [with_input(made, f"s{k}", "serde", made.derive("Serialize")) for k in range(n)]
+    for struct in structs:
+        key = {"caller": 1, "crate": 0, "text": "Serialize", "call": "derive", "input": struct["name"]}
+        made.entries.append({"do": "set expansion", "key": key, "unit": {"nodes": [made.struct("impl_" + struct["name"])]}})
+    crates = [{**EDITION, "root": "serde.rs", "proc_macro": True}, {**EDITION, "root": "lib.rs", "deps": [{"name": "serde_derive", "crate": 0}]}]
+    nodes = [made.use("serde_derive::Serialize"), *structs]
+    return Input(*nodes, entries=made.entries, crates=crates, files=[Input.file("serde.rs", [exporting])], at=[1], path=f"impl_s{n - 1}")
+
+
+def unknown_helpers_beside_rounds(n):
+    """n structs under an attribute that nothing brings on them, beside n that come by a round each and have it by a derive."""
+    made = Attributes()
+    unknown = [made.under(made.struct(f"u{k}"), "serde") for k in range(n)]
+    derived = [with_input(made, f"s{k}", made.derive("Serialize"), "serde") for k in range(n)]
+    for k, struct in enumerate(derived):
+        made.expand_derive("Serialize", struct, made.struct("impl_" + struct["name"]))
+        made.expand(f"m{k}", "", *([made.rules(f"m{k - 1}")] if k else []), struct)
+    nodes = [made.macro("Serialize", styles=["derive"], helpers=["serde"]), *unknown]
+    nodes += [made.call(f"m{k}") for k in range(n)] + [made.rules(f"m{n - 1}")]
+    return Input(*nodes, entries=made.entries, path="impl_s0")
+
+
+# ---- what is defined again
+
+def structs_defined_again(n):
+    """n structs of one name, each under an attribute that nothing defines, beside n imports of it."""
+    made = Attributes()
+    structs = [made.under(made.struct("S"), "nope") for _ in range(n)]
+    return Input(*structs, *(made.use("self::S", f"y{k}") for k in range(n)), path=f"y{n - 1}")
+
+
+def modules_defined_again(n):
+    """n modules of one name, each under an attribute that nothing defines, beside n imports through it."""
+    made = Attributes()
+    modules = [made.under(made.module("a", made.struct(f"x{k}")), "nope") for k in range(n)]
+    return Input(*modules, *(made.use(f"a::x{k}") for k in range(n)), path="x0")
+
+
+def structs_called_again(n):
+    """n structs of one name, each from a call that the one before it defines, beside n imports of it."""
+    made = Attributes()
+    for k in range(n):
+        made.expand(f"m{k}", "", *([made.rules(f"m{k - 1}")] if k else []), made.struct("S"))
+    nodes = [made.call(f"m{k}") for k in range(n)] + [made.rules(f"m{n - 1}")]
+    return Input(*nodes, *(made.use("self::S", f"y{k}") for k in range(n)), entries=made.entries, path=f"y{n - 1}")
+
+
+# ---- blocks
+
+def block_of_imports(n):
+    """A block with n imports of what a module of its crate has."""
+    made = Attributes()
+    names = made.module("m", *(made.struct(f"S{k}") for k in range(n)))
+    uses = [made.use(f"crate::m::S{k}", f"T{k}") for k in range(n)]
+    return Input(names, blocks=[([0, block(1)], uses)], at=[0, block(1)], path=f"T{n - 1}")
+
+
+def block_of_a_chain(n):
+    """A block with n imports, each of the name that the one behind it binds."""
+    made = Attributes()
+    uses = [made.use(f"x{k + 1}", f"x{k}") for k in range(n)]
+    return Input(blocks=[([0, block(1)], [*uses, made.struct(f"x{n}")])], at=[0, block(1)], path="x0")
+
+
+def block_of_calls(n):
+    """A block with n calls of one macro, each of which defines a struct."""
+    made = Attributes()
+    calls = [made.call("m", str(k)) for k in range(n)]
+    for k in range(n):
+        made.expand("m", str(k), made.struct(f"S{k}"))
+    return Input(made.rules("m"), entries=made.entries, blocks=[([0, block(1)], calls)], at=[0, block(1)], path=f"S{n - 1}")
+
+
+def block_of_called_calls(n):
+    """A block with n calls, the macro of each defined by the expansion of the one behind it."""
+    made = Attributes()
+    for k in range(n):
+        made.expand(f"m{k}", "", made.rules(f"m{k - 1}") if k else made.struct("S"))
+    inside = [made.call(f"m{k}") for k in range(n)] + [made.rules(f"m{n - 1}")]
+    return Input(entries=made.entries, blocks=[([0, block(1)], inside)], at=[0, block(1)], path="S")
+
+
+def block_of_attributes(n):
+    """A block with n structs, each under an attribute that nothing defines."""
+    made = Attributes()
+    structs = [made.under(made.struct(f"S{k}"), f"no{k}") for k in range(n)]
+    return Input(blocks=[([0, block(1)], structs)], at=[0, block(1)], path=f"S{n - 1}")
+
+
+INPUTS = {
+    helpers_above_derives: 1000,
+    helpers_around_derives: 1000,
+    helpers_above_builtin_derives: 1000,
+    helpers_above_procedural_derives: 1000,
+    unknown_helpers_beside_rounds: 1000,
+    structs_defined_again: 1000,
+    modules_defined_again: 1000,
+    structs_called_again: 1000,
+    block_of_imports: 1000,
+    block_of_a_chain: 1000,
+    block_of_calls: 1000,
+    block_of_called_calls: 1000,
+    block_of_attributes: 1000,
+}
+
+
+def timed(program, made, n):
+    """Prints what an input takes at a size, at twice and at four times that."""
+    seconds = []
+    for size in (n, 2 * n, 4 * n):
+        it = made(size)
+        taken, most = refresh(program, it.begin(), it.at, it.path)
+        seconds.append(taken)
+    ratios = ", ".join(f"{later / before:.2f}" for before, later in zip(seconds, seconds[1:]))
+    print(f"{made.__name__}: {n}: " + ", ".join(f"{it:.3f} s" for it in seconds) + f"; {most:.0f} MB; ratios {ratios}", flush=True)
+
+
+def alike(program, made, n):
+    """Compares what the program answers of an input with what the plain model does."""
+    sys.path.insert(0, os.path.join(os.path.dirname(os.path.realpath(__file__)), "..", "tools"))
+    from model.syntax import dump
+    from model.workspace import Workspace
+
+    it = made(n)
+    places = [[number] for number in range(len(it.crates))] + [command["at"] for command in it.sets if command["do"] == "set block"]
+    asks = [{"do": "dump", "at": place} for place in places]
+    asks += [{"do": "diagnostics", "crate": number} for number in range(len(it.crates))]
+    commands = [*it.begin(), {"do": "refresh"}, {"do": "resolve", "at": it.at, "path": it.path}, *asks]
+    ran = subprocess.run([program], input="".join(dump(command) + "\n" for command in commands), capture_output=True, text=True)
+    replies, workspace = ran.stdout.splitlines(), Workspace()
+    for command, reply in zip(commands, replies + [""] * len(commands)):
+        wanted = workspace.reply(command)
+        if reply == "" or json.loads(reply) != json.loads(dump(wanted)):
+            sys.exit(f"{made.__name__} {n}: {dump(command)[:300]}\n  answered {reply}\n  wanted   {dump(wanted)}")
+    if '"kind":"Struct"' not in replies[len(it.begin()) + 1]:
+        sys.exit(f"{made.__name__} {n}: {it.path} is {replies[len(it.begin()) + 1]}")
+    print(f"{made.__name__}: {n}: as the model", flush=True)
+
+
+def main():
+    parser = argparse.ArgumentParser()
+    parser.add_argument("--program", default=SESSION)
+    parser.add_argument("--model", action="store_true")
+    parser.add_argument("name", nargs="?")
+    parser.add_argument("sizes", nargs="*", type=int)
+    options = parser.parse_args()
+    sys.setrecursionlimit(100000)
+    for made, usual in INPUTS.items():
+        if options.name in (None, made.__name__):
+            for n in options.sizes or ([1, 2, 3, 7] if options.model else [usual]):
+                (alike if options.model else timed)(options.program, made, n)
+
+
+if __name__ == "__main__":
+    main()

@@ -1,0 +1,16 @@
+-- A list that is too long over the parts is too long over the inputs.
+use Rattle.std.proofs.Common.{◌≡◌, subst, Err}
+use Rattle.hir_base.specs.declared.ast_id.AstKind.TheVariants as kind
+use Rattle.hir_base.specs.declared.ids.ItemContainerId.TheVariants as container
+use Rattle.hir_def_map.specs.DefMaps.{maps_of}
+use Rattle.hir_collector_rules.specs.Keys.{environment}
+use Rattle.hir_assoc_items.specs.AssocItems.{IsTooMany, container_of, items_written}
+use Rattle.hir_assoc_items.specs.declared.error.AssocItemsError.TheVariants as assoc_error
+use Rattle.hir_session_state.specs.Inputs.{InputsValue, workspace_by}
+use Rattle.hir_session_invalidation.proofs.inputs.Inputs.list_impl.Goals as goal
+
+pub returns-clause-many : goal.returns-clause-many
+returns-clause-many c = subst (λ (i : InputsValue). c.list_of_impl-list.result ≡ Err assoc_error.TooMany
+    → IsTooMany (environment c.list_of_impl-list.new.tables (workspace_by i)) (container_of (maps_of c.args.maps) c.args.local.now (container.ImplId c.args.id))
+    (items_written c.args.tables.now (workspace_by i) c.args.id.loc kind.Impl))
+    c.self.view_is c.list_of_impl-list.ensures.many

@@ -1,0 +1,133 @@
+//! Edits: files that changed, and texts that an editor has in their place.
+
+use std::collections::HashSet;
+use std::path::{Path, PathBuf};
+use std::sync::{Arc, PoisonError};
+
+use anyhow::Result;
+
+use super::files::{key_of, parse, parse_text};
+use super::hand_in::built_of;
+use super::left_out::left_out_of;
+use super::{Key, Parsed, Sent, Workspace};
+use crate::unit::{quoted, BuiltBlock};
+
+impl Workspace {
+    /// Whether a change of this file may change something.
+    pub fn reads(&self, path: &Path) -> bool {
+        let is_included = |key: &Key| self.states.iter().any(|it| it.included.contains(key));
+        path.extension().is_some_and(|it| it == "rs") || key_of(path).is_ok_and(|it| is_included(&it))
+    }
+
+    /// Reads these files again where they changed. Answers which crates were resolved again, or none where nothing
+    /// that resolution reads changed.
+    pub fn update(&mut self, paths: &[PathBuf]) -> Result<Vec<u32>> {
+        let mut crates = self.restore_circular();
+        for path in paths {
+            let key = key_of(path)?;
+            let is_there = path.is_file();
+            let including = (0..self.states.len()).filter(|it| self.states[*it].included.contains(&key));
+            let including: Vec<u32> = including.map(|it| it as u32).collect();
+            if !including.is_empty() {
+                self.cache.retain(|_, it| it.1.file.as_ref() != Some(&key));
+                let is_include = |it: &&String| it.contains("\"text\":\"builtin include\"");
+                let all: Vec<String> = self.expansions.keys().filter(is_include).cloned().collect();
+                all.iter().for_each(|it| self.remove_expansion(it));
+                crates.extend(including);
+            }
+            if is_there {
+                let parsed = parse(path, &key);
+                if self.parsed.get(&key).is_some_and(|it| it.text == parsed.text && it.error == parsed.error) {
+                    continue;
+                }
+                if self.take_same(&key, &parsed) {
+                    continue;
+                }
+                self.parsed.insert(key.clone(), Arc::new(parsed));
+            } else if self.parsed.remove(&key).is_none() {
+                continue;
+            }
+            crates.extend(self.looking_for(&key));
+            if !is_there {
+                if let Some(it) = self.sent.remove(&key) {
+                    self.type_names.remove(&it.built);
+                }
+                self.program.ask(format!("{{\"do\":\"remove file\",\"file\":{}}}", quoted(&key)))?;
+            }
+        }
+        let mut crates: Vec<u32> = crates.into_iter().collect();
+        crates.sort_unstable();
+        if crates.is_empty() {
+            return Ok(crates);
+        }
+        self.settle(&crates)
+    }
+
+    /// Takes what stands in a file now where its unit is the one that was handed in: only places are others then.
+    fn take_same(&mut self, key: &Key, parsed: &Parsed) -> bool {
+        let Some(krate) = self.crates_of(key).first().copied().filter(|_| parsed.error.is_none()) else {
+            return false;
+        };
+        let Some(sent) = self.sent.get(key).filter(|_| self.refused.iter().all(|it| it.0 != *key)) else {
+            return false;
+        };
+        self.moved.get_mut().unwrap_or_else(PoisonError::into_inner).clear();
+        let (options, expanded) = (&self.crates.all[krate as usize].options, self.expanded(krate));
+        let left_out = left_out_of(key, &self.states);
+        let (built, blocks) = built_of(&parsed.unit, options, left_out, &self.replaced, expanded, self.takes_blocks);
+        let is_same = |it: (&BuiltBlock, &BuiltBlock)| it.0.is_same(it.1);
+        let are_same = blocks.len() == sent.blocks.len() && blocks.iter().zip(&sent.blocks).all(is_same);
+        if built.json != sent.built.json || left_out != sent.left_out || !are_same {
+            return false;
+        }
+        let (path, real, unit) = (parsed.path.clone(), parsed.real.clone(), parsed.unit.clone());
+        let (text, given, is_plain) = (parsed.text, parsed.given, parsed.is_plain);
+        let (replaced, with_blocks) = (sent.replaced.clone(), sent.with_blocks.clone());
+        let krate = sent.krate;
+        let sent = Sent { krate, unit: unit.clone(), replaced, with_blocks, left_out, built: Arc::new(built), blocks };
+        self.sent.insert(key.clone(), sent);
+        self.parsed.insert(key.clone(), Arc::new(Parsed { path, real, unit, error: None, text, given, is_plain }));
+        true
+    }
+
+    /// Takes a text in place of what the file holds, as an editor has it.
+    pub fn update_text(&mut self, path: &Path, text: &str) -> Result<Vec<u32>> {
+        let key = key_of(path)?;
+        let parsed = parse_text(path, &key, text);
+        self.update_parsed(key, parsed)
+    }
+
+    /// Takes what [`parse_text`] made in place of what the file holds.
+    pub fn update_parsed(&mut self, key: Key, parsed: Parsed) -> Result<Vec<u32>> {
+        let mut crates = self.restore_circular();
+        let is_same = self.parsed.get(&key).is_some_and(|it| it.text == parsed.text) || self.take_same(&key, &parsed);
+        if !is_same {
+            self.parsed.insert(key.clone(), Arc::new(parsed));
+            crates.extend(self.looking_for(&key));
+        }
+        let mut crates: Vec<u32> = crates.into_iter().collect();
+        crates.sort_unstable();
+        match crates.is_empty() {
+            true => Ok(crates),
+            false => self.settle(&crates),
+        }
+    }
+
+    /// The crates in which the file is a module, or in which a module looked for it.
+    fn looking_for(&self, key: &Key) -> Vec<u32> {
+        let looks = |it: &u32| {
+            let state = &self.states[*it as usize];
+            state.places.contains_key(key) || state.missing.contains(key)
+        };
+        (0..self.states.len() as u32).filter(looks).collect()
+    }
+
+    /// Takes the files as they are that counted as broken for their modules: an edit may have changed that. Answers the
+    /// crates of which they are files.
+    fn restore_circular(&mut self) -> HashSet<u32> {
+        let restored = std::mem::take(&mut self.circular);
+        let crates = restored.keys().flat_map(|it| self.looking_for(it)).collect();
+        self.parsed.extend(restored);
+        crates
+    }
+}

@@ -1,0 +1,80 @@
+//! What the tests share. None of them needs all of it.
+#![allow(dead_code)]
+
+pub mod client;
+
+use std::path::{Path, PathBuf};
+
+use cargo_nogsimat::package::{Crates, Wanted};
+use cargo_nogsimat::program;
+use cargo_nogsimat::workspace::Workspace;
+use tempfile::TempDir;
+
+/// A file or a folder of this package.
+pub fn own(path: &str) -> PathBuf {
+    Path::new(env!("CARGO_MANIFEST_DIR")).join(path)
+}
+
+/// A folder with all that is in it, but for what Cargo builds there.
+pub fn copy(from: &Path, to: &Path) {
+    std::fs::create_dir_all(to).unwrap();
+    for it in std::fs::read_dir(from).unwrap() {
+        let it = it.unwrap();
+        let target = to.join(it.file_name());
+        if it.file_type().unwrap().is_dir() {
+            if it.file_name() != "target" {
+                copy(&it.path(), &target);
+            }
+        } else {
+            std::fs::copy(it.path(), target).unwrap();
+        }
+    }
+}
+
+/// The example in a folder of its own.
+pub fn market() -> TempDir {
+    let folder = TempDir::new().unwrap();
+    copy(&own("examples/market"), folder.path());
+    folder
+}
+
+/// A package with these files.
+pub fn package(files: &[(&str, &str)]) -> TempDir {
+    let folder = TempDir::new().unwrap();
+    let manifest = ("Cargo.toml", "[package]\nname = \"one\"\nversion = \"0.1.0\"\nedition = \"2021\"\n[workspace]\n");
+    for (name, text) in std::iter::once(&manifest).chain(files) {
+        let path = folder.path().join(name);
+        std::fs::create_dir_all(path.parent().unwrap()).unwrap();
+        std::fs::write(path, text).unwrap();
+    }
+    folder
+}
+
+/// A session over the package in a folder, with a stub for the standard library.
+pub fn open(folder: &Path) -> Workspace {
+    open_with(folder, &program::find(None).unwrap())
+}
+
+/// The same with another program.
+pub fn open_with(folder: &Path, program: &Path) -> Workspace {
+    let wanted = Wanted { path: folder.to_owned(), no_std: true, ..Wanted::default() };
+    Workspace::open(Crates::read(&wanted).unwrap(), program, None, |_, _, _| {}).unwrap()
+}
+
+/// A script that can be called.
+#[cfg(unix)]
+pub fn write_script(path: &Path, text: &str) {
+    use std::os::unix::fs::PermissionsExt;
+    std::fs::write(path, text).unwrap();
+    std::fs::set_permissions(path, std::fs::Permissions::from_mode(0o755)).unwrap();
+}
+
+/// Numbers that look random, the same each time.
+pub struct Dice(pub u64);
+
+impl Dice {
+    pub fn below(&mut self, most: usize) -> usize {
+        self.0 = self.0.wrapping_mul(6_364_136_223_846_793_005).wrapping_add(1_442_695_040_888_963_407);
+        (self.0 >> 33) as usize % most.max(1)
+    }
+}

@@ -1,0 +1,396 @@
+//! The language server under edits: random ones, and a recorded session of 200, each beside a fresh server.
+
+mod common;
+
+use std::collections::BTreeMap;
+use std::path::Path;
+
+use cargo_nogsimat::lsp::message;
+use cargo_nogsimat::lsp::text::Text;
+use common::client::Client;
+use common::{market, own, Dice};
+use serde_json::{json, Value};
+
+const FILES: [&str; 5] =
+    ["shop/src/lib.rs", "shop/src/model.rs", "shop/src/price.rs", "shop/src/report.rs", "codec/src/lib.rs"];
+
+/// An edit of a text: what stands in a range of bytes, and what comes in its place.
+fn edit(text: &str, number: usize, dice: &mut Dice) -> (std::ops::Range<usize>, String) {
+    let starts: Vec<usize> = std::iter::once(0).chain(text.match_indices('\n').map(|it| it.0 + 1)).collect();
+    // Between items, where a line is empty.
+    let gaps: Vec<usize> = text.match_indices("\n\n").map(|it| it.0 + 1).collect();
+    let gap = if gaps.is_empty() { text.len() } else { gaps[dice.below(gaps.len())] };
+    let added: Vec<(usize, usize)> = text
+        .match_indices("// added")
+        .filter_map(|it| {
+            let start = text[..it.0].rfind('\n').map_or(0, |it| it + 1);
+            Some((start, it.0 + text[it.0..].find('\n')? + 1))
+        })
+        .collect();
+    let name = format!("Added{}", dice.below(6));
+    match dice.below(10) {
+        0 | 1 => (gap..gap, format!("pub struct {name}{number}; // added\n")),
+        2 => (gap..gap, format!("use crate::model::{name}; // added 🦀\n")),
+        3 => (gap..gap, format!("pub use crate::price::{{Price as {name}{number}, Nothing{number}}}; // added\r\n")),
+        4 => (
+            gap..gap,
+            format!("/* é\u{301}🦀 */ pub mod m{number} {{ pub use super::*; pub enum {name} {{ A }} }} // added\n"),
+        ),
+        5 => (gap..gap, "ids! { One Two } // added\n".to_owned()),
+        6 | 7 if !added.is_empty() => {
+            let (start, end) = added[dice.below(added.len())];
+            (start..end, String::new())
+        }
+        // A body.
+        _ => match text.find("let ") {
+            Some(at) => (at..at, format!("let _{number} = \"é🦀\"; ")),
+            None => {
+                let at = starts[dice.below(starts.len())];
+                (at..at, "// a line\n".to_owned())
+            }
+        },
+    }
+}
+
+#[test]
+fn random_edits_beside_a_fresh_server() {
+    let folder = market();
+    let mut client = Client::start(folder.path(), &[]);
+    client.initialize();
+    let mut texts: Vec<String> =
+        FILES.iter().map(|it| std::fs::read_to_string(folder.path().join(it)).unwrap()).collect();
+    for (name, text) in FILES.iter().zip(&texts) {
+        client.open(name, text);
+    }
+    let mut dice = Dice(11);
+    let mut compared = 0;
+    let mut named = 0;
+    for number in 1..=240 {
+        let at = dice.below(FILES.len());
+        let (range, new) = edit(&texts[at], number, &mut dice);
+        let mut edits = vec![(range, new)];
+        if dice.below(6) == 0 {
+            // A bracket that is taken away again, so that the text doesn't parse for a while.
+            let end = texts[at].len();
+            edits.insert(0, (end..end, "{".to_owned()));
+            edits.insert(1, (end..end + 1, String::new()));
+        }
+        for (range, new) in edits {
+            let before = Text::new(texts[at].clone());
+            let shown = before.range_of(range.clone());
+            texts[at].replace_range(range, &new);
+            let changes = json!([{"range": shown, "text": new}]);
+            let document = json!({"uri": format!("file://DIR/{}", FILES[at]), "version": number});
+            client.notify("textDocument/didChange", json!({"textDocument": document, "contentChanges": changes}));
+        }
+        if number % 20 != 0 {
+            continue;
+        }
+        let fresh_folder = market();
+        for (name, text) in FILES.iter().zip(&texts) {
+            std::fs::write(fresh_folder.path().join(name), text).unwrap();
+        }
+        let mut fresh = Client::start(fresh_folder.path(), &[]);
+        fresh.initialize();
+        assert_eq!(client.published, fresh.published, "after edit {number}");
+        assert!(!fresh.published.is_empty());
+        for _ in 0..60 {
+            let at = dice.below(FILES.len());
+            let text = Text::new(texts[at].clone());
+            let place = text.place(dice.below(texts[at].len()));
+            let made = client.at("textDocument/definition", FILES[at], place);
+            let wanted = fresh.at("textDocument/definition", FILES[at], place);
+            assert_eq!(made, wanted, "after edit {number} at {place:?} of {}", FILES[at]);
+            compared += 1;
+            named += usize::from(!made.is_null());
+        }
+    }
+    assert!(named * 5 > compared, "{named} of {compared} places have a definition");
+}
+
+/// An edit as it is recorded: the file, what stands in a range of the editor, and what comes in its place.
+type Typed = (usize, std::ops::Range<usize>, String);
+
+/// Puts together what a person may type: items a few characters at a time, lines that are taken away, commented out or
+/// moved, a name that is changed everywhere in a file, and steps back.
+struct Typist {
+    texts: Vec<String>,
+    dice: Dice,
+    /// The edits, each with what stood there before.
+    made: Vec<(Typed, String)>,
+    /// Where among these what was done last begins.
+    last: usize,
+}
+
+impl Typist {
+    fn edit(&mut self, file: usize, range: std::ops::Range<usize>, new: &str) {
+        let old = self.texts[file][range.clone()].to_owned();
+        self.texts[file].replace_range(range.clone(), new);
+        self.made.push(((file, range, new.to_owned()), old));
+    }
+
+    /// Types a text, some characters at a time.
+    fn write(&mut self, file: usize, at: usize, text: &str) {
+        let characters: Vec<char> = text.chars().collect();
+        let (mut from, mut at) = (0, at);
+        while from < characters.len() {
+            let to = (from + 6 + self.dice.below(14)).min(characters.len());
+            let part: String = characters[from..to].iter().collect();
+            self.edit(file, at..at, &part);
+            (from, at) = (to, at + part.len());
+        }
+    }
+
+    fn line(&mut self, file: usize, wanted: impl Fn(&str) -> bool) -> Option<std::ops::Range<usize>> {
+        let text = &self.texts[file];
+        let mut start = 0;
+        let mut found = Vec::new();
+        for line in text.split_inclusive('\n') {
+            if wanted(line) {
+                found.push(start..start + line.len());
+            }
+            start += line.len();
+        }
+        let count = found.len();
+        (count > 0).then(|| found.swap_remove(self.dice.below(count)))
+    }
+
+    fn act(&mut self) {
+        let file = self.dice.below(FILES.len());
+        let number = self.made.len();
+        let name = format!("Added{}", self.dice.below(5));
+        let gap = |it: &str| it.trim().is_empty();
+        let gap = self.line(file, gap).map_or(self.texts[file].len(), |it| it.start);
+        match self.dice.below(11) {
+            0 => self.write(file, gap, &format!("pub struct {name}(u32); // typed\n")),
+            1 => self.write(file, gap, &format!("use crate::price::{name}; // typed\n")),
+            2 => self.write(file, gap, &format!("pub use shop::{{model::*, {name} as Other{number}}}; // typed é\n")),
+            3 => {
+                let body = "use self::inner::Kept; mod inner { pub struct Kept; } let _ = Kept; crate::price::tax";
+                self.write(file, gap, &format!("fn body_{number}() {{ {body}; }} // typed 🦀\n"));
+            }
+            4 => {
+                let items =
+                    format!("pub mod pasted{number} {{\n    pub use super::*;\n    pub enum {name} {{ A }}\n}}\n");
+                self.edit(file, gap..gap, &items);
+            }
+            5 | 6 => {
+                if let Some(it) = self.line(file, |it| it.contains("// typed")) {
+                    self.edit(file, it, "");
+                }
+            }
+            7 => {
+                if let Some(it) = self.line(file, |it| it.starts_with("use ") || it.starts_with("pub use ")) {
+                    self.edit(file, it.start..it.start, "// ");
+                }
+            }
+            8 => {
+                if let Some(it) = self.line(file, |it| it.starts_with("// use ") || it.starts_with("// pub use ")) {
+                    self.edit(file, it.start..it.start + 3, "");
+                }
+            }
+            9 => {
+                let (old, new) = if self.texts[file].contains("Price") { ("Price", "Cost") } else { ("Cost", "Price") };
+                while let Some(at) = self.texts[file].find(old) {
+                    self.edit(file, at..at + old.len(), new);
+                }
+            }
+            // Back to before what was done last.
+            _ => {
+                for at in (self.last..number).rev() {
+                    let ((file, range, new), old) = self.made[at].clone();
+                    self.edit(file, range.start..range.start + new.len(), &old);
+                }
+            }
+        }
+        self.last = number;
+    }
+
+    /// A place in a word of a text.
+    fn word(&mut self, file: usize) -> (u32, u32) {
+        let text = &self.texts[file];
+        let is_word = |it: char| it.is_alphanumeric() || it == '_';
+        let starts: Vec<usize> = text
+            .char_indices()
+            .filter(|it| is_word(it.1) && !text[..it.0].chars().next_back().is_some_and(is_word))
+            .map(|it| it.0)
+            .collect();
+        let at = if starts.is_empty() { 0 } else { starts[self.dice.below(starts.len())] };
+        Text::new(text.clone()).place(at)
+    }
+}
+
+/// The edits of a session, each with what is asked behind it.
+fn record(folder: &Path) -> Vec<Value> {
+    let texts: Vec<String> = FILES.iter().map(|it| std::fs::read_to_string(folder.join(it)).unwrap()).collect();
+    let mut typist = Typist { texts: texts.clone(), dice: Dice(46), made: Vec::new(), last: 0 };
+    while typist.made.len() < 200 {
+        typist.act();
+    }
+    let edits: Vec<Typed> = typist.made.drain(..200).map(|it| it.0).collect();
+    typist.texts = texts;
+    let mut made = Vec::new();
+    for (file, range, new) in edits {
+        let shown = Text::new(typist.texts[file].clone()).range_of(range.clone());
+        typist.texts[file].replace_range(range, &new);
+        let asked = if typist.dice.below(2) == 0 { file } else { typist.dice.below(FILES.len()) };
+        let (line, character) = typist.word(asked);
+        let method = ["definition", "definition", "hover", "hover", "references", "documentSymbol"];
+        made.push(json!({
+            "file": FILES[file], "range": shown, "text": new,
+            "ask": method[typist.dice.below(method.len())], "in": FILES[asked], "at": [line, character],
+        }));
+    }
+    made
+}
+
+/// The diagnostics that are published, each on a line.
+fn lines_of(published: &BTreeMap<String, Value>) -> Vec<String> {
+    let lists = published.iter().flat_map(|(uri, list)| list.as_array().unwrap().iter().map(move |it| (uri, it)));
+    let lines = lists.map(|(uri, it)| {
+        let (start, message) = (&it["range"]["start"], it["message"].as_str().unwrap().replace('\n', "; "));
+        format!("{}:{}:{}: {message}", uri.replace("file://DIR/", ""), start["line"], start["character"])
+    });
+    lines.collect()
+}
+
+/// A session of 200 edits is recorded in `lsp/session.jsonl`: a line has an edit, what is asked behind it, the answer,
+/// and which diagnostics came and went. Replayed it gives the same, and so does a fresh server at each point at which
+/// all files parse. Without the file a session is recorded from a seed.
+#[test]
+fn a_recorded_session() {
+    let folder = market();
+    let path = own("tests/lsp/session.jsonl");
+    let stored = std::fs::read_to_string(&path).ok();
+    let mut steps: Vec<Value> = match &stored {
+        Some(it) => it.lines().map(|it| serde_json::from_str(it).unwrap()).collect(),
+        None => record(folder.path()),
+    };
+    assert_eq!(steps.len(), 200);
+    let mut client = Client::start(folder.path(), &[]);
+    client.initialize();
+    let mut texts: Vec<Text> = Vec::new();
+    for name in FILES {
+        let text = std::fs::read_to_string(folder.path().join(name)).unwrap();
+        client.open(name, &text);
+        texts.push(Text::new(text));
+    }
+    let ask = |client: &mut Client, step: &Value| {
+        let place = (step["at"][0].as_u64().unwrap() as u32, step["at"][1].as_u64().unwrap() as u32);
+        let method = format!("textDocument/{}", step["ask"].as_str().unwrap());
+        client.at(&method, step["in"].as_str().unwrap(), place)
+    };
+    let mut points = Vec::new();
+    let mut before = lines_of(&client.published);
+    for (number, step) in steps.iter_mut().enumerate() {
+        let (file, new) = (step["file"].as_str().unwrap().to_owned(), step["text"].as_str().unwrap().to_owned());
+        let place = |it: &Value| (it["line"].as_u64().unwrap() as u32, it["character"].as_u64().unwrap() as u32);
+        let range = [place(&step["range"]["start"]), place(&step["range"]["end"])];
+        texts[FILES.iter().position(|it| *it == file).unwrap()].edit(Some(range), &new);
+        let document = json!({"uri": format!("file://DIR/{file}"), "version": number + 1});
+        let changes = json!([{"range": step["range"], "text": new}]);
+        client.notify("textDocument/didChange", json!({"textDocument": document, "contentChanges": changes}));
+        let answer = ask(&mut client, step);
+        let now = lines_of(&client.published);
+        let (came, went): (Vec<&String>, Vec<&String>) = (
+            now.iter().filter(|it| !before.contains(it)).collect(),
+            before.iter().filter(|it| !now.contains(it)).collect(),
+        );
+        let made = json!({"answer": answer, "came": came, "went": went});
+        for (name, made) in made.as_object().unwrap() {
+            let is_stored = stored.is_some() && std::env::var_os("UPDATE").is_none();
+            assert!(!is_stored || step[name] == *made, "{name} of line {}: {made}", number + 1);
+            step[name] = made.clone();
+        }
+        before = now;
+        let is_whole = before.iter().all(|it| !it.contains("until it is mended"));
+        if is_whole {
+            points.push((number, texts.clone(), client.published.clone(), step.clone()));
+        }
+    }
+    if stored.is_none() || std::env::var_os("UPDATE").is_some() {
+        let text: String = steps.iter().map(|it| format!("{it}\n")).collect();
+        std::fs::write(&path, text).unwrap();
+    }
+    assert!(points.len() >= 100, "all files parse at {} points", points.len());
+    assert!(steps.iter().filter(|it| !it["answer"].is_null()).count() >= 60);
+    let next = std::sync::atomic::AtomicUsize::new(0);
+    let compare = || {
+        let fresh_folder = market();
+        while let Some((number, texts, published, step)) =
+            points.get(next.fetch_add(1, std::sync::atomic::Ordering::Relaxed))
+        {
+            for (name, text) in FILES.iter().zip(texts) {
+                std::fs::write(fresh_folder.path().join(name), text.as_str()).unwrap();
+            }
+            let mut fresh = Client::start(fresh_folder.path(), &[]);
+            fresh.initialize();
+            assert_eq!(*published, fresh.published, "line {}", number + 1);
+            assert_eq!(step["answer"], ask(&mut fresh, step), "line {}", number + 1);
+        }
+    };
+    std::thread::scope(|scope| {
+        let threads: Vec<_> = (0..4).map(|_| scope.spawn(compare)).collect();
+        threads.into_iter().for_each(|it| it.join().unwrap());
+    });
+}
+
+/// Whatever is typed and asked, nothing panics.
+#[test]
+fn edits_without_sense() {
+    const PIECES: [&str; 24] = [
+        "{",
+        "}",
+        "(",
+        ")",
+        "[",
+        "]",
+        "<",
+        ">",
+        "::",
+        "use ",
+        "fn f",
+        "let x = ",
+        "|",
+        "=>",
+        ";",
+        ",",
+        "\"",
+        "'",
+        "🦀",
+        "e\u{301}",
+        "\r\n",
+        "\r",
+        "macro_rules! m ",
+        "r#\"",
+    ];
+    let folder = market();
+    let mut client = Client::start(folder.path(), &[]);
+    client.initialize();
+    let name = "shop/src/lib.rs";
+    let text = std::fs::read_to_string(folder.path().join(name)).unwrap();
+    client.open(name, &text);
+    let mut dice = Dice(5);
+    let document = json!({"uri": format!("file://DIR/{name}")});
+    for number in 0..300 {
+        let mut place = || json!({"line": dice.below(45), "character": dice.below(60)});
+        let (start, end, asked) = (place(), place(), place());
+        let range = json!({"start": start, "end": if dice.below(8) == 0 { end } else { start.clone() }});
+        let mut changes = vec![json!({"range": range, "text": PIECES[dice.below(PIECES.len())]})];
+        if number % 25 == 24 {
+            changes = vec![json!({"text": text})];
+        }
+        let ask = |method: &str| {
+            let params = json!({"textDocument": document, "position": asked, "context": {"includeDeclaration": true}});
+            json!({"jsonrpc": "2.0", "id": method, "method": format!("textDocument/{method}"), "params": params})
+        };
+        let change = json!({"textDocument": document, "contentChanges": changes});
+        let mut sent = vec![message::notification("textDocument/didChange", change)];
+        sent.extend(["definition", "hover", "references", "documentSymbol"].map(ask));
+        let made = client.exchange(&sent);
+        let is_answered = |it: &&Value| it.get("id").is_some() && it.get("error").is_none();
+        assert_eq!(made.iter().filter(is_answered).count(), 4, "after edit {number}: {made:?}");
+        assert!(made.iter().all(|it| it["method"] != "window/showMessage"), "after edit {number}: {made:?}");
+    }
+    assert_eq!(client.end(), 1);
+}
