@@ -3,6 +3,7 @@ pub mod Sound
 pub mod Growth
 pub mod Due
 pub mod Pending
+pub mod Awaiting
 pub mod Waiting
 pub mod Begun
 pub mod Verdicts

@@ -37,7 +37,7 @@ use Rattle.hir_session_core.specs.declared.session.pending.PendingBlock.{Pending
 in_tail : {A : Type 0} (y : A) (xs : List A) (x : A) → Contains xs x → Contains (y ∷ xs) x
 in_tail y xs x (n, below, is) = (suc n, omega arith, is)
 
-head_or_tail : {A : Type 0} (y : A) (xs : List A) (x : A) → Contains (y ∷ xs) x → (y ≡ x) ⊎ Contains xs x
+pub head_or_tail : {A : Type 0} (y : A) (xs : List A) (x : A) → Contains (y ∷ xs) x → (y ≡ x) ⊎ Contains xs x
 head_or_tail y xs x (zero, below, is) = inl is
 head_or_tail y xs x (suc n, below, is) = inr (n, omega arith, is)
 
@@ -123,14 +123,14 @@ IsOwn p = p ≡ pending_of p.place
 abbrev some_block : PlaceValue → BlockPlace
 some_block p = record { holder = p; id = record { hash = 0; index = 0 } }
 
-same_place : (p q : PlaceValue) → place_eq.ghosts.eq p q ≡ true → p ≡ q
+pub same_place : (p q : PlaceValue) → place_eq.ghosts.eq p q ≡ true → p ≡ q
 same_place p q e = ap (λ (b : BlockPlace). b.holder) (exact_block (some_block p) (some_block q) (ap (λ (b : Bool). b && true) e))
 
 -- those that are tied have one place
 tied : (x y : PendingBlock) → pending_cmp x y ≡ Equal → x.place ≡ y.place
 tied x y e = same_place x.place y.place (second_so _ _ (pending_ties x y ∙ ap is_eq e))
 
-inserted : (keys : List PendingBlock) (k : PendingBlock) → All IsOwn keys → IsOwn k → Contains (insert_key pending_cmp keys k) k
+pub inserted : (keys : List PendingBlock) (k : PendingBlock) → All IsOwn keys → IsOwn k → Contains (insert_key pending_cmp keys k) k
 inserted [] k all own = (zero, omega arith, refl)
 inserted (x ∷ xs) k all own = by (pending_cmp k x) refl (inserted xs k (All-tail IsOwn x xs all) own)
   where
@@ -140,7 +140,7 @@ inserted (x ∷ xs) k all own = by (pending_cmp k x) refl (inserted xs k (All-ta
     by Equal e more = (zero, omega arith, All-head IsOwn x xs all ∙ ap pending_of (sym (tied k x e)) ∙ sym own)
     by Greater e more = in_tail x (insert_key pending_cmp xs k) k more
 
-still_in : (keys : List PendingBlock) (k y : PendingBlock) → Contains keys y → Contains (insert_key pending_cmp keys k) y
+pub still_in : (keys : List PendingBlock) (k y : PendingBlock) → Contains keys y → Contains (insert_key pending_cmp keys k) y
 still_in [] k y h = absurd (let past : h.0 < 0 = h.1 in omega arith)
 still_in (x ∷ xs) k y h = by (pending_cmp k x) (still_in xs k y)
   where

@@ -1,6 +1,7 @@
 -- How far has a refresh come? No public clause speaks of this.
-use Rattle.std.specs.Prelude.{◌≡◌, ℕ, ◌<◌, cond, is_none, is_some, true, false, List, [], ◌∷◌, ◌++◌, length, Option, Some, None, Contains}
-use Rattle.std.specs.BTreeSet.{insert_key}
+use Rattle.std.specs.Prelude.{◌≡◌, ⊤, ℕ, ◌<◌, Bool, cond, is_none, is_some, true, false, List, [], ◌∷◌, ◌++◌, length, Option, Some, None, Contains}
+use Rattle.std.specs.BTreeMap.{is_at}
+use Rattle.std.specs.BTreeSet.{BTreeSet, contains, insert_key}
 use Rattle.hir_base.specs.Place.{PlaceValue}
 use Rattle.hir_base.specs.declared.ast_id.BlockId.{BlockId}
 use Rattle.hir_base.specs.declared.place.BlockPlace.{BlockPlace}
@@ -76,6 +77,40 @@ with_pending s b keys = cond (is_none (block_kept s b)) (insert_key pending_orde
 pub record HasAllPending (s : SessionState) (pending : List PendingBlock) : Type 0 where
   pub all : (b : BlockPlace) → is_set s.sources.blocks b ≡ true → block_kept s b ≡ None → Contains pending (pending_of (place_of_block b))
   pub own : (p : PendingBlock) → Contains pending p → p ≡ pending_of p.place
+
+-- a block is set whose root this is, and nothing is kept of it
+pub record IsPendingAt (s : SessionState) (root : PlaceValue) : Type 0 where
+  pub block : BlockPlace
+  pub is : place_of_block block ≡ root
+  pub set : is_set s.sources.blocks block ≡ true
+  pub marked : block_kept s block ≡ None
+
+-- each block that is set and of which nothing is kept is among them, and nothing else is
+pub record ArePending (s : SessionState) (pending : List PendingBlock) : Type 0 where
+  pub all : (b : BlockPlace) → is_set s.sources.blocks b ≡ true → block_kept s b ≡ None → Contains pending (pending_of (place_of_block b))
+  pub own : (p : PendingBlock) → Contains pending p → p ≡ pending_of p.place
+  pub only : (p : PendingBlock) → Contains pending p → IsPendingAt s p.place
+
+-- the blocks that are known to wait, if that is known
+abbrev pub Known : Type 0
+Known = Option (BTreeSet PendingBlock)
+
+abbrev pub AreKnownPending : SessionState → Known → Type 0
+AreKnownPending s None = ⊤
+AreKnownPending s (Some pending) = ArePending s pending.keys
+
+-- a block is among those that are known exactly if it waits, and each other exactly if it was
+abbrev pub IsSettled : PendingBlock → Bool → Known → Known → Type 0
+IsSettled block waits old None = ⊤
+IsSettled block waits None (Some new) = ⊥
+IsSettled block waits (Some old) (Some new) =
+    (q : PendingBlock) → contains pending_order.ghosts.cmp new q
+    ≡ cond (is_at (pending_order.ghosts.cmp block) q) waits (contains pending_order.ghosts.cmp old q)
+
+-- a block that was to be looked at is among those that are left exactly if it waits
+pub data IsSifted (s : SessionState) (block : PendingBlock) (old new : List PendingBlock) : Type 0 where
+  put : IsPendingAt s block.place → new ≡ insert_key pending_order.ghosts.cmp old block → IsSifted s block old new
+  passed : ¬ IsPendingAt s block.place → new ≡ old → IsSifted s block old new
 
 -- none of a list is due
 abbrev pub AreNotDue : SessionState → List PendingBlock → Type 0

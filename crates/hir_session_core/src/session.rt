@@ -30,6 +30,7 @@ mod pending;
 mod queries;
 mod refresh;
 
+use self::pending::{PendingBlock, forget};
 use hir_base::file_path::FilePath;
 use hir_base::ids::Crate;
 use hir_base::limit::Limit;
@@ -50,6 +51,7 @@ use hir_tables::Tables;
 use hir_wire::command::CrateInput;
 use hir_wire::edit::{Edit, ExpansionEntry};
 use std::alloc::{AllocError, Global};
+use std::collections::BTreeSet;
 use std::marker::Model;
 
 /// The most crates that a session has.
@@ -62,12 +64,15 @@ pub struct Session {
     tables: Tables,
     kept: Kept,
     askers: Askers,
+    /// The blocks that are set and of which nothing is kept; None where that isn't known.
+    pending: Option<BTreeSet<PendingBlock>>,
 }
 
 impl Model for Session {
     ghost use Rattle.hir_session_state.specs.Askers.{AreNoted};
     ghost use Rattle.hir_session_state.specs.SessionState.{SessionState, IsSound, state_of};
     ghost use Rattle.hir_session_state.specs.Codes.{coded_session};
+    ghost use Rattle.hir_session_core.specs.Progress.{AreKnownPending};
 
     ghost Value = { SessionState };
 
@@ -75,7 +80,8 @@ impl Model for Session {
 
     ghost view = { λ s. state_of s.inputs s.tables s.kept };
 
-    ghost invariant = { λ s. IsSound (state_of s.inputs s.tables s.kept) × AreNoted s.tables s.kept s.askers };
+    ghost invariant = { λ s. IsSound (state_of s.inputs s.tables s.kept) × AreNoted s.tables s.kept s.askers
+        × AreKnownPending (state_of s.inputs s.tables s.kept) s.pending };
 }
 
 /// Whether a source is within the limits, and has each id once. How deep its items nest is looked at first,
@@ -133,7 +139,7 @@ impl Session {
             edit,
         )?;
         self.inputs.set_file(file, source, trees)?;
-        self.kept.forget(&hits);
+        forget(&mut self.kept, &mut self.pending, &hits);
         Ok(())
     }
 
@@ -155,7 +161,7 @@ impl Session {
             edit,
         )?;
         self.inputs.remove_file(file, trees);
-        self.kept.forget(&hits);
+        forget(&mut self.kept, &mut self.pending, &hits);
         Ok(())
     }
 
@@ -182,7 +188,7 @@ impl Session {
             edit,
         )?;
         self.inputs.set_expansion(key, entry)?;
-        self.kept.forget(&hits);
+        forget(&mut self.kept, &mut self.pending, &hits);
         Ok(())
     }
 
@@ -201,7 +207,7 @@ impl Session {
             edit,
         )?;
         self.inputs.remove_expansion(key);
-        self.kept.forget(&hits);
+        forget(&mut self.kept, &mut self.pending, &hits);
         Ok(())
     }
 
@@ -284,5 +290,6 @@ fn begin(alloc: Global, inputs: &Vec<CrateInput>) -> Result<Session, AllocError>
         tables,
         kept: Kept::new(alloc),
         askers: Askers::new(alloc),
+        pending: None,
     })
 }

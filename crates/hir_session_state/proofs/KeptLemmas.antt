@@ -3,7 +3,8 @@ use Rattle.std.proofs.Common.{◌≡◌, ◌≢◌, ◌∙◌, ap, sym, subst, r
 use Rattle.std.proofs.Common.{◌∷◌, ◌⊎◌, inl, inr, length, get_or, map, arith}
 use Rattle.std.specs.Option.{option_map}
 use Rattle.std.specs.BTreeMap.{BTreeMap, get, is_at, IsUnchanged}
-use Rattle.std.specs.Map.{lookup}
+use Rattle.std.specs.Map.{keys_of as ids_of, lookup}
+use Rattle.std.proofs.lemmas.List.{length-map}
 use Rattle.hir_base.specs.declared.ids.MapId.{MapId}
 use Rattle.hir_base.specs.declared.ids.ModuleId.{ModuleId}
 use Rattle.hir_base.specs.contracts.ids.MapIdOrd.TheImpl as map_order
@@ -79,6 +80,20 @@ kept_from maps runs id placed run is_placed is_run =
     (λ i. resolution_from (is_placed i) (is_run i))
     ∙ at_found (found_in maps id) (run_in runs id)
     ∙ sym (kept_at maps runs id)
+
+-- ---- how many there are
+
+pub same_keys : (maps : Store) (runs : Runs) → ids_of (resolutions_in maps runs) ≡ ids_of maps.entries
+unfolding resolutions_in
+same_keys maps runs = go maps.entries
+  where
+    go : (es : List (MapId × Finished)) → ids_of (map (entry_with runs) es) ≡ ids_of es
+    go [] = refl
+    go (e ∷ es) = ap (λ (ids : List MapId). e.0 ∷ ids) (go es)
+
+pub same_count : (maps : Store) (runs : Runs) → length (resolutions_in maps runs) ≡ length maps.entries
+unfolding resolutions_in
+same_count maps runs = length-map maps.entries (entry_with runs)
 
 -- ---- none
 

@@ -13,3 +13,4 @@ pub mod Worlds
 pub mod Resolving
 pub mod NumberLemmas
 pub mod Asking
+pub mod Counting

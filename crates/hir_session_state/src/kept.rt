@@ -1,5 +1,8 @@
 //! What is kept of the places that were resolved.
-ghost use Rattle.std.specs.Prelude.{◌≡◌, ◌≢◌, true, None, Some, OnOk, OnErr, option_map};
+ghost use Rattle.std.specs.Prelude.{◌≡◌, ◌≢◌, ◌↔◌, ◌+◌, ◌<◌, ◌^◌, IsTrue, true, None, Some, OnOk, OnErr, cond, is_some, length, option_map};
+ghost use Rattle.std.specs.List.Sorted.{IsStrictlySortedBy};
+ghost use Rattle.std.specs.Map.{keys_of as ids_of};
+ghost use Rattle.std.specs.Option.{option_and_then};
 ghost use Rattle.std.specs.BTreeMap.{get, IsUnchanged};
 ghost use Rattle.hir_base.specs.declared.ids.MapId.{MapId};
 ghost use Rattle.hir_base.specs.contracts.ids.MapIdOrd.TheImpl as map_order;
@@ -189,4 +192,47 @@ impl Kept {
             self.forget_one(*id);
         }
     }
+
+    /// Of how many places something is kept.
+    fn len(&self) -> usize
+        ensures value { result ≡ length self.now }
+        ensures small { result < 2 ^ 63 }
+        ensures sorted { IsStrictlySortedBy map_order.ghosts.cmp (ids_of self.now) }
+    {
+        self.world.maps.len()
+    }
+
+    /// Whether something is kept of a place, where there is one.
+    pub fn has(&self, id: Option<MapId>) -> bool
+        ensures value { result ≡ is_some (option_and_then (kept_in self.now) id) }
+    {
+        match id {
+            Some(id) => self.get(id).is_some(),
+            None => false,
+        }
+    }
+
+    /// Drops what is kept of some places, and of each that depends on one of them; whether of every other place than this one what
+    /// was kept still is.
+    ///
+    /// It counts what is kept, so it costs no more than `forget`.
+    pub fn forget_around(&mut self, own: Option<MapId>, ids: &Vec<MapId>) -> bool
+        ensures forgotten { AreForgotten self.old ids.now.items self.new }
+        ensures alone { IsTrue result ↔ ((id : MapId) → Some id ≢ own → kept_in self.new id ≡ kept_in self.old id) }
+    {
+        let before = self.len();
+        let had = self.has(own);
+        self.forget(ids);
+        let has = self.has(own);
+        is_as_many(before, has, self.len(), had)
+    }
+}
+
+/// Whether a count and another are the same, each with one more where that is to be counted.
+fn is_as_many(a: usize, one_more_a: bool, b: usize, one_more_b: bool) -> bool
+    requires small_a { a < 2 ^ 63 }
+    requires small_b { b < 2 ^ 63 }
+    ensures value { IsTrue result ↔ (a + cond one_more_a 1 0 ≡ b + cond one_more_b 1 0) }
+{
+    a + one_more_a as usize == b + one_more_b as usize
 }

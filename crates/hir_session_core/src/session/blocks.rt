@@ -1,14 +1,17 @@
 //! Edits of blocks.
-ghost use Rattle.std.specs.Prelude.{◌≡◌, ◌⊎◌, None, Some, OnOk, OnErr, IfErr, Ok, Err, length, nat_lt};
+ghost use Rattle.std.specs.Prelude.{◌≡◌, ◌⊎◌, None, Some, OnOk, OnErr, IfErr, Ok, Err, length, nat_lt, option_map};
 ghost use Rattle.hir_base.specs.Refusal.{Gives};
 ghost use Rattle.hir_item_tree.specs.Source.{source_view};
 ghost use Rattle.hir_session_state.specs.Blocks.{place_of_block};
 ghost use Rattle.hir_session_state.specs.Changes.{Becomes};
 ghost use Rattle.hir_session_state.specs.Refusals.{verdict_of_block, verdict_of_source, verdict_with_steps, IsEditMemory};
 ghost use Rattle.hir_session_state.specs.SourceEdits.{edited, of_block};
+ghost use Rattle.hir_session_state.specs.Standing.{block_map, block_number};
 ghost use Rattle.hir_session_core.specs.BlockVerdicts.{told_with_steps};
 
+use super::pending::{PendingBlock, forget_block, settle};
 use super::{Session, check_source};
+use hir_base::ids::MapId;
 use hir_base::place::BlockPlace;
 use hir_item_tree::source::Source;
 use hir_session_invalidation::invalidate::{Invalidation, invalidated};
@@ -46,6 +49,19 @@ impl Session {
         (block.holder.krate().0 as usize) < self.inputs.crates().len()
     }
 
+    /// The id of a block's map, where the block has a number.
+    fn block_id(&self, block: &BlockPlace) -> Option<MapId>
+        ensures value { result ≡ option_map (block_map block.now.holder.krate) (block_number self.now.tables block.now) }
+    {
+        match self.tables.block_number(block) {
+            Some(number) => Some(MapId {
+                krate: block.holder.krate(),
+                block: Some(number),
+            }),
+            None => None,
+        }
+    }
+
     /// Sets a checked block, and drops what is kept of what that touches.
     fn keep_block(
         &mut self,
@@ -68,8 +84,12 @@ impl Session {
             &self.askers,
             edit,
         )?;
+        let one = PendingBlock::new(alloc, &block)?;
+        let own = self.block_id(&block);
         self.inputs.set_block(block, source)?;
-        self.kept.forget(&hits);
+        forget_block(&mut self.kept, &mut self.pending, own, &hits);
+        let is_kept = self.kept.has(own);
+        settle(&mut self.pending, one, !is_kept);
         Ok(())
     }
 
@@ -90,8 +110,11 @@ impl Session {
             &self.askers,
             edit,
         )?;
+        let one = PendingBlock::new(alloc, block)?;
+        let own = self.block_id(block);
         self.inputs.remove_block(block)?;
-        self.kept.forget(&hits);
+        forget_block(&mut self.kept, &mut self.pending, own, &hits);
+        settle(&mut self.pending, one, false);
         Ok(())
     }
 

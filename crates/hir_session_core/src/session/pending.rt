@@ -1,13 +1,16 @@
 //! Blocks that wait to be resolved.
-ghost use Rattle.std.specs.Prelude.{◌≡◌, IfOk, OnOk, is_none};
+ghost use Rattle.std.specs.Prelude.{◌≡◌, ◌≢◌, ◌⊎◌, true, false, IfOk, IfSome, OnOk, None, Some, is_none, length};
+ghost use Rattle.hir_base.specs.declared.ids.MapId.{MapId};
 ghost use Rattle.hir_session_state.specs.Blocks.{place_of_block};
+ghost use Rattle.hir_session_state.specs.Kept.{kept_in, AreForgotten};
 ghost use Rattle.hir_session_state.specs.SessionState.{block_kept, is_marked, IsSound};
-ghost use Rattle.hir_session_core.specs.Progress.{pending_of, with_pending, HasAllPending};
+ghost use Rattle.hir_session_core.specs.Progress.{pending_of, with_pending, ArePending, HasAllPending, IsPendingAt, IsSettled, IsSifted};
 
 use super::Session;
 use hir_base::ids::MapId;
 use hir_base::place::{BlockPlace, Place};
 use hir_session_sources::blocks::root_of_block;
+use hir_session_state::kept::Kept;
 use hir_session_state::steps::nesting;
 use std::alloc::{AllocError, Global};
 use std::collections::BTreeSet;
@@ -22,7 +25,7 @@ pub struct PendingBlock {
 }
 
 impl PendingBlock {
-    fn new(alloc: Global, block: &BlockPlace) -> Result<PendingBlock, AllocError>
+    pub fn new(alloc: Global, block: &BlockPlace) -> Result<PendingBlock, AllocError>
         ensures value { IfOk result (λ p. p ≡ pending_of (place_of_block block.now)) }
     {
         let place = root_of_block(alloc, block)?;
@@ -31,6 +34,66 @@ impl PendingBlock {
             place,
         })
     }
+}
+
+/// Those that wait, with a block if it waits and without it if not; None where there is no memory for it.
+fn settled(
+    mut known: BTreeSet<PendingBlock>,
+    block: PendingBlock,
+    waits: bool,
+) -> Option<BTreeSet<PendingBlock>>
+    ensures settled { IfSome result (λ new. IsSettled block waits (Some known) (Some new)) }
+{
+    if !waits {
+        known.remove(&block);
+        return Some(known);
+    }
+    match known.insert(block) {
+        Ok(_) => Some(known),
+        Err(_) => None,
+    }
+}
+
+/// Says of a block whether it waits, where the blocks that wait are known. Without memory for it they aren't any more.
+pub fn settle(pending: &mut Option<BTreeSet<PendingBlock>>, block: PendingBlock, waits: bool)
+    ensures settled { IsSettled block waits pending.old pending.new }
+{
+    if let Some(known) = pending.take() {
+        *pending = settled(known, block, waits);
+    }
+}
+
+/// Drops what is kept of these places, and of what depends on them. Where there are some, which blocks wait isn't known then.
+pub fn forget(kept: &mut Kept, pending: &mut Option<BTreeSet<PendingBlock>>, hits: &Vec<MapId>)
+    ensures forgotten { AreForgotten kept.old hits.now.items kept.new }
+    ensures known { length hits.now.items ≡ 0 → pending.new ≡ pending.old }
+    ensures pending { (pending.new ≡ None)
+        ⊎ ((pending.new ≡ pending.old) × ((id : MapId) → kept_in kept.new id ≡ kept_in kept.old id)) }
+{
+    if hits.is_empty() {
+        return;
+    }
+    *pending = None;
+    kept.forget(hits);
+}
+
+/// The same after an edit of a block. Where of every other place what was kept still is, the other blocks that wait are known
+/// still.
+pub fn forget_block(
+    kept: &mut Kept,
+    pending: &mut Option<BTreeSet<PendingBlock>>,
+    own: Option<MapId>,
+    hits: &Vec<MapId>,
+)
+    ensures forgotten { AreForgotten kept.old hits.now.items kept.new }
+    ensures known { ((id : MapId) → Some id ≢ own → kept_in kept.new id ≡ kept_in kept.old id) → pending.new ≡ pending.old }
+    ensures pending { (pending.new ≡ None)
+        ⊎ ((pending.new ≡ pending.old) × ((id : MapId) → Some id ≢ own → kept_in kept.new id ≡ kept_in kept.old id)) }
+{
+    if kept.forget_around(own, hits) {
+        return;
+    }
+    *pending = None;
 }
 
 impl Session {
@@ -51,6 +114,18 @@ impl Session {
                 block: Some(number),
             }),
             None => true,
+        }
+    }
+
+    /// Whether a block is set whose root this is, and nothing is kept of it.
+    pub(super) fn is_pending(&self, root: &Place) -> bool
+        ensures on { result ≡ true → IsPendingAt self.now root.now }
+        ensures off { result ≡ false → ¬ IsPendingAt self.now root.now }
+    {
+        let blocks = self.inputs.sources().blocks();
+        match blocks.place(root.krate(), root.elements()) {
+            Some(block) => self.is_block_marked(block),
+            None => false,
         }
     }
 
@@ -81,5 +156,54 @@ impl Session {
             self.add_pending(alloc, &mut pending, block)?;
         }
         Ok(pending)
+    }
+
+    /// The same, and maybe other blocks. Which blocks wait isn't known then, until it is said again.
+    pub(super) fn take_pending(
+        &mut self,
+        alloc: Global,
+    ) -> Result<BTreeSet<PendingBlock>, AllocError>
+        ensures same { self.new ≡ self.old }
+        ensures all { IfOk result (λ pending. HasAllPending self.old pending.keys) }
+        ensures sound { OnOk result (IsSound self.old) }
+    {
+        match self.pending.take() {
+            Some(pending) => Ok(pending),
+            None => self.pending_blocks(alloc),
+        }
+    }
+
+    /// Puts a block among those that are left, if it waits.
+    fn sift(&self, left: &mut BTreeSet<PendingBlock>, block: PendingBlock) -> Result<(), AllocError>
+        ensures ok { OnOk result (IsSifted self.now block left.old.keys left.new.keys) }
+    {
+        if self.is_pending(&block.place) {
+            left.insert(block)?;
+        }
+        Ok(())
+    }
+
+    /// Those of some blocks that wait.
+    pub(super) fn still_pending(
+        &self,
+        alloc: Global,
+        mut pending: BTreeSet<PendingBlock>,
+    ) -> Result<BTreeSet<PendingBlock>, AllocError>
+        requires all { HasAllPending self.now pending.keys }
+        ensures pending { IfOk result (λ left. ArePending self.now left.keys) }
+    {
+        let mut left = BTreeSet::new(alloc);
+        'next: while let Some(block) = pending.pop_first() {
+            self.sift(&mut left, block)?;
+        }
+        Ok(left)
+    }
+
+    /// From now on these are the blocks that wait.
+    pub(super) fn await_blocks(&mut self, pending: BTreeSet<PendingBlock>)
+        requires pending { ArePending self.old pending.keys }
+        ensures same { self.new ≡ self.old }
+    {
+        self.pending = Some(pending);
     }
 }

@@ -14,11 +14,12 @@ ghost use Rattle.hir_session_state.specs.Changes.{Refreshes, RefreshesPartly};
 ghost use Rattle.hir_session_state.specs.Due.{root_place, Grows, HasOverlongRun, IsDueBlock, IsStuckAt, Resolved};
 ghost use Rattle.hir_session_state.specs.SessionState.{SessionState, Resolution, beginning_of, finished_of, is_marked, module_of, workspace_of, IsPlace, IsResolutionOf, IsSound};
 ghost use Rattle.hir_session_state.specs.Standing.{block_map, block_number, definition_file, is_set};
-ghost use Rattle.hir_session_core.specs.Progress.{held_in, AreCratesCurrent, AreFollowedCurrent, HasResolved, IsBlockResolved, IsModuleThere, IsRefreshed};
+ghost use Rattle.hir_session_core.specs.Progress.{held_in, AreCratesCurrent, AreFollowedCurrent, HasAllPending, HasResolved, IsBlockResolved, IsModuleThere, IsRefreshed};
 ghost use Rattle.hir_session_answers.specs.Status.{status_of};
 ghost use Rattle.hir_wire.specs.declared.reply.Status.TheVariants as status;
 
 use super::Session;
+use super::pending::PendingBlock;
 use hir_base::ast_id::{BlockId, EditionedFileId};
 use hir_base::ids::{Crate, MapId, ModuleId};
 use hir_base::place::{BlockPlace, Place};
@@ -29,6 +30,7 @@ use hir_session_invalidation::sources::HeldBlock;
 use hir_session_sources::source_trees::copied_place;
 use hir_session_state::error::RefreshError;
 use std::alloc::{AllocError, Global};
+use std::collections::BTreeSet;
 
 /// A block that is due, and the module that holds it.
 #[derive(Clone, Copy)]
@@ -78,6 +80,8 @@ impl Session {
         ensures sound { IsSound self.new }
         ensures err { OnErr result (self.new ≡ self.old) }
     {
+        // Fewer blocks may wait now. `refresh_blocks` says which do.
+        self.pending = None;
         self.askers.note(&self.tables, &found.asked, id)?;
         self.kept.keep(found)?;
         Ok(())
@@ -307,8 +311,32 @@ impl Session {
         }
     }
 
-    /// Resolves the blocks that are marked and set and whose holding place is there, an outer one before those within it, and
-    /// lists them. Resolving one makes only deeper ones due.
+    /// Resolves, of these blocks, those that are marked and set and whose holding place is there, an outer one before those
+    /// within it, and lists them. Resolving one makes only deeper ones due.
+    fn refresh_each(
+        &mut self,
+        alloc: Global,
+        pending: &BTreeSet<PendingBlock>,
+        done: &mut Vec<Place>,
+    ) -> Result<(), RefreshError>
+        requires crates { AreCratesCurrent self.old }
+        requires sound { IsSound self.old }
+        requires all { HasAllPending self.old pending.now.keys }
+        ensures so_far { OnOk result ((from : SessionState) → HasResolved from done.old.items self.old
+            → HasResolved from done.new.items self.new) }
+        ensures current { OnOk result (AreCratesCurrent self.new) }
+        ensures none_due { OnOk result ((b : BlockPlace) → ¬ IsDueBlock self.new b) }
+        ensures all { OnOk result (HasAllPending self.new pending.now.keys) }
+        ensures err { OnErr result ((from : SessionState) → HasResolved from done.old.items self.old → RefreshesPartly from self.new) }
+        ensures many { result ≡ Err RefreshError.TooMany → HasOverlongRun self.new }
+    {
+        for block in pending {
+            self.refresh_block(alloc, &block.place, done)?;
+        }
+        Ok(())
+    }
+
+    /// Resolves the blocks that are due, and lists them.
     fn refresh_blocks(&mut self, alloc: Global, done: &mut Vec<Place>) -> Result<(), RefreshError>
         requires crates { AreCratesCurrent self.old }
         ensures so_far { OnOk result ((from : SessionState) → HasResolved from done.old.items self.old
@@ -318,10 +346,10 @@ impl Session {
         ensures err { OnErr result ((from : SessionState) → HasResolved from done.old.items self.old → RefreshesPartly from self.new) }
         ensures many { result ≡ Err RefreshError.TooMany → HasOverlongRun self.new }
     {
-        let pending = self.pending_blocks(alloc)?;
-        for block in &pending {
-            self.refresh_block(alloc, &block.place, done)?;
-        }
+        let pending = self.take_pending(alloc)?;
+        self.refresh_each(alloc, &pending, done)?;
+        let left = self.still_pending(alloc, pending)?;
+        self.await_blocks(left);
         Ok(())
     }
 

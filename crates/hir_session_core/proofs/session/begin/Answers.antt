@@ -12,6 +12,7 @@ invariant_of-result c = (
       (begins_with c.args.inputs.now.items _ _ _ _ c.in_ok-crates.ensures.made c.in_ok-crates.ensures.rooted refl c.new-2.ensures.none
       _ c.new-tables.ensures.value c.in_ok-crates.ensures.others)),
   none_noted _ _ _ c.new-2.ensures.none,
+  tt,
 )
 
 pub returns : goal.returns

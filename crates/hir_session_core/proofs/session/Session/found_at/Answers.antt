@@ -8,13 +8,14 @@ use Rattle.hir_session_state.specs.Crates.{beginning_in, id_of}
 use Rattle.hir_session_state.specs.Due.IsStuckAt.{overlong}
 use Rattle.hir_session_state.specs.Inputs.{InputsValue, workspace_by}
 use Rattle.hir_session_state.specs.Kept.{finished_by}
-use Rattle.hir_session_state.specs.SessionState.{SessionState, is_marked}
+use Rattle.hir_session_state.specs.SessionState.{SessionState, is_marked, state_of}
 use Rattle.hir_session_state.specs.declared.error.RefreshError.TheVariants as refresh_error
 use Rattle.hir_session_state.proofs.Asking.{kept_meant, noted_grown}
 use Rattle.hir_session_answers.proofs.LowerLaws.{answers_stand, asked_keys_have_meaning, looks_stand, runs_name}
 use Rattle.hir_session_state.proofs.Resolving.{found_of, grown_of, grown_sound}
 use Rattle.hir_session_answers.proofs.KnownSources.{crate_known}
 use Rattle.hir_session_state.proofs.Truth.{no_error, one_error}
+use Rattle.hir_session_core.proofs.Awaiting.{known_grown}
 use Rattle.hir_session_core.proofs.session.Session.found_at.Goals as goal
 use Rattle.hir_session_core.proofs.session.Session.found_at.Goals.{in-Ok, in-Err}
 
@@ -23,6 +24,8 @@ invariant_of-self c = (
   rw c.resolve.ensures.same (grown_sound looks_stand asked_keys_have_meaning answers_stand _ _ c.resolve.ensures.kept c.resolve.ensures.placed
       c.self.invariant.0),
   noted_grown _ _ _ c.self.invariant.1 _ c.resolve.ensures.kept (kept_meant asked_keys_have_meaning _ c.self.invariant.0),
+  rw c.resolve.ensures.same (known_grown (state_of c.self.inside.inputs c.self.inside.tables c.self.inside.kept) c.resolve.new.tables c.self.inside.pending
+      c.self.invariant.0 c.resolve.ensures.kept c.self.invariant.2),
 )
 
 pub returns-clause-grown : goal.returns-clause-grown

@@ -28,14 +28,16 @@ keep-requires-clause-complete c =
 
 -- what the run asked for was noted before
 pub invariant_of-self : goal.invariant_of-self
-invariant_of-self c = (c.self.invariant.0, noted_more _ _ _ c.self.invariant.1 _ c.note.ensures.stay)
+invariant_of-self c = (c.self.invariant.0, noted_more _ _ _ c.self.invariant.1 _ c.note.ensures.stay, tt)
 
 pub invariant_of-self-in_err-keep : goal.invariant_of-self-in_err-keep
-invariant_of-self-in_err-keep c = rw c.in_err-keep.ensures.err (c.self.invariant.0, noted_more _ _ _ c.self.invariant.1 _ c.note.ensures.stay)
+invariant_of-self-in_err-keep c =
+    rw c.in_err-keep.ensures.err (c.self.invariant.0, noted_more _ _ _ c.self.invariant.1 _ c.note.ensures.stay, tt)
 
 pub invariant_of-self-2 : goal.invariant_of-self-2
 invariant_of-self-2 c =
     let back = sym c.self.view_is in
+    let inside = state_of c.self.inside.inputs c.self.inside.tables c.self.inside.kept in
     let found = subst (λ (s : SessionState). IsResolutionOf s c.args.id (held_in s (collected_view c.args.found))) back c.requires.found in (
       resolved_sound _ c.args.id _ c.keep.new.self c.self.invariant.0
           (subst (λ (s : SessionState). IsPlace s c.args.id) back c.requires.place)
@@ -46,6 +48,7 @@ invariant_of-self-2 c =
           c.in_ok-keep.ensures.here c.in_ok-keep.ensures.others
           (λ key number among asks. subst (λ (id : MapId). is_asker c.note.new.self number id ≡ true) (sym found.own)
           (c.in_ok-note.ensures.all key number among asks)),
+      tt,
     )
 
 pub returns-clause-ok : goal.returns-clause-ok

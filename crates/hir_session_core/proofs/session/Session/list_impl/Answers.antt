@@ -13,6 +13,7 @@ use Rattle.hir_session_state.proofs.Resolving.{grown_of, grown_sound}
 use Rattle.hir_session_state.proofs.Truth.{on_ok}
 use Rattle.hir_session_answers.proofs.LowerLaws.{answers_stand, asked_keys_have_meaning, looks_stand}
 use Rattle.hir_session_answers.proofs.Stand.{same_read}
+use Rattle.hir_session_core.proofs.Awaiting.{known_grown}
 use Rattle.hir_session_core.proofs.Due.{grows_not}
 use Rattle.hir_session_core.proofs.Items.{flattened, kept_within, never_unknown, passed}
 use Rattle.hir_session_core.proofs.session.Session.list_impl.Goals as goal
@@ -33,6 +34,8 @@ invariant_of-self c = (
   rw c.list_impl.ensures.same (grown_sound looks_stand asked_keys_have_meaning answers_stand _ _ c.list_impl.ensures.kept c.list_impl.ensures.placed
       c.self.invariant.0),
   noted_grown _ _ _ c.self.invariant.1 _ c.list_impl.ensures.kept (kept_meant asked_keys_have_meaning _ c.self.invariant.0),
+  rw c.list_impl.ensures.same (known_grown (state_of c.self.inside.inputs c.self.inside.tables c.self.inside.kept) c.list_impl.new.tables c.self.inside.pending
+      c.self.invariant.0 c.list_impl.ensures.kept c.self.invariant.2),
 )
 
 pub returns-clause-grown : goal.returns-clause-grown

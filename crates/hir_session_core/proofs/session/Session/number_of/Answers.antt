@@ -3,8 +3,9 @@ use Rattle.std.proofs.Common.{ap, subst, sym}
 use Rattle.hir_session_state.proofs.Asking.{kept_meant, noted_grown}
 use Rattle.hir_session_answers.proofs.LowerLaws.{answers_stand, asked_keys_have_meaning, looks_stand}
 use Rattle.hir_session_state.proofs.Resolving.{grown_of, grown_sound}
-use Rattle.hir_session_state.specs.SessionState.{SessionState, IsSound}
+use Rattle.hir_session_state.specs.SessionState.{SessionState, IsSound, state_of}
 use Rattle.hir_session_state.proofs.Truth.{one_value}
+use Rattle.hir_session_core.proofs.Awaiting.{known_grown}
 use Rattle.hir_session_core.proofs.Begun.{given_number, interned_number, no_number, none_left, placed_still}
 use Rattle.hir_session_core.proofs.session.Session.number_of.Goals as goal
 
@@ -13,6 +14,8 @@ invariant_of-self c = (
   grown_sound looks_stand asked_keys_have_meaning answers_stand _ _ c.intern_block.ensures.kept
       (placed_still _ _ c.intern_block.ensures.kept c.intern_block.ensures.others) c.self.invariant.0,
   noted_grown _ _ _ c.self.invariant.1 _ c.intern_block.ensures.kept (kept_meant asked_keys_have_meaning _ c.self.invariant.0),
+  known_grown (state_of c.self.inside.inputs c.self.inside.tables c.self.inside.kept) c.intern_block.new.self c.self.inside.pending
+      c.self.invariant.0 c.intern_block.ensures.kept c.self.invariant.2,
 )
 
 pub invariant_of-self-2 : goal.invariant_of-self-2
@@ -20,6 +23,8 @@ invariant_of-self-2 c = (
   grown_sound looks_stand asked_keys_have_meaning answers_stand _ _ c.intern_block.ensures.kept
       (placed_still _ _ c.intern_block.ensures.kept c.intern_block.ensures.others) c.self.invariant.0,
   noted_grown _ _ _ c.self.invariant.1 _ c.intern_block.ensures.kept (kept_meant asked_keys_have_meaning _ c.self.invariant.0),
+  known_grown (state_of c.self.inside.inputs c.self.inside.tables c.self.inside.kept) c.intern_block.new.self c.self.inside.pending
+      c.self.invariant.0 c.intern_block.ensures.kept c.self.invariant.2,
 )
 
 pub returns-clause-sound : goal.returns-clause-sound

@@ -1,70 +1,56 @@
--- Each pending block in turn isn't due, or is the next that is.
-use Rattle.std.proofs.Common.{map, sym, subst, List, [], Bor}
+-- What waits is taken and put back, which changes no answer.
+use Rattle.std.proofs.Common.{sym, subst}
 use Rattle.hir_scope.proofs.Rewrites.{on_err}
 use Rattle.hir_session_state.specs.Changes.{RefreshesPartly}
-use Rattle.hir_session_state.specs.SessionState.{SessionState}
-use Rattle.hir_session_core.specs.Progress.{HasResolved}
-use Rattle.hir_session_core.specs.declared.session.pending.PendingBlock.{PendingBlock}
+use Rattle.hir_session_state.specs.SessionState.{SessionState, IsSound}
+use Rattle.hir_session_core.specs.Progress.{AreCratesCurrent, HasAllPending, HasResolved}
 use Rattle.hir_session_core.proofs.Due.{grows_not, passed_on, resolves_grown}
-use Rattle.hir_session_core.proofs.Waiting.{IsInTurn, in_turn-start, in_turn-more, in_turn-partly, in_turn-end, in_turn-shown, in_turn-stuck}
 use Rattle.hir_session_core.proofs.session.Session.refresh_blocks.Goals as goal
 
-abbrev shown : Bor PendingBlock → PendingBlock
-shown p = p.now
+pub refresh_each-requires : goal.refresh_each-requires
+refresh_each-requires c = record {
+  crates = subst (λ (s : SessionState). AreCratesCurrent s) (sym c.in_ok-pending.ensures.same) c.requires.crates;
+  sound = subst (λ (s : SessionState). IsSound s) (sym c.in_ok-pending.ensures.same) c.in_ok-pending.ensures.sound;
+  all = subst (λ (s : SessionState). HasAllPending s c.in_ok-pending.pending.keys) (sym c.in_ok-pending.ensures.same) c.in_ok-pending.ensures.all;
+}
 
-pub loop-block-init : goal.loop-block-init
-loop-block-init c =
-    subst (λ (ks : List PendingBlock). IsInTurn c.args.self.now c.args.done.now.items ks [] ks c.args.self.now c.args.done.now.items)
-    (sym c.into_iter-block-iterator.ensures.into_iter_gives.0)
-    (in_turn-start c.args.self.now c.args.done.now.items c.in_ok-pending.pending.keys c.in_ok-pending.ensures.sound c.in_ok-pending.ensures.all
-    c.requires.crates
-    c.into_iter-block-iterator.ensures.into_iter_gives.4)
+pub still_pending-requires : goal.still_pending-requires
+still_pending-requires c = record { all = c.in_ok-refresh_each.ensures.all }
 
-pub refresh_block-requires : goal.refresh_block-requires
-refresh_block-requires c = record { crates = c.loop-block.invariant.current }
-
-pub loop-block-preserved : goal.loop-block-preserved
-loop-block-preserved c =
-    in_turn-shown shown c.args.self.now c.args.done.now.items c.loop-block.yielded c.in-Some.block c.into_iter-block-iterator.result c.next.new.self _
-    (in_turn-more c.args.self.now c.args.done.now.items c.into_iter-block-iterator.result (map shown c.loop-block.yielded) c.next.new.self c.in-Some.block.now
-    c.loop-block.self c.loop-block.done.items
-    (subst (λ (rest : List PendingBlock). IsInTurn c.args.self.now c.args.done.now.items c.into_iter-block-iterator.result (map shown c.loop-block.yielded) rest
-    c.loop-block.self
-    c.loop-block.done.items) c.in-Some.ensures.steps c.loop-block.invariant) _ _ c.in_ok-refresh_block.ensures.ok)
+pub await_blocks-requires : goal.await_blocks-requires
+await_blocks-requires c = record { pending = c.in_ok-left.ensures.pending }
 
 pub returns-clause-so_far : goal.returns-clause-so_far
-returns-clause-so_far c = c.loop-block.invariant.so_far
+returns-clause-so_far c = rw c.await_blocks.ensures.same (λ from h. c.in_ok-refresh_each.ensures.so_far from (rw c.in_ok-pending.ensures.same h))
 
 pub returns-clause-current : goal.returns-clause-current
-returns-clause-current c = c.loop-block.invariant.current
+returns-clause-current c = rw c.await_blocks.ensures.same c.in_ok-refresh_each.ensures.current
 
 pub returns-clause-none_due : goal.returns-clause-none_due
-returns-clause-none_due c =
-    in_turn-end c.args.self.now c.args.done.now.items c.into_iter-block-iterator.result (map shown c.loop-block.yielded) c.loop-block.self
-    c.loop-block.done.items
-    (subst (λ (rest : List PendingBlock). IsInTurn c.args.self.now c.args.done.now.items c.into_iter-block-iterator.result (map shown c.loop-block.yielded) rest
-    c.loop-block.self
-    c.loop-block.done.items) c.in-None.ensures.steps.0 c.loop-block.invariant)
+returns-clause-none_due c = rw c.await_blocks.ensures.same c.in_ok-refresh_each.ensures.none_due
 
-pub returns-in_err-refresh_block-clause-err : goal.returns-in_err-refresh_block-clause-err
-returns-in_err-refresh_block-clause-err c =
-    let partly : (from : SessionState) → HasResolved from c.args.done.now.items c.args.self.now → RefreshesPartly from c.refresh_block.new.self =
-    in_turn-partly c.args.self.now c.args.done.now.items c.into_iter-block-iterator.result (map shown c.loop-block.yielded) c.loop-block.block-iterator
-    c.loop-block.self c.loop-block.done.items
-    c.loop-block.invariant c.refresh_block.new.self c.in_err-refresh_block.ensures.err in
+pub returns-in_err-refresh_each-clause-err : goal.returns-in_err-refresh_each-clause-err
+returns-in_err-refresh_each-clause-err c =
+    let partly : (from : SessionState) → HasResolved from c.args.done.now.items c.args.self.now → RefreshesPartly from c.refresh_each.new.self =
+    λ from h. c.in_err-refresh_each.ensures.err from (rw c.in_ok-pending.ensures.same h) in
     on_err _ partly
 
-pub returns-in_err-refresh_block-clause-many : goal.returns-in_err-refresh_block-clause-many
-returns-in_err-refresh_block-clause-many c = λ many.
-    let is = c.refresh_block.ensures.many (passed_on _ _ _ _ c.in_err-refresh_block.was c.from_residual-in_err-refresh_block.ensures.1 many) in
-    in_turn-stuck c.args.self.now c.args.done.now.items c.into_iter-block-iterator.result (map shown c.loop-block.yielded) c.next.new.self c.in-Some.block.now
-    c.loop-block.self c.loop-block.done.items
-    (subst (λ (rest : List PendingBlock). IsInTurn c.args.self.now c.args.done.now.items c.into_iter-block-iterator.result (map shown c.loop-block.yielded) rest
-    c.loop-block.self
-    c.loop-block.done.items) c.in-Some.ensures.steps c.loop-block.invariant) c.refresh_block.new.self is.0 is.1 is.2 c.in_err-refresh_block.ensures.err is.3
+pub returns-in_err-refresh_each-clause-many : goal.returns-in_err-refresh_each-clause-many
+returns-in_err-refresh_each-clause-many c = λ many.
+    c.refresh_each.ensures.many (passed_on _ _ _ _ c.in_err-refresh_each.was c.from_residual-in_err-refresh_each.ensures.1 many)
+
+-- all that was due was resolved
+pub returns-in_err-left-clause-err : goal.returns-in_err-left-clause-err
+returns-in_err-left-clause-err c =
+    let partly : (from : SessionState) → HasResolved from c.args.done.now.items c.args.self.now → RefreshesPartly from c.refresh_each.new.self =
+    λ from h.
+    let so_far = c.in_ok-refresh_each.ensures.so_far from (rw c.in_ok-pending.ensures.same h) in
+    record { done = c.refresh_each.new.done.items; resolves = resolves_grown so_far (grows_not c.refresh_each.new.self so_far.sound) } in
+    on_err _ partly
 
 pub returns-in_err-pending-clause-err : goal.returns-in_err-pending-clause-err
 returns-in_err-pending-clause-err c =
-    let partly : (from : SessionState) → HasResolved from c.args.done.now.items c.args.self.now → RefreshesPartly from c.args.self.now =
-    λ from h. record { done = c.args.done.now.items; resolves = resolves_grown h (grows_not _ h.sound) } in
+    let partly : (from : SessionState) → HasResolved from c.args.done.now.items c.args.self.now → RefreshesPartly from c.take_pending.new.self =
+    λ from h. subst (λ (s : SessionState). RefreshesPartly from s) (sym c.in_err-pending.ensures.same)
+    (record { done = c.args.done.now.items; resolves = resolves_grown h (grows_not c.args.self.now h.sound) }) in
     on_err _ partly
