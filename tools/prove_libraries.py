@@ -2,8 +2,8 @@
 """Proves each library by itself with `rt ci NAME`, as many at a time as --jobs says (2).
 
 A library starts once those that it stands on have been proved, and of those that can start the one that the longest chain stands
-on comes first. The must-fail edits of a library are tried beside those that stand on it. What stands on one that failed is left out. `rt ci` fails too then, and says why; so this prints a line a library,
-and ends with 0.
+on comes first. The must-fail edits of a library are tried beside those that stand on it. What stands on one that failed is left
+out. `rt ci` fails too then, and says why; so this prints a line a library, and ends with 0.
 """
 import argparse
 import os
