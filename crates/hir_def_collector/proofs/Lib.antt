@@ -1,9 +1,0 @@
-pub mod Outside
-pub mod Resolved
-pub mod Resuming
-pub mod Ready
-pub mod Begun
-pub mod Waiting
-pub mod Queued
-pub mod GivingUp
-pub mod Looking

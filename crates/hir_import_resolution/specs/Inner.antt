@@ -1,8 +1,0 @@
--- Words of private code.
-pub mod ScopeLaws
-pub mod ViewLaws
-pub mod TableLaws
-pub mod OpenLaws
-pub mod State
-pub mod Steps
-pub mod Queue

@@ -1,9 +1,0 @@
-pub mod Wider
-pub mod Rewrites
-pub mod Pushes
-pub mod AfterPush
-pub mod FilterLemmas
-pub mod ImportChainLemmas
-pub mod AscendingLemmas
-pub mod WalkLemmas
-pub mod AskLemmas

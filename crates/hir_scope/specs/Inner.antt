@@ -1,2 +1,0 @@
--- Words of private code, and lemmas that an `impl` names.
-pub mod Equality
