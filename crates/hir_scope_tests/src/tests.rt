@@ -2,6 +2,7 @@
 //! `hir_def_map_rows`.
 mod bindings;
 mod import_chains;
+mod many_names;
 mod per_ns;
 mod small_tree;
 mod tables;

@@ -440,20 +440,20 @@ fn textual_names(alloc: Global, scope: &ItemScope) -> Result<String, AllocError>
     Ok(text)
 }
 
-/// Of the macros of a name in textual scope the last one is meant.
+/// Macros in textual scope are walked as they were defined; of those of a name the last one is meant.
 #[test]
 fn macros_in_textual_scope(rt: HostRuntime) -> Result<(), Fail> {
     let alloc = rt.alloc();
     let mut scope = empty_scope(alloc)?;
     define(alloc, &mut scope, "a", 1)?;
-    define(alloc, &mut scope, "a", 3)?;
     define(alloc, &mut scope, "b", 2)?;
+    define(alloc, &mut scope, "a", 3)?;
     let text = textual_names(alloc, &scope)?;
-    assert_eq!(rt; text.as_str(), "a a b ");
+    assert_eq!(rt; text.as_str(), "a b a ");
     let name = Name::new(alloc, "a")?;
     let first = macro_of(1, MacroCallStyles::FN_LIKE);
     let last = macro_of(3, MacroCallStyles::FN_LIKE);
-    let found = scope.get_legacy_macro(&name)?;
+    let found: Vec<MacroId> = scope.get_legacy_macro(&name).collect(alloc)?;
     assert_eq!(rt; found.as_slice(), [first, last].as_slice());
     assert_eq!(rt; scope.last_legacy_macro(&name), Some(last));
     assert!(rt; scope.makro(&name).is_none());
