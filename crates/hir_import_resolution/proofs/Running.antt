@@ -38,7 +38,7 @@ use Rattle.hir_import_resolution.proofs.Counting.{counts_on, spent_first, step_f
 use Rattle.hir_import_resolution.proofs.Due.{Due, due}
 use Rattle.hir_import_resolution.proofs.Settled.{linked_settled, nothing_due, only_one, taken_settled}
 use Rattle.hir_import_resolution.proofs.Trying.{announced, lowered, noted, same_scopes, tried}
-use Rattle.hir_import_resolution.proofs.Waking.{still_settled}
+use Rattle.hir_worklist.proofs.Woken.{still_settled}
 
 -- ---- the queue alone
 
@@ -97,7 +97,8 @@ watched r i watchers lasting old keeps watches fewer firm = record {
     begun = record {
       settled =
           lowered r.lasting lasting r.apart (finished_by r) (state_by r) (Some i) r.worklist watchers fewer
-          (still_settled (reads_at r.apart (finished_by r) (state_by r)) (IsSettledFor r.lasting (finished_by r) (state_by r)) (Some i) r.worklist r.watchers
+          (still_settled slot_cmp (reads_at r.apart (finished_by r) (state_by r)) (IsSettledFor r.lasting (finished_by r) (state_by r)) (Some i) r.worklist
+          r.watchers
           watchers old.begun.settled keeps);
       unfinished = old.begun.unfinished;
       count = old.begun.count;

@@ -1,6 +1,7 @@
 //! Tries, until all imports rest.
 ghost use Rattle.std.specs.Prelude.{◌≡◌, ◌<◌, ◌≤◌, [], true, None, Some, OnOk};
-ghost use Rattle.hir_import_resolution.specs.Inner.Queue.{IsBegun, IsRunning, IsSamePass, IsTrying, Reports};
+ghost use Rattle.hir_import_resolution.specs.Inner.Queue.{IsBegun, IsRunning, IsTrying, Reports};
+ghost use Rattle.hir_worklist.specs.Waking.{IsSamePass};
 ghost use Rattle.hir_import_resolution.specs.Inner.State.{finished_by, state_by};
 ghost use Rattle.hir_import_resolution.specs.Inner.Steps.{IsLinking, taking_at};
 ghost use Rattle.hir_import_resolution.specs.Rest.{IsAtRest, IsSpent};
