@@ -1,18 +1,19 @@
 //! Which calls are to be tried.
-ghost use Rattle.std.specs.Prelude.{◌≡◌, ◌≤◌, ℕ, true, false, [], IfNone, IfOk, IfSome, OnOk, Some};
+ghost use Rattle.std.specs.Prelude.{◌≡◌, ◌≤◌, true, false, [], IfNone, IfOk, IfSome, OnOk, Some};
 ghost use Rattle.std.specs.List.{All};
 ghost use Rattle.hir_def_map.specs.Scoping.Slots.{slot_of};
 ghost use Rattle.hir_worklist.specs.Moves.{Takes, closed, empty_queue, opened};
-ghost use Rattle.hir_worklist.specs.Queue.{IsIdle, count_of};
+ghost use Rattle.hir_worklist.specs.Queue.{count_of};
 ghost use Rattle.hir_worklist.specs.Settling.{WatchesEach};
-ghost use Rattle.hir_import_resolution.specs.Inner.Queue.{IsLonger, IsSamePass, KeepsWatched, WakesEach, slot_cmp};
+ghost use Rattle.hir_worklist.specs.Waking.{IsLonger};
+ghost use Rattle.hir_import_resolution.specs.Inner.Queue.{KeepsWatched, slot_cmp};
 ghost use Rattle.hir_call_queue.specs.Changes.{IsThere};
-ghost use Rattle.hir_call_queue.specs.Waking.{IsWatching, IsWoken, KeepsItems, KeepsQueued, WakesItems, is_apart, watches_item, with_worklist, worklist_of};
+ghost use Rattle.hir_call_queue.specs.Waking.{IsWatching, IsWoken, KeepsItems, is_apart, watches_item, with_worklist, worklist_of};
 
 use crate::changed::Changed;
 use hir_base::ast_id::AstId;
 use hir_def_map::nameres::path_resolution::slots::{PathSlots, Slot, SlotRef};
-use hir_worklist::{Watchers, Worklist};
+use hir_worklist::{PathQueue, Watchers};
 use std::alloc::{AllocError, Global};
 
 /// Which calls of a map are to be tried, by their places, and what the others read when they were tried.
@@ -21,67 +22,10 @@ pub struct CallQueue {
     alloc: Global,
     /// Whether finished maps don't refer to the map that is built.
     apart: bool,
-    /// The calls that are to be tried.
-    worklist: Worklist,
-    /// The calls by the slots that their last tries read.
-    watchers: Watchers<Slot>,
+    /// The calls that are to be tried, and the slots that their last tries read.
+    queue: PathQueue<Slot>,
     /// The attributes that were tried, by the items that they stand on.
     attributes: Watchers<AstId>,
-}
-
-/// Appends calls until there are so many.
-fn append_to(worklist: &mut Worklist, count: usize) -> Result<(), AllocError>
-    ensures longer { OnOk result (IsLonger worklist.old worklist.new) }
-    ensures count { OnOk result (count_of worklist.old ≤ count → count_of worklist.new ≡ count) }
-{
-    'calls: while worklist.len() < count {
-        worklist.push()?;
-    }
-    Ok(())
-}
-
-/// Queues what watches slots.
-fn wake_slots(
-    watchers: &mut Watchers<Slot>,
-    worklist: &mut Worklist,
-    slots: &[Slot],
-) -> Result<(), AllocError>
-    ensures woken { OnOk result (WakesEach worklist.new watchers.new worklist.old watchers.old slots.now) }
-    ensures pass { OnOk result (IsSamePass worklist.old worklist.new) }
-    ensures queued { OnOk result (KeepsQueued worklist.old worklist.new) }
-{
-    for slot in slots {
-        watchers.wake_all(slot, worklist)?;
-    }
-    Ok(())
-}
-
-/// Queues the attributes that watch items.
-fn wake_items(
-    attributes: &mut Watchers<AstId>,
-    worklist: &mut Worklist,
-    items: &[AstId],
-) -> Result<(), AllocError>
-    ensures woken { OnOk result (WakesItems worklist.new attributes.new worklist.old attributes.old items.now) }
-    ensures pass { OnOk result (IsSamePass worklist.old worklist.new) }
-    ensures queued { OnOk result (KeepsQueued worklist.old worklist.new) }
-{
-    for item in items {
-        attributes.wake_all(item, worklist)?;
-    }
-    Ok(())
-}
-
-/// Queues all calls.
-fn wake_all(worklist: &mut Worklist) -> Result<(), AllocError>
-    ensures none { OnOk result ((p : ℕ) → ¬ IsIdle worklist.new p) }
-    ensures pass { OnOk result (IsSamePass worklist.old worklist.new) }
-    ensures queued { OnOk result (KeepsQueued worklist.old worklist.new) }
-{
-    for position in 0..worklist.len() {
-        worklist.wake(position)?;
-    }
-    Ok(())
 }
 
 /// Whether a slot is of a module that is there, or of the preludes.
@@ -138,8 +82,7 @@ impl CallQueue {
         CallQueue {
             alloc,
             apart,
-            worklist: Worklist::new(alloc),
-            watchers: Watchers::new(alloc),
+            queue: PathQueue::new(alloc),
             attributes: Watchers::new(alloc),
         }
     }
@@ -150,7 +93,7 @@ impl CallQueue {
         ensures count { OnOk result (count_of (worklist_of self.old) ≤ count → count_of (worklist_of self.new) ≡ count) }
         ensures rest { self.new ≡ with_worklist self.old (worklist_of self.new) }
     {
-        append_to(&mut self.worklist, count)
+        self.queue.worklist.append_to(count)
     }
 
     /// Begins a pass over what is queued.
@@ -158,7 +101,7 @@ impl CallQueue {
         requires over { (worklist_of self.old).current ≡ [] }
         ensures value { self.new ≡ with_worklist self.old (opened (worklist_of self.old)) }
     {
-        self.worklist.open();
+        self.queue.worklist.open();
     }
 
     /// Takes the next call that is left of the pass. Where none is, the pass is over.
@@ -168,7 +111,7 @@ impl CallQueue {
         ensures none { IfNone result (worklist_of self.new ≡ closed (worklist_of self.old)) }
         ensures rest { self.new ≡ with_worklist self.old (worklist_of self.new) }
     {
-        self.worklist.take()
+        self.queue.worklist.take()
     }
 
     /// Queues the calls that have read what may have changed, where not all may have, and the attributes of items on which
@@ -178,8 +121,9 @@ impl CallQueue {
         requires some { changed.now.all ≡ false }
         ensures woken { OnOk result (IsWoken changed.now self.old self.new) }
     {
-        wake_slots(&mut self.watchers, &mut self.worklist, changed.slots())?;
-        wake_items(&mut self.attributes, &mut self.worklist, changed.items())?;
+        self.queue.wake_each(changed.slots())?;
+        self.attributes
+            .wake_each(changed.items(), &mut self.queue.worklist)?;
         Ok(())
     }
 
@@ -191,9 +135,9 @@ impl CallQueue {
         if self.apart && !changed.is_everything() {
             return self.wake_watching(changed);
         }
-        self.watchers = Watchers::new(self.alloc);
+        self.queue.watchers = Watchers::new(self.alloc);
         self.attributes = Watchers::new(self.alloc);
-        wake_all(&mut self.worklist)?;
+        self.queue.worklist.wake_all()?;
         Ok(())
     }
 
@@ -212,11 +156,11 @@ impl CallQueue {
             return Ok(());
         }
         watch_item(&mut self.attributes, i, item)?;
-        let there = watch_each(&mut self.watchers, i, slots, modules)?;
+        let there = watch_each(&mut self.queue.watchers, i, slots, modules)?;
         if there {
             return Ok(());
         }
-        self.worklist.wake(i)?;
+        self.queue.worklist.wake(i)?;
         Ok(())
     }
 }

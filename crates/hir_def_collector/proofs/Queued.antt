@@ -7,7 +7,8 @@ use Rattle.hir_def_map_rules.specs.Overlay.{Maps}
 use Rattle.hir_import_resolution.specs.Rest.{IsAtRest}
 use Rattle.hir_worklist.specs.Moves.{Takes, opened}
 use Rattle.hir_worklist.specs.Queue.{IsIdle, Queue, count_of, is_among}
-use Rattle.hir_call_queue.specs.Waking.{KeepsQueued, worklist_of}
+use Rattle.hir_call_queue.specs.Waking.{worklist_of}
+use Rattle.hir_worklist.specs.Waking.{KeepsQueued}
 use Rattle.hir_call_queue.specs.declared.queue.CallQueue.{CallQueue}
 use Rattle.hir_collector_rules.specs.declared.macro_directive.Fate.TheVariants.{Handled, Waits}
 use Rattle.hir_collector_rules.specs.declared.macro_directive.MacroDirective.{MacroDirective}

@@ -14,8 +14,9 @@ use Rattle.hir_worklist.proofs.Idle.{idle-closed, idle-opened, idle-taken}
 use Rattle.hir_worklist.specs.Moves.{Takes, closed, empty_queue, opened}
 use Rattle.hir_worklist.specs.Queue.{IsIdle, Queue, count_of, is_unfinished}
 use Rattle.hir_worklist.specs.Settling.{AreWatched, WatchesEach}
-use Rattle.hir_import_resolution.proofs.Growing.{idle_below}
-use Rattle.hir_import_resolution.specs.Inner.Queue.{IsLonger, KeepsWatched, slot_cmp}
+use Rattle.hir_worklist.proofs.Passes.{idle_below}
+use Rattle.hir_import_resolution.specs.Inner.Queue.{KeepsWatched, slot_cmp}
+use Rattle.hir_worklist.specs.Waking.{IsLonger}
 use Rattle.hir_call_queue.specs.Changes.{IsThere, IsUnhelped, IsUntouched}
 use Rattle.hir_call_queue.specs.Waking.{AreWatching, IsUnhelpedOn, IsWatching, IsWoken, attributes_of, is_apart, watchers_of, watches_item, with_worklist}
 use Rattle.hir_call_queue.specs.Waking.{worklist_of}

@@ -22,27 +22,31 @@ use Rattle.hir_import_resolution.proofs.Running.{requeued}
 
 -- ---- the queue
 
-pub opened_running : (r : Resolver) (q : Queue) → IsRunning r None → r.worklist.current ≡ [] → q ≡ opened r.worklist → IsRunning (record r { worklist = q })
+pub opened_running : (r : Resolver) (q : Queue) → IsRunning r None → r.queue.worklist.current ≡ [] → q ≡ opened r.queue.worklist
+    → IsRunning (record r { queue = record r.queue { worklist = q } })
     None
 opened_running r q old over e =
     requeued r None None q old
-    (subst (λ (x : Queue). AreIdleSettled r.lasting r.apart (finished_by r) (state_by r) None x r.watchers) (sym e)
-    (pass_opened slot_cmp slot_total (reads_at r.apart (finished_by r) (state_by r)) (IsSettledFor r.lasting (finished_by r) (state_by r)) None r.worklist
-    r.watchers old.begun.settled over))
+    (subst (λ (x : Queue). AreIdleSettled r.lasting r.apart (finished_by r) (state_by r) None (record r.queue { worklist = x })) (sym e)
+    (pass_opened slot_cmp slot_total (reads_at r.apart (finished_by r) (state_by r)) (IsSettledFor r.lasting (finished_by r) (state_by r)) None r.queue.worklist
+    r.queue.watchers old.begun.settled over))
     (ap (λ (x : Queue). x.finished) e)
 
-pub taken_running : (r : Resolver) (q : Queue) (i : ℕ) → IsRunning r None → Takes r.worklist q i → IsRunning (record r { worklist = q }) (Some i)
+pub taken_running : (r : Resolver) (q : Queue) (i : ℕ) → IsRunning r None → Takes r.queue.worklist q i
+    → IsRunning (record r { queue = record r.queue { worklist = q } }) (Some i)
 taken_running r q i old takes =
     requeued r None (Some i) q old
-    (taken slot_cmp slot_total (reads_at r.apart (finished_by r) (state_by r)) (IsSettledFor r.lasting (finished_by r) (state_by r)) r.worklist q i r.watchers
+    (taken slot_cmp slot_total (reads_at r.apart (finished_by r) (state_by r)) (IsSettledFor r.lasting (finished_by r) (state_by r)) r.queue.worklist q i
+        r.queue.watchers
     old.begun.settled takes) takes.finished
 
-pub closed_running : (r : Resolver) (q : Queue) → IsRunning r None → q ≡ closed r.worklist → IsRunning (record r { worklist = q }) None
+pub closed_running : (r : Resolver) (q : Queue) → IsRunning r None → q ≡ closed r.queue.worklist
+    → IsRunning (record r { queue = record r.queue { worklist = q } }) None
 closed_running r q old e =
     requeued r None None q old
-    (subst (λ (x : Queue). AreIdleSettled r.lasting r.apart (finished_by r) (state_by r) None x r.watchers) (sym e)
-    (pass_closed slot_cmp slot_total (reads_at r.apart (finished_by r) (state_by r)) (IsSettledFor r.lasting (finished_by r) (state_by r)) None r.worklist
-    r.watchers old.begun.settled))
+    (subst (λ (x : Queue). AreIdleSettled r.lasting r.apart (finished_by r) (state_by r) None (record r.queue { worklist = x })) (sym e)
+    (pass_closed slot_cmp slot_total (reads_at r.apart (finished_by r) (state_by r)) (IsSettledFor r.lasting (finished_by r) (state_by r)) None r.queue.worklist
+    r.queue.watchers old.begun.settled))
     (ap (λ (x : Queue). x.finished) e)
 
 -- ---- steps of one try after another
@@ -60,7 +64,8 @@ spent_on r0 r1 same first spent = spent_after (finished_by r0) (state_by r0) (st
 -- a pass that takes no step leaves nothing for the next one
 pub nothing_later : (r0 r1 r2 : Resolver) (q : Queue) (i : ℕ) → Steps (finished_by r0) (state_by r0) (state_by r1) → Steps (finished_by r1) (state_by r1)
     (state_by r2)
-    → (r1.count ≡ r0.count → r1.worklist.later ≡ []) → Takes r1.worklist q i → (r2.count ≡ r1.count → r2.worklist ≡ q) → r2.count ≡ r0.count → r2.worklist.later
+    → (r1.count ≡ r0.count → r1.queue.worklist.later ≡ []) → Takes r1.queue.worklist q i → (r2.count ≡ r1.count → r2.queue.worklist ≡ q) → r2.count ≡ r0.count
+        → r2.queue.worklist.later
     ≡ []
 nothing_later r0 r1 r2 q i first then before takes stays same =
     let up : r0.count ≤ r1.count = steps_count (finished_by r0) (state_by r0) (state_by r1) first in
@@ -85,7 +90,7 @@ fewer limit a b (p ∷ old) (k ∷ new) up small any moves = go (eq-or-lt_of_le 
     go (inr less) = omega (arith, less, small)
 
 -- where nothing is queued, imports rest
-pub at_rest : (r : Resolver) → IsRunning r None → r.worklist.current ≡ [] → r.worklist.later ≡ [] → IsAtRest (finished_by r) (state_by r)
+pub at_rest : (r : Resolver) → IsRunning r None → r.queue.worklist.current ≡ [] → r.queue.worklist.later ≡ [] → IsAtRest (finished_by r) (state_by r)
 at_rest r old current later = record {
   settled = λ i. record { among = λ d t e f. (settled i d e).among d t e f; linked = λ d t by target e f g h. (settled i d e).linked d t by target e f g h };
   recorded = old.begun.recorded;
@@ -95,7 +100,7 @@ at_rest r old current later = record {
   where
     settled : (i : ℕ) (d : ImportDirective) → slice_get r.imports.items i ≡ Some d → IsSettled (finished_by r) (state_by r) i
     settled i d e =
-        (old.begun.settled.settled i (idle-settled r.worklist i current later (old.begun.unfinished i (slice_get_within r.imports.items i d e)))
+        (old.begun.settled.settled i (idle-settled r.queue.worklist i current later (old.begun.unfinished i (slice_get_within r.imports.items i d e)))
         (λ none. absurd cc)).settled
 
 pub rest_on : (r0 r1 : Resolver) → finished_by r1 ≡ finished_by r0 → IsAtRest (finished_by r1) (state_by r1) → IsAtRest (finished_by r0) (state_by r1)

@@ -21,6 +21,7 @@ use Rattle.hir_glob_imports.specs.declared.edge.Slot.{Slot}
 use Rattle.hir_glob_imports.specs.declared.step.TheConstants.{MAX_STEPS}
 use Rattle.hir_worklist.specs.Queue.{Queue}
 use Rattle.hir_worklist.specs.Settling.{WatchesEach}
+use Rattle.hir_worklist.specs.declared.path_queue.PathQueue.{PathQueue}
 use Rattle.hir_worklist.specs.declared.watchers.Watchers.{Watchers}
 use Rattle.hir_import_resolution.specs.Types.{ImportDirective, ImportSource, OpenScopes, Resolver, Taking}
 use Rattle.hir_import_resolution.specs.declared.directive.ImportSource.TheVariants as sources
@@ -38,14 +39,14 @@ use Rattle.hir_import_resolution.proofs.Counting.{counts_on, spent_first, step_f
 use Rattle.hir_import_resolution.proofs.Due.{Due, due}
 use Rattle.hir_import_resolution.proofs.Settled.{linked_settled, nothing_due, only_one, taken_settled}
 use Rattle.hir_import_resolution.proofs.Trying.{announced, lowered, noted, same_scopes, tried}
-use Rattle.hir_import_resolution.proofs.Waking.{still_settled}
+use Rattle.hir_worklist.proofs.Woken.{still_settled}
 
 -- ---- the queue alone
 
 -- other things are queued
 pub requeued : (r : Resolver) (now then : Option ℕ) (q : Queue) → IsRunning r now → AreIdleSettled r.lasting r.apart (finished_by r) (state_by r)
-    then q r.watchers
-    → q.finished ≡ r.worklist.finished → IsRunning (record r { worklist = q }) then
+    then (record r.queue { worklist = q })
+    → q.finished ≡ r.queue.worklist.finished → IsRunning (record r { queue = record r.queue { worklist = q } }) then
 requeued r now then q old idle same = record {
   begun = record {
     settled = idle;
@@ -67,7 +68,7 @@ requeued r now then q old idle same = record {
 pub begun_lowered : (r : Resolver) (now : Option ℕ) (lasting : Bool) → (lasting ≡ true → r.lasting ≡ true) → IsBegun r now → IsBegun (with_lasting r lasting)
     now
 begun_lowered r now lasting fewer old = record {
-  settled = lowered r.lasting lasting r.apart (finished_by r) (state_by r) now r.worklist r.watchers fewer old.settled;
+  settled = lowered r.lasting lasting r.apart (finished_by r) (state_by r) now r.queue fewer old.settled;
   unfinished = old.unfinished;
   count = old.count;
   there = old.there;
@@ -88,17 +89,17 @@ trying_lowered r0 r1 i rest fewer old = subst (λ (r : Resolver). IsTrying r i) 
 })
 
 -- an import watches what it reads
-watched : (r : Resolver) (i : ℕ) (watchers : Watchers PathSlot) (lasting : Bool) → IsRunning r (Some i) → KeepsWatched r.watchers watchers
+watched : (r : Resolver) (i : ℕ) (watchers : Watchers PathSlot) (lasting : Bool) → IsRunning r (Some i) → KeepsWatched r.queue.watchers watchers
     → WatchesEach slot_cmp watchers i (reads_at r.apart (finished_by r) (state_by r) i) → (lasting ≡ true → r.lasting ≡ true)
     → (lasting ≡ true → (d : ImportDirective) → slice_get r.imports.items i ≡ Some d → IsFirmBy (finished_by r) (state_by r) d d.source)
-    → IsTrying (record r { watchers = watchers; lasting = lasting }) i
+    → IsTrying (record r { queue = record r.queue { watchers = watchers }; lasting = lasting }) i
 watched r i watchers lasting old keeps watches fewer firm = record {
   running = record {
     begun = record {
       settled =
-          lowered r.lasting lasting r.apart (finished_by r) (state_by r) (Some i) r.worklist watchers fewer
-          (still_settled (reads_at r.apart (finished_by r) (state_by r)) (IsSettledFor r.lasting (finished_by r) (state_by r)) (Some i) r.worklist r.watchers
-          watchers old.begun.settled keeps);
+          lowered r.lasting lasting r.apart (finished_by r) (state_by r) (Some i) (record r.queue { watchers = watchers }) fewer
+          (still_settled slot_cmp (reads_at r.apart (finished_by r) (state_by r)) (IsSettledFor r.lasting (finished_by r) (state_by r)) (Some i)
+          r.queue.worklist r.queue.watchers watchers old.begun.settled keeps);
       unfinished = old.begun.unfinished;
       count = old.begun.count;
       there = old.begun.there;
@@ -131,9 +132,10 @@ firm_by r i d path at is unstopped apart there (sources.Use id kind) e = record 
 firm_by r i d path at is unstopped apart there (sources.ExternCrate id krate) e = tt
 
 -- an import is tried: it watches what it reads, and whether that lasts is noted
-pub trying_watched : (r0 r1 r2 : Resolver) (i : ℕ) (path : Resolution) → IsRunning r0 (Some i) → r1 ≡ record r0 { watchers = r1.watchers; lasting = r1.lasting }
+pub trying_watched : (r0 r1 r2 : Resolver) (i : ℕ) (path : Resolution) → IsRunning r0 (Some i)
+    → r1 ≡ record r0 { queue = record r0.queue { watchers = r1.queue.watchers }; lasting = r1.lasting }
     → r2 ≡ with_lasting r1 r2.lasting
-    → KeepsWatched r0.watchers r1.watchers → WatchesEach slot_cmp r1.watchers i (reads_at r0.apart (finished_by r0) (state_by r0) i)
+    → KeepsWatched r0.queue.watchers r1.queue.watchers → WatchesEach slot_cmp r1.queue.watchers i (reads_at r0.apart (finished_by r0) (state_by r0) i)
     → (r1.lasting ≡ true → r0.lasting ≡ true)
     → (r1.lasting ≡ true → All (IsThere (length r0.scopes.map.modules)) (reads_at r0.apart (finished_by r0) (state_by r0) i))
     → (r2.lasting ≡ true → r1.lasting ≡ true)
@@ -141,12 +143,12 @@ pub trying_watched : (r0 r1 r2 : Resolver) (i : ℕ) (path : Resolution) → IsR
     (slice_get r1.imports.items i) → IsTrying r2 i
 trying_watched r0 r1 r2 i path old first then keeps watches fewer there fewer_still unstopped is =
     subst (λ (r : Resolver). IsTrying r i) (sym same)
-    (watched r0 i r1.watchers r2.lasting old keeps watches (λ e. fewer (fewer_still e))
+    (watched r0 i r1.queue.watchers r2.lasting old keeps watches (λ e. fewer (fewer_still e))
     (λ e d at. firm_by r0 i d path at (answer d at)
     (subst (λ (r : Resolver). stops_bare r.scopes.map path ≡ false) first (unstopped e)) (old.begun.watches (fewer (fewer_still e))) (there (fewer_still e))
     d.source refl))
   where
-    same : r2 ≡ record r0 { watchers = r1.watchers; lasting = r2.lasting }
+    same : r2 ≡ record r0 { queue = record r0.queue { watchers = r1.queue.watchers }; lasting = r2.lasting }
     same = then ∙ (λ j. with_lasting (first j) r2.lasting)
 
     answer : (d : ImportDirective) → slice_get r0.imports.items i ≡ Some d → path ≡ path_answer (finished_by r0) r0.local r0.scopes.map d
@@ -164,7 +166,7 @@ pub tried_running : (r : Resolver) (i : ℕ) → IsTrying r i → taking_at (fin
 tried_running r i old none linked = record {
   begun = record {
     settled =
-        tried r.lasting r.apart (finished_by r) (state_by r) i r.worklist r.watchers old.running.begun.settled old.watching
+        tried r.lasting r.apart (finished_by r) (state_by r) i r.queue old.running.begun.settled old.watching
         (record { settled = nothing_due (finished_by r) (state_by r) i none linked; firm = old.firm });
     unfinished = old.running.begun.unfinished;
     count = old.running.begun.count;
@@ -181,13 +183,15 @@ tried_running r i old none linked = record {
 }
 
 -- there is nothing to try
-pub trying_nothing : (r0 r1 : Resolver) (i : ℕ) → IsRunning r0 (Some i) → r1 ≡ record r0 { watchers = r1.watchers; lasting = r1.lasting }
-    → KeepsWatched r0.watchers r1.watchers
-    → WatchesEach slot_cmp r1.watchers i (reads_at r0.apart (finished_by r0) (state_by r0) i) → (r1.lasting ≡ true → r0.lasting ≡ true)
+pub trying_nothing : (r0 r1 : Resolver) (i : ℕ) → IsRunning r0 (Some i)
+    → r1 ≡ record r0 { queue = record r0.queue { watchers = r1.queue.watchers }; lasting = r1.lasting }
+    → KeepsWatched r0.queue.watchers r1.queue.watchers
+    → WatchesEach slot_cmp r1.queue.watchers i (reads_at r0.apart (finished_by r0) (state_by r0) i) → (r1.lasting ≡ true → r0.lasting ≡ true)
     → None ≡ option_map (path_answer (finished_by r1) r1.local r1.scopes.map) (slice_get r1.imports.items i) → IsRunning r1 None
 trying_nothing r0 r1 i old rest keeps watches fewer is =
     subst (λ (r : Resolver). IsRunning r None) (sym rest)
-    (tried_running (record r0 { watchers = r1.watchers; lasting = r1.lasting }) i (watched r0 i r1.watchers r1.lasting old keeps watches fewer
+    (tried_running (record r0 { queue = record r0.queue { watchers = r1.queue.watchers }; lasting = r1.lasting }) i
+        (watched r0 i r1.queue.watchers r1.lasting old keeps watches fewer
     (λ e d at. absurd cc))
     (ap (option_and_then (λ (r : ImportDirective). option_and_then (λ (t : TakenValue). taking_of (finished_by r0) (state_by r0) r t)
     (slice_get r0.taken.items i))) nothing)
@@ -206,20 +210,18 @@ trying_nothing r0 r1 i old rest keeps watches fewer is =
 
 -- and then what read a name is woken
 pub noted_woken : (r0 r1 r2 : Resolver) → r1 ≡ with_lasting r0 r1.lasting → r2 ≡ record r1 {
-  worklist = r2.worklist;
-  watchers = r2.watchers;
+  queue = r2.queue;
   reported = r2.reported;
 }
-    → r2 ≡ record r0 { worklist = r2.worklist; watchers = r2.watchers; lasting = r2.lasting; reported = r2.reported }
+    → r2 ≡ record r0 { queue = r2.queue; lasting = r2.lasting; reported = r2.reported }
 noted_woken r0 r1 r2 noted rest =
     rest
-    ∙ (λ j. record (noted j) { worklist = r2.worklist; watchers = r2.watchers; reported = r2.reported })
-    ∙ (λ j. record r0 { worklist = r2.worklist; watchers = r2.watchers; lasting = sym (ap (λ (r : Resolver). r.lasting) rest) j; reported = r2.reported })
+    ∙ (λ j. record (noted j) { queue = r2.queue; reported = r2.reported })
+    ∙ (λ j. record r0 { queue = r2.queue; lasting = sym (ap (λ (r : Resolver). r.lasting) rest) j; reported = r2.reported })
 
-pub woken_before : (r0 r1 r2 : Resolver) (slots : List PathSlot) → r1 ≡ with_lasting r0 r1.lasting → IsWoken r1.apart slots r1.worklist r1.watchers r2.worklist
-    r2.watchers
-    → IsWoken r0.apart slots r0.worklist r0.watchers r2.worklist r2.watchers
-woken_before r0 r1 r2 slots noted woken = subst (λ (r : Resolver). IsWoken r.apart slots r.worklist r.watchers r2.worklist r2.watchers) noted woken
+pub woken_before : (r0 r1 r2 : Resolver) (slots : List PathSlot) → r1 ≡ with_lasting r0 r1.lasting → IsWoken r1.apart slots r1.queue r2.queue
+    → IsWoken r0.apart slots r0.queue r2.queue
+woken_before r0 r1 r2 slots noted woken = subst (λ (r : Resolver). IsWoken r.apart slots r.queue r2.queue) noted woken
 
 -- and then a step is made
 pub step_noted : (r0 r1 r2 : Resolver) → r1 ≡ with_lasting r0 r1.lasting → Step (finished_by r1) (state_by r1) (state_by r2)
@@ -235,20 +237,20 @@ same_length r0 r1 slots changes =
     (λ (m : ModuleValue). m.parent)
 
 -- with what is idle settled, all holds
-begun_from : (r0 r1 : Resolver) (now : Option ℕ) (slots : List PathSlot) (q : Queue) (watchers : Watchers PathSlot) (lasting : Bool) (left : Vec Slot Global)
+begun_from : (r0 r1 : Resolver) (now : Option ℕ) (slots : List PathSlot) (q : PathQueue PathSlot) (lasting : Bool) (left : Vec Slot Global)
     (told : Vec PathSlot Global)
     → IsBegun r0 now → ChangesSlots r0 r1 slots
-    → AreIdleSettled lasting r1.apart (finished_by r1) (state_by r1) None q watchers → q.finished ≡ r1.worklist.finished → IsKeptIn r1 → AreRecorded r1
+    → AreIdleSettled lasting r1.apart (finished_by r1) (state_by r1) None q → q.worklist.finished ≡ r1.queue.worklist.finished → IsKeptIn r1 → AreRecorded r1
     → (lasting ≡ true → Lasts (finished_by r1) (state_by r1))
     → (lasting ≡ true → r1.lasting ≡ true) → r1.count ≤ MAX_STEPS → left.items ≡ []
-    → IsBegun (record r1 { worklist = q; watchers = watchers; lasting = lasting; changes = left; reported = told }) None
-begun_from r0 r1 now slots q watchers lasting left told old changes idle same kept recorded lasts fewer small fresh = record {
+    → IsBegun (record r1 { queue = q; lasting = lasting; changes = left; reported = told }) None
+begun_from r0 r1 now slots q lasting left told old changes idle same kept recorded lasts fewer small fresh = record {
   settled = idle;
   unfinished = λ p below.
-      ap (λ (f : List Bool). not (slice_index_or f p true)) (same ∙ ap (λ (x : Queue). x.finished) changes.worklist)
+      ap (λ (f : List Bool). not (slice_index_or f p true)) (same ∙ ap (λ (x : PathQueue PathSlot). x.worklist.finished) changes.queue)
       ∙ old.unfinished p (subst (λ (xs : List ImportDirective). p < length xs) imports below);
   count =
-      ap (λ (f : List Bool). length f) (same ∙ ap (λ (x : Queue). x.finished) changes.worklist) ∙ old.count
+      ap (λ (f : List Bool). length f) (same ∙ ap (λ (x : PathQueue PathSlot). x.worklist.finished) changes.queue) ∙ old.count
       ∙ sym (ap (λ (xs : List ImportDirective). length xs) imports);
   there = λ p import e.
       subst (λ (n : ℕ). import.home < n) (sym (same_length r0 r1 slots changes))
@@ -271,50 +273,49 @@ begun_from r0 r1 now slots q watchers lasting left told old changes idle same ke
 -- a resolver with what is queued of another, and what that has reported
 abbrev pub queued_as : Resolver → Resolver → Resolver
 queued_as r other =
-    record r { worklist = other.worklist; watchers = other.watchers; lasting = other.lasting; changes = other.changes; reported = other.reported }
+    record r { queue = other.queue; lasting = other.lasting; changes = other.changes; reported = other.reported }
 
 -- slots changed, and what read them was woken
 pub begun_after : (r0 r1 r2 : Resolver) (now : Option ℕ) (slots : List PathSlot) (taken : List TakenValue) → IsBegun r0 now
-    → AreIdleSettled r0.lasting r0.apart (finished_by r0) (record (state_by r0) { taken = taken }) None r0.worklist r0.watchers → ChangesSlots r0 r1 slots
+    → AreIdleSettled r0.lasting r0.apart (finished_by r0) (record (state_by r0) { taken = taken }) None r0.queue → ChangesSlots r0 r1 slots
     → r1.taken.items ≡ taken
     → IsKeptIn r1 → AreRecorded r1 → (r2.lasting ≡ true → Lasts (finished_by r1) (state_by r1)) → (r2.lasting ≡ true → r1.lasting ≡ true) → r1.count ≤ MAX_STEPS
     → r2 ≡ queued_as r1 r2
-    → IsWoken r1.apart slots r1.worklist r1.watchers r2.worklist r2.watchers → r2.changes.items ≡ [] → IsBegun r2 None
+    → IsWoken r1.apart slots r1.queue r2.queue → r2.changes.items ≡ [] → IsBegun r2 None
 begun_after r0 r1 r2 now slots taken old idle changes noted_is kept recorded lasts fewer small rest woken fresh =
     subst (λ (r : Resolver). IsBegun r None) (sym rest)
-    (begun_from r0 r1 now slots r2.worklist r2.watchers r2.lasting r2.changes r2.reported old changes settled woken.pass.finished kept recorded lasts fewer
+    (begun_from r0 r1 now slots r2.queue r2.lasting r2.changes r2.reported old changes settled woken.pass.finished kept recorded lasts fewer
     small fresh)
   where
-    before : IsWoken r0.apart slots r0.worklist r0.watchers r2.worklist r2.watchers
+    before : IsWoken r0.apart slots r0.queue r2.queue
     before =
-        subst (λ (b : Bool). IsWoken b slots r0.worklist r0.watchers r2.worklist r2.watchers) changes.apart
-        (subst (λ (x : Queue). IsWoken r1.apart slots x r0.watchers r2.worklist r2.watchers) changes.worklist
-        (subst (λ (x : Watchers PathSlot). IsWoken r1.apart slots r1.worklist x r2.worklist r2.watchers) changes.watchers woken))
+        subst (λ (b : Bool). IsWoken b slots r0.queue r2.queue) changes.apart
+        (subst (λ (x : PathQueue PathSlot). IsWoken r1.apart slots x r2.queue) changes.queue woken)
 
-    after : AreIdleSettled r0.lasting r0.apart (finished_by r0) (state_by r1) None r2.worklist r2.watchers
+    after : AreIdleSettled r0.lasting r0.apart (finished_by r0) (state_by r1) None r2.queue
     after =
-        announced r0.lasting r0.apart (finished_by r0) (record (state_by r0) { taken = taken }) (state_by r1) slots r0.worklist r2.worklist r0.watchers
-        r2.watchers old.apart changes.among changes.local
+        announced r0.lasting r0.apart (finished_by r0) (record (state_by r0) { taken = taken }) (state_by r1) slots r0.queue r2.queue
+        old.apart changes.among changes.local
         (ap (λ (v : Vec ImportDirective Global). v.items) changes.imports) noted_is idle before
 
-    settled : AreIdleSettled r2.lasting r1.apart (finished_by r1) (state_by r1) None r2.worklist r2.watchers
+    settled : AreIdleSettled r2.lasting r1.apart (finished_by r1) (state_by r1) None r2.queue
     settled =
-        subst (λ (b : Bool). AreIdleSettled r2.lasting b (finished_by r1) (state_by r1) None r2.worklist r2.watchers) (sym changes.apart)
-        (subst (λ (w : WorldPart). AreIdleSettled r2.lasting r0.apart (part_of w) (state_by r1) None r2.worklist r2.watchers) (sym changes.world)
-        (lowered r0.lasting r2.lasting r0.apart (finished_by r0) (state_by r1) None r2.worklist r2.watchers (λ e. sym changes.lasting ∙ fewer e) after))
+        subst (λ (b : Bool). AreIdleSettled r2.lasting b (finished_by r1) (state_by r1) None r2.queue) (sym changes.apart)
+        (subst (λ (w : WorldPart). AreIdleSettled r2.lasting r0.apart (part_of w) (state_by r1) None r2.queue) (sym changes.world)
+        (lowered r0.lasting r2.lasting r0.apart (finished_by r0) (state_by r1) None r2.queue (λ e. sym changes.lasting ∙ fewer e) after))
 
 -- an import was taken, and what read its name was woken
 pub begun_taken : (r0 r1 r2 : Resolver) (i : ℕ) (taking : Taking) → taking_at (finished_by r0) (state_by r0) i ≡ Some taking → IsTrying r0 i
     → IsTaken r0 r1 i taking
     → IsKeptIn r1 → AreRecorded r1 → (r2.lasting ≡ true → Lasts (finished_by r1) (state_by r1)) → (r2.lasting ≡ true → r1.lasting ≡ true) → r1.count ≤ MAX_STEPS
-    → r2 ≡ record r1 { worklist = r2.worklist; watchers = r2.watchers; lasting = r2.lasting; reported = r2.reported }
-    → IsWoken r1.apart (slots_named taking.home taking.name) r1.worklist r1.watchers r2.worklist r2.watchers → IsBegun r2 None
+    → r2 ≡ record r1 { queue = r2.queue; lasting = r2.lasting; reported = r2.reported }
+    → IsWoken r1.apart (slots_named taking.home taking.name) r1.queue r2.queue → IsBegun r2 None
 begun_taken r0 r1 r2 i taking is_due old is kept recorded lasts fewer small rest woken =
     begun_after r0 r1 r2 (Some i) (slots_named taking.home taking.name) (slice_set r0.taken.items i now) old.running.begun
-    (noted r0.lasting r0.apart (finished_by r0) (state_by r0) i now r0.worklist r0.watchers old.running.begun.settled old.watching
+    (noted r0.lasting r0.apart (finished_by r0) (state_by r0) i now r0.queue old.running.begun.settled old.watching
     (record { settled = taken_settled (finished_by r0) (state_by r0) i taking d; firm = λ e r at. firm_noted r r.source (old.firm e r at) }))
     is.changes (is.taken d.t d.before ∙ (λ j. slice_set r0.taken.items i (taken_after d.t (d.is j).answer))) kept recorded lasts fewer small
-    (rest ∙ (λ j. record r1 { worklist = r2.worklist; watchers = r2.watchers; lasting = r2.lasting; changes = sym changes j; reported = r2.reported })) woken
+    (rest ∙ (λ j. record r1 { queue = r2.queue; lasting = r2.lasting; changes = sym changes j; reported = r2.reported })) woken
     (ap (λ (v : Vec Slot Global). v.items) (changes ∙ is.reported) ∙ old.running.begun.fresh)
   where
     d : Due (finished_by r0) (state_by r0) i taking
@@ -342,7 +343,7 @@ pub begun_linked : (r0 r1 : Resolver) (i : ℕ) (edge : Edge) → taking_at (fin
     edge → IsTrying r0 i
     → IsLinked r0 r1 i edge → IsKeptIn r1 → AreRecorded r1 → (r1.lasting ≡ true → Lasts (finished_by r1) (state_by r1)) → r1.count ≤ MAX_STEPS → IsBegun r1 None
 begun_linked r0 r1 i edge none linking old is kept recorded lasts small =
-    begun_from r0 r1 (Some i) [] r1.worklist r1.watchers r1.lasting r1.changes r1.reported old.running.begun is.changes settled refl kept recorded lasts
+    begun_from r0 r1 (Some i) [] r1.queue r1.lasting r1.changes r1.reported old.running.begun is.changes settled refl kept recorded lasts
     (λ e. e) small
     (ap (λ (v : Vec Slot Global). v.items) is.reported ∙ old.running.begun.fresh)
   where
@@ -358,40 +359,38 @@ begun_linked r0 r1 i edge none linking old is kept recorded lasts small =
     firm_noted r (sources.Use id kind) firm = record { unstopped = firm.unstopped; there = firm.there }
     firm_noted r (sources.ExternCrate id krate) firm = tt
 
-    idle : AreIdleSettled r0.lasting r0.apart (finished_by r0) (with_taken (state_by r0) i now) None r0.worklist r0.watchers
+    idle : AreIdleSettled r0.lasting r0.apart (finished_by r0) (with_taken (state_by r0) i now) None r0.queue
     idle =
-        noted r0.lasting r0.apart (finished_by r0) (state_by r0) i now r0.worklist r0.watchers old.running.begun.settled old.watching
+        noted r0.lasting r0.apart (finished_by r0) (state_by r0) i now r0.queue old.running.begun.settled old.watching
         (record {
           settled = linked_settled (finished_by r0) (state_by r0) i linking.t edge.source none linking.before reaches;
           firm = λ e r at. firm_noted r r.source (old.firm e r at);
         })
 
-    after : AreIdleSettled r0.lasting r0.apart (finished_by r0) (state_by r1) None r0.worklist r0.watchers
+    after : AreIdleSettled r0.lasting r0.apart (finished_by r0) (state_by r1) None r0.queue
     after =
-        same_scopes r0.lasting r0.apart (finished_by r0) (with_taken (state_by r0) i now) (state_by r1) None r0.worklist r0.watchers (λ j. (is.scopes j).map)
+        same_scopes r0.lasting r0.apart (finished_by r0) (with_taken (state_by r0) i now) (state_by r1) None r0.queue (λ j. (is.scopes j).map)
         is.changes.local
         (ap (λ (v : Vec ImportDirective Global). v.items) is.changes.imports) (is.taken linking.t linking.before) idle
 
-    settled : AreIdleSettled r1.lasting r1.apart (finished_by r1) (state_by r1) None r1.worklist r1.watchers
+    settled : AreIdleSettled r1.lasting r1.apart (finished_by r1) (state_by r1) None r1.queue
     settled =
-        subst (λ (b : Bool). AreIdleSettled b r1.apart (finished_by r1) (state_by r1) None r1.worklist r1.watchers) (sym is.changes.lasting)
-        (subst (λ (b : Bool). AreIdleSettled r0.lasting b (finished_by r1) (state_by r1) None r1.worklist r1.watchers) (sym is.changes.apart)
-        (subst (λ (w : WorldPart). AreIdleSettled r0.lasting r0.apart (part_of w) (state_by r1) None r1.worklist r1.watchers) (sym is.changes.world)
-        (subst (λ (x : Queue). AreIdleSettled r0.lasting r0.apart (finished_by r0) (state_by r1) None x r1.watchers) (sym is.changes.worklist)
-        (subst (λ (x : Watchers PathSlot). AreIdleSettled r0.lasting r0.apart (finished_by r0) (state_by r1) None r0.worklist x) (sym is.changes.watchers)
-        after))))
+        subst (λ (b : Bool). AreIdleSettled b r1.apart (finished_by r1) (state_by r1) None r1.queue) (sym is.changes.lasting)
+        (subst (λ (b : Bool). AreIdleSettled r0.lasting b (finished_by r1) (state_by r1) None r1.queue) (sym is.changes.apart)
+        (subst (λ (w : WorldPart). AreIdleSettled r0.lasting r0.apart (part_of w) (state_by r1) None r1.queue) (sym is.changes.world)
+        (subst (λ (x : PathQueue PathSlot). AreIdleSettled r0.lasting r0.apart (finished_by r0) (state_by r1) None x) (sym is.changes.queue) after)))
 
 -- names went along globs, and what read them was woken
 pub running_waved : (r0 r1 r2 : Resolver) (slots : List PathSlot) → IsBegun r0 None → ChangesSlots r0 r1 slots → r1.taken ≡ r0.taken → IsKeptIn r1
     → AreRecorded r1
     → (r1.lasting ≡ true → Lasts (finished_by r1) (state_by r1)) → r1.count ≤ MAX_STEPS
-    → r1.globs.pending ≡ [] → r2 ≡ record r1 { worklist = r2.worklist; watchers = r2.watchers; changes = r2.changes; reported = r2.reported }
-    → IsWoken r1.apart slots r1.worklist r1.watchers r2.worklist r2.watchers → r2.changes.items ≡ [] → IsRunning r2 None
+    → r1.globs.pending ≡ [] → r2 ≡ record r1 { queue = r2.queue; changes = r2.changes; reported = r2.reported }
+    → IsWoken r1.apart slots r1.queue r2.queue → r2.changes.items ≡ [] → IsRunning r2 None
 running_waved r0 r1 r2 slots old changes taken kept recorded lasts small rests rest woken fresh = record {
   begun =
       begun_after r0 r1 r2 None slots r0.taken.items old old.settled changes (λ j. (taken j).items) kept recorded (λ e. lasts (sym same ∙ e))
       (λ e. sym same ∙ e) small
-      (rest ∙ (λ j. record r1 { worklist = r2.worklist; watchers = r2.watchers; lasting = sym same j; changes = r2.changes; reported = r2.reported })) woken
+      (rest ∙ (λ j. record r1 { queue = r2.queue; lasting = sym same j; changes = r2.changes; reported = r2.reported })) woken
       fresh;
   waved = ap (λ (r : Resolver). r.globs.pending) rest ∙ rests;
 }
@@ -420,10 +419,10 @@ reports_nothing a b listed map local = record {
 }
 
 -- what is queued doesn't matter
-pub reports_queued : (a b : Resolver) (q : Queue) → Reports a b → Reports a (record b { worklist = q })
+pub reports_queued : (a b : Resolver) (q : Queue) → Reports a b → Reports a (record b { queue = record b.queue { worklist = q } })
 reports_queued a b q old = record { more = old.more; listed = old.listed; among = old.among; local = old.local }
 
-pub reports_from : (a b : Resolver) (q : Queue) → Reports (record a { worklist = q }) b → Reports a b
+pub reports_from : (a b : Resolver) (q : Queue) → Reports (record a { queue = record a.queue { worklist = q } }) b → Reports a b
 reports_from a b q old = record { more = old.more; listed = old.listed; among = old.among; local = old.local }
 
 -- slots changed, and then they are reported

@@ -27,7 +27,7 @@ use Rattle.hir_import_resolution.proofs.Recorded.{recorded_kept}
 module _ (r new : Resolver) (slots : List Slot) (steps : StepsIn open_table slots (state_of r.scopes r.globs r.count) (state_of new.scopes new.globs new.count))
     (local : new.local ≡ r.local) (imports : new.imports ≡ r.imports) (taken : new.taken ≡ r.taken) (apart : new.apart ≡ r.apart)
     (lasting : new.lasting ≡ r.lasting)
-    (worklist : new.worklist ≡ r.worklist) (watchers : new.watchers ≡ r.watchers) (reported : new.reported ≡ r.reported) where
+    (queue : new.queue ≡ r.queue) (reported : new.reported ≡ r.reported) where
   gone : Goes (finished_by r) (state_by r) slots (shown (state_of new.scopes new.globs new.count))
   gone = goes (finished_by r) (state_by r) slots (shown (state_of new.scopes new.globs new.count))
       (steps_in_shown slots (state_of r.scopes r.globs r.count) (state_of new.scopes new.globs new.count) steps)
@@ -50,8 +50,7 @@ module _ (r new : Resolver) (slots : List Slot) (steps : StepsIn open_table slot
       imports = imports;
       apart = apart;
       lasting = lasting;
-      worklist = worklist;
-      watchers = watchers;
+      queue = queue;
       reported = reported;
     };
     taken = taken;

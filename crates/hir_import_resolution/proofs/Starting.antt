@@ -50,7 +50,8 @@ begun_kept finished queue given r state same queued fresh are_queued lasts watch
     now = queued_through finished (finished_by r) queue (queue_by r) (state_in given) (state_by r) (sym same) (sym queued) (sym state) are_queued
 
 -- where nothing is tried, and nothing is to be looked at along globs, the queue is up to date
-pub up_to_date_after : (f : Maps) (queue : ImportQueue) (s : ImportState) (r : Resolver) → IsRunning r None → r.worklist.current ≡ [] → r.worklist.end ≡ 0
+pub up_to_date_after : (f : Maps) (queue : ImportQueue) (s : ImportState) (r : Resolver) → IsRunning r None → r.queue.worklist.current ≡ []
+    → r.queue.worklist.end ≡ 0
     → finished_by r ≡ f → queue ≡ queue_by r → s ≡ state_by r → IsUpToDate f queue s
 up_to_date_after f queue s r running over outside same queued state =
     subst (λ (x : Maps). IsUpToDate x queue s) same

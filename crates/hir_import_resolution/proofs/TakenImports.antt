@@ -141,8 +141,7 @@ module _ (r m r2 r3 : Resolver) (i : ℕ) (taking : Taking) (leaf : Option Impor
       apart = rest (λ x. x.apart) (λ x. refl) (λ x. refl) ∙ ap (λ (x : Resolver). x.apart) begun;
       lasting = rest (λ x. x.lasting) (λ x. refl) (λ x. refl) ∙ ap (λ (x : Resolver). x.lasting) begun;
       reported = rest (λ x. x.reported) (λ x. refl) (λ x. refl) ∙ ap (λ (x : Resolver). x.reported) begun;
-      worklist = rest (λ x. x.worklist) (λ x. refl) (λ x. refl) ∙ ap (λ (x : Resolver). x.worklist) begun;
-      watchers = rest (λ x. x.watchers) (λ x. refl) (λ x. refl) ∙ ap (λ (x : Resolver). x.watchers) begun;
+      queue = rest (λ x. x.queue) (λ x. refl) (λ x. refl) ∙ ap (λ (x : Resolver). x.queue) begun;
     };
     taken = λ before e. items_are ∙ noted before e;
     reported = rest (λ x. x.changes) (λ x. refl) (λ x. refl) ∙ ap (λ (x : Resolver). x.changes) begun;
@@ -222,8 +221,7 @@ module _ (r r3 : Resolver) (i : ℕ) (edge : Edge) (globs : GlobsValue) (taken :
       apart = ap (λ (x : Resolver). x.apart) begun;
       lasting = ap (λ (x : Resolver). x.lasting) begun;
       reported = ap (λ (x : Resolver). x.reported) begun;
-      worklist = ap (λ (x : Resolver). x.worklist) begun;
-      watchers = ap (λ (x : Resolver). x.watchers) begun;
+      queue = ap (λ (x : Resolver). x.queue) begun;
     };
     scopes = ap (λ (x : Resolver). x.scopes) begun;
     taken = λ before e. ap (λ (x : Resolver). x.taken.items) begun ∙ noted before e;

@@ -9,9 +9,9 @@ use Rattle.hir_def_map.specs.declared.nameres.path_resolution.slots.Slot.{Slot a
 use Rattle.hir_def_map_laws.specs.ReadLaw.{stops_bare}
 use Rattle.hir_def_map_laws.specs.SlotChanges.{ScopesChangeAmong}
 use Rattle.hir_worklist.proofs.Settled.{IsUnread, restated, tried_settled}
-use Rattle.hir_worklist.specs.Queue.{IsIdle, Queue}
+use Rattle.hir_worklist.specs.Queue.{IsIdle}
 use Rattle.hir_worklist.specs.Settling.{WatchesEach}
-use Rattle.hir_worklist.specs.declared.watchers.Watchers.{Watchers}
+use Rattle.hir_worklist.specs.declared.path_queue.PathQueue.{PathQueue}
 use Rattle.hir_import_resolution.specs.Types.{ImportDirective, ImportSource}
 use Rattle.hir_import_resolution.specs.declared.directive.ImportSource.TheVariants as sources
 use Rattle.hir_import_resolution.specs.Directives.{TakenValue, path_answer, reached_by, target_of}
@@ -20,13 +20,13 @@ use Rattle.hir_import_resolution.specs.Inner.State.{IsApart}
 use Rattle.hir_import_resolution.specs.Lasting.{IsThere}
 use Rattle.hir_import_resolution.specs.State.{ImportState, with_taken}
 use Rattle.hir_import_resolution.proofs.Settled.{IsAlike, IsUnchanged, others_settled, stays_settled, unchanged}
-use Rattle.hir_import_resolution.proofs.Waking.{woken_settled}
+use Rattle.hir_worklist.proofs.Woken.{woken_settled}
 
 -- what is to last less
-pub lowered : (lasting less apart : Bool) (finished : Maps) (s : ImportState) (now : Option ℕ) (q : Queue) (watchers : Watchers PathSlot)
+pub lowered : (lasting less apart : Bool) (finished : Maps) (s : ImportState) (now : Option ℕ) (q : PathQueue PathSlot)
     → (less ≡ true → lasting ≡ true)
-    → AreIdleSettled lasting apart finished s now q watchers → AreIdleSettled less apart finished s now q watchers
-lowered lasting less apart finished s now q watchers fewer idle =
+    → AreIdleSettled lasting apart finished s now q → AreIdleSettled less apart finished s now q
+lowered lasting less apart finished s now q fewer idle =
     record {
       watched = idle.watched;
       settled = λ p rests other. let old = idle.settled p rests other
@@ -34,22 +34,22 @@ lowered lasting less apart finished s now q watchers fewer idle =
     }
 
 -- what was tried is settled, and nothing is tried any more
-pub tried : (lasting apart : Bool) (finished : Maps) (s : ImportState) (i : ℕ) (q : Queue) (watchers : Watchers PathSlot) → AreIdleSettled lasting apart
-    finished s (Some i) q watchers
-    → WatchesEach slot_cmp watchers i (reads_at apart finished s i) → IsSettledFor lasting finished s i → AreIdleSettled lasting apart finished s None q
-    watchers
-tried lasting apart finished s i q watchers idle watches settled =
-    tried_settled slot_cmp slot_total (reads_at apart finished s) (IsSettledFor lasting finished s) q watchers i idle (λ _. watches) (λ _. settled)
+pub tried : (lasting apart : Bool) (finished : Maps) (s : ImportState) (i : ℕ) (q : PathQueue PathSlot) → AreIdleSettled lasting apart
+    finished s (Some i) q
+    → WatchesEach slot_cmp q.watchers i (reads_at apart finished s i) → IsSettledFor lasting finished s i → AreIdleSettled lasting apart finished s None q
+tried lasting apart finished s i q idle watches settled =
+    tried_settled slot_cmp slot_total (reads_at apart finished s) (IsSettledFor lasting finished s) q.worklist q.watchers i idle (λ _. watches) (λ _. settled)
 
 -- the same once what it reached is noted
-pub noted : (lasting apart : Bool) (finished : Maps) (s : ImportState) (i : ℕ) (t : TakenValue) (q : Queue) (watchers : Watchers PathSlot)
-    → AreIdleSettled lasting apart finished s (Some i) q watchers
-    → WatchesEach slot_cmp watchers i (reads_at apart finished s i) → IsSettledFor lasting finished (with_taken s i t) i → AreIdleSettled lasting apart finished
-    (with_taken s i t) None q watchers
-noted lasting apart finished s i t q watchers idle watches settled =
-    tried lasting apart finished (with_taken s i t) i q watchers
+pub noted : (lasting apart : Bool) (finished : Maps) (s : ImportState) (i : ℕ) (t : TakenValue) (q : PathQueue PathSlot)
+    → AreIdleSettled lasting apart finished s (Some i) q
+    → WatchesEach slot_cmp q.watchers i (reads_at apart finished s i) → IsSettledFor lasting finished (with_taken s i t) i → AreIdleSettled lasting apart
+        finished
+    (with_taken s i t) None q
+noted lasting apart finished s i t q idle watches settled =
+    tried lasting apart finished (with_taken s i t) i q
     (restated slot_cmp slot_total (reads_at apart finished s) (reads_at apart finished (with_taken s i t)) (IsSettledFor lasting finished s)
-    (IsSettledFor lasting finished (with_taken s i t)) (Some i) q watchers
+    (IsSettledFor lasting finished (with_taken s i t)) (Some i) q.worklist q.watchers
     idle (λ p rests other old. refl) (λ p rests other old. record {
       settled = others_settled finished s i p t other old.settled;
       firm = λ e r at. of_source r r.source (old.firm e r at);
@@ -61,13 +61,12 @@ noted lasting apart finished s i t q watchers idle watches settled =
     of_source r (sources.ExternCrate id krate) firm = tt
 
 -- the same of states that differ in nothing that imports read
-pub same_scopes : (lasting apart : Bool) (finished : Maps) (s t : ImportState) (now : Option ℕ) (q : Queue) (watchers : Watchers PathSlot) → t.map ≡ s.map
+pub same_scopes : (lasting apart : Bool) (finished : Maps) (s t : ImportState) (now : Option ℕ) (q : PathQueue PathSlot) → t.map ≡ s.map
     → t.local ≡ s.local
-    → t.imports ≡ s.imports → t.taken ≡ s.taken → AreIdleSettled lasting apart finished s now q watchers → AreIdleSettled lasting apart finished t now q
-    watchers
-same_scopes lasting apart finished s t now q watchers map local imports taken idle =
+    → t.imports ≡ s.imports → t.taken ≡ s.taken → AreIdleSettled lasting apart finished s now q → AreIdleSettled lasting apart finished t now q
+same_scopes lasting apart finished s t now q map local imports taken idle =
     restated slot_cmp slot_total (reads_at apart finished s) (reads_at apart finished t) (IsSettledFor lasting finished s) (IsSettledFor lasting finished t) now
-    q watchers idle
+    q.worklist q.watchers idle
     (λ p rests other old. (λ i. reads_at apart finished (record t { map = map i; local = local i; imports = imports i }) p))
     (λ p rests other old. record {
       settled =
@@ -97,16 +96,17 @@ pub record IsSameAt (s t : ImportState) (p : ℕ) : Type 0 where
   pub taken : slice_get t.taken p ≡ slice_get s.taken p
 
 -- what changes is woken: an import that is idle afterwards was there and reads none of it, so it means the same
-pub woken_anew : (lasting apart : Bool) (finished : Maps) (s t : ImportState) (slots : List PathSlot) (q r : Queue) (watchers after : Watchers PathSlot)
-    → ((p : ℕ) → IsIdle r p → IsSameAt s t p)
+pub woken_anew : (lasting apart : Bool) (finished : Maps) (s t : ImportState) (slots : List PathSlot) (q r : PathQueue PathSlot)
+    → ((p : ℕ) → IsIdle r.worklist p → IsSameAt s t p)
     → (apart ≡ true → (p : ℕ) (d : ImportDirective) → slice_get s.imports p ≡ Some d → (lasting ≡ true → IsFirmBy finished s d d.source)
     → ((slot : PathSlot) → Contains slots slot → ¬ Contains (path_reads finished s d d.source) slot) → IsUnchanged finished s t d d.source)
-    → AreIdleSettled lasting apart finished s None q watchers → IsWoken apart slots q watchers r after → AreIdleSettled lasting apart finished t None r after
-woken_anew lasting true finished s t slots q r watchers after stay same idle woken =
+    → AreIdleSettled lasting apart finished s None q → IsWoken apart slots q r → AreIdleSettled lasting apart finished t None r
+woken_anew lasting true finished s t slots q r stay same idle woken =
     restated slot_cmp slot_total (reads_at true finished s) (reads_at true finished t)
     (IsUnread slot_cmp slot_total (reads_at true finished s) (IsSettledFor lasting finished s) slots)
-    (IsSettledFor lasting finished t) None r after
-    (woken_settled (reads_at true finished s) (IsSettledFor lasting finished s) None r after q watchers slots (woken.watching refl) idle)
+    (IsSettledFor lasting finished t) None r.worklist r.watchers
+    (woken_settled slot_cmp slot_total (reads_at true finished s) (IsSettledFor lasting finished s) None r.worklist r.watchers q.worklist q.watchers slots
+    (woken.watching refl) idle)
     (λ p rests other old.
     ap (reads_by finished t) (stay p rests).import ∙ same_reads p (slice_get s.imports p) refl (λ e d at. old.settled.firm e d at)
     (λ slot among. old.unread slot among))
@@ -129,17 +129,17 @@ woken_anew lasting true finished s t slots q r watchers after stay same idle wok
         → ((slot : PathSlot) → Contains slots slot → ¬ Contains (reads_by finished s o) slot) → reads_by finished t o ≡ reads_by finished s o
     same_reads p None e firm unread = refl
     same_reads p (Some d) e firm unread = (same refl p d e (λ l. firm l d e) unread).slots
-woken_anew lasting false finished s t slots q r watchers after stay same idle woken = record {
+woken_anew lasting false finished s t slots q r stay same idle woken = record {
   watched = record { each = λ p rests other. absurd (woken.all refl p rests) };
   settled = λ p rests other. absurd (woken.all refl p rests);
 }
 
 -- slots change in scopes alone, and what read them is woken
-pub announced : (lasting apart : Bool) (finished : Maps) (s t : ImportState) (slots : List PathSlot) (q r : Queue) (watchers after : Watchers PathSlot)
+pub announced : (lasting apart : Bool) (finished : Maps) (s t : ImportState) (slots : List PathSlot) (q r : PathQueue PathSlot)
     → (apart ≡ true → IsApart finished s.map.id s.local) → ScopesChangeAmong s.map t.map s.local slots → t.local ≡ s.local → t.imports ≡ s.imports → t.taken
     ≡ s.taken
-    → AreIdleSettled lasting apart finished s None q watchers → IsWoken apart slots q watchers r after → AreIdleSettled lasting apart finished t None r after
-announced lasting apart finished s t slots q r watchers after is_apart changes local imports taken idle woken =
-    woken_anew lasting apart finished s t slots q r watchers after
+    → AreIdleSettled lasting apart finished s None q → IsWoken apart slots q r → AreIdleSettled lasting apart finished t None r
+announced lasting apart finished s t slots q r is_apart changes local imports taken idle woken =
+    woken_anew lasting apart finished s t slots q r
     (λ p rests. record { import = ap (λ (xs : List ImportDirective). slice_get xs p) imports; taken = ap (λ (xs : List TakenValue). slice_get xs p) taken })
     (λ is p d e firm unread. unchanged finished s t slots d d.source refl (is_apart is) changes local unread) idle woken

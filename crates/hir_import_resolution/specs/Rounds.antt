@@ -47,14 +47,14 @@ is_lasting queue = queue.lasting
 
 -- a queue has the imports that there are, and one that isn't queued would do nothing if it were tried, and watches what it reads
 pub record AreQueued (finished : Maps) (queue : ImportQueue) (s : ImportState) : Type 0 where
-  pub settled : AreIdleSettled queue.lasting queue.apart finished s None queue.worklist queue.watchers
+  pub settled : AreIdleSettled queue.lasting queue.apart finished s None queue.queue
   -- it has the imports, and none is finished
-  pub count : count_of queue.worklist ≡ length s.imports
-  pub unfinished : (p : ℕ) → p < length s.imports → is_unfinished queue.worklist p ≡ true
+  pub count : count_of queue.queue.worklist ≡ length s.imports
+  pub unfinished : (p : ℕ) → p < length s.imports → is_unfinished queue.queue.worklist p ≡ true
   pub there : (p : ℕ) (d : ImportDirective) → slice_get s.imports p ≡ Some d → d.home < length s.map.modules
   -- no pass is under way
-  pub over : queue.worklist.current ≡ []
-  pub outside : queue.worklist.end ≡ 0
+  pub over : queue.queue.worklist.current ≡ []
+  pub outside : queue.queue.worklist.end ≡ 0
 
 -- a queue is up to date with where imports stand: along no glob anything is to be done either
 pub record IsUpToDate (finished : Maps) (queue : ImportQueue) (s : ImportState) : Type 0 where

@@ -2,12 +2,12 @@
 ghost use Rattle.std.specs.Prelude.{◌≡◌, ◌≤◌, false, OnOk};
 ghost use Rattle.hir_worklist.specs.Moves.{empty_queue};
 ghost use Rattle.hir_worklist.specs.Queue.{count_of};
-ghost use Rattle.hir_import_resolution.specs.Inner.Queue.{IsLonger, IsSamePass, IsWoken, WakesEach};
+ghost use Rattle.hir_worklist.specs.Waking.{IsLonger};
+ghost use Rattle.hir_import_resolution.specs.Inner.Queue.{IsWoken};
 ghost use Rattle.hir_import_resolution.specs.Rounds.{is_lasting};
 
-use crate::resolver::watch::wake_everything;
 use hir_def_map::nameres::path_resolution::slots::Slot;
-use hir_worklist::{Watchers, Worklist};
+use hir_worklist::PathQueue;
 use std::alloc::{AllocError, Global};
 
 /// Which imports of a map are to be tried, by their places, and what the others read when they were tried.
@@ -17,36 +17,8 @@ pub struct ImportQueue {
     pub(crate) apart: bool,
     /// Whether what was found out of imports and globs lasts as the map grows.
     pub(crate) lasting: bool,
-    /// The imports that are to be tried.
-    pub(crate) worklist: Worklist,
-    /// The imports by the slots that their last tries read.
-    pub(crate) watchers: Watchers<Slot>,
-}
-
-/// Appends things until there are so many.
-fn append_to(worklist: &mut Worklist, count: usize) -> Result<(), AllocError>
-    ensures longer { OnOk result (IsLonger worklist.old worklist.new) }
-    ensures count { OnOk result (count_of worklist.old ≤ count → count_of worklist.new ≡ count) }
-{
-    'things: while worklist.len() < count {
-        worklist.push()?;
-    }
-    Ok(())
-}
-
-/// Queues what watches slots.
-fn wake_slots(
-    watchers: &mut Watchers<Slot>,
-    worklist: &mut Worklist,
-    slots: &[Slot],
-) -> Result<(), AllocError>
-    ensures woken { OnOk result (WakesEach worklist.new watchers.new worklist.old watchers.old slots.now) }
-    ensures pass { OnOk result (IsSamePass worklist.old worklist.new) }
-{
-    for slot in slots {
-        watchers.wake_all(slot, worklist)?;
-    }
-    Ok(())
+    /// The imports that are to be tried, and the slots that their last tries read.
+    pub(crate) queue: PathQueue<Slot>,
 }
 
 impl ImportQueue {
@@ -72,35 +44,34 @@ impl ImportQueue {
     pub(crate) fn new(alloc: Global, apart: bool, lasting: bool) -> ImportQueue
         ensures apart { result.apart ≡ apart }
         ensures lasting { result.lasting ≡ lasting }
-        ensures none { result.worklist ≡ empty_queue }
+        ensures none { result.queue.worklist ≡ empty_queue }
     {
         ImportQueue {
             apart,
             lasting,
-            worklist: Worklist::new(alloc),
-            watchers: Watchers::new(alloc),
+            queue: PathQueue::new(alloc),
         }
     }
 
     /// Queues the imports that came besides, so that there are so many.
     pub(crate) fn append(&mut self, count: usize) -> Result<(), AllocError>
-        ensures longer { OnOk result (IsLonger self.old.worklist self.new.worklist) }
-        ensures count { OnOk result (count_of self.old.worklist ≤ count → count_of self.new.worklist ≡ count) }
-        ensures rest { self.new ≡ record self.old { worklist = self.new.worklist } }
+        ensures longer { OnOk result (IsLonger self.old.queue.worklist self.new.queue.worklist) }
+        ensures count { OnOk result (count_of self.old.queue.worklist ≤ count → count_of self.new.queue.worklist ≡ count) }
+        ensures rest { self.new ≡ record self.old { queue = record self.old.queue { worklist = self.new.queue.worklist } } }
     {
-        append_to(&mut self.worklist, count)
+        self.queue.worklist.append_to(count)
     }
 
     /// Queues the imports that read one of the slots; all where they watch nothing.
     pub(crate) fn wake(&mut self, slots: &[Slot]) -> Result<(), AllocError>
-        ensures woken { OnOk result (IsWoken self.old.apart slots.now self.old.worklist self.old.watchers self.new.worklist self.new.watchers) }
+        ensures woken { OnOk result (IsWoken self.old.apart slots.now self.old.queue self.new.queue) }
         ensures apart { self.new.apart ≡ self.old.apart }
         ensures lasting { self.new.lasting ≡ self.old.lasting }
     {
         if self.apart {
-            wake_slots(&mut self.watchers, &mut self.worklist, slots)
+            self.queue.wake_each(slots)
         } else {
-            wake_everything(&mut self.worklist)
+            self.queue.worklist.wake_all()
         }
     }
 }

@@ -24,7 +24,7 @@ use hir_def_map::nameres::local_def_map::LocalDefMap;
 use hir_def_map::nameres::path_resolution::slots::Slot;
 use hir_def_map::world::part::WorldPart;
 use hir_glob_imports::GlobImports;
-use hir_worklist::{Watchers, Worklist};
+use hir_worklist::PathQueue;
 use std::alloc::Global;
 
 /// The imports of a map, and what waits to be tried.
@@ -42,10 +42,8 @@ pub struct Resolver<'a> {
     apart: bool,
     /// Whether what is found out lasts as the map grows.
     lasting: bool,
-    /// The imports that are to be tried, by their places.
-    worklist: Worklist,
-    /// The imports by the slots that their last tries read.
-    watchers: Watchers<Slot>,
+    /// The imports that are to be tried, by their places, and the slots that their last tries read.
+    queue: PathQueue<Slot>,
     /// The slots that the last wave changed.
     changes: Vec<hir_glob_imports::Slot>,
     /// The slots that were changed since the imports were taken over, where what they read is watched.
@@ -81,8 +79,7 @@ impl<'a> Resolver<'a> {
             count: imports.count,
             apart: queue.apart,
             lasting: queue.lasting,
-            worklist: queue.worklist,
-            watchers: queue.watchers,
+            queue: queue.queue,
             changes: Vec::new(alloc),
             reported: Vec::new(alloc),
         }
@@ -132,8 +129,7 @@ impl<'a> Resolver<'a> {
             queue: ImportQueue {
                 apart: self.apart,
                 lasting: self.lasting,
-                worklist: self.worklist,
-                watchers: self.watchers,
+                queue: self.queue,
             },
             changed: self.reported,
         }

@@ -108,8 +108,8 @@ fn resumed<'a>(
     requires resumable { IsResumable (part_of world) queue (state_in imports) changed.now }
     requires globs { GlobsLast (part_of world) (state_in imports) imports.globs }
     ensures begun { IfOk result (λ r. IsBegun r None) }
-    ensures over { IfOk result (λ r. r.worklist.current ≡ []) }
-    ensures outside { IfOk result (λ r. r.worklist.end ≡ 0) }
+    ensures over { IfOk result (λ r. r.queue.worklist.current ≡ []) }
+    ensures outside { IfOk result (λ r. r.queue.worklist.end ≡ 0) }
     ensures state { IfOk result (λ r. state_by r ≡ state_in imports) }
     ensures finished { IfOk result (λ r. finished_by r ≡ part_of world.entry) }
     ensures apart { IfOk result (λ r. r.apart ≡ is_apart queue) }

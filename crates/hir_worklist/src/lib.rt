@@ -5,12 +5,15 @@
 //! the place that the pass has reached is taken in this pass, any other in the next.
 //!
 //! `Watchers` says which things read a slot when they were last tried. When a slot changes, they are woken. So what is idle
-//! has read only slots that are as they were, and would be tried in vain: `laws` says how each call keeps that.
+//! has read only slots that are as they were, and would be tried in vain: `laws` says how each call keeps that. A `PathQueue`
+//! has both.
 #![tactic(auto)]
 
 pub mod laws;
+pub mod path_queue;
 pub mod watchers;
 pub mod worklist;
 
+pub use path_queue::PathQueue;
 pub use watchers::Watchers;
 pub use worklist::Worklist;

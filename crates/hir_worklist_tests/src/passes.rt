@@ -73,3 +73,32 @@ fn what_is_finished_is_not_taken(rt: HostRuntime) -> Result<(), Fail> {
     assert!(rt; worklist.is_settled());
     Ok(())
 }
+
+/// What is appended is taken in the next pass, what watches one of two slots in the one after, and all where all is woken.
+#[test]
+fn what_is_appended_or_woken_is_taken(rt: HostRuntime) -> Result<(), Fail> {
+    let mut worklist = Worklist::new(rt.alloc());
+    let mut watchers = Watchers::new(rt.alloc());
+    worklist.append_to(3)?;
+    assert_eq!(rt; worklist.len(), 3);
+    worklist.open();
+    assert_eq!(rt; worklist.take(), Some(0));
+    watchers.watch(0, "first")?;
+    assert_eq!(rt; worklist.take(), Some(1));
+    assert_eq!(rt; worklist.take(), Some(2));
+    watchers.watch(2, "second")?;
+    assert_eq!(rt; worklist.take(), None);
+
+    watchers.wake_each(&["first", "second"], &mut worklist)?;
+    worklist.open();
+    assert_eq!(rt; worklist.take(), Some(0));
+    assert_eq!(rt; worklist.take(), Some(2));
+    assert_eq!(rt; worklist.take(), None);
+
+    worklist.wake_all()?;
+    worklist.open();
+    assert_eq!(rt; worklist.take(), Some(0));
+    assert_eq!(rt; worklist.take(), Some(1));
+    assert_eq!(rt; worklist.take(), Some(2));
+    Ok(())
+}

@@ -1,5 +1,5 @@
 -- What is queued, and what is settled?
-use Rattle.std.specs.Prelude.{◌≡◌, ℕ, ◌<◌, ◌≤◌, Bool, true, false, List, [], ◌∷◌, ◌++◌, Option, None, Some, length, slice_get, cond}
+use Rattle.std.specs.Prelude.{◌≡◌, ℕ, ◌<◌, ◌≤◌, Bool, true, false, List, [], ◌++◌, Option, None, Some, length, slice_get, cond}
 use Rattle.std.specs.declared.cmp.Ordering.{Ordering}
 use Rattle.hir_def_map_rules.specs.Overlay.{Maps}
 use Rattle.hir_def_map_rules.specs.Reaches.{by_import}
@@ -9,10 +9,11 @@ use Rattle.hir_def_map.specs.declared.nameres.path_resolution.slots.Slot.{Slot a
 use Rattle.hir_def_map.specs.contracts.nameres.path_resolution.slots.SlotOrd.TheImpl as slot_order
 use Rattle.hir_def_map_laws.specs.SlotChanges.{ScopesChangeAmong}
 use Rattle.hir_glob_imports.specs.declared.step.TheConstants.{MAX_STEPS}
-use Rattle.hir_worklist.specs.Moves.{Wakes}
-use Rattle.hir_worklist.specs.Queue.{IsIdle, Queue, count_of, is_unfinished}
+use Rattle.hir_worklist.specs.Queue.{IsIdle, count_of, is_unfinished}
 use Rattle.hir_worklist.specs.Settling.{AreSettled, WatchesEach}
-use Rattle.hir_worklist.specs.Watching.{Forgets, is_watching}
+use Rattle.hir_worklist.specs.Waking as waking
+use Rattle.hir_worklist.specs.Waking.{IsSamePass}
+use Rattle.hir_worklist.specs.declared.path_queue.PathQueue.{PathQueue}
 use Rattle.hir_worklist.specs.declared.watchers.Watchers.{Watchers}
 use Rattle.hir_import_resolution.specs.declared.directive.ImportDirective.{ImportDirective}
 use Rattle.hir_import_resolution.specs.declared.directive.ImportSource.{ImportSource}
@@ -51,53 +52,34 @@ pub record IsSettledFor (lasting : Bool) (finished : Maps) (s : ImportState) (i 
   pub firm : lasting ≡ true → (r : ImportDirective) → slice_get s.imports i ≡ Some r → IsFirmBy finished s r r.source
 
 -- each import that is idle, but one that is tried, is settled and watches what it reads
-abbrev pub AreIdleSettled : Bool → Bool → Maps → ImportState → Option ℕ → Queue → Watchers PathSlot → Type 0
-AreIdleSettled lasting apart finished s tried q watchers = AreSettled slot_cmp (reads_at apart finished s) (IsSettledFor lasting finished s) tried q watchers
+abbrev pub AreIdleSettled : Bool → Bool → Maps → ImportState → Option ℕ → PathQueue PathSlot → Type 0
+AreIdleSettled lasting apart finished s tried q =
+    AreSettled slot_cmp (reads_at apart finished s) (IsSettledFor lasting finished s) tried q.worklist q.watchers
 
 -- ---- what watches slots, and what is queued where they change
 
 -- what watched a slot watches it still
 abbrev pub KeepsWatched : Watchers PathSlot → Watchers PathSlot → Type 0
-KeepsWatched old new = (slot : PathSlot) (p : ℕ) → is_watching slot_cmp old slot p ≡ true → is_watching slot_cmp new slot p ≡ true
+KeepsWatched = waking.KeepsWatched slot_cmp
 
 -- what watches each of these slots is queued, one slot after another, and watches it no more
-pub data WakesEach (r : Queue) (after : Watchers PathSlot) : Queue → Watchers PathSlot → List PathSlot → Type 0 where
-  none : WakesEach r after r after []
-  more : (q between : Queue) (watchers left : Watchers PathSlot) (slot : PathSlot) (slots : List PathSlot)
-      → Wakes q between (is_watching slot_cmp watchers slot) → Forgets slot_cmp watchers left slot → WakesEach r after between left slots
-      → WakesEach r after q watchers (slot ∷ slots)
-
--- things were appended, and are to be tried in the next pass
-pub record IsLonger (q r : Queue) : Type 0 where
-  -- what is idle was there, and was idle
-  pub idle : (p : ℕ) → IsIdle r p → IsIdle q p
-  -- where nothing was finished, nothing is
-  pub unfinished : ((p : ℕ) → p < count_of q → is_unfinished q p ≡ true) → (p : ℕ) → p < count_of r → is_unfinished r p ≡ true
-  pub current : r.current ≡ q.current
-  pub end : r.end ≡ q.end
-
--- a queue has the same things, and its pass is where it was
-pub record IsSamePass (q r : Queue) : Type 0 where
-  pub finished : r.finished ≡ q.finished
-  pub next : r.next ≡ q.next
-  pub end : r.end ≡ q.end
-  -- what is queued outside a pass waits for the next one
-  pub outside : q.current ≡ [] → q.end ≡ 0 → r.current ≡ []
+abbrev pub WakesEach : PathQueue PathSlot → PathQueue PathSlot → List PathSlot → Type 0
+WakesEach old new slots = waking.WakesEach slot_cmp new.worklist new.watchers old.worklist old.watchers slots
 
 -- of these slots what watches them is queued; where nothing is watched, all is queued
-pub record IsWoken (apart : Bool) (slots : List PathSlot) (q : Queue) (watchers : Watchers PathSlot) (r : Queue) (after : Watchers PathSlot) : Type 0 where
-  pub watching : apart ≡ true → WakesEach r after q watchers slots
-  pub all : apart ≡ false → (p : ℕ) → ¬ IsIdle r p
-  pub pass : IsSamePass q r
+pub record IsWoken (apart : Bool) (slots : List PathSlot) (old new : PathQueue PathSlot) : Type 0 where
+  pub watching : apart ≡ true → WakesEach old new slots
+  pub all : apart ≡ false → (p : ℕ) → ¬ IsIdle new.worklist p
+  pub pass : IsSamePass old.worklist new.worklist
 
 -- ---- the resolver
 
 -- what holds of a resolver between two calls, where this import is tried
 pub record IsBegun (r : Resolver) (tried : Option ℕ) : Type 0 where
-  pub settled : AreIdleSettled r.lasting r.apart (finished_by r) (state_by r) tried r.worklist r.watchers
+  pub settled : AreIdleSettled r.lasting r.apart (finished_by r) (state_by r) tried r.queue
   -- no import is finished, and there is nothing besides
-  pub unfinished : (p : ℕ) → p < length r.imports.items → is_unfinished r.worklist p ≡ true
-  pub count : count_of r.worklist ≡ length r.imports.items
+  pub unfinished : (p : ℕ) → p < length r.imports.items → is_unfinished r.queue.worklist p ≡ true
+  pub count : count_of r.queue.worklist ≡ length r.imports.items
   pub there : (p : ℕ) (import : ImportDirective) → slice_get r.imports.items p ≡ Some import → import.home < length r.scopes.map.modules
   pub apart : r.apart ≡ true → IsApart (finished_by r) r.scopes.map.id r.local
   pub kept : IsKeptIn r
@@ -115,7 +97,7 @@ pub record IsRunning (r : Resolver) (tried : Option ℕ) : Type 0 where
 -- the import at the place is tried, and watches what it reads
 pub record IsTrying (r : Resolver) (i : ℕ) : Type 0 where
   pub running : IsRunning r (Some i)
-  pub watching : WatchesEach slot_cmp r.watchers i (reads_at r.apart (finished_by r) (state_by r) i)
+  pub watching : WatchesEach slot_cmp r.queue.watchers i (reads_at r.apart (finished_by r) (state_by r) i)
   pub firm : r.lasting ≡ true → (d : ImportDirective) → slice_get r.imports.items i ≡ Some d → IsFirmBy (finished_by r) (state_by r) d d.source
 
 -- ---- what is reported

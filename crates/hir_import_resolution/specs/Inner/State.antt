@@ -74,7 +74,7 @@ finished_by r = part_of r.scopes.world
 
 -- which of them are to be tried
 abbrev pub queue_by : Resolver → ImportQueue
-queue_by r = record { apart = r.apart; lasting = r.lasting; worklist = r.worklist; watchers = r.watchers }
+queue_by r = record { apart = r.apart; lasting = r.lasting; queue = r.queue }
 
 -- a resolver with other scopes and globs
 abbrev pub with_globs : Resolver → OpenScopes → GlobsValue → Resolver
@@ -129,8 +129,7 @@ pub record ChangesSlots (old new : Resolver) (slots : List PathSlot) : Type 0 wh
   pub imports : new.imports ≡ old.imports
   pub apart : new.apart ≡ old.apart
   pub lasting : new.lasting ≡ old.lasting
-  pub worklist : new.worklist ≡ old.worklist
-  pub watchers : new.watchers ≡ old.watchers
+  pub queue : new.queue ≡ old.queue
   pub reported : new.reported ≡ old.reported
 
 -- an import is taken: what it reached is noted beside its takings before, and the name that it gives may stand for something else

@@ -1,6 +1,7 @@
 //! Tries, until all imports rest.
 ghost use Rattle.std.specs.Prelude.{◌≡◌, ◌<◌, ◌≤◌, [], true, None, Some, OnOk};
-ghost use Rattle.hir_import_resolution.specs.Inner.Queue.{IsBegun, IsRunning, IsSamePass, IsTrying, Reports};
+ghost use Rattle.hir_import_resolution.specs.Inner.Queue.{IsBegun, IsRunning, IsTrying, Reports};
+ghost use Rattle.hir_worklist.specs.Waking.{IsSamePass};
 ghost use Rattle.hir_import_resolution.specs.Inner.State.{finished_by, state_by};
 ghost use Rattle.hir_import_resolution.specs.Inner.Steps.{IsLinking, taking_at};
 ghost use Rattle.hir_import_resolution.specs.Rest.{IsAtRest, IsSpent};
@@ -20,7 +21,7 @@ impl Resolver<'_> {
         ensures apart { OnOk result (self.new.apart ≡ self.old.apart) }
         ensures steps { OnOk result (Steps (finished_by self.old) (state_by self.old) (state_by self.new)) }
         ensures reports { OnOk result (self.old.apart ≡ true → Reports self.old self.new) }
-        ensures pass { OnOk result (IsSamePass self.old.worklist self.new.worklist) }
+        ensures pass { OnOk result (IsSamePass self.old.queue.worklist self.new.queue.worklist) }
         ensures many { result ≡ Err ImportError.TooMany → IsSpent (finished_by self.old) (state_by self.old) }
     {
         self.spread()?;
@@ -38,7 +39,7 @@ impl Resolver<'_> {
         ensures steps { OnOk result (Steps (finished_by self.old) (state_by self.old) (state_by self.new)) }
         ensures reports { OnOk result (self.old.apart ≡ true → Reports self.old self.new) }
         ensures moves { OnOk result (self.old.count < self.new.count) }
-        ensures pass { OnOk result (IsSamePass self.old.worklist self.new.worklist) }
+        ensures pass { OnOk result (IsSamePass self.old.queue.worklist self.new.queue.worklist) }
         ensures many { result ≡ Err ImportError.TooMany → IsSpent (finished_by self.old) (state_by self.old) }
     {
         self.take(i, taking)?;
@@ -59,7 +60,7 @@ impl Resolver<'_> {
         ensures steps { OnOk result (Steps (finished_by self.old) (state_by self.old) (state_by self.new)) }
         ensures reports { OnOk result (self.old.apart ≡ true → Reports self.old self.new) }
         ensures moves { OnOk result (self.old.count < self.new.count) }
-        ensures pass { OnOk result (IsSamePass self.old.worklist self.new.worklist) }
+        ensures pass { OnOk result (IsSamePass self.old.queue.worklist self.new.queue.worklist) }
         ensures many { result ≡ Err ImportError.TooMany → IsSpent (finished_by self.old) (state_by self.old) }
     {
         self.note_edge(edge);
@@ -77,8 +78,8 @@ impl Resolver<'_> {
         ensures steps { OnOk result (Steps (finished_by self.old) (state_by self.old) (state_by self.new)) }
         ensures reports { OnOk result (self.old.apart ≡ true → Reports self.old self.new) }
         // What takes no step queues nothing.
-        ensures moves { OnOk result (self.new.count ≡ self.old.count → self.new.worklist ≡ self.old.worklist) }
-        ensures pass { OnOk result (IsSamePass self.old.worklist self.new.worklist) }
+        ensures moves { OnOk result (self.new.count ≡ self.old.count → self.new.queue.worklist ≡ self.old.queue.worklist) }
+        ensures pass { OnOk result (IsSamePass self.old.queue.worklist self.new.queue.worklist) }
         ensures many { result ≡ Err ImportError.TooMany → IsSpent (finished_by self.old) (state_by self.old) }
     {
         self.watch(i)?;
@@ -98,19 +99,19 @@ impl Resolver<'_> {
     /// Tries what is queued, in order. What is queued meanwhile behind the import that is tried waits for the next pass.
     fn pass(&mut self) -> Result<(), ImportError>
         requires running { IsRunning self.old None }
-        requires over { self.old.worklist.current ≡ [] }
+        requires over { self.old.queue.worklist.current ≡ [] }
         ensures running { OnOk result (IsRunning self.new None) }
         ensures finished { OnOk result (finished_by self.new ≡ finished_by self.old) }
         ensures apart { OnOk result (self.new.apart ≡ self.old.apart) }
         ensures steps { OnOk result (Steps (finished_by self.old) (state_by self.old) (state_by self.new)) }
         ensures reports { OnOk result (self.old.apart ≡ true → Reports self.old self.new) }
-        ensures moves { OnOk result (self.new.count ≡ self.old.count → self.new.worklist.later ≡ []) }
-        ensures over { OnOk result (self.new.worklist.current ≡ []) }
-        ensures outside { OnOk result (self.new.worklist.end ≡ 0) }
+        ensures moves { OnOk result (self.new.count ≡ self.old.count → self.new.queue.worklist.later ≡ []) }
+        ensures over { OnOk result (self.new.queue.worklist.current ≡ []) }
+        ensures outside { OnOk result (self.new.queue.worklist.end ≡ 0) }
         ensures many { result ≡ Err ImportError.TooMany → IsSpent (finished_by self.old) (state_by self.old) }
     {
-        self.worklist.open();
-        'tries: while let Some(i) = self.worklist.take() {
+        self.queue.worklist.open();
+        'tries: while let Some(i) = self.queue.worklist.take() {
             self.try_import(i)?;
         }
         Ok(())
@@ -119,21 +120,21 @@ impl Resolver<'_> {
     /// Tries what is queued, pass by pass, until nothing is.
     pub(crate) fn settle(&mut self) -> Result<(), ImportError>
         requires begun { IsBegun self.old None }
-        requires over { self.old.worklist.current ≡ [] }
-        requires outside { self.old.worklist.end ≡ 0 }
+        requires over { self.old.queue.worklist.current ≡ [] }
+        requires outside { self.old.queue.worklist.end ≡ 0 }
         ensures rests { OnOk result (IsAtRest (finished_by self.old) (state_by self.new)) }
         ensures running { OnOk result (IsRunning self.new None) }
         ensures finished { OnOk result (finished_by self.new ≡ finished_by self.old) }
         ensures apart { OnOk result (self.new.apart ≡ self.old.apart) }
         ensures steps { OnOk result (Steps (finished_by self.old) (state_by self.old) (state_by self.new)) }
         ensures reports { OnOk result (self.old.apart ≡ true → Reports self.old self.new) }
-        ensures over { OnOk result (self.new.worklist.current ≡ []) }
-        ensures outside { OnOk result (self.new.worklist.end ≡ 0) }
+        ensures over { OnOk result (self.new.queue.worklist.current ≡ []) }
+        ensures outside { OnOk result (self.new.queue.worklist.end ≡ 0) }
         ensures small { OnOk result (self.new.count ≤ MAX_STEPS) }
         ensures many { result ≡ Err ImportError.TooMany → IsSpent (finished_by self.old) (state_by self.old) }
     {
         self.wave()?;
-        'passes: while !self.worklist.is_settled() {
+        'passes: while !self.queue.worklist.is_settled() {
             self.pass()?;
         }
         Ok(())

@@ -1,9 +1,9 @@
 //! Which slots an import reads, and what is tried again when one changes.
-ghost use Rattle.std.specs.Prelude.{◌≡◌, ◌++◌, ℕ, [], true, IfOk, OnOk, length, option_copied};
+ghost use Rattle.std.specs.Prelude.{◌≡◌, ◌++◌, [], true, IfOk, OnOk, length, option_copied};
 ghost use Rattle.std.specs.List.{All};
-ghost use Rattle.hir_worklist.specs.Queue.{IsIdle};
 ghost use Rattle.hir_worklist.specs.Settling.{WatchesEach};
-ghost use Rattle.hir_import_resolution.specs.Inner.Queue.{IsSamePass, IsWoken, KeepsWatched, WakesEach, reads_at, slot_cmp};
+ghost use Rattle.hir_import_resolution.specs.Inner.Queue.{IsWoken, KeepsWatched, WakesEach, reads_at, slot_cmp};
+ghost use Rattle.hir_worklist.specs.Waking.{IsSamePass};
 ghost use Rattle.hir_import_resolution.specs.Inner.State.{finished_by, path_slots, slots_named, state_by};
 ghost use Rattle.hir_import_resolution.specs.Lasting.{IsThere};
 
@@ -13,7 +13,7 @@ use crate::resolver::Resolver;
 use hir_base::name::Name;
 use hir_def_map::nameres::path_resolution::slots::{PathSlots, Slot};
 use hir_def_map::nameres::path_resolution::{BuiltinShadowMode, ResolveMode};
-use hir_worklist::{Watchers, Worklist};
+use hir_worklist::{PathQueue, Watchers};
 use std::alloc::AllocError;
 
 /// Has an import watch slots; whether all are of modules that are there.
@@ -37,49 +37,36 @@ fn watch_each(
 
 /// Queues what watches the slot of a name in a module, if there is a name, and reports the slot.
 fn wake_named(
-    watchers: &mut Watchers<Slot>,
-    worklist: &mut Worklist,
+    queue: &mut PathQueue<Slot>,
     reported: &mut Vec<Slot>,
     at: u32,
     name: Option<&Name>,
 ) -> Result<(), AllocError>
-    ensures woken { OnOk result (WakesEach worklist.new watchers.new worklist.old watchers.old (slots_named at (option_copied name.entry))) }
-    ensures pass { OnOk result (IsSamePass worklist.old worklist.new) }
+    ensures woken { OnOk result (WakesEach queue.old queue.new (slots_named at (option_copied name.entry))) }
+    ensures pass { OnOk result (IsSamePass queue.old.worklist queue.new.worklist) }
     ensures reported { OnOk result (reported.new.items ≡ reported.old.items ++ slots_named at (option_copied name.entry)) }
 {
     let Some(name) = name else {
         return Ok(());
     };
     let slot = Slot::Module(at, name.clone()?);
-    watchers.wake_all(&slot, worklist)?;
+    queue.wake(&slot)?;
     reported.push(slot)?;
     Ok(())
 }
 
 /// Queues what watches the slots of names, and reports those.
 fn wake_each(
-    watchers: &mut Watchers<Slot>,
-    worklist: &mut Worklist,
+    queue: &mut PathQueue<Slot>,
     reported: &mut Vec<Slot>,
     slots: &[hir_glob_imports::Slot],
 ) -> Result<(), AllocError>
-    ensures woken { OnOk result (WakesEach worklist.new watchers.new worklist.old watchers.old (path_slots slots.now)) }
-    ensures pass { OnOk result (IsSamePass worklist.old worklist.new) }
+    ensures woken { OnOk result (WakesEach queue.old queue.new (path_slots slots.now)) }
+    ensures pass { OnOk result (IsSamePass queue.old.worklist queue.new.worklist) }
     ensures reported { OnOk result (reported.new.items ≡ reported.old.items ++ path_slots slots.now) }
 {
     for slot in slots {
-        wake_named(watchers, worklist, reported, slot.at, slot.key.name())?;
-    }
-    Ok(())
-}
-
-/// Queues all imports.
-pub(crate) fn wake_everything(worklist: &mut Worklist) -> Result<(), AllocError>
-    ensures queued { OnOk result ((p : ℕ) → ¬ IsIdle worklist.new p) }
-    ensures pass { OnOk result (IsSamePass worklist.old worklist.new) }
-{
-    for position in 0..worklist.len() {
-        worklist.wake(position)?;
+        wake_named(queue, reported, slot.at, slot.key.name())?;
     }
     Ok(())
 }
@@ -88,11 +75,11 @@ impl Resolver<'_> {
     /// Has the import at the place watch each slot that its path reads now. Where one is of a module that isn't there, nothing
     /// lasts.
     pub(crate) fn watch(&mut self, i: usize) -> Result<(), AllocError>
-        ensures rest { self.new ≡ record self.old { watchers = self.new.watchers; lasting = self.new.lasting } }
+        ensures rest { self.new ≡ record self.old { queue = record self.old.queue { watchers = self.new.queue.watchers }; lasting = self.new.lasting } }
         ensures lasted { self.new.lasting ≡ true → self.old.lasting ≡ true }
         ensures there { OnOk result (self.new.lasting ≡ true → All (IsThere (length self.old.scopes.map.modules)) (reads_at self.old.apart (finished_by self.old) (state_by self.old) i)) }
-        ensures each { OnOk result (WatchesEach slot_cmp self.new.watchers i (reads_at self.old.apart (finished_by self.old) (state_by self.old) i)) }
-        ensures others { OnOk result (KeepsWatched self.old.watchers self.new.watchers) }
+        ensures each { OnOk result (WatchesEach slot_cmp self.new.queue.watchers i (reads_at self.old.apart (finished_by self.old) (state_by self.old) i)) }
+        ensures others { OnOk result (KeepsWatched self.old.queue.watchers self.new.queue.watchers) }
     {
         if !self.apart {
             return Ok(());
@@ -112,7 +99,7 @@ impl Resolver<'_> {
             None,
         );
         let there = watch_each(
-            &mut self.watchers,
+            &mut self.queue.watchers,
             i,
             slots,
             self.scopes.map().module_count(),
@@ -124,39 +111,28 @@ impl Resolver<'_> {
     /// Queues what watches the slot of a name in a module, if there is a name, and reports the slot; queues all imports where
     /// they watch nothing.
     pub(crate) fn wake(&mut self, at: u32, name: Option<&Name>) -> Result<(), AllocError>
-        ensures rest { self.new ≡ record self.old { worklist = self.new.worklist; watchers = self.new.watchers; reported = self.new.reported } }
+        ensures rest { self.new ≡ record self.old { queue = self.new.queue; reported = self.new.reported } }
         ensures reported { OnOk result (self.old.apart ≡ true → self.new.reported.items ≡ self.old.reported.items ++ slots_named at (option_copied name.entry)) }
-        ensures woken { OnOk result (IsWoken self.old.apart (slots_named at (option_copied name.entry)) self.old.worklist self.old.watchers self.new.worklist self.new.watchers) }
+        ensures woken { OnOk result (IsWoken self.old.apart (slots_named at (option_copied name.entry)) self.old.queue self.new.queue) }
     {
         if self.apart {
-            wake_named(
-                &mut self.watchers,
-                &mut self.worklist,
-                &mut self.reported,
-                at,
-                name,
-            )
+            wake_named(&mut self.queue, &mut self.reported, at, name)
         } else {
-            wake_everything(&mut self.worklist)
+            self.queue.worklist.wake_all()
         }
     }
 
     /// Queues what watches the slots that a wave has changed, and reports those; queues all imports where they watch nothing.
     pub(crate) fn wake_changes(&mut self) -> Result<(), AllocError>
-        ensures rest { OnOk result (self.new ≡ record self.old { worklist = self.new.worklist; watchers = self.new.watchers; changes = self.new.changes; reported = self.new.reported }) }
+        ensures rest { OnOk result (self.new ≡ record self.old { queue = self.new.queue; changes = self.new.changes; reported = self.new.reported }) }
         ensures reported { OnOk result (self.old.apart ≡ true → self.new.reported.items ≡ self.old.reported.items ++ path_slots self.old.changes.items) }
-        ensures woken { OnOk result (IsWoken self.old.apart (path_slots self.old.changes.items) self.old.worklist self.old.watchers self.new.worklist self.new.watchers) }
+        ensures woken { OnOk result (IsWoken self.old.apart (path_slots self.old.changes.items) self.old.queue self.new.queue) }
         ensures changes { OnOk result (self.new.changes.items ≡ []) }
     {
         if self.apart {
-            wake_each(
-                &mut self.watchers,
-                &mut self.worklist,
-                &mut self.reported,
-                self.changes.as_slice(),
-            )?;
+            wake_each(&mut self.queue, &mut self.reported, self.changes.as_slice())?;
         } else {
-            wake_everything(&mut self.worklist)?;
+            self.queue.worklist.wake_all()?;
         }
         self.changes.clear();
         Ok(())

@@ -11,7 +11,7 @@ settle_reopened-requires-clause-apart c = λ e. c.requires.apart (sym (ap is_apa
 
 pub settle_reopened-requires-clause-queued : goal.settle_reopened-requires-clause-queued
 settle_reopened-requires-clause-queued c =
-    queued_first (part_of c.args.world) c.append.new.self c.new-queue.result.worklist (state_in c.args.imports) c.len.result c.new-queue.ensures.none
+    queued_first (part_of c.args.world) c.append.new.self c.new-queue.result.queue.worklist (state_in c.args.imports) c.len.result c.new-queue.ensures.none
     c.in_ok-append.ensures.longer
     (search (rules, c.len.ensures)) c.in_ok-append.ensures.count c.requires.there
 

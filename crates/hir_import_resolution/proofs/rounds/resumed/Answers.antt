@@ -32,7 +32,7 @@ returns-clause-over c =
     c.in_ok-wake.ensures.woken c.wake.ensures.apart c.wake.ensures.lasting
     c.append.new.self c.len-count.result c.append.ensures.rest c.in_ok-append.ensures.longer (search (rules, c.len-count.ensures)) c.in_ok-append.ensures.count
     c.requires.there in
-    ap (λ (q : ImportQueue). q.worklist.current) c.new-resolver.ensures.queue ∙ queued.over
+    ap (λ (q : ImportQueue). q.queue.worklist.current) c.new-resolver.ensures.queue ∙ queued.over
 
 pub returns-clause-outside : goal.returns-clause-outside
 returns-clause-outside c =
@@ -41,7 +41,7 @@ returns-clause-outside c =
     c.in_ok-wake.ensures.woken c.wake.ensures.apart c.wake.ensures.lasting
     c.append.new.self c.len-count.result c.append.ensures.rest c.in_ok-append.ensures.longer (search (rules, c.len-count.ensures)) c.in_ok-append.ensures.count
     c.requires.there in
-    ap (λ (q : ImportQueue). q.worklist.end) c.new-resolver.ensures.queue ∙ queued.outside
+    ap (λ (q : ImportQueue). q.queue.worklist.end) c.new-resolver.ensures.queue ∙ queued.outside
 
 pub returns-clause-apart : goal.returns-clause-apart
 returns-clause-apart c = ap is_apart c.new-resolver.ensures.queue ∙ ap is_apart c.append.ensures.rest ∙ c.wake.ensures.apart

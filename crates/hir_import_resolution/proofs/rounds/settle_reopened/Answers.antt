@@ -37,7 +37,7 @@ settle-requires-clause-over c =
     let at = reopened (part_of c.args.world) c.args.queue (state_in c.args.imports) c.new-resolver.result c.reopen.new.self new.state new.finished new.queue
     new.changes new.reported
     c.in_ok-reopen.ensures.state c.in_ok-reopen.ensures.rest in
-    ap (λ (q : ImportQueue). q.worklist.current) at.queued ∙ c.requires.queued.over
+    ap (λ (q : ImportQueue). q.queue.worklist.current) at.queued ∙ c.requires.queued.over
 
 pub settle-requires-clause-outside : goal.settle-requires-clause-outside
 settle-requires-clause-outside c =
@@ -45,7 +45,7 @@ settle-requires-clause-outside c =
     let at = reopened (part_of c.args.world) c.args.queue (state_in c.args.imports) c.new-resolver.result c.reopen.new.self new.state new.finished new.queue
     new.changes new.reported
     c.in_ok-reopen.ensures.state c.in_ok-reopen.ensures.rest in
-    ap (λ (q : ImportQueue). q.worklist.end) at.queued ∙ c.requires.queued.outside
+    ap (λ (q : ImportQueue). q.queue.worklist.end) at.queued ∙ c.requires.queued.outside
 
 pub returns-in_err-settle-clause-many : goal.returns-in_err-settle-clause-many
 returns-in_err-settle-clause-many c = λ h.

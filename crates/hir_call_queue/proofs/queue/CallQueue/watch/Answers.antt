@@ -13,7 +13,7 @@ returns-then-not-self c =
 pub returns-then-there : goal.returns-then-there
 returns-then-there c =
     let old : CallQueue = c.args.self.now in
-    let new : CallQueue = record old { watchers = c.watch_each.new.watchers; attributes = c.watch_item.new.attributes } in
+    let new : CallQueue = record old { queue = record old.queue { watchers = c.watch_each.new.watchers }; attributes = c.watch_item.new.attributes } in
     let both = c.in_ok-there.ensures.each c.if-there.true in
     record {
       watching =
@@ -24,7 +24,8 @@ returns-then-there c =
 pub returns : goal.returns
 returns c =
     let old : CallQueue = c.args.self.now in
-    let new : CallQueue = record old { worklist = c.wake.new.self; watchers = c.watch_each.new.watchers; attributes = c.watch_item.new.attributes } in
+    let new : CallQueue =
+    record old { queue = record { worklist = c.wake.new.self; watchers = c.watch_each.new.watchers }; attributes = c.watch_item.new.attributes } in
     record {
       watching =
           watching_queued c.args.modules c.args.slots c.args.item c.args.i old new refl c.in_ok-there.ensures.others c.in_ok-watch_item.ensures.others

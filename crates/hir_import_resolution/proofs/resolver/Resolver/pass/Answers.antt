@@ -26,7 +26,7 @@ tries-preserved c = record {
   apart = c.in_ok-try_import.ensures.apart ∙ c.tries.invariant.apart;
   steps = steps_on c.args.self.now c.tries.self c.try_import.new.self c.tries.invariant.finished c.tries.invariant.steps c.in_ok-try_import.ensures.steps;
   reports = λ apart.
-      reports_join _ (record c.tries.self { worklist = c.take.new.self }) c.try_import.new.self
+      reports_join _ (record c.tries.self { queue = record c.tries.self.queue { worklist = c.take.new.self } }) c.try_import.new.self
       (reports_queued _ c.tries.self c.take.new.self (c.tries.invariant.reports apart))
       (c.in_ok-try_import.ensures.reports (c.tries.invariant.apart ∙ apart));
   moves =

@@ -12,9 +12,9 @@ invariant-tries l = record {
   apart : l.self.apart ≡ l.initial.self.apart;
   steps : Steps (finished_by l.initial.self) (state_by l.initial.self) (state_by l.self);
   reports : l.initial.self.apart ≡ true → Reports l.initial.self l.self;
-  moves : l.self.count ≡ l.initial.self.count → l.self.worklist.later ≡ [];
+  moves : l.self.count ≡ l.initial.self.count → l.self.queue.worklist.later ≡ [];
 }
 
 -- each try takes a position behind those that were tried
 abbrev pub decreases-tries : goal.decreases-tries
-decreases-tries l = l.self.worklist.end - l.self.worklist.next
+decreases-tries l = l.self.queue.worklist.end - l.self.queue.worklist.next

@@ -20,7 +20,7 @@ passes-init c = record {
 
 pub passes-smaller : goal.passes-smaller
 passes-smaller c =
-    fewer MAX_STEPS c.passes.self.count c.pass.new.self.count c.passes.self.worklist.later c.pass.new.self.worklist.later
+    fewer MAX_STEPS c.passes.self.count c.pass.new.self.count c.passes.self.queue.worklist.later c.pass.new.self.queue.worklist.later
     (steps_count _ _ _ c.in_ok-pass.ensures.steps)
     c.in_ok-pass.ensures.running.begun.small
     (λ none. absurd (let settled = c.is_settled.ensures.queued c.passes.invariant.over none in let unsettled = c.passes-test.true in cc))

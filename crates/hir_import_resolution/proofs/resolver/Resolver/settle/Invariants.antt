@@ -12,11 +12,11 @@ invariant-passes l = record {
   finished : finished_by l.self ≡ finished_by l.initial.self;
   apart : l.self.apart ≡ l.initial.self.apart;
   steps : Steps (finished_by l.initial.self) (state_by l.initial.self) (state_by l.self);
-  over : l.self.worklist.current ≡ [];
-  outside : l.self.worklist.end ≡ 0;
+  over : l.self.queue.worklist.current ≡ [];
+  outside : l.self.queue.worklist.end ≡ 0;
   reports : l.initial.self.apart ≡ true → Reports l.initial.self l.self;
 }
 
 -- the steps that are left, and a pass that takes none
 abbrev pub decreases-passes : goal.decreases-passes
-decreases-passes l = (MAX_STEPS - l.self.count) + some_of l.self.worklist.later
+decreases-passes l = (MAX_STEPS - l.self.count) + some_of l.self.queue.worklist.later

@@ -11,17 +11,17 @@ abbrev left : (c : goal.In_ok-wave) → Resolver
 left c = record c.args.self.now { scopes = c.wave.new.names; globs = c.wave.new.self; count = c.wave.new.count; changes = c.wave.new.changes }
 
 pub returns-clause-steps : goal.returns-clause-steps
-returns-clause-steps c = spread_steps c.args.self.now (left c) c.wave.new.changes.items c.in_ok-wave.ensures.steps refl refl refl refl refl refl refl refl
+returns-clause-steps c = spread_steps c.args.self.now (left c) c.wave.new.changes.items c.in_ok-wave.ensures.steps refl refl refl refl refl refl refl
 
 pub returns-clause-is : goal.returns-clause-is
-returns-clause-is c = spread_is c.args.self.now (left c) c.wave.new.changes.items c.in_ok-wave.ensures.steps refl refl refl refl refl refl refl refl refl
+returns-clause-is c = spread_is c.args.self.now (left c) c.wave.new.changes.items c.in_ok-wave.ensures.steps refl refl refl refl refl refl refl refl
 
 pub returns-clause-recorded : goal.returns-clause-recorded
-returns-clause-recorded c = spread_recorded c.args.self.now (left c) c.wave.new.changes.items c.in_ok-wave.ensures.steps refl refl refl refl refl refl refl refl
+returns-clause-recorded c = spread_recorded c.args.self.now (left c) c.wave.new.changes.items c.in_ok-wave.ensures.steps refl refl refl refl refl refl refl
 
 pub returns-clause-lasts : goal.returns-clause-lasts
 returns-clause-lasts c =
-    λ kept lasts. spread_lasts c.args.self.now (left c) c.wave.new.changes.items c.in_ok-wave.ensures.steps refl refl refl refl refl refl refl refl kept lasts
+    λ kept lasts. spread_lasts c.args.self.now (left c) c.wave.new.changes.items c.in_ok-wave.ensures.steps refl refl refl refl refl refl refl kept lasts
 
 pub returns-in_err-wave-clause-many : goal.returns-in_err-wave-clause-many
 returns-in_err-wave-clause-many c = λ h.

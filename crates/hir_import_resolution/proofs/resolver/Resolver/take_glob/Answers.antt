@@ -4,9 +4,9 @@ use Rattle.std.specs.declared.alloc.Global.{Global}
 use Rattle.std.specs.declared.vec.Vec.{Vec}
 use Rattle.hir_def_map.specs.WorldParts.{part_of}
 use Rattle.hir_def_map.specs.declared.nameres.path_resolution.slots.Slot.{Slot as PathSlot}
-use Rattle.hir_worklist.specs.Queue.{Queue}
+use Rattle.hir_worklist.specs.declared.path_queue.PathQueue.{PathQueue}
 use Rattle.hir_import_resolution.specs.Types.{OpenScopes, Resolver}
-use Rattle.hir_import_resolution.specs.Inner.Queue.{IsSamePass}
+use Rattle.hir_worklist.specs.Waking.{IsSamePass}
 use Rattle.hir_import_resolution.specs.Inner.State.{finished_by, state_by}
 use Rattle.hir_import_resolution.specs.Inner.Steps.{IsLinking, taking_at}
 use Rattle.hir_import_resolution.specs.Lasting.{HasVariants, IsPlaced}
@@ -73,7 +73,8 @@ returns-clause-apart c = c.in_ok-wave.ensures.apart ∙ c.in_ok-link.ensures.is.
 
 pub returns-clause-pass : goal.returns-clause-pass
 returns-clause-pass c =
-    subst (λ (q : Queue). IsSamePass q c.wave.new.self.worklist) (c.in_ok-link.ensures.is.changes.worklist ∙ ap (λ (r : Resolver). r.worklist)
+    subst (λ (q : PathQueue PathSlot). IsSamePass q.worklist c.wave.new.self.queue.worklist)
+        (c.in_ok-link.ensures.is.changes.queue ∙ ap (λ (r : Resolver). r.queue)
     c.note_edge.ensures.rest) c.in_ok-wave.ensures.pass
 
 pub returns-clause-reports : goal.returns-clause-reports

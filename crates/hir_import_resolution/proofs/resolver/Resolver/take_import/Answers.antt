@@ -1,13 +1,15 @@
 -- An import is taken, what read its name is woken, and names go along globs.
 use Rattle.std.proofs.Common.{◌∙◌, ◌++◌, List, Option, ℕ, ap, option_copied, subst, sym, rules}
 use Rattle.hir_def_map.specs.WorldParts.{part_of}
-use Rattle.hir_worklist.specs.Queue.{Queue}
+use Rattle.hir_def_map.specs.declared.nameres.path_resolution.slots.Slot.{Slot as PathSlot}
+use Rattle.hir_worklist.specs.declared.path_queue.PathQueue.{PathQueue}
 use Rattle.hir_import_resolution.specs.Types.{Resolver}
-use Rattle.hir_import_resolution.specs.Inner.Queue.{IsSamePass, IsWoken}
+use Rattle.hir_import_resolution.specs.Inner.Queue.{IsWoken}
+use Rattle.hir_worklist.specs.Waking.{IsSamePass}
 use Rattle.hir_import_resolution.specs.Inner.State.{ChangesSlots, finished_by, slots_named, state_by}
 use Rattle.hir_import_resolution.proofs.Placed.{lasts_changed}
 use Rattle.hir_import_resolution.proofs.Running.{begun_taken, count_taken, noted_woken, reports_join, reports_slots, spent_taken, steps_taken, woken_before}
-use Rattle.hir_import_resolution.proofs.Waking.{pass_join}
+use Rattle.hir_worklist.proofs.Passes.{pass_join}
 use Rattle.hir_import_resolution.proofs.resolver.Resolver.take_import.Goals as goal
 
 pub wave-requires : goal.wave-requires
@@ -23,8 +25,8 @@ wave-requires c = record {
       (c.in_ok-take.ensures.placed (λ id vis is there. c.note_trait.ensures.placed as_noted id vis is there) before.placed) before)
       (λ e. c.note_trait.ensures.lasted (sym (ap (λ (r : Resolver). r.lasting) c.wake.ensures.rest) ∙ e)) c.in_ok-take.ensures.small
       (noted_woken c.take.new.self c.note_trait.new.self c.wake.new.self c.note_trait.ensures.rest c.wake.ensures.rest)
-      (subst (λ (name : Option (List ℕ)). IsWoken c.take.new.self.apart (slots_named c.args.taking.now.home name) c.take.new.self.worklist
-      c.take.new.self.watchers c.wake.new.self.worklist c.wake.new.self.watchers)
+      (subst (λ (name : Option (List ℕ)). IsWoken c.take.new.self.apart (slots_named c.args.taking.now.home name) c.take.new.self.queue
+      c.wake.new.self.queue)
       (search (rules, c.as_ref.ensures.value)) (woken_before c.take.new.self c.note_trait.new.self c.wake.new.self
       (slots_named c.args.taking.now.home (option_copied c.as_ref.result)) c.note_trait.ensures.rest c.in_ok-wake.ensures.woken));
 }
@@ -72,7 +74,7 @@ returns-clause-apart c =
 
 pub returns-clause-pass : goal.returns-clause-pass
 returns-clause-pass c =
-    pass_join c.args.self.now.worklist c.wake.new.self.worklist c.wave.new.self.worklist
-    (subst (λ (q : Queue). IsSamePass q c.wake.new.self.worklist) c.in_ok-take.ensures.is.changes.worklist
+    pass_join c.args.self.now.queue.worklist c.wake.new.self.queue.worklist c.wave.new.self.queue.worklist
+    (subst (λ (q : PathQueue PathSlot). IsSamePass q.worklist c.wake.new.self.queue.worklist) c.in_ok-take.ensures.is.changes.queue
     (woken_before c.take.new.self c.note_trait.new.self c.wake.new.self (slots_named c.args.taking.now.home (option_copied c.as_ref.result))
     c.note_trait.ensures.rest c.in_ok-wake.ensures.woken).pass) c.in_ok-wave.ensures.pass

@@ -1,8 +1,9 @@
 -- Names go along globs, and what read them is woken.
 use Rattle.std.proofs.Common.{◌∙◌, ap, subst, sym}
-use Rattle.hir_worklist.specs.Queue.{Queue}
+use Rattle.hir_def_map.specs.declared.nameres.path_resolution.slots.Slot.{Slot as PathSlot}
+use Rattle.hir_worklist.specs.declared.path_queue.PathQueue.{PathQueue}
 use Rattle.hir_import_resolution.specs.Types.{Resolver}
-use Rattle.hir_import_resolution.specs.Inner.Queue.{IsSamePass}
+use Rattle.hir_worklist.specs.Waking.{IsSamePass}
 use Rattle.hir_import_resolution.specs.Inner.State.{path_slots}
 use Rattle.hir_import_resolution.proofs.Running.{reports_slots, running_waved}
 use Rattle.hir_import_resolution.proofs.resolver.Resolver.wave.Goals as goal
@@ -27,4 +28,5 @@ returns-clause-apart c = ap (λ (r : Resolver). r.apart) c.in_ok-wake_changes.en
 
 pub returns-clause-pass : goal.returns-clause-pass
 returns-clause-pass c =
-    subst (λ (q : Queue). IsSamePass q c.wake_changes.new.self.worklist) c.in_ok-spread.ensures.is.changes.worklist c.in_ok-wake_changes.ensures.woken.pass
+    subst (λ (q : PathQueue PathSlot). IsSamePass q.worklist c.wake_changes.new.self.queue.worklist) c.in_ok-spread.ensures.is.changes.queue
+    c.in_ok-wake_changes.ensures.woken.pass

@@ -1,17 +1,16 @@
 -- What watches one more is woken in each turn.
 use Rattle.std.proofs.Common.{rules}
-use Rattle.hir_import_resolution.proofs.Growing.{wakes_all, wakes_one}
-use Rattle.hir_import_resolution.proofs.Waking.{pass_join, pass_woken, same_pass}
-use Rattle.hir_call_queue.proofs.Woken.{queued_join, queued_still, queued_woken}
-use Rattle.hir_call_queue.proofs.queue.wake_slots.Goals as goal
+use Rattle.hir_worklist.proofs.Passes.{pass_join, pass_woken, queued_join, queued_still, queued_woken, same_pass}
+use Rattle.hir_worklist.proofs.Woken.{wakes_all, wakes_one}
+use Rattle.hir_worklist.proofs.watchers.Watchers.wake_each.Goals as goal
 
 pub loop-slot-init : goal.loop-slot-init
-loop-slot-init c = record { woken = λ r after each. each; pass = same_pass c.args.worklist.now; queued = queued_still c.args.worklist.now }
+loop-slot-init g c = record { woken = λ r after each. each; pass = same_pass c.args.worklist.now; queued = queued_still c.args.worklist.now }
 
 pub loop-slot-preserved : goal.loop-slot-preserved
-loop-slot-preserved c = record {
+loop-slot-preserved g c = record {
   woken = λ r after then. c.loop-slot.invariant.woken r after
-      (wakes_one c.args.slots.now c.slot-item.result c.loop-slot.slot-index r after c.loop-slot.worklist c.wake_all.new.worklist c.loop-slot.watchers
+      (wakes_one g.K.Ord.cmp c.args.slots.now c.slot-item.result c.loop-slot.slot-index r after c.loop-slot.worklist c.wake_all.new.worklist c.loop-slot.self
       c.wake_all.new.self
       c.loop-slot-test.true (search (rules, c.slot-item.is)) c.in_ok-wake_all.ensures.ok c.in_ok-wake_all.ensures.forgets then);
   pass =
@@ -23,6 +22,6 @@ loop-slot-preserved c = record {
 }
 
 pub returns-clause-woken : goal.returns-clause-woken
-returns-clause-woken c =
-    c.loop-slot.invariant.woken c.loop-slot.worklist c.loop-slot.watchers
-    (wakes_all c.args.slots.now c.loop-slot.slot-index c.loop-slot.worklist c.loop-slot.watchers c.loop-slot-test.false)
+returns-clause-woken g c =
+    c.loop-slot.invariant.woken c.loop-slot.worklist c.loop-slot.self
+    (wakes_all g.K.Ord.cmp c.args.slots.now c.loop-slot.slot-index c.loop-slot.worklist c.loop-slot.self c.loop-slot-test.false)
