@@ -2,7 +2,11 @@
 #![tactic(auto)]
 
 #[cfg(test)]
+mod conditions;
+#[cfg(test)]
 mod copies;
+#[cfg(test)]
+mod ids;
 #[cfg(test)]
 mod names;
 #[cfg(test)]

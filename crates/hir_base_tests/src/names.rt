@@ -7,8 +7,9 @@ use hir_base::builtin_type::{
 };
 use hir_base::edition::Edition;
 use hir_base::file_path::FilePath;
-use hir_base::mod_path::ModPath;
-use hir_base::name::Name;
+use hir_base::mod_path::{ModPath, PathKind};
+use hir_base::name::{Name, NameError};
+use smallvec::SmallVec;
 use std::alloc::{AllocError, Global};
 use std::process::Abort;
 use std::test::Fail;
@@ -138,6 +139,26 @@ fn builtin_types_by_name(rt: HostRuntime) -> Result<(), Fail> {
     Ok(())
 }
 
+/// The builtin type of the name that this one lends, and how the type is shown.
+fn by_its_own_name(
+    alloc: Global,
+    builtin: BuiltinType,
+) -> Result<(Option<BuiltinType>, String), AllocError> {
+    let shown = builtin.to_string(alloc)?;
+    Ok((BuiltinType::by_name(&builtin.as_name()), shown))
+}
+
+/// They are shown by the names that they lend.
+#[test]
+fn builtin_types_as_names(rt: HostRuntime) -> Result<(), Fail> {
+    for builtin in all_builtin_types() {
+        let (found, shown) = by_its_own_name(rt.alloc(), builtin)?;
+        assert_eq!(rt; found, Some(builtin));
+        same_text(&rt, "as it is shown", shown.as_str(), builtin.as_str());
+    }
+    Ok(())
+}
+
 fn types_by_suffix(
     suffix: &str,
 ) -> (
@@ -166,4 +187,114 @@ fn suffixes_of_literals(rt: HostRuntime) {
     for (suffix, int, uint, float) in rows {
         assert_eq!(rt; types_by_suffix(suffix), (int, uint, float), "{suffix}");
     }
+}
+
+fn types_by_suffix_name(
+    alloc: Global,
+    suffix: &str,
+) -> Result<(Option<BuiltinInt>, Option<BuiltinUint>), Fail> {
+    let suffix = Name::new(alloc, suffix)?;
+    Ok((
+        BuiltinInt::from_suffix_sym(&suffix),
+        BuiltinUint::from_suffix_sym(&suffix),
+    ))
+}
+
+/// The same of suffixes that are names.
+#[test]
+fn names_as_suffixes(rt: HostRuntime) -> Result<(), Fail> {
+    let rows = [
+        ("i8", Some(BuiltinInt::I8), None),
+        ("usize", None, Some(BuiltinUint::Usize)),
+        ("f64", None, None),
+        ("u7", None, None),
+    ];
+    for (suffix, int, uint) in rows {
+        let found = types_by_suffix_name(rt.alloc(), suffix)?;
+        assert_eq!(rt; found, (int, uint), "{suffix}");
+    }
+    Ok(())
+}
+
+/// Whether a text is no name, or a name above the limit.
+fn refusal(alloc: Global, text: &str) -> (bool, bool) {
+    match Name::new(alloc, text) {
+        Err(NameError::Bad) => (true, false),
+        Err(NameError::TooLarge) => (false, true),
+        _ => (false, false),
+    }
+}
+
+/// So many letters, and a text behind them.
+fn letters(alloc: Global, count: usize, rest: &str) -> Result<String, AllocError> {
+    let mut text = String::new(alloc);
+    for _ in 0..count {
+        text.push('a')?;
+    }
+    text.push_str(rest)?;
+    Ok(text)
+}
+
+/// Letters, a text behind them, and whether both are no name, or a name above the limit.
+type RefusedRow = (usize, &'static str, bool, bool);
+
+/// What is no name is told before its length.
+const REFUSED: [RefusedRow; 12] = [
+    (1000, "", false, false),
+    (1001, "", false, true),
+    (1001, "/", true, false),
+    (0, "", true, false),
+    (0, "$a", true, false),
+    (0, "self", true, false),
+    (0, "super", true, false),
+    (0, "crate", true, false),
+    (0, "_", true, false),
+    (0, "*", true, false),
+    (1, " b", true, false),
+    (1, ":b", true, false),
+];
+
+fn is_refused(rt: &impl Abort, alloc: Global, row: &RefusedRow) -> Result<(), Fail> {
+    let (count, rest, is_bad, is_large) = *row;
+    let text = letters(alloc, count, rest)?;
+    let found = refusal(alloc, text.as_str());
+    assert!(rt; found == (is_bad, is_large), "{count} letters and {rest}");
+    Ok(())
+}
+
+#[test]
+fn texts_that_are_no_names(rt: HostRuntime) -> Result<(), Fail> {
+    for row in &REFUSED {
+        is_refused(&rt, rt.alloc(), row)?;
+    }
+    Ok(())
+}
+
+/// A name behind `self`, made of its parts.
+fn behind_self(alloc: Global, text: &str) -> Result<ModPath, Fail> {
+    let name = Name::new(alloc, text)?;
+    let mut segments = SmallVec::new(alloc);
+    segments.push(name)?;
+    Ok(ModPath::from_segments(PathKind::SELF, segments))
+}
+
+fn in_the_latest_edition(alloc: Global, path: &ModPath) -> Result<String, AllocError> {
+    path.display(Edition::LATEST).to_string(alloc)
+}
+
+#[test]
+fn path_of_parts(rt: HostRuntime) -> Result<(), Fail> {
+    let path = behind_self(rt.alloc(), "gen")?;
+    assert_eq!(rt; path.kind(), PathKind::Super(0));
+    let shown = in_the_latest_edition(rt.alloc(), &path)?;
+    same_text(&rt, "its text", shown.as_str(), "self::r#gen");
+    Ok(())
+}
+
+#[test]
+fn path_of_parts_and_of_its_text(rt: HostRuntime) -> Result<(), Fail> {
+    let path = behind_self(rt.alloc(), "a")?;
+    let parsed = path_of(rt.alloc(), "self::a")?;
+    assert!(rt; path == parsed);
+    Ok(())
 }

@@ -2,6 +2,8 @@
 
 use hir_base::locations::Locations;
 use hir_base::name::Name;
+use std::alloc::Global;
+use std::process::Abort;
 use std::test::Fail;
 
 /// Names in the order in which they are put into a table, each with its number.
@@ -14,13 +16,22 @@ const ROWS: [(&str, u32); 6] = [
     ("fmt", 0),
 ];
 
-#[test]
-fn numbers_of_names(rt: HostRuntime) -> Result<(), Fail> {
-    let alloc = rt.alloc();
+fn number_of(alloc: Global, table: &mut Locations<Name>, text: &str) -> Result<u32, Fail> {
+    let name = Name::new(alloc, text)?;
+    Ok(table.intern(name)?)
+}
+
+/// A table of the names, each of which got its number.
+fn filled(rt: &impl Abort, alloc: Global) -> Result<Locations<Name>, Fail> {
     let mut table = Locations::new(alloc);
-    for (text, number) in ROWS {
-        assert_eq!(rt; table.intern(Name::new(alloc, text)?)?, number, "{text}");
+    for (text, wanted) in ROWS {
+        let number = number_of(alloc, &mut table, text)?;
+        assert_eq!(rt; number, wanted, "{text}");
     }
+    Ok(table)
+}
+
+fn has_the_names(rt: &impl Abort, table: &Locations<Name>) {
     for (text, number) in ROWS {
         assert_eq!(rt;
             table.get(number).map(|name| name.as_str()),
@@ -28,6 +39,12 @@ fn numbers_of_names(rt: HostRuntime) -> Result<(), Fail> {
             "{number}"
         );
     }
+}
+
+#[test]
+fn numbers_of_names(rt: HostRuntime) -> Result<(), Fail> {
+    let table = filled(&rt, rt.alloc())?;
+    has_the_names(&rt, &table);
     assert!(rt; table.get(3).is_none(), "a number that no name has");
     assert_eq!(rt; table.len(), 3, "names that differ");
     Ok(())

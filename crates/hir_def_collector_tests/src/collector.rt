@@ -4,16 +4,20 @@ ghost use Rattle.hir_item_tree.specs.Source.{source_view};
 ghost use Rattle.hir_tables.specs.SourcePlaces.{source_value};
 ghost use Rattle.hir_def_collector_tests.specs.Crates.{AreTheirs, source_in};
 
+mod blocks;
+mod files;
+mod invocations;
+mod leftovers;
 mod macros;
+mod traits;
 
-use hir_base::ast_id::{BlockId, EditionedFileId, FileId, HirFileId, InFile, SyntaxId};
+use hir_base::ast_id::{EditionedFileId, FileId, HirFileId};
 use hir_base::cfg_options::CfgOptions;
 use hir_base::edition::Edition;
 use hir_base::file_path::FilePath;
-use hir_base::ids::{AdtId, Crate, ItemContainerId, MapId, ModuleDefId, ModuleId};
+use hir_base::ids::{Crate, ItemContainerId, MapId, ModuleDefId};
 use hir_base::macro_kind::ExpansionKey;
 use hir_base::name::Name;
-use hir_base::place::{BlockPlace, Place};
 use hir_crate_graph::crate_set::CrateSet;
 use hir_crate_graph::transitive::TransitiveDependencies;
 use hir_def_collector::collector::collected::Collected;
@@ -178,6 +182,10 @@ const THROUGH_A_BUILTIN: &str = r#"{"do":"set file","file":"b.rs","unit":{"nodes
 {"kind":"Use","id":[1,0],"tree":{"single":"u8","as":"x"}},
 {"kind":"Use","id":[2,0],"tree":{"single":"x::y"}},
 {"kind":"Use","id":[3,0],"tree":{"single":"core::thing","as":"u8"}}]}}"#;
+
+/// `pub struct S;`
+const STRUCT: &str = r#"{"do":"set file","file":"b.rs","unit":{"nodes":[
+{"kind":"Struct","id":[1,0],"name":"S","shape":"unit","vis":"pub"}]}}"#;
 
 fn root(number: u32) -> EditionedFileId {
     EditionedFileId {
@@ -418,6 +426,16 @@ fn collected_over(alloc: Global, files: &[(&str, &str)]) -> Result<Collected, Fa
     lower_collected(alloc, &mut db)
 }
 
+/// A file, and what its modules bind.
+type DumpRow = (&'static str, &'static str, &'static str);
+
+fn shows(rt: &impl Abort, alloc: Global, map: &DefMap, row: &DumpRow) -> Result<(), Fail> {
+    let (label, _, expected) = *row;
+    let text = map.dump(alloc, &World::new(alloc))?;
+    assert_eq!(rt; text.as_str(), expected, "{label}");
+    Ok(())
+}
+
 fn items(alloc: Global) -> Result<Collected, Fail> {
     collected_over(alloc, &[("a.rs", ITEMS)])
 }
@@ -500,304 +518,4 @@ fn walks_all(rt: &impl Abort, found: &Collected) -> Result<(), Fail> {
     assert!(rt; keys.next() == Some(Key::Map(MapId::of_crate(Crate(0)))));
     assert!(rt; keys.next().is_none());
     Ok(())
-}
-
-/// `mod a;`
-const MOD_A: &str = r#"{"do":"set file","file":"a.rs","unit":{"nodes":[
-{"kind":"Module","id":[1,0],"name":"m","vis":"pub"}]}}"#;
-
-/// `mod a { mod b; }`
-const MOD_IN_MOD: &str = r#"{"do":"set file","file":"a.rs","unit":{"nodes":[
-{"kind":"Module","id":[1,0],"name":"m","nodes":[
-    {"kind":"Module","id":[2,0],"name":"n"}]}]}}"#;
-
-/// `#[path = "x/y.rs"] mod a;`
-const MOD_BY_PATH: &str = r#"{"do":"set file","file":"a.rs","unit":{"nodes":[
-{"kind":"Module","id":[1,0],"name":"m","attrs":[{"path":"path","literal":"x/y.rs"}]}]}}"#;
-
-/// `mod b;`
-const MOD_B: &str = r#"{"do":"set file","file":"b.rs","unit":{"nodes":[
-{"kind":"Module","id":[1,0],"name":"n"}]}}"#;
-
-/// `pub struct S;`
-const STRUCT: &str = r#"{"do":"set file","file":"b.rs","unit":{"nodes":[
-{"kind":"Struct","id":[1,0],"name":"S","shape":"unit","vis":"pub"}]}}"#;
-
-/// `#![cfg(false)]`
-const DISABLED: &str =
-    r#"{"do":"set file","file":"b.rs","unit":{"attrs":[{"path":"cfg","cfg":false}],"nodes":[]}}"#;
-
-/// Files, how many modules they make, how many files are asked for, and how many diagnostics there are.
-type FileRow = (
-    &'static str,
-    &'static [(&'static str, &'static str)],
-    usize,
-    usize,
-    usize,
-);
-
-const FILE_ROWS: [FileRow; 8] = [
-    (
-        "beside",
-        &[("a.rs", MOD_A), ("m.rs", STRUCT), ("m/mod.rs", STRUCT)],
-        2,
-        2,
-        0,
-    ),
-    (
-        "in its directory",
-        &[("a.rs", MOD_A), ("m/mod.rs", STRUCT)],
-        2,
-        3,
-        0,
-    ),
-    ("nowhere", &[("a.rs", MOD_A)], 2, 3, 1),
-    (
-        "in an inline module",
-        &[
-            ("a.rs", MOD_IN_MOD),
-            ("m/n.rs", MOD_B),
-            ("m/n/n.rs", STRUCT),
-        ],
-        4,
-        3,
-        0,
-    ),
-    (
-        "by its path",
-        &[("a.rs", MOD_BY_PATH), ("x/y.rs", MOD_B), ("x/n.rs", STRUCT)],
-        3,
-        3,
-        0,
-    ),
-    (
-        "disabled at its top",
-        &[("a.rs", MOD_A), ("m.rs", DISABLED)],
-        1,
-        2,
-        1,
-    ),
-    (
-        "beside the declaring file",
-        &[("a.rs", MOD_A), ("m.rs", MOD_B), ("m/n.rs", STRUCT)],
-        3,
-        3,
-        0,
-    ),
-    (
-        "not beside it",
-        &[("a.rs", MOD_A), ("m.rs", MOD_B), ("n.rs", STRUCT)],
-        3,
-        4,
-        1,
-    ),
-];
-
-fn makes_modules(rt: &impl Abort, alloc: Global, row: &FileRow) -> Result<(), Fail> {
-    let (label, files, modules, asked, diagnostics) = *row;
-    let found = collected_over(alloc, files)?;
-    assert_eq!(rt; found.map.modules().len(), modules, "{label}");
-    assert_eq!(rt; found.asked.own().len(), asked, "{label}");
-    assert_eq!(rt;
-        found.map.diagnostics().as_slice().len(),
-        diagnostics,
-        "{label}"
-    );
-    Ok(())
-}
-
-/// A module's items are in the first of its files that is there, and each file that was looked for is asked for.
-#[test]
-fn files_of_modules(rt: HostRuntime) -> Result<(), Fail> {
-    for row in &FILE_ROWS {
-        makes_modules(&rt, rt.alloc(), row)?;
-    }
-    Ok(())
-}
-
-/// `mod a { pub trait T {} } use a::T as _;`
-const UNNAMED: &str = r#"{"do":"set file","file":"a.rs","unit":{"nodes":[
-{"kind":"Module","id":[1,0],"name":"a","nodes":[
-    {"kind":"Trait","id":[2,0],"name":"T","items":[],"vis":"pub"}]},
-{"kind":"Use","id":[3,0],"tree":{"single":"a::T","as":"_"}}]}}"#;
-
-/// `mod a { pub trait T {} } mod b { pub use crate::a::T as _; } mod m { use crate::b::*; } use m::*;`
-const UNNAMED_PRIVATELY: &str = r#"{"do":"set file","file":"a.rs","unit":{"nodes":[
-{"kind":"Module","id":[1,0],"name":"a","nodes":[
-    {"kind":"Trait","id":[2,0],"name":"T","items":[],"vis":"pub"}]},
-{"kind":"Module","id":[3,0],"name":"b","nodes":[
-    {"kind":"Use","id":[4,0],"vis":"pub","tree":{"single":"crate::a::T","as":"_"}}]},
-{"kind":"Module","id":[5,0],"name":"m","nodes":[
-    {"kind":"Use","id":[6,0],"tree":{"glob":"crate::b"}}]},
-{"kind":"Use","id":[7,0],"tree":{"glob":"m"}}]}}"#;
-
-/// The same with `pub use crate::c::*;` in `m`, and `mod c { pub use crate::a::T as _; }`.
-const UNNAMED_RAISED: &str = r#"{"do":"set file","file":"a.rs","unit":{"nodes":[
-{"kind":"Module","id":[1,0],"name":"a","nodes":[
-    {"kind":"Trait","id":[2,0],"name":"T","items":[],"vis":"pub"}]},
-{"kind":"Module","id":[3,0],"name":"b","nodes":[
-    {"kind":"Use","id":[4,0],"vis":"pub","tree":{"single":"crate::a::T","as":"_"}}]},
-{"kind":"Module","id":[5,0],"name":"c","nodes":[
-    {"kind":"Use","id":[6,0],"vis":"pub","tree":{"single":"crate::a::T","as":"_"}}]},
-{"kind":"Module","id":[7,0],"name":"m","nodes":[
-    {"kind":"Use","id":[8,0],"tree":{"glob":"crate::b"}},
-    {"kind":"Use","id":[9,0],"vis":"pub","tree":{"glob":"crate::c"}}]},
-{"kind":"Use","id":[10,0],"tree":{"glob":"m"}}]}}"#;
-
-/// The same with two globs of one module, `use crate::b::*; pub use crate::b::*;` in `m`.
-const UNNAMED_WIDENED: &str = r#"{"do":"set file","file":"a.rs","unit":{"nodes":[
-{"kind":"Module","id":[1,0],"name":"a","nodes":[
-    {"kind":"Trait","id":[2,0],"name":"T","items":[],"vis":"pub"}]},
-{"kind":"Module","id":[3,0],"name":"b","nodes":[
-    {"kind":"Use","id":[4,0],"vis":"pub","tree":{"single":"crate::a::T","as":"_"}}]},
-{"kind":"Module","id":[5,0],"name":"m","nodes":[
-    {"kind":"Use","id":[6,0],"tree":{"glob":"crate::b"}},
-    {"kind":"Use","id":[7,0],"vis":"pub","tree":{"glob":"crate::b"}}]},
-{"kind":"Use","id":[8,0],"tree":{"glob":"m"}}]}}"#;
-
-/// A file, and what its modules bind.
-type DumpRow = (&'static str, &'static str, &'static str);
-
-const DUMPS: [DumpRow; 4] = [
-    (
-        "by an import",
-        UNNAMED,
-        "crate\n- _ : type (import)\n- a : type\n\ncrate::a\n- T : type\n",
-    ),
-    (
-        "along a private glob",
-        UNNAMED_PRIVATELY,
-        "crate\n- a : type\n- b : type\n- m : type\n\ncrate::a\n- T : type\n\ncrate::b\n- _ : type (import)\n\ncrate::m\n- _ : type\n",
-    ),
-    (
-        "along a private glob and a public one",
-        UNNAMED_RAISED,
-        "crate\n- _ : type\n- a : type\n- b : type\n- c : type\n- m : type\n\ncrate::a\n- T : type\n\ncrate::b\n- _ : type (import)\n\ncrate::c\n- _ : type (import)\n\ncrate::m\n- _ : type\n",
-    ),
-    (
-        "along two globs of one module",
-        UNNAMED_WIDENED,
-        "crate\n- _ : type\n- a : type\n- b : type\n- m : type\n\ncrate::a\n- T : type\n\ncrate::b\n- _ : type (import)\n\ncrate::m\n- _ : type\n",
-    ),
-];
-
-fn shows(rt: &impl Abort, alloc: Global, map: &DefMap, row: &DumpRow) -> Result<(), Fail> {
-    let (label, _, expected) = *row;
-    let text = map.dump(alloc, &World::new(alloc))?;
-    assert_eq!(rt; text.as_str(), expected, "{label}");
-    Ok(())
-}
-
-fn dumps(rt: &impl Abort, alloc: Global, row: &DumpRow) -> Result<(), Fail> {
-    let (_, line, _) = *row;
-    let mut db = one_crate(alloc, &[("a.rs", line)])?;
-    let found = lower_collected(alloc, &mut db)?;
-    shows(rt, alloc, &found.map, row)?;
-    let world = world_of(alloc, found)?;
-    let again = collected_of(alloc, &mut db, &world, 0)?;
-    shows(rt, alloc, &again.map, row)
-}
-
-/// Traits that are imported without a name: for those who may see them by any of the globs that bring them; and the same
-/// again beside the crate's own finished map.
-#[test]
-fn traits_without_a_name(rt: HostRuntime) -> Result<(), Fail> {
-    for row in &DUMPS {
-        dumps(&rt, rt.alloc(), row)?;
-    }
-    Ok(())
-}
-
-/// `pub struct S; pub mod m { pub struct T; }`
-const HOLDER: &str = r#"{"do":"set file","file":"a.rs","unit":{"nodes":[
-{"kind":"Struct","id":[1,0],"name":"S","shape":"unit","vis":"pub"},
-{"kind":"Module","id":[2,0],"name":"m","vis":"pub","nodes":[
-    {"kind":"Struct","id":[3,0],"name":"T","shape":"unit","vis":"pub"}]}]}}"#;
-
-/// In a block of the root: `struct S; use S as Own; use m::T; use nope::X; mod file;`
-const IN_BLOCK: &str =
-    r#"{"do":"set file","file":"a.rs","unit":{"attrs":[{"path":"cfg","cfg":false}],"nodes":[
-{"kind":"Struct","id":[1,0],"name":"S","shape":"unit"},
-{"kind":"Use","id":[2,0],"tree":{"single":"S","as":"Own"}},
-{"kind":"Use","id":[3,0],"tree":{"single":"m::T"}},
-{"kind":"Use","id":[4,0],"tree":{"single":"nope::X"}},
-{"kind":"Module","id":[5,0],"name":"file"}]}}"#;
-
-const AT: SyntaxId = SyntaxId { hash: 9, index: 0 };
-
-/// The root of crate 0.
-fn holder() -> ModuleId {
-    ModuleId {
-        map: MapId::of_crate(Crate(0)),
-        index: 0,
-    }
-}
-
-/// A block of the root of crate 0.
-fn within(block: BlockId) -> Start {
-    Start::Block {
-        krate: Crate(0),
-        block,
-        holder: holder(),
-        at: InFile {
-            file_id: HirFileId::File(root(0)),
-            value: AT,
-        },
-    }
-}
-
-/// What a block of the root of crate 0 comes to beside the maps of a world.
-fn block_collected(alloc: Global, db: &mut Crates, world: &World) -> Result<Collected, Fail> {
-    let mut tables = files_of_both(alloc)?;
-    let block = tables.intern_block(BlockPlace {
-        holder: Place::new(Crate(0), Vec::new(alloc)),
-        id: AT,
-    })?;
-    let tree = TreeId::new(HirFileId::File(root(0)), Some(block));
-    Ok(collect_defs(alloc, db, world, &mut tables, within(block), tree, None)?)
-}
-
-fn in_block(alloc: Global) -> Result<Collected, Fail> {
-    let mut db = one_crate(alloc, &[("a.rs", HOLDER), ("file.rs", STRUCT)])?;
-    let world = lower_world(alloc, &mut db)?;
-    db.within = Some(source(alloc, IN_BLOCK)?);
-    block_collected(alloc, &mut db, &world)
-}
-
-/// The map in which a struct stands that a name stands for.
-fn map_of(alloc: Global, map: &DefMap, name: &str) -> Result<MapId, Fail> {
-    match entry(alloc, map, name)?.types.ok_or("a type")?.def {
-        ModuleDefId::AdtId(AdtId::StructId(id)) => Ok(id.loc.container.map),
-        _ => Err("a struct")?,
-    }
-}
-
-/// A block's own names come before those of the module that holds it, which are there too; a block is declared though
-/// disabled at its top, and the files of its modules are looked for beside the file in which it is written.
-fn names_in_block(rt: &impl Abort, alloc: Global, found: &Collected) -> Result<(), Fail> {
-    let own = found.map.id();
-    assert!(rt; own.block.is_some());
-    assert!(rt; map_of(alloc, &found.map, "Own")? == own);
-    assert!(rt; map_of(alloc, &found.map, "T")? == MapId::of_crate(Crate(0)));
-    assert_eq!(rt; found.leftover.len(), 1);
-    assert_eq!(rt; found.map.module_count(), 2);
-    Ok(())
-}
-
-/// It asks for its tree, for the maps of its crate and of what holds it, and for the file of its module.
-fn keys_of_block(rt: &impl Abort, found: &Collected) -> Result<(), Fail> {
-    let keys = found.asked.own();
-    assert_eq!(rt; keys.len(), 4);
-    assert!(rt; matches!(keys[0], Key::Tree(_)));
-    assert!(rt; keys[1] == Key::Map(MapId::of_crate(Crate(0))));
-    assert!(rt; keys[2] == Key::Map(MapId::of_crate(Crate(0))));
-    Ok(())
-}
-
-/// A run of a block beside its crate's map.
-#[test]
-fn block_beside_its_crate(rt: HostRuntime) -> Result<(), Fail> {
-    let found = in_block(rt.alloc())?;
-    names_in_block(&rt, rt.alloc(), &found)?;
-    keys_of_block(&rt, &found)
 }

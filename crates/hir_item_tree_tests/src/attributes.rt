@@ -12,7 +12,7 @@ use std::fmt::Write;
 use std::test::Fail;
 
 /// These attributes, as they stand at the top of a unit.
-fn attributes(alloc: Global, attrs: &str) -> Result<Vec<RawAttr>, Fail> {
+pub fn attributes(alloc: Global, attrs: &str) -> Result<Vec<RawAttr>, Fail> {
     let unit = format!(in alloc; "{{\"attrs\":{attrs}}}")?;
     match source_of(alloc, unit.as_str())? {
         Source::Unit(unit) => Ok(unit.attrs),
@@ -29,7 +29,7 @@ fn with_x(alloc: Global) -> Result<CfgOptions, Fail> {
 }
 
 /// Adds the number and path of each attribute.
-fn put_numbers(text: &mut String, attrs: &AttrsOrCfg) -> Result<(), Fail> {
+pub fn put_numbers(text: &mut String, attrs: &AttrsOrCfg) -> Result<(), Fail> {
     for attr in attrs.attrs().iter() {
         let id = attr.id.0;
         let path = attr.meta.path.display_verbatim();
@@ -39,7 +39,7 @@ fn put_numbers(text: &mut String, attrs: &AttrsOrCfg) -> Result<(), Fail> {
 }
 
 /// No options, or those with `x`.
-fn options(alloc: Global, x: bool) -> Result<CfgOptions, Fail> {
+pub fn options(alloc: Global, x: bool) -> Result<CfgOptions, Fail> {
     if x {
         with_x(alloc)
     } else {

@@ -8,7 +8,11 @@ mod attributes;
 #[cfg(test)]
 mod equal_trees;
 #[cfg(test)]
+mod handed_in;
+#[cfg(test)]
 mod item_tree;
+#[cfg(test)]
+mod kinds;
 #[cfg(test)]
 mod large;
 #[cfg(test)]

@@ -1,5 +1,5 @@
 use crate::units::source_of;
-use hir_base::ast_id::{AstKind, EditionedFileId, FileId, HirFileId, SyntaxId};
+use hir_base::ast_id::{AstKind, BlockId, EditionedFileId, FileId, HirFileId, SyntaxId};
 use hir_base::cfg_options::CfgOptions;
 use hir_base::edition::Edition;
 use hir_base::ids::Crate;
@@ -134,5 +134,36 @@ fn what_two_sources_have(rt: HostRuntime) -> Result<(), Fail> {
     let empty = tree_with(alloc, r#"{"nodes":[]}"#)?;
     assert!(rt; !absent.has_same_tree(&empty));
     assert!(rt; absent.has_same_variants(&empty, id(0)));
+    Ok(())
+}
+
+/// The ids of a source and of a block in it.
+#[test]
+fn ids_of_a_source_and_a_block(rt: HostRuntime) {
+    let source = key(0, 3).id;
+    assert!(rt; !source.is_block());
+    let block = TreeId::new(source.file_id(), Some(BlockId(1)));
+    assert!(rt; block.is_block());
+    assert!(rt; block.file_id() == source.file_id());
+}
+
+/// A source that is kept under crate 0.
+fn one_kept(alloc: Global) -> Result<Trees, Fail> {
+    let tree = tree_with(alloc, UNIT)?;
+    let mut trees = Trees::new(alloc);
+    trees.set(key(0, 3), tree)?;
+    Ok(trees)
+}
+
+/// What is kept of ids under crates.
+#[test]
+fn trees_of_ids(rt: HostRuntime) -> Result<(), Fail> {
+    let trees = one_kept(rt.alloc())?;
+    let source = key(0, 3).id;
+    let tree = source.item_tree(&trees, Crate(0)).ok_or("a tree")?;
+    assert_eq!(rt; tree.top_level_items().len(), 3);
+    assert!(rt; source.item_tree(&trees, Crate(1)).is_none());
+    let block = TreeId::new(source.file_id(), Some(BlockId(1)));
+    assert!(rt; block.item_tree(&trees, Crate(0)).is_none());
     Ok(())
 }

@@ -3,6 +3,7 @@
 //! Sessions that are given line by line stand in `hir_session_rows`.
 
 mod built;
+mod calls;
 mod chain;
 mod faults;
 mod library;

@@ -1,5 +1,7 @@
 //! Where macros are in scope by the text, which a crate takes from another, and what is reported of them.
 use super::{collected, collected_over, shows};
+use hir_base::ast_id::AttrId;
+use hir_base::ids::AdtId;
 use hir_base::name::Name;
 use hir_def_map::nameres::DefMap;
 use std::alloc::Global;
@@ -203,4 +205,30 @@ fn macros_that_nothing_expands(rt: HostRuntime) -> Result<(), Fail> {
             "crate\n- b : macro!#\n- c : macro!\n- (legacy) a : macro!#\n",
         ),
     )
+}
+
+/// `macro Clone {} #[derive(Clone)] struct S;`, of which the macro is a builtin one.
+const DERIVED: &str = r#"{"do":"set file","file":"a.rs","unit":{"nodes":[
+{"kind":"MacroDef","id":[1,0],"name":"Clone","text":"","expander":"builtin_derive"},
+{"kind":"Struct","id":[2,0],"name":"S","attrs":[{"path":"derive","paths":["Clone"]}]}]}}"#;
+
+fn lists_one_impl(rt: &impl Abort, map: &DefMap) -> Result<(), Fail> {
+    let impls = map.scope(0).ok_or("the root")?.builtin_derive_impls();
+    assert_eq!(rt; impls.len(), 1);
+    let found = impls.first().ok_or("an impl")?;
+    assert_eq!(rt; (found.derive_attr_id, found.derive_index), (AttrId(0), 0));
+    let of_struct = match found.adt {
+        AdtId::StructId(id) => id.loc.id.hash == 2,
+        _ => false,
+    };
+    assert!(rt; of_struct);
+    Ok(())
+}
+
+/// A builtin derive is an impl that the module lists.
+#[test]
+fn builtin_derive_becomes_an_impl(rt: HostRuntime) -> Result<(), Fail> {
+    let found = collected_over(rt.alloc(), &[("a.rs", DERIVED)])?;
+    assert_eq!(rt; found.map.diagnostics().as_slice().len(), 0);
+    lists_one_impl(&rt, &found.map)
 }

@@ -63,7 +63,10 @@ const MOST: &[Row] = &[
     },
 ];
 
-/// A line of `{}` and spaces, and a line behind it; or such a line alone, without its end.
+const CRATES_AND_A_LINE: &str =
+    "{\"do\":\"crates\",\"crates\":[{\"edition\":\"2021\",\"root\":\"lib.rs\"}]}\n{}";
+
+/// A line of `{}` and spaces, and a line behind it; or such a line alone, without its end; or one between others.
 const LINES: &[Row] = &[
     Row {
         label: "a short line",
@@ -112,6 +115,22 @@ const LINES: &[Row] = &[
         count: 16_777_215,
         tail: "",
         replies: "{\"error\":\"too large\",\"what\":\"line\"}\n",
+    },
+    Row {
+        label: "a session goes on behind a line at the limit",
+        head: CRATES_AND_A_LINE,
+        part: " ",
+        count: 16_777_214,
+        tail: "\n{\"do\":\"refresh\"}\n",
+        replies: "{\"ok\":null}\n{\"error\":\"command\"}\n{\"ok\":[[0]]}\n",
+    },
+    Row {
+        label: "a session goes on behind a line above the limit",
+        head: CRATES_AND_A_LINE,
+        part: " ",
+        count: 16_777_215,
+        tail: "\n{\"do\":\"refresh\"}\n",
+        replies: "{\"ok\":null}\n{\"error\":\"too large\",\"what\":\"line\"}\n{\"ok\":[[0]]}\n",
     },
 ];
 

@@ -1,7 +1,7 @@
 //! What the map of a crate prints once its calls are expanded.
 
 use hir_def_map::world::World;
-use hir_session::{Crate, Session};
+use hir_session::{Crate, Name, Session};
 use hir_wire::{Command, read_command};
 use std::alloc::Global;
 use std::process::Abort;
@@ -108,7 +108,7 @@ const ROWS: [Row; 5] = [
 ];
 
 /// A session over the crates that a line hands in.
-fn begun(alloc: Global, line: &str) -> Result<Session, Fail> {
+pub fn begun(alloc: Global, line: &str) -> Result<Session, Fail> {
     match read_command(alloc, line.as_bytes()) {
         Ok(Command::Crates(crates)) => Ok(Session::new(alloc, crates)?),
         Ok(_) => Err("another command")?,
@@ -117,7 +117,7 @@ fn begun(alloc: Global, line: &str) -> Result<Session, Fail> {
 }
 
 /// Makes the edit that a line hands in.
-fn edit(alloc: Global, session: &mut Session, line: &str) -> Result<(), Fail> {
+pub fn edit(alloc: Global, session: &mut Session, line: &str) -> Result<(), Fail> {
     match read_command(alloc, line.as_bytes()) {
         Ok(Command::Edit(edit)) => Ok(session.apply(alloc, edit)?),
         Ok(_) => Err("another command")?,
@@ -164,5 +164,13 @@ fn attributes_beside_calls(rt: HostRuntime) -> Result<(), Fail> {
     assert_eq!(rt; map.recursion_limit(), 4);
     assert!(rt; map.is_no_std(), "without the standard library");
     assert!(rt; map.is_no_core(), "and without the core library");
+    let listed = Name::new(rt.alloc(), "register_tool")?;
+    assert!(rt; map.has_feature(&listed), "a feature");
+    assert_eq!(rt; map.features().len(), 1, "and no other");
+    assert_eq!(rt;
+        map.registered_tools().len(),
+        5,
+        "the tools that are always there"
+    );
     Ok(())
 }
