@@ -26,7 +26,8 @@ LONGEST, DEEPEST, MOST_CRATES = 16_777_216, 127, 10_000
 ANSWERS = {
     "crates": "done", "set file": "done", "remove file": "done", "set block": "done", "remove block": "done",
     "set expansion": "done", "remove expansion": "done",
-    "refresh": "places", "resolve": "answer", "diagnostics": "diagnostics", "trait items": "items", "impl items": "items", "dump": "dump", "status": "status", "tree": "page",
+    "refresh": "places", "resolve": "answer", "diagnostics": "diagnostics", "trait items": "items", "impl items": "items", "dump": "dump",
+    "names": "names", "modules": "places", "status": "status", "tree": "page",
 }
 # replies of hir_wire_rows that no session gives
 UNGIVEN = ("answer", "list", "refuse")

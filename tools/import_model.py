@@ -311,8 +311,10 @@ class Session:
 
     def ask(self, workspace, say, all_of_them):
         for number in range(len(self.crates)):
+            say({"do": "modules", "crate": number})
             places = list(self.places(workspace.maps[number].root, [number]))
             for place in places if all_of_them else places[:8]:
+                say({"do": "names", "at": place})
                 for name in NAMES + ["d"]:
                     say({"do": "resolve", "at": place, "path": "self::" + name})
                     if self.macros:
@@ -329,6 +331,9 @@ class Session:
             say({"do": "trait items", "at": place, "path": path})
         for number in range(3):
             say({"do": "impl items", "at": place, "impl": number})
+
+    def asked_files(self):
+        return [krate["root"] for krate in self.inputs] + sorted(self.files)[:3]
 
     def edit(self, workspace, say):
         """Edits of expansions and files, each followed by what is stale, and by the diagnostics of a refresh."""
@@ -348,7 +353,11 @@ class Session:
                 say({"do": "set file", "file": self.inputs[number]["root"], "unit": json.loads(changed.replace(old, new))})
             for number in range(len(self.crates)):
                 say({"do": "status", "at": [number]})
+            for file in self.asked_files():
+                say({"do": "modules", "file": file})
             say({"do": "refresh"})
+            for file in self.asked_files():
+                say({"do": "modules", "file": file})
             for number in range(len(self.crates)):
                 say({"do": "diagnostics", "crate": number})
                 say({"do": "resolve", "at": [number], "path": drawn.choice(NAMES)})
@@ -415,7 +424,9 @@ class Globs(Session):
         return self.node("Module", self.id(), "pub", name=self.choose(self.MODULES), nodes=inner)
 
     def ask(self, workspace, say, all_of_them):
+        say({"do": "modules", "crate": 0})
         for place in [[0]] + [[0, name] for name in self.MODULES]:
+            say({"do": "names", "at": place})
             for name in self.MACROS + ["S", "T"]:
                 say({"do": "resolve", "at": place, "path": "self::" + name})
         say({"do": "diagnostics", "crate": 0})
@@ -526,6 +537,7 @@ class Blocks(Session):
             say({"do": "dump", "at": at})
             _, root = workspace.status(read_place(at))
             for inner in [at] if root is None else list(self.places(root, at))[:6]:
+                say({"do": "names", "at": inner})
                 for name in NAMES + ["d", "u8"]:
                     more = drawn.choice([{}, {}, {"sub": "bang"}, {"sub": "attr"}, {"shadow": "module"}])
                     say({"do": "resolve", "at": inner, "path": drawn.choice(self.ROOTS) + name, **more})

@@ -2,12 +2,16 @@
 """Proves each library by itself with `rt ci NAME`, as many at a time as --jobs says (2).
 
 A library starts once those that it stands on have been proved, and of those that can start the one that the longest chain stands
-on comes first. The must-fail edits of a library are tried beside those that stand on it. What stands on one that failed is left
-out. `rt ci` fails too then, and says why; so this prints a line a library, and ends with 0.
+on comes first. The tests and the must-fail edits of a library wait for nobody: what stands on it is proved beside them, or though
+they failed. What stands on one that isn't proved is left out. `rt ci` fails too then, and says why; so this prints a line a
+library, and ends with 0. Where `rt ci` takes no crate's name, as in older toolchains, there is nothing to be done here, and it
+ends with 2: the whole run proves them all.
 """
 import argparse
 import os
+import re
 import subprocess
+import sys
 import threading
 import time
 
@@ -51,15 +55,23 @@ def chains(uses):
     return {name: chain(name) for name in uses}
 
 
-def prove(name, proved):
-    """Whether it passed. Calls `proved` as soon as it is kept, before its must-fail edits are tried."""
+def takes_names():
+    """Whether `rt ci` takes a crate's name; an older one answers how it is used."""
+    ran = subprocess.run(["rt", "ci", "no_such_crate"], cwd=TOP, stdout=subprocess.PIPE, stderr=subprocess.STDOUT, text=True)
+    return not ran.stdout.startswith("usage:")
+
+
+def prove(name, proved, edited):
+    """Whether it passed. Calls `proved` as soon as the library is, before its tests are, and `edited` before its edits are tried."""
     started = time.monotonic()
     with subprocess.Popen(["rt", "ci", name], cwd=TOP, stdout=subprocess.PIPE, stderr=subprocess.STDOUT, text=True) as running:
         said = ""
         for line in running.stdout:
             said = line.strip() or said
-            if f"{name}: trying its must-fail edits" in line:
+            if re.match(rf"(rt: )?{name} (proved|is kept)\b", line):
                 proved()
+            if f"{name}: trying its must-fail edits" in line:
+                edited()
     print(f"{name}: {time.monotonic() - started:.0f} seconds; {said}", flush=True)
     return running.returncode == 0
 
@@ -68,6 +80,9 @@ def main():
     options = argparse.ArgumentParser(description=__doc__)
     options.add_argument("--jobs", type=int, default=2)
     jobs = options.parse_args().jobs
+    if not takes_names():
+        print("this `rt ci` takes no crate's name: the whole run proves all libraries")
+        sys.exit(2)
     uses = libraries()
     length = chains(uses)
     left, passed, running = set(uses), set(), set()
@@ -90,15 +105,13 @@ def main():
                 running.add(name)
             replaced = []
 
-            def proved():
+            def edited():
                 # another worker goes on beside the edits
-                if replaced:
-                    return
-                end(name)
-                replaced.append(threading.Thread(target=worker))
-                replaced[0].start()
+                if not replaced:
+                    replaced.append(threading.Thread(target=worker))
+                    replaced[0].start()
 
-            has_passed = prove(name, proved)
+            has_passed = prove(name, lambda it=name: end(it), edited)
             with changed:
                 running.remove(name)
                 changed.notify_all()

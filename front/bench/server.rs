@@ -108,6 +108,40 @@ pub fn measure(cli: &Cli, path: &Path) -> Result<()> {
         "an item is added",
         &|it| json!({"range": {"start": end, "end": end}, "text": format!("pub fn added_{it}() {{}}\n")}),
     )?;
+    // A word is typed in a body, and what it may become is asked for.
+    let line = text.lines().count() + cli.edits;
+    for (what, path) in [
+        ("a name is completed", ""),
+        ("behind a type of the package", "Item0In3::"),
+        ("behind a type of the standard library", "Vec::"),
+    ] {
+        let start = json!({"line": line, "character": 0});
+        let before = format!("fn typed() {{ {path}");
+        let change = |from: Value, to: Value, text: String| {
+            json!({
+                "textDocument": {"uri": uri, "version": 1},
+                "contentChanges": [{"range": {"start": from, "end": to}, "text": text}],
+            })
+        };
+        server.notify("textDocument/didChange", change(start.clone(), start.clone(), format!("{before} }}\n")))?;
+        server.ask("textDocument/hover", json!({}))?;
+        let (mut times, mut count) = (Vec::new(), 0);
+        let of_processor = processes.map(processor_of);
+        for it in 0..cli.edits {
+            let place = |by: usize| json!({"line": line, "character": before.len() + by});
+            let start = Instant::now();
+            server.notify("textDocument/didChange", change(place(it), place(it), "x".to_owned()))?;
+            let params = json!({"textDocument": {"uri": uri}, "position": place(it + 1)});
+            count = server.ask("textDocument/completion", params)?.as_array().map_or(0, Vec::len);
+            times.push(start.elapsed().as_secs_f64() * 1000.0);
+        }
+        let after = processes.map(processor_of);
+        told(&format!("{what}: {count} names"), times, [after[0] - of_processor[0], after[1] - of_processor[1]]);
+        server.notify(
+            "textDocument/didChange",
+            change(start.clone(), json!({"line": line + 1, "character": 0}), String::new()),
+        )?;
+    }
     println!("at most {} MB, the program {} MB", memory_of(processes[0]), memory_of(processes[1]));
     server.ask("shutdown", Value::Null)?;
     server.notify("exit", Value::Null)?;

@@ -5,8 +5,11 @@
 
 mod actions;
 mod answers;
+mod completion;
 mod declaration;
 mod edits;
+mod found_symbols;
+mod imports;
 pub mod message;
 mod opening;
 pub mod symbols;
@@ -303,6 +306,8 @@ impl<W: Write> Server<W> {
             "textDocument/references" => self.flushed()?.references(params)?,
             "textDocument/documentSymbol" => self.flushed()?.symbols(params),
             "textDocument/codeAction" => self.flushed()?.code_actions(params)?,
+            "workspace/symbol" => Ok(self.flushed()?.found_symbols(params)),
+            "textDocument/completion" => self.flushed()?.completion(params)?,
             _ => Err(Failure(message::METHOD_NOT_FOUND, format!("`{method}` isn't known"))),
         })
     }
@@ -330,107 +335,123 @@ impl<W: Write> Server<W> {
                 "hoverProvider": true,
                 "referencesProvider": true,
                 "documentSymbolProvider": true,
+                "workspaceSymbolProvider": true,
                 "codeActionProvider": {"codeActionKinds": ["quickfix"]},
+                "completionProvider": {"triggerCharacters": [":"]},
             },
             "serverInfo": {"name": "cargo-nogsimat", "version": env!("CARGO_PKG_VERSION")},
         })
     }
 
     fn notified(&mut self, method: &str, params: &Value) -> Result<()> {
-        let uri = params["textDocument"]["uri"].as_str();
-        match method {
-            "initialized" => {
-                if self.registers_watchers {
-                    let watchers = ["**/*.rs", "**/Cargo.toml", "**/Cargo.lock"].map(|it| json!({"globPattern": it}));
-                    let registration = json!({
-                        "id": "files",
-                        "method": "workspace/didChangeWatchedFiles",
-                        "registerOptions": {"watchers": watchers},
-                    });
-                    self.send(&json!({
-                        "jsonrpc": "2.0", "id": "watchers", "method": "client/registerCapability",
-                        "params": {"registrations": [registration]},
-                    }))?;
-                }
+        let document = &params["textDocument"];
+        let key = document["uri"].as_str().and_then(key_of_uri);
+        match (method, key) {
+            ("initialized", _) => {
+                self.register_watchers()?;
                 self.open()
             }
-            "textDocument/didOpen" => {
-                let document = &params["textDocument"];
-                let (Some(uri), Some(text)) = (uri, document["text"].as_str()) else {
-                    return Ok(());
-                };
-                let is_rust = uri.ends_with(".rs") || document["languageId"] == "rust";
-                let Some(key) = key_of_uri(uri).filter(|_| is_rust) else {
-                    return Ok(());
-                };
-                let text = Arc::new(Text::new(text.to_owned()));
-                let is_known = self.space.as_ref().is_some_and(|it| it.built(&key).is_some());
-                let good = is_known.then(|| self.unit_text(&key));
-                self.texts.remove(&key);
-                let document = Document { uri: uri.to_owned(), text, good, is_dirty: true };
-                self.documents.insert(key.clone(), document);
-                self.needs_report |= self.is_renamed(&key);
-                match self.space.is_none() && self.package().is_none() {
-                    true => self.open_beside(uri),
-                    false => Ok(()),
-                }
-            }
-            "textDocument/didChange" => {
-                let Some(document) = uri.and_then(key_of_uri).and_then(|it| self.documents.get_mut(&it)) else {
-                    return Ok(());
-                };
-                for it in params["contentChanges"].as_array().into_iter().flatten() {
-                    let Some(new) = it["text"].as_str() else {
-                        continue;
-                    };
-                    let range = match it["range"].is_object() {
-                        true => match (place_of(&it["range"]["start"]), place_of(&it["range"]["end"])) {
-                            (Some(start), Some(end)) => Some([start, end]),
-                            _ => continue,
-                        },
-                        false => None,
-                    };
-                    Arc::make_mut(&mut document.text).edit(range, new);
-                }
-                document.is_dirty = true;
+            ("textDocument/didOpen", Some(key)) => self.take_document(key, document),
+            ("textDocument/didChange", Some(key)) => {
+                self.edit_document(&key, &params["contentChanges"]);
                 Ok(())
             }
-            "textDocument/didSave" => match (self.space.is_none(), uri.and_then(key_of_uri)) {
-                (true, _) => self.open(),
-                // One that another includes is taken as it is on the disk.
-                (false, Some(key)) if !self.is_module(&key) => self.update_file(&key),
-                _ => Ok(()),
-            },
-            "textDocument/didClose" => {
-                if let Some(key) = uri.and_then(key_of_uri).filter(|it| self.documents.contains_key(it)) {
-                    let good = self.documents.remove(&key).and_then(|it| it.good);
-                    self.texts.extend(good.map(|it| (key.clone(), it)));
-                    self.needs_report |= self.is_renamed(&key);
-                    self.read_file(&key)?;
-                }
-                Ok(())
-            }
-            "workspace/didChangeWatchedFiles" => {
-                let changes = params["changes"].as_array().into_iter().flatten();
-                let mut paths: Vec<PathBuf> = changes.filter_map(|it| path_of_uri(it["uri"].as_str()?)).collect();
-                // What Cargo builds there is none of the package.
-                let target = self.space.as_ref().map(|it| it.crates.folder.join("target"));
-                paths.retain(|it| !target.as_ref().is_some_and(|target| it.starts_with(target)));
-                let is_manifest =
-                    |it: &PathBuf| it.file_name().is_some_and(|it| it == "Cargo.toml" || it == "Cargo.lock");
-                if paths.iter().any(is_manifest) {
-                    return self.open();
-                }
-                for key in paths.iter().filter_map(|it| key_of_path(it)) {
-                    let is_read = self.space.as_ref().is_some_and(|it| it.reads(&path_of_key(&key)));
-                    if is_read && !self.documents.contains_key(&key) {
-                        self.read_file(&key)?;
-                    }
-                }
-                Ok(())
-            }
+            ("textDocument/didSave", _) if self.space.is_none() => self.open(),
+            // One that another includes is taken as it is on the disk.
+            ("textDocument/didSave", Some(key)) if !self.is_module(&key) => self.update_file(&key),
+            ("textDocument/didClose", Some(key)) => self.close_document(&key),
+            ("workspace/didChangeWatchedFiles", _) => self.read_changed_files(&params["changes"]),
             _ => Ok(()),
         }
+    }
+
+    /// Asks the editor to tell of files that change, if it can.
+    fn register_watchers(&mut self) -> Result<()> {
+        if !self.registers_watchers {
+            return Ok(());
+        }
+        let watchers = ["**/*.rs", "**/Cargo.toml", "**/Cargo.lock"].map(|it| json!({"globPattern": it}));
+        let registration = json!({
+            "id": "files",
+            "method": "workspace/didChangeWatchedFiles",
+            "registerOptions": {"watchers": watchers},
+        });
+        self.send(&json!({
+            "jsonrpc": "2.0", "id": "watchers", "method": "client/registerCapability",
+            "params": {"registrations": [registration]},
+        }))
+    }
+
+    /// Takes the text of a file that was opened in the editor.
+    fn take_document(&mut self, key: Key, document: &Value) -> Result<()> {
+        let (Some(uri), Some(text)) = (document["uri"].as_str(), document["text"].as_str()) else {
+            return Ok(());
+        };
+        if !uri.ends_with(".rs") && document["languageId"] != "rust" {
+            return Ok(());
+        }
+        let text = Arc::new(Text::new(text.to_owned()));
+        let is_known = self.space.as_ref().is_some_and(|it| it.built(&key).is_some());
+        let good = is_known.then(|| self.unit_text(&key));
+        self.texts.remove(&key);
+        let document = Document { uri: uri.to_owned(), text, good, is_dirty: true };
+        self.documents.insert(key.clone(), document);
+        self.needs_report |= self.is_renamed(&key);
+        match self.space.is_none() && self.package().is_none() {
+            true => self.open_beside(uri),
+            false => Ok(()),
+        }
+    }
+
+    /// Edits the text of a file that is open in the editor.
+    fn edit_document(&mut self, key: &Key, changes: &Value) {
+        let Some(document) = self.documents.get_mut(key) else {
+            return;
+        };
+        for it in changes.as_array().into_iter().flatten() {
+            let Some(new) = it["text"].as_str() else {
+                continue;
+            };
+            let range = match it["range"].is_object() {
+                true => match (place_of(&it["range"]["start"]), place_of(&it["range"]["end"])) {
+                    (Some(start), Some(end)) => Some([start, end]),
+                    _ => continue,
+                },
+                false => None,
+            };
+            Arc::make_mut(&mut document.text).edit(range, new);
+        }
+        document.is_dirty = true;
+    }
+
+    /// Has a file count as it is on the disk that was closed in the editor.
+    fn close_document(&mut self, key: &Key) -> Result<()> {
+        let Some(document) = self.documents.remove(key) else {
+            return Ok(());
+        };
+        self.texts.extend(document.good.map(|it| (key.clone(), it)));
+        self.needs_report |= self.is_renamed(key);
+        self.read_file(key)
+    }
+
+    /// Reads files that changed on the disk, or the whole package where a manifest did.
+    fn read_changed_files(&mut self, changes: &Value) -> Result<()> {
+        let changes = changes.as_array().into_iter().flatten();
+        let mut paths: Vec<PathBuf> = changes.filter_map(|it| path_of_uri(it["uri"].as_str()?)).collect();
+        // What Cargo builds there is none of the package.
+        let target = self.space.as_ref().map(|it| it.crates.folder.join("target"));
+        paths.retain(|it| !target.as_ref().is_some_and(|target| it.starts_with(target)));
+        let is_manifest = |it: &PathBuf| it.file_name().is_some_and(|it| it == "Cargo.toml" || it == "Cargo.lock");
+        if paths.iter().any(is_manifest) {
+            return self.open();
+        }
+        for key in paths.iter().filter_map(|it| key_of_path(it)) {
+            let is_read = self.space.as_ref().is_some_and(|it| it.reads(&path_of_key(&key)));
+            if is_read && !self.documents.contains_key(&key) {
+                self.read_file(&key)?;
+            }
+        }
+        Ok(())
     }
 
     /// Does the work with the session. Where the program died it is started again with the present files, and the work

@@ -5,6 +5,7 @@ use std::process::ExitCode;
 use std::time::{Duration, Instant};
 
 use anyhow::{bail, Context as _, Result};
+use cargo_nogsimat::kept::told::{Told, ToldKeeper};
 use cargo_nogsimat::package::{Crates, Wanted};
 use cargo_nogsimat::program::{self, VARIABLE};
 use cargo_nogsimat::question::{Context, Question};
@@ -141,6 +142,13 @@ impl Options {
 
     fn open(&self, path: &Path) -> Result<Workspace> {
         let program = program::find(self.program.as_deref())?;
+        let bar = self.bar()?;
+        let crates = Crates::read(&self.wanted(path))?;
+        self.open_crates(crates, &program, &bar)
+    }
+
+    /// What shows how reading goes, on a terminal.
+    fn bar(&self) -> Result<ProgressBar> {
         let bar = match std::io::stderr().is_terminal() && !self.json {
             true => ProgressBar::new(1),
             false => ProgressBar::hidden(),
@@ -149,9 +157,12 @@ impl Options {
             ProgressStyle::with_template("{msg:>11} [{bar:25}] {pos}/{len}").context("the bar has a template")?;
         bar.set_style(style.progress_chars("=> "));
         bar.set_message("metadata");
-        let crates = Crates::read(&self.wanted(path))?;
+        Ok(bar)
+    }
+
+    fn open_crates(&self, crates: Crates, program: &Path, bar: &ProgressBar) -> Result<Workspace> {
         let shown = bar.clone();
-        let space = Workspace::open(crates, &program, self.expansions.as_deref(), move |what, done, of| {
+        let space = Workspace::open(crates, program, self.expansions.as_deref(), move |what, done, of| {
             shown.set_message(what.to_owned());
             shown.set_length(of as u64);
             shown.set_position(done as u64);
@@ -185,7 +196,8 @@ fn time(it: Duration) -> String {
     }
 }
 
-fn summary(space: &Workspace, report: &Report, taken: Duration) -> String {
+/// What is told besides diagnostics, up to how long it took, and behind that.
+fn summary(space: &Workspace, report: &Report) -> (String, String) {
     let counts = space.counts();
     let own: Vec<&str> = space.crates.all.iter().filter(|it| it.is_asked).map(|it| &*it.title).take(3).collect();
     let more = space.crates.all.iter().filter(|it| it.is_asked).count() - own.len();
@@ -219,25 +231,32 @@ fn summary(space: &Workspace, report: &Report, taken: Duration) -> String {
             "note: build scripts aren't run ({names}): --cfg sets the conditions that they would\n"
         ));
     }
-    let size = format!(
-        "{}, {}, {}, {}; {}",
-        plural(counts.crates, "crate"),
-        plural(counts.files, "file"),
-        plural(counts.nodes, "node"),
-        time(taken),
-        space.crates.std
-    );
     match report.diagnostics.len() {
-        0 => text.push_str(&format!("all names resolved in {own} ({size})\n")),
-        it => text.push_str(&format!("{} in {own} ({size})\n", plural(it, "error"))),
+        0 => text.push_str(&format!("all names resolved in {own} (")),
+        it => text.push_str(&format!("{} in {own} (", plural(it, "error"))),
     }
-    text
+    let (crates, files) = (plural(counts.crates, "crate"), plural(counts.files, "file"));
+    text.push_str(&format!("{crates}, {files}, {}, ", plural(counts.nodes, "node")));
+    (text, format!("; {})\n", space.crates.std))
 }
 
-fn tell(space: &Workspace, report: &Report, taken: Duration, json: bool) -> Result<()> {
+/// Whether text has colors.
+fn is_colored() -> bool {
+    std::io::stdout().is_terminal() && std::env::var_os("NO_COLOR").is_none()
+}
+
+/// What is told of a package.
+fn told(space: &Workspace, report: &Report, json: bool) -> Result<Told> {
+    let status = match (report.diagnostics.is_empty(), report.is_partial()) {
+        (true, _) => 0,
+        (false, false) => 1,
+        (false, true) => 2,
+    };
+    let has_places = !report.diagnostics.is_empty() || !report.elsewhere.is_empty();
+    let mut before = String::new();
     if json {
         for it in &report.diagnostics {
-            print_json(it)?;
+            before.push_str(&format!("{}\n", serde_json::to_string(it)?));
         }
         let not_run: Vec<_> = report
             .not_run
@@ -245,36 +264,55 @@ fn tell(space: &Workspace, report: &Report, taken: Duration, json: bool) -> Resu
             .map(|((kind, name), count)| serde_json::json!({"kind": kind, "macro": name, "uses": count}))
             .collect();
         let counts = space.counts();
-        return print_json(&serde_json::json!({
+        let about = serde_json::json!({
             "errors": report.diagnostics.len(),
             "unjudged": report.unjudged,
             "not_run": not_run,
             "crates": counts.crates,
             "files": counts.files,
             "nodes": counts.nodes,
-            "milliseconds": taken.as_millis() as u64,
+            "milliseconds": null,
             "std": space.crates.std,
-        }));
+        });
+        let about = about.to_string();
+        let (head, behind) = about.split_once("\"milliseconds\":null").context("it says how long it took")?;
+        before.push_str(&format!("{head}\"milliseconds\":"));
+        return Ok(Told { before, behind: format!("{behind}\n"), status, has_places });
     }
-    let colored = std::io::stdout().is_terminal() && std::env::var_os("NO_COLOR").is_none();
     let mut texts = Texts::default();
     for it in &report.diagnostics {
-        print(&format!("{}\n", texts.show(it, colored)))?;
+        before.push_str(&format!("{}\n", texts.show(it, is_colored())));
     }
-    print(&summary(space, report, taken))
+    let (text, behind) = summary(space, report);
+    before.push_str(&text);
+    Ok(Told { before, behind, status, has_places })
+}
+
+fn tell(told: &Told, taken: Duration, json: bool) -> Result<()> {
+    let taken = if json { taken.as_millis().to_string() } else { time(taken) };
+    print(&format!("{}{taken}{}", told.before, told.behind))
 }
 
 fn check(path: &Path, options: &Options) -> Result<ExitCode> {
     let start = Instant::now();
-    let mut space = options.open(path)?;
+    let program = program::find(options.program.as_deref())?;
+    let (bar, wanted) = (options.bar()?, options.wanted(path));
+    let crates = Crates::read(&wanted)?;
+    let form = ["check".to_owned(), options.json.to_string(), is_colored().to_string()];
+    let files = std::iter::once(program.clone()).chain(options.expansions.clone()).collect();
+    let keeper = ToldKeeper::of(&wanted, &crates, form.to_vec(), files);
+    if let Some(it) = keeper.find() {
+        bar.finish_and_clear();
+        tell(&it, start.elapsed(), options.json)?;
+        return Ok(ExitCode::from(it.status));
+    }
+    let mut space = options.open_crates(crates, &program, &bar)?;
     let report = space.report()?;
-    tell(&space, &report, start.elapsed(), options.json)?;
+    let told = told(&space, &report, options.json)?;
+    tell(&told, start.elapsed(), options.json)?;
+    keeper.keep(&space, &told);
     space.abandon();
-    Ok(match (report.diagnostics.is_empty(), report.is_partial()) {
-        (true, _) => ExitCode::SUCCESS,
-        (false, false) => ExitCode::from(1),
-        (false, true) => ExitCode::from(2),
-    })
+    Ok(ExitCode::from(told.status))
 }
 
 fn say(answer: &Answer, json: bool) -> Result<ExitCode> {
@@ -330,7 +368,7 @@ fn watch(path: &Path, options: &Options) -> Result<ExitCode> {
     let start = Instant::now();
     let mut space = options.open(path)?;
     let mut report = space.report()?;
-    tell(&space, &report, start.elapsed(), options.json)?;
+    tell(&told(&space, &report, options.json)?, start.elapsed(), options.json)?;
     let (send, events) = std::sync::mpsc::channel();
     let mut watcher = notify::recommended_watcher(send).context("files can't be watched")?;
     let folder = space.crates.folder.clone();

@@ -1,13 +1,15 @@
 //! Which crates there are: a package, what it depends on, and the standard library.
 
-use std::collections::{HashMap, HashSet};
+use std::collections::{BTreeSet, HashMap, HashSet};
 use std::path::{Path, PathBuf};
 use std::process::Command;
+use std::time::SystemTime;
 
 use anyhow::{bail, Context, Result};
-use cargo_metadata::{CargoOpt, DependencyKind, Metadata, MetadataCommand, PackageId, Target};
+use cargo_metadata::{CargoOpt, DependencyKind, Metadata, MetadataCommand, Node, NodeDep, Package, PackageId, Target};
 
 use crate::cfg::Options;
+use crate::kept::{configurations, environment, files_of_tool, Keeper};
 
 /// What is asked for on the command line.
 #[derive(Clone, Debug, Default)]
@@ -74,8 +76,19 @@ pub struct Crates {
     pub std: String,
 }
 
-fn rustc(words: &[&str], unstable: bool) -> Result<String> {
-    let program = std::env::var_os("RUSTC").unwrap_or_else(|| "rustc".into());
+fn rustc_name() -> std::ffi::OsString {
+    std::env::var_os("RUSTC").unwrap_or_else(|| "rustc".into())
+}
+
+/// What rustc prints; the first line is its sysroot where that isn't given.
+fn rustc(words: &[&str], unstable: bool, sysroot: Option<&Path>, keeper: &Keeper) -> Result<String> {
+    let program = rustc_name();
+    let mut asked = vec![program.to_string_lossy().into_owned(), unstable.to_string()];
+    asked.extend(words.iter().map(|it| (*it).to_owned()).chain(environment()));
+    if let Some(it) = keeper.find(&asked) {
+        return Ok(it);
+    }
+    let at = SystemTime::now();
     let mut command = Command::new(&program);
     if unstable {
         // The standard library is compiled with conditions that rustc else keeps to itself.
@@ -86,7 +99,71 @@ fn rustc(words: &[&str], unstable: bool) -> Result<String> {
     if !ran.status.success() {
         bail!("rustc {} fails: {}", words.join(" "), String::from_utf8_lossy(&ran.stderr).trim());
     }
-    Ok(String::from_utf8_lossy(&ran.stdout).into_owned())
+    let text = String::from_utf8_lossy(&ran.stdout).into_owned();
+    let sysroot = sysroot.unwrap_or_else(|| Path::new(text.lines().next().unwrap_or_default()));
+    let mut stands_on = files_of_tool(&program);
+    stands_on.insert(sysroot.join("bin/rustc"));
+    keeper.keep(&asked, at, stands_on, &text);
+    Ok(text)
+}
+
+/// What Cargo tells of a package, or why it doesn't.
+fn metadata_of(
+    command: &MetadataCommand,
+    manifest: &Path,
+    wanted: &Wanted,
+    toolchain: &Toolchain,
+    keeper: &Keeper,
+) -> Result<Metadata, String> {
+    let mut command = command.cargo_command();
+    // Cargo asks rustc as well. The package's configuration may name something else in its place, which isn't run.
+    command.env("RUSTC", toolchain.rustc()).env("RUSTC_WRAPPER", "").env("RUSTC_WORKSPACE_WRAPPER", "");
+    let program = command.get_program().to_owned();
+    let mut asked = vec![program.to_string_lossy().into_owned()];
+    asked.extend(command.get_args().map(|it| it.to_string_lossy().into_owned()).chain(environment()));
+    if let Some(it) = keeper.find(&asked).and_then(|it| MetadataCommand::parse(it).ok()) {
+        return Ok(it);
+    }
+    let at = SystemTime::now();
+    let ran = command.output().map_err(|it| format!("{} doesn't start: {it}", program.to_string_lossy()))?;
+    if !ran.status.success() {
+        return Err(String::from_utf8_lossy(&ran.stderr).into_owned());
+    }
+    let text = String::from_utf8_lossy(&ran.stdout);
+    let line = text.lines().find(|it| it.starts_with('{')).unwrap_or_default();
+    let metadata = MetadataCommand::parse(line).map_err(|it| it.to_string())?;
+    let mut stands_on = files_of_tool(&program);
+    stands_on.extend(files_of_tool(&rustc_name()));
+    stands_on.extend(configurations());
+    stands_on.extend(wanted.config.iter().map(PathBuf::from));
+    stands_on.extend(files_of_packages(&metadata, manifest));
+    keeper.keep(&asked, at, stands_on, line);
+    Ok(metadata)
+}
+
+/// The files and folders by which Cargo knows packages and their targets.
+fn files_of_packages(metadata: &Metadata, manifest: &Path) -> BTreeSet<PathBuf> {
+    let root = metadata.workspace_root.as_std_path();
+    let mut made = BTreeSet::from([root.join("Cargo.lock")]);
+    // A workspace may be declared in a folder around the package.
+    let manifest = manifest.canonicalize().unwrap_or_default();
+    made.extend(manifest.ancestors().skip(1).map(|it| it.join("Cargo.toml")));
+    for it in &metadata.packages {
+        let manifest = it.manifest_path.as_std_path();
+        made.insert(manifest.to_owned());
+        let Some(folder) = manifest.parent().filter(|_| it.source.is_none()) else {
+            continue;
+        };
+        made.extend([folder.to_owned(), folder.join("src")]);
+        for it in ["src/bin", "tests", "examples", "benches"].map(|it| folder.join(it)) {
+            let entries = std::fs::read_dir(&it).into_iter().flatten().flatten();
+            made.extend(entries.map(|it| it.path()).filter(|it| it.is_dir()));
+            made.insert(it);
+        }
+        // Members may be all that are in a folder.
+        made.extend(folder.ancestors().skip(1).take_while(|it| it.starts_with(root)).map(Path::to_owned));
+    }
+    made
 }
 
 /// What rustc says of itself.
@@ -98,8 +175,8 @@ struct Toolchain {
 }
 
 impl Toolchain {
-    fn ask() -> Result<Toolchain> {
-        let text = rustc(&["--print", "sysroot", "--print", "target-libdir", "--print", "cfg"], false)?;
+    fn ask(keeper: &Keeper) -> Result<Toolchain> {
+        let text = rustc(&["--print", "sysroot", "--print", "target-libdir", "--print", "cfg"], false, None, keeper)?;
         let mut lines = text.lines();
         let sysroot = lines.next().unwrap_or_default().into();
         // The folder is SYSROOT/lib/rustlib/HOST/lib.
@@ -108,6 +185,15 @@ impl Toolchain {
         let mut options = Options::default();
         lines.for_each(|it| options.set(it));
         Ok(Toolchain { sysroot, host, options })
+    }
+
+    /// The compiler itself, without what else may stand before it.
+    fn rustc(&self) -> std::ffi::OsString {
+        let own = self.sysroot.join("bin/rustc");
+        match std::env::var_os("RUSTC").is_none() && own.is_file() {
+            true => own.into(),
+            false => rustc_name(),
+        }
     }
 }
 
@@ -137,7 +223,8 @@ impl Crates {
         if !wanted.features.is_empty() {
             command.features(CargoOpt::SomeFeatures(wanted.features.clone()));
         }
-        let toolchain = Toolchain::ask()?;
+        let keeper = Keeper::of(&manifest);
+        let toolchain = Toolchain::ask(&keeper)?;
         let mut words = vec!["--filter-platform".to_owned(), toolchain.host.clone()];
         if !wanted.online {
             words.push("--offline".to_owned());
@@ -146,17 +233,30 @@ impl Crates {
             words.extend(["--config".to_owned(), it.clone()]);
         }
         command.other_options(words);
-        let metadata = command.exec();
-        let metadata = metadata.map_err(|error| {
+        let metadata = metadata_of(&command, &manifest, wanted, &toolchain, &keeper).map_err(|text| {
             let hint = if wanted.online { "" } else { "\n--online lets Cargo fetch what isn't there" };
-            let text = error.to_string();
-            let text = text.replace("`cargo metadata` exited with an error: ", "");
             anyhow::anyhow!("Cargo can't resolve {}:\n{}{hint}", manifest.display(), text.trim())
         })?;
         let mut crates = Crates { folder: metadata.workspace_root.clone().into_std_path_buf(), ..Crates::default() };
-        let sysroot = crates.sysroot(wanted, &toolchain)?;
+        let sysroot = crates.sysroot(wanted, &toolchain, &keeper)?;
         crates.packages(wanted, &manifest, &metadata, &toolchain.options, &sysroot)?;
         Ok(crates)
+    }
+
+    /// All that is said of them, in words.
+    pub(crate) fn words(&self) -> Vec<String> {
+        let Crates { all, of_std, folder, std } = self;
+        let mut made = vec![of_std.to_string(), folder.display().to_string(), std.clone()];
+        for it in all {
+            let Krate { name, title, edition, root, options, dependencies, .. } = it;
+            let Krate { is_proc_macro, is_asked, has_build_script, is_stub, .. } = it;
+            let flags = options.flags.iter().cloned();
+            let mut options: Vec<String> = flags.chain(options.values.iter().map(|it| format!("{it:?}"))).collect();
+            options.sort();
+            let is = [is_proc_macro, is_asked, has_build_script, is_stub];
+            made.push(format!("{name} {title} {edition} {} {options:?} {dependencies:?} {is:?}", root.display()));
+        }
+        made
     }
 
     fn add(&mut self, krate: Krate) -> u32 {
@@ -165,7 +265,7 @@ impl Crates {
     }
 
     /// Adds the standard library's crates; answers their numbers by name.
-    fn sysroot(&mut self, wanted: &Wanted, toolchain: &Toolchain) -> Result<HashMap<String, u32>> {
+    fn sysroot(&mut self, wanted: &Wanted, toolchain: &Toolchain, keeper: &Keeper) -> Result<HashMap<String, u32>> {
         let mut sources = None;
         if !wanted.no_std {
             sources = match &wanted.std_sources {
@@ -180,7 +280,8 @@ impl Crates {
         }
         let mut base = toolchain.options.clone();
         if !is_stub {
-            rustc(&["--print", "cfg"], true)?.lines().for_each(|it| base.set(it));
+            let text = rustc(&["--print", "cfg"], true, Some(&toolchain.sysroot), keeper)?;
+            text.lines().for_each(|it| base.set(it));
         }
         base.set("feature=\"panic-unwind\"");
         base.set("feature=\"backtrace\"");
@@ -233,6 +334,7 @@ impl Crates {
         Ok(numbers)
     }
 
+    /// Adds the crates of the packages that are asked for and of all that these use.
     fn packages(
         &mut self,
         wanted: &Wanted,
@@ -241,122 +343,20 @@ impl Crates {
         base: &Options,
         sysroot: &HashMap<String, u32>,
     ) -> Result<()> {
-        let resolve = metadata.resolve.as_ref().context("Cargo tells no dependencies")?;
         let manifest = manifest.canonicalize().unwrap_or_else(|_| manifest.to_owned());
-        let own = metadata
-            .packages
-            .iter()
-            .find(|it| it.manifest_path.as_std_path().canonicalize().is_ok_and(|it| it == manifest));
-        let mut asked: Vec<PackageId> = match own {
-            _ if !wanted.packages.is_empty() => Vec::new(),
-            Some(it) => vec![it.id.clone()],
-            None => metadata.workspace_members.clone(),
-        };
-        for name in &wanted.packages {
-            let found = metadata.packages.iter().filter(|it| it.name == *name).map(|it| it.id.clone());
-            let before = asked.len();
-            asked.extend(found);
-            if asked.len() == before {
-                bail!("the package `{name}` is none of those that {} stands on", manifest.display());
-            }
-        }
-        let mut ordered = Vec::new();
-        let mut seen = HashSet::new();
-        let nodes: HashMap<_, _> = resolve.nodes.iter().map(|it| (&it.id, it)).collect();
-        let uses = |id: &PackageId| -> Vec<(PackageId, String)> {
-            let with_dev = wanted.test && asked.contains(id);
-            let Some(node) = nodes.get(id) else {
-                return Vec::new();
-            };
-            let is_used = |it: &&cargo_metadata::NodeDep| {
-                it.dep_kinds.iter().any(|it| match it.kind {
-                    DependencyKind::Normal => true,
-                    DependencyKind::Development => with_dev,
-                    _ => false,
-                })
-            };
-            node.deps.iter().filter(is_used).map(|it| (it.pkg.clone(), it.name.clone())).collect()
-        };
-        // Depth first, by hand: a package may stand on thousands.
-        for start in &asked {
-            let mut stack = vec![(start.clone(), false)];
-            while let Some((id, is_done)) = stack.pop() {
-                if is_done {
-                    ordered.push(id);
-                } else if seen.insert(id.clone()) {
-                    stack.push((id.clone(), true));
-                    stack
-                        .extend(uses(&id).into_iter().rev().filter(|it| !seen.contains(&it.0)).map(|it| (it.0, false)));
-                }
-            }
-        }
+        let packages = Packages::find(wanted, &manifest, metadata)?;
         let mut libraries: HashMap<PackageId, u32> = HashMap::new();
-        for id in ordered {
-            let package = &metadata[&id];
-            let is_asked = asked.contains(&id);
-            let mut options = base.clone();
-            for it in nodes.get(&id).map_or(&[][..], |it| &it.features) {
-                options.values.insert(("feature".to_owned(), it.clone()));
-            }
-            if is_asked {
-                wanted.cfg.iter().for_each(|it| options.set(it));
-            }
-            if is_asked && wanted.test {
-                options.set("test");
-            }
-            let mut names = Vec::new();
-            for (id, name) in uses(&id) {
-                if let (Some(it), false) = (libraries.get(&id), name.is_empty()) {
-                    names.push((*it, name, true));
-                }
-            }
-            let is = |target: &Target, kinds: &[&str]| target.kind.iter().any(|it| kinds.contains(&&**it));
-            let library = package
-                .targets
-                .iter()
-                .find(|it| is(it, &["lib", "rlib", "dylib", "cdylib", "staticlib", "proc-macro"]));
-            let mut targets: Vec<&Target> = library.into_iter().collect();
-            if is_asked {
-                targets.extend(package.targets.iter().filter(|it| is(it, &["bin"])));
-                if wanted.test {
-                    targets.extend(package.targets.iter().filter(|it| is(it, &["test", "example", "bench"])));
-                }
-            }
-            let mut own_library: Option<(u32, String)> = None;
-            for target in targets {
-                let is_proc_macro = is(target, &["proc-macro"]);
-                let is_library = library.is_some_and(|it| std::ptr::eq(it, target));
-                let name = target.name.replace('-', "_");
-                let mut dependencies = names.clone();
-                if let (false, Some((number, name))) = (is_library, &own_library) {
-                    dependencies.push((*number, name.clone(), true));
-                }
-                for it in ["std", "core", "alloc", "proc_macro", "test"] {
-                    if let Some(number) = sysroot.get(it) {
-                        let in_paths = it == "std" || it == "core" || (it == "proc_macro" && is_proc_macro);
-                        dependencies.push((*number, it.to_owned(), in_paths));
-                    }
-                }
-                let title = match is_library {
-                    true => package.name.clone(),
-                    false => format!("{} ({} {})", package.name, target.kind.join(" "), target.name),
-                };
-                let number = self.add(Krate {
-                    name: name.clone(),
-                    title,
-                    edition: target.edition.to_string(),
-                    root: target.src_path.clone().into_std_path_buf(),
-                    options: options.clone(),
-                    dependencies,
-                    is_proc_macro,
-                    is_asked,
-                    has_build_script: package.targets.iter().any(|it| is(it, &["custom-build"])),
-                    is_stub: false,
-                });
-                if is_library {
-                    own_library = Some((number, name));
-                    libraries.insert(id.clone(), number);
-                }
+        for id in packages.ordered() {
+            let used = packages.used_by(&id).into_iter().filter(|it| !it.1.is_empty());
+            let shared = Shared {
+                package: &metadata[&id],
+                options: packages.options_of(&id, wanted, base),
+                dependencies: used.filter_map(|(id, name)| Some((*libraries.get(&id)?, name, true))).collect(),
+                is_asked: packages.asked.contains(&id),
+                has_tests: wanted.test,
+            };
+            if let Some(number) = self.targets(shared, sysroot) {
+                libraries.insert(id, number);
             }
         }
         if !self.all.iter().any(|it| it.is_asked) {
@@ -364,6 +364,157 @@ impl Crates {
         }
         Ok(())
     }
+
+    /// Adds the crates of a package, its library first. Answers the number of that.
+    fn targets(&mut self, shared: Shared, sysroot: &HashMap<String, u32>) -> Option<u32> {
+        let Shared { package, options, dependencies, is_asked, .. } = &shared;
+        let has_build_script = package.targets.iter().any(|it| is_of_kind(it, &["custom-build"]));
+        let (library, others) = shared.targets();
+        let mut own_library: Option<(u32, String)> = None;
+        for target in library.into_iter().chain(others) {
+            let is_proc_macro = is_of_kind(target, &["proc-macro"]);
+            let is_library = library.is_some_and(|it| std::ptr::eq(it, target));
+            let name = target.name.replace('-', "_");
+            let mut dependencies = dependencies.clone();
+            dependencies.extend(own_library.iter().map(|(number, name)| (*number, name.clone(), true)));
+            for it in ["std", "core", "alloc", "proc_macro", "test"] {
+                if let Some(number) = sysroot.get(it) {
+                    let in_paths = it == "std" || it == "core" || (it == "proc_macro" && is_proc_macro);
+                    dependencies.push((*number, it.to_owned(), in_paths));
+                }
+            }
+            let title = match is_library {
+                true => package.name.clone(),
+                false => format!("{} ({} {})", package.name, target.kind.join(" "), target.name),
+            };
+            let number = self.add(Krate {
+                name: name.clone(),
+                title,
+                edition: target.edition.to_string(),
+                root: target.src_path.clone().into_std_path_buf(),
+                options: options.clone(),
+                dependencies,
+                is_proc_macro,
+                is_asked: *is_asked,
+                has_build_script,
+                is_stub: false,
+            });
+            if is_library {
+                own_library = Some((number, name));
+            }
+        }
+        own_library.map(|it| it.0)
+    }
+}
+
+/// The packages of which Cargo tells, and which of them are asked for.
+struct Packages<'a> {
+    nodes: HashMap<&'a PackageId, &'a Node>,
+    asked: Vec<PackageId>,
+    /// Whether those that are asked for stand on what their tests use as well.
+    has_tests: bool,
+}
+
+impl<'a> Packages<'a> {
+    /// Those that are named, else that of the manifest, else all members of its workspace are asked for.
+    fn find(wanted: &Wanted, manifest: &Path, metadata: &'a Metadata) -> Result<Packages<'a>> {
+        let resolve = metadata.resolve.as_ref().context("Cargo tells no dependencies")?;
+        let is_own = |it: &&Package| it.manifest_path.as_std_path().canonicalize().is_ok_and(|it| it == manifest);
+        let mut asked: Vec<PackageId> = match metadata.packages.iter().find(is_own) {
+            _ if !wanted.packages.is_empty() => Vec::new(),
+            Some(it) => vec![it.id.clone()],
+            None => metadata.workspace_members.clone(),
+        };
+        for name in &wanted.packages {
+            let before = asked.len();
+            asked.extend(metadata.packages.iter().filter(|it| it.name == *name).map(|it| it.id.clone()));
+            if asked.len() == before {
+                bail!("the package `{name}` is none of those that {} stands on", manifest.display());
+            }
+        }
+        let nodes = resolve.nodes.iter().map(|it| (&it.id, it)).collect();
+        Ok(Packages { nodes, asked, has_tests: wanted.test })
+    }
+
+    /// The packages that one uses, each with the name that it has there.
+    fn used_by(&self, id: &PackageId) -> Vec<(PackageId, String)> {
+        let for_tests = self.has_tests && self.asked.contains(id);
+        let is_used = |it: &&NodeDep| {
+            it.dep_kinds.iter().any(|it| match it.kind {
+                DependencyKind::Normal => true,
+                DependencyKind::Development => for_tests,
+                _ => false,
+            })
+        };
+        let used = self.nodes.get(id).map_or(&[][..], |it| &it.deps).iter().filter(is_used);
+        used.map(|it| (it.pkg.clone(), it.name.clone())).collect()
+    }
+
+    /// Those that are asked for and all that they use, each behind those that it uses.
+    fn ordered(&self) -> Vec<PackageId> {
+        let mut ordered = Vec::new();
+        let mut seen = HashSet::new();
+        // Depth first, by hand: a package may stand on thousands.
+        for start in &self.asked {
+            let mut stack = vec![(start.clone(), false)];
+            while let Some((id, is_done)) = stack.pop() {
+                if is_done {
+                    ordered.push(id);
+                } else if seen.insert(id.clone()) {
+                    stack.push((id.clone(), true));
+                    let used = self.used_by(&id).into_iter().rev().map(|it| it.0);
+                    stack.extend(used.filter(|it| !seen.contains(it)).map(|it| (it, false)));
+                }
+            }
+        }
+        ordered
+    }
+
+    /// The conditions that hold in the crates of a package.
+    fn options_of(&self, id: &PackageId, wanted: &Wanted, base: &Options) -> Options {
+        let mut options = base.clone();
+        for it in self.nodes.get(id).map_or(&[][..], |it| &it.features) {
+            options.values.insert(("feature".to_owned(), it.clone()));
+        }
+        if self.asked.contains(id) {
+            wanted.cfg.iter().for_each(|it| options.set(it));
+            if wanted.test {
+                options.set("test");
+            }
+        }
+        options
+    }
+}
+
+/// What the crates of a package share.
+struct Shared<'a> {
+    package: &'a Package,
+    options: Options,
+    dependencies: Vec<(u32, String, bool)>,
+    is_asked: bool,
+    /// Whether tests and examples are wanted of a package that is asked for.
+    has_tests: bool,
+}
+
+impl<'a> Shared<'a> {
+    /// The library, and the other targets that are read: none but of a package that is asked for.
+    fn targets(&self) -> (Option<&'a Target>, Vec<&'a Target>) {
+        let all = &self.package.targets;
+        let of = |kinds: &'static [&str]| all.iter().filter(move |it| is_of_kind(it, kinds));
+        let library = of(&["lib", "rlib", "dylib", "cdylib", "staticlib", "proc-macro"]).next();
+        let mut others = Vec::new();
+        if self.is_asked {
+            others.extend(of(&["bin"]));
+            if self.has_tests {
+                others.extend(of(&["test", "example", "bench"]));
+            }
+        }
+        (library, others)
+    }
+}
+
+fn is_of_kind(target: &Target, kinds: &[&str]) -> bool {
+    target.kind.iter().any(|it| kinds.contains(&&**it))
 }
 
 /// The edition of a crate of the standard library.

@@ -47,6 +47,12 @@ pub struct Question {
     pub context: Context,
 }
 
+/// A path of a module or a block, as it stands in code.
+pub(crate) fn question(krate: u32, place: &[Step], path: &str) -> Question {
+    let (place, path) = (place.to_vec(), path.to_owned());
+    Question { krate, place, whole: path.clone(), path, context: Context::Plain }
+}
+
 impl Question {
     /// The builtin type as which the path begins, where it may mean that.
     fn builtin(&self) -> Option<&str> {

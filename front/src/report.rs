@@ -16,7 +16,8 @@ use crate::token::Span;
 use crate::unit::{place_json, quoted, steps_of};
 use crate::workspace::{bytes_of, path_of_key, Located, NotRun, Workspace};
 pub use answers::{Answer, Meaning};
-use imports::{prefixes, Bound};
+pub(crate) use associated::MOST_ALIASES;
+use imports::{prefixes, Bound, Import};
 
 /// A place in a file.
 #[derive(Clone, PartialEq, Eq, PartialOrd, Ord, Hash, Debug, Serialize)]
@@ -78,6 +79,16 @@ impl Report {
     }
 }
 
+/// What isn't resolved in crates, as the program tells it.
+#[derive(Default)]
+struct Unresolved {
+    imports: Vec<Import>,
+    /// The calls that reach no macro, each with its crate.
+    calls: Vec<(u32, Value)>,
+    /// The modules whose files aren't there, each with the name `*`.
+    absent: Bound,
+}
+
 /// A path as messages show it: below the current folder, or absolute.
 pub fn shown(path: &Path) -> String {
     let here = std::env::current_dir().ok().and_then(|it| it.canonicalize().ok());
@@ -110,59 +121,13 @@ impl Workspace {
         // Where something isn't read, what can't be judged for that is found through all crates.
         let is_partial = has_stub || others.clone().any(|it| self.has_unread(it));
         let judged: Vec<u32> = others.filter(|it| is_partial || self.crates.all[*it as usize].is_asked).collect();
-        let told = self.diagnostics(&judged)?;
-        let mut imports = Vec::new();
-        let mut calls = Vec::new();
-        let mut absent = Bound::new();
-        for (krate, told) in judged.iter().copied().zip(told) {
-            for it in told.as_array().into_iter().flatten() {
-                let is_given_back = |it: &Value| {
-                    let source = it["in"].as_array().into_iter().flatten();
-                    source.into_iter().any(|it| !it["attr"].is_null())
-                };
-                if it["kind"] == "unresolved module" {
-                    let located = self.locate(krate, &it["item"]);
-                    absent.extend(located.map(|it| {
-                        let module = it.module.into_iter().chain([it.node.name.to_string()]).collect();
-                        (krate, module, "*".to_owned())
-                    }));
-                }
-                match it["kind"].as_str().unwrap_or_default() {
-                    // What the attribute of a procedural macro takes for its own.
-                    "invalid derive target" | "malformed derive" if is_given_back(&it["item"]) => {}
-                    "unresolved macro call" if is_given_back(&it["call"]) => {}
-                    "unresolved import" => imports.extend(self.import(krate, it)),
-                    "unresolved macro call" => calls.push((krate, it.clone())),
-                    _ if self.crates.all[krate as usize].is_asked => self.other(krate, it, &mut report),
-                    _ => {}
-                }
-            }
-        }
-        self.follow(&mut imports)?;
+        let Unresolved { imports, calls, absent } = self.unresolved(&judged, &mut report)?;
         let mut bound = absent;
         self.unread_modules(&judged, &mut bound);
         if is_partial && !imports.is_empty() {
             self.follow_globs(&judged, &mut bound)?;
         }
-        // What can't be judged since a stub stands in its way, and what stands on that.
-        loop {
-            let before = imports.len();
-            let mut rest = Vec::new();
-            for it in imports {
-                if self.is_unjudged(&it, &bound) {
-                    report.unjudged += usize::from(self.crates.all[it.krate as usize].is_asked);
-                    if let Some(name) = &it.binds {
-                        bound.insert((it.krate, it.located.module.clone(), name.to_string()));
-                    }
-                } else {
-                    rest.push(it);
-                }
-            }
-            imports = rest;
-            if imports.len() == before {
-                break;
-            }
-        }
+        let imports = self.judged_imports(imports, &mut bound, &mut report);
         let unresolved: Bound = imports
             .iter()
             .filter_map(|it| Some((it.krate, it.located.module.clone(), it.binds.as_ref()?.to_string())))
@@ -184,6 +149,61 @@ impl Workspace {
         report.diagnostics.sort();
         report.diagnostics.dedup();
         Ok(report)
+    }
+
+    /// What the program tells of these crates. What is neither an import nor a call goes into the report.
+    fn unresolved(&mut self, crates: &[u32], report: &mut Report) -> Result<Unresolved> {
+        let lists = self.diagnostics(crates)?;
+        let mut made = Unresolved::default();
+        for (krate, list) in crates.iter().copied().zip(lists) {
+            for it in list.as_array().into_iter().flatten() {
+                let is_given_back = |it: &Value| {
+                    let source = it["in"].as_array().into_iter().flatten();
+                    source.into_iter().any(|it| !it["attr"].is_null())
+                };
+                if it["kind"] == "unresolved module" {
+                    let located = self.locate(krate, &it["item"]);
+                    made.absent.extend(located.map(|it| {
+                        let module = it.module.into_iter().chain([it.node.name.to_string()]).collect();
+                        (krate, module, "*".to_owned())
+                    }));
+                }
+                match it["kind"].as_str().unwrap_or_default() {
+                    // What the attribute of a procedural macro takes for its own.
+                    "invalid derive target" | "malformed derive" if is_given_back(&it["item"]) => {}
+                    "unresolved macro call" if is_given_back(&it["call"]) => {}
+                    "unresolved import" => made.imports.extend(self.import(krate, it)),
+                    "unresolved macro call" => made.calls.push((krate, it.clone())),
+                    _ if self.crates.all[krate as usize].is_asked => self.other(krate, it, report),
+                    _ => {}
+                }
+            }
+        }
+        self.follow(&mut made.imports)?;
+        Ok(made)
+    }
+
+    /// The imports that can be judged: neither a stub nor what couldn't be read stands in their way, nor another that
+    /// can't be judged. The names that the others bind are added to `bound`.
+    fn judged_imports(&self, mut imports: Vec<Import>, bound: &mut Bound, report: &mut Report) -> Vec<Import> {
+        loop {
+            let before = imports.len();
+            let mut rest = Vec::new();
+            for it in imports {
+                if self.is_unjudged(&it, bound) {
+                    report.unjudged += usize::from(self.crates.all[it.krate as usize].is_asked);
+                    if let Some(name) = &it.binds {
+                        bound.insert((it.krate, it.located.module.clone(), name.to_string()));
+                    }
+                } else {
+                    rest.push(it);
+                }
+            }
+            if rest.len() == before {
+                return rest;
+            }
+            imports = rest;
+        }
     }
 
     fn is_unread(&self, key: &str) -> bool {

@@ -2,7 +2,10 @@
 //! parameter, an item of a block that the program doesn't have. Nothing is asked for them.
 
 mod at;
+mod holders;
 mod locals;
+
+use std::collections::{BTreeMap, HashSet};
 
 use crate::question::Context;
 use crate::syntax::plain;
@@ -11,6 +14,8 @@ use crate::unit::is_builtin;
 pub(crate) use at::modules_at;
 use at::{is_body, path_before, path_behind};
 pub use at::{path_at, Expansions, FoundPath};
+pub use holders::Holder;
+use holders::{holders, Descent};
 use locals::{bindings, block_items, generics, is_in_path, Locals};
 
 /// A word that stands in a path, and the path up to it.
@@ -28,6 +33,15 @@ pub struct Site {
     pub goes_on: bool,
 }
 
+/// What only the text around a path knows of what it may begin with.
+#[derive(Clone, Default, PartialEq, Eq, Debug)]
+pub struct Around {
+    /// What `Self` or the generic parameter stands for that it begins with.
+    pub holder: Option<Holder>,
+    /// The names with which a single one may begin, and what each is.
+    pub names: Vec<(String, &'static str)>,
+}
+
 /// A list of tokens, and which of them the place is in.
 type Level<'a> = (&'a [Token], usize);
 
@@ -39,15 +53,26 @@ const KEYWORDS: [&str; 37] = [
 
 /// The words of a text that are wanted and stand in a path. In `blocks` the program knows the items.
 pub fn sites(tokens: &[Token], blocks: &[Span], wanted: &dyn Fn(&str, Span) -> bool) -> Vec<Site> {
-    let mut finder = Finder { blocks, wanted, levels: Vec::new(), made: Vec::new(), has_local: false };
+    let mut finder = Finder::new(blocks, wanted, false);
     finder.list(tokens, Some(Context::Plain));
     finder.made
+}
+
+/// The last word that is wanted, and what stands around it. Those behind `Self` and generic parameters are among them.
+pub fn site_with_names(
+    tokens: &[Token],
+    blocks: &[Span],
+    wanted: &dyn Fn(&str, Span) -> bool,
+) -> Option<(Site, Around)> {
+    let mut finder = Finder::new(blocks, wanted, true);
+    finder.list(tokens, Some(Context::Plain));
+    finder.made.pop().zip(finder.around.pop())
 }
 
 /// Whether a word of the text is none that modules or blocks know, see [`Word::Local`].
 pub fn is_local(tokens: &[Token], blocks: &[Span], at: Position) -> bool {
     let wanted = |_: &str, span: Span| span.start <= at && at <= span.end;
-    let mut finder = Finder { blocks, wanted: &wanted, levels: Vec::new(), made: Vec::new(), has_local: false };
+    let mut finder = Finder::new(blocks, &wanted, false);
     finder.list(tokens, Some(Context::Plain));
     finder.has_local
 }
@@ -58,6 +83,9 @@ struct Finder<'a, 'w> {
     levels: Vec<Level<'a>>,
     made: Vec<Site>,
     has_local: bool,
+    /// Whether what stands around is wanted too.
+    has_around: bool,
+    around: Vec<Around>,
 }
 
 /// What a word is that may stand in a path.
@@ -69,7 +97,12 @@ enum Word {
     None,
 }
 
-impl<'a> Finder<'a, '_> {
+impl<'a, 'w> Finder<'a, 'w> {
+    fn new(blocks: &'w [Span], wanted: &'w dyn Fn(&str, Span) -> bool, has_around: bool) -> Finder<'a, 'w> {
+        let (levels, made, around) = (Vec::new(), Vec::new(), Vec::new());
+        Finder { blocks, wanted, levels, made, has_local: false, has_around, around }
+    }
+
     /// Without a context no word of the list is a path.
     fn list(&mut self, list: &'a [Token], context: Option<Context>) {
         for (number, token) in list.iter().enumerate() {
@@ -77,7 +110,12 @@ impl<'a> Finder<'a, '_> {
                 Kind::Ident(word) if (self.wanted)(plain(word), token.span) => {
                     self.levels.push((list, number));
                     match context.map_or(Word::None, |it| self.word(it)) {
-                        Word::Site(it) => self.made.push(it),
+                        Word::Site(it) => {
+                            if self.has_around {
+                                self.around.push(self.around(&it));
+                            }
+                            self.made.push(it);
+                        }
                         Word::Local => self.has_local = true,
                         Word::None => {}
                     }
@@ -141,7 +179,8 @@ impl<'a> Finder<'a, '_> {
         if is_in_macro && first != "crate" {
             return Word::None;
         }
-        if first == "Self" {
+        let is_held = !is_single && self.has_around && self.holder(first).is_some();
+        if first == "Self" && !is_held {
             return Word::Local;
         }
         let in_brackets =
@@ -150,14 +189,17 @@ impl<'a> Finder<'a, '_> {
             return Word::None;
         }
         let locals = self.locals();
-        if locals.types.contains(first) || (is_single && context == Context::Plain && locals.values.contains(first)) {
+        let is_variable = is_single && context == Context::Plain && locals.values.contains(first);
+        // What is typed in a `use` is no name of it.
+        let is_known = is_held || self.has_around && in_use.is_some();
+        if is_variable || locals.have_first(first) && !is_known {
             return Word::Local;
         }
         if is_single && first == "self" && in_use.is_none() && locals.is_in_body {
             return Word::Local;
         }
         let hides = locals.has_glob && !matches!(first, "crate" | "self" | "super" | "");
-        if hides && !is_alias {
+        if hides && !is_alias && !self.has_around {
             return Word::None;
         }
         let whole = format!("{path}{}", path_behind(list, number));
@@ -216,20 +258,69 @@ impl<'a> Finder<'a, '_> {
 
     /// What the bodies and the items around the word name.
     fn locals(&self) -> Locals {
-        let mut locals = Locals::default();
+        let (mut locals, mut descent) = (Locals::default(), Descent::default());
         let mut is_known = false;
         for (list, number) in &self.levels {
+            let is_in_holder = descent.is_in_holder;
+            let enters_item = descent.enters_item(list, *number) && locals.is_in_body;
+            if enters_item {
+                locals.enter_item();
+            }
             generics(list, *number, &mut locals);
-            if locals.is_in_body {
-                if !is_known {
-                    block_items(list, &mut locals);
-                }
+            if locals.is_in_body && !is_known && !is_in_holder {
+                block_items(list, &mut locals);
+            }
+            if locals.is_in_body && !enters_item {
                 bindings(list, *number, &mut locals);
             }
             is_known = self.blocks.contains(&list[*number].span);
             locals.is_in_body |= is_known || is_body(list, *number) || is_value_in_type(list, *number);
         }
         locals
+    }
+
+    /// What `Self` and the generic parameters around the word stand for.
+    fn holders(&self) -> BTreeMap<String, Holder> {
+        let (mut made, mut is_in_body, mut descent) = (BTreeMap::new(), false, Descent::default());
+        for (list, number) in &self.levels {
+            if descent.enters_item(list, *number) && is_in_body {
+                made.clear();
+            }
+            holders(list, *number, &mut made);
+            is_in_body |= is_body(list, *number);
+        }
+        made
+    }
+
+    /// What a name stands for with which a path begins, where that is a type or has traits.
+    fn holder(&self, name: &str) -> Option<Holder> {
+        self.holders().remove(name).filter(|it| it.of_type.is_some() || !it.of_traits.is_empty())
+    }
+
+    fn around(&self, site: &Site) -> Around {
+        if let Some((first, _)) = site.path.split_once("::") {
+            return Around { holder: self.holder(first), names: Vec::new() };
+        }
+        if site.context != Context::Plain {
+            return Around::default();
+        }
+        let locals = self.locals();
+        let mut names = Vec::new();
+        let mut add = |of: &HashSet<String>, what| {
+            // The keyword is offered everywhere.
+            let mut of: Vec<&String> = of.iter().filter(|it| *it != "self").collect();
+            of.sort();
+            names.extend(of.into_iter().map(|it| (it.clone(), what)));
+        };
+        if locals.is_in_body && !site.goes_on {
+            add(&locals.values, "local variable");
+        }
+        add(&locals.parameters, "generic parameter");
+        add(&locals.items, "item of the body");
+        if self.holders().contains_key("Self") {
+            names.push(("Self".to_owned(), "keyword"));
+        }
+        Around { holder: None, names }
     }
 }
 
@@ -402,6 +493,104 @@ mod tests {
             "fn f() { let «None» = a else {}; let «X» @ «Y» = b; let mut «c» = 1; let & «d» = e; }",
             &["None", "-", "Y", "-", "-"],
         );
+    }
+
+    /// An item in a body sees none of its variables and generic parameters.
+    #[test]
+    fn variables_around_items_of_bodies() {
+        all(
+            "fn f<T>(x: u8) { let y = 1; fn g<U>(z: u8) -> «T» { «x»; «y»; «z»; U::a; «T»::«b» } «y»; «T»::«b» }",
+            &["T", "x", "y", "-", "T", "T::b", "-", "-", "-"],
+        );
+        all(
+            "fn f(x: u8) { const C: u8 = «x»; const { «x» }; let g: fn(u8) = |y| «x» + «y»; «x»; mod m { const D: u8 = «x»; } }",
+            &["x", "-", "-", "-", "-", "x"],
+        );
+        all(
+            "fn f(x: u8) { #[a] pub(crate) unsafe impl S { extern \"C\" fn g(&self) { «x»; «self» } } unsafe { «x» } async { «x» } }",
+            &["x", "-", "-", "-"],
+        );
+        // What stands in an impl is no item of the body.
+        all("fn f() { impl S { fn g() { «g»; «f» } } fn h() {} «h» }", &["g", "f", "-"]);
+    }
+
+    /// What stands around the `|` in a text: what the path begins with, or the names that it may begin with.
+    fn around(text: &str) -> String {
+        let offset = text.find('|').unwrap();
+        let text = text.replacen('|', "mark", 1);
+        let at = crate::lsp::text::Text::new(text.clone()).position(offset);
+        let tokens = on_a_thread(|| tokens_of(&text)).unwrap();
+        let found = site_with_names(&tokens, &[], &|word, span| word == "mark" && span.contains(at));
+        let Some((site, Around { holder, names })) = found else {
+            return "-".to_owned();
+        };
+        let names = names.iter().map(|it| format!("{} {}", it.1.split(' ').next().unwrap_or_default(), it.0));
+        match holder {
+            None if site.path == "mark" => names.collect::<Vec<_>>().join(", "),
+            None => format!("behind {}", site.path),
+            Some(it) => {
+                let line = text.lines().nth(it.at.line as usize - 1).unwrap();
+                let from = &line[it.at.column as usize - 1..];
+                let of_type = it.of_type.unwrap_or("?".to_owned());
+                format!("{}: {of_type} with {}", from.split([' ', '<']).next().unwrap(), it.of_traits.join(" "))
+            }
+        }
+    }
+
+    #[test]
+    fn what_self_and_parameters_stand_for() {
+        for (text, wanted) in [
+            ("impl S { fn f() { Self::| } }", "impl: S with "),
+            (
+                "mod m { pub unsafe impl<T: A> b::C<T> for d::S<T> where T: E { const X: u8 = Self::|; } }",
+                "impl: d::S with b::C",
+            ),
+            ("impl A for &S { fn f() { Self::| } }", "impl: ? with A"),
+            ("impl<T: A> B for T { fn f() { Self::| } }", "impl: ? with B"),
+            (
+                "impl<T: A + ?Sized> B for T where T: c::D<u8> + 'static, u8: E { fn f(it: T::|) {} }",
+                "impl: ? with A c::D",
+            ),
+            ("pub trait Tr<T>: A + b::B<T> where Self: C { fn f() { Self::| } }", "trait: ? with Tr A b::B C"),
+            ("struct S { a: [u8; Self::|] }", "struct: S with "),
+            ("enum E { A = Self::| }", "enum: E with "),
+            ("fn f<'a, const N: usize, #[a] T: A<B + C> = D, U>(it: U) -> T where U: E { T::|; }", "fn: ? with A"),
+            ("fn f<T, U>() where T: for<'a> A<'a>, U: B<T> { U::| }", "fn: ? with B"),
+            ("impl<T: A> S<T> { fn f<U: B>() { T::| } }", "impl: ? with A"),
+            ("trait Tr { fn f<T: A>() { fn g<T: B>() { T::| } } }", "fn: ? with B"),
+            // Nothing is known of these.
+            ("fn f() { Self::| }", "-"),
+            ("fn f<T>() { T::| }", "-"),
+            ("fn f<const N: usize>() { N::| }", "-"),
+            ("impl (A, B) { fn f() { Self::| } }", "-"),
+            ("impl S { fn f() { fn g() { Self::| } } }", "-"),
+            ("fn f() { trait Tr<T: A> { fn g() { m!({ T::| }) } } }", "trait: ? with A"),
+            ("fn f<T: A>() { fn g() { T::| } }", "behind T::mark"),
+            ("fn f<T: A>() { T::B::| }", "fn: ? with A"),
+        ] {
+            assert_eq!(around(text), wanted, "{text}");
+        }
+    }
+
+    #[test]
+    fn names_that_only_the_text_knows() {
+        for (text, wanted) in [
+            ("fn f<T, const N: usize>(a: u8) { let b = 1; | let c = 2; }", "local a, local b, generic N, generic T"),
+            ("impl<T> S<T> { fn f(&self) { for i in j { | } } }", "local i, generic T, keyword Self"),
+            ("impl S { fn f<T>(a: u8, b: |) {} }", "generic T, keyword Self"),
+            ("struct S<T>(|);", "generic T, keyword Self"),
+            ("fn f(a: u8) { fn g(b: u8) { m!(|) } }", "local b, item g"),
+            ("fn f() { match x { A(a) => |, b => c } }", "local a"),
+            ("fn f<T>() { impl<U> S<U> { fn g(a: u8) { | } } }", "local a, generic U, keyword Self"),
+            ("fn f(a: u8) { use b::*; struct S; | }", "local a, item S"),
+            ("fn f(a: u8) { |::b }", ""),
+            ("fn f(a: u8) { |!() }", ""),
+            ("#[|] struct S<T>(T);", ""),
+            ("use |;", ""),
+            ("fn f<T>() { use |; }", ""),
+        ] {
+            assert_eq!(around(text), wanted, "{text}");
+        }
     }
 
     #[test]

@@ -10,12 +10,12 @@ mod paths;
 use std::sync::Arc;
 
 pub use blocks::{statements_of, Block};
-pub use paths::{path_of_type, ImplHead};
+pub use paths::{parts, path_of_type, traits_of_bounds, ImplHead};
 
 use crate::token::{opened, Delimiter, Hash, Kind, Position, Span, SyntaxError, Token, Tokens};
 
 /// A path, and where each of its names stands.
-#[derive(Clone, Debug, Default)]
+#[derive(Clone, Hash, Debug, Default)]
 pub struct Path {
     /// As the program reads it, as `a::b`, `::a`, `crate::b`, `$3::c`.
     pub text: String,
@@ -24,7 +24,7 @@ pub struct Path {
 }
 
 /// An attribute. Documentation isn't kept, neither as a comment nor as an attribute.
-#[derive(Clone, Debug)]
+#[derive(Clone, Hash, Debug)]
 pub struct Attribute {
     /// Without what it is given.
     pub path: Path,
@@ -35,7 +35,7 @@ pub struct Attribute {
 }
 
 /// Who sees an item.
-#[derive(Clone, Debug, Default)]
+#[derive(Clone, Hash, Debug, Default)]
 pub enum Visibility {
     #[default]
     Private,
@@ -46,7 +46,7 @@ pub enum Visibility {
 }
 
 /// A name where it is declared.
-#[derive(Clone, Debug)]
+#[derive(Clone, Hash, Debug)]
 pub struct Name {
     /// Without `r#`.
     pub text: Arc<str>,
@@ -55,7 +55,7 @@ pub struct Name {
 }
 
 /// A tree of a `use`.
-#[derive(Clone, Debug)]
+#[derive(Clone, Hash, Debug)]
 pub enum UseTree {
     Single { path: Path, alias: Option<Name> },
     Glob { path: Option<Path>, span: Span },
@@ -63,7 +63,7 @@ pub enum UseTree {
 }
 
 /// What fields a struct or a variant has.
-#[derive(Clone, Copy, PartialEq, Eq, Debug)]
+#[derive(Clone, Copy, PartialEq, Eq, Hash, Debug)]
 pub enum Shape {
     Record,
     Tuple,
@@ -71,7 +71,7 @@ pub enum Shape {
 }
 
 /// A field of a struct, a union or a variant.
-#[derive(Clone, Debug)]
+#[derive(Clone, Hash, Debug)]
 pub struct Field {
     /// Those alone that are conditions.
     pub attributes: Vec<Attribute>,
@@ -84,7 +84,7 @@ pub struct Field {
 }
 
 /// A variant of an enum.
-#[derive(Clone, Debug)]
+#[derive(Clone, Hash, Debug)]
 pub struct Variant {
     /// But for documentation.
     pub attributes: Vec<Attribute>,
@@ -101,7 +101,7 @@ pub struct Variant {
 }
 
 /// A macro call where items stand.
-#[derive(Clone, Debug)]
+#[derive(Clone, Hash, Debug)]
 pub struct Call {
     /// The macro that is called.
     pub path: Path,
@@ -128,7 +128,7 @@ impl Call {
 }
 
 /// A `macro_rules!` or `macro`.
-#[derive(Debug)]
+#[derive(Hash, Debug)]
 pub struct MacroDefinition {
     /// Without `r#`.
     pub name: Arc<str>,
@@ -143,7 +143,7 @@ pub struct MacroDefinition {
 }
 
 /// What an item is, with what is in it.
-#[derive(Clone, Debug)]
+#[derive(Clone, Hash, Debug)]
 pub enum ItemKind {
     Use(UseTree),
     /// The name that it binds besides, if any; `_` among these.
@@ -203,8 +203,17 @@ pub struct Item {
     pub blocks: Vec<Arc<Block>>,
 }
 
+/// Where it stands doesn't count.
+impl std::hash::Hash for Item {
+    fn hash<H: std::hash::Hasher>(&self, state: &mut H) {
+        let Item { attributes, visibility, name, kind, input, text, start: _, span: _, head: _, given: _, blocks } =
+            self;
+        (attributes, visibility, name, kind, input, text, blocks).hash(state);
+    }
+}
+
 /// A file or an expansion.
-#[derive(Clone, Debug, Default)]
+#[derive(Clone, Hash, Debug, Default)]
 pub struct Unit {
     /// Those at the top, as `#![..]`.
     pub attributes: Vec<Attribute>,

@@ -6,14 +6,19 @@ use std::sync::Arc;
 use proc_macro2::{TokenStream, TokenTree};
 
 /// A place in a text: the line from 1, and the column from 1 in characters.
-#[derive(Clone, Copy, PartialEq, Eq, PartialOrd, Ord, Hash, Debug, Default)]
+#[derive(Clone, Copy, PartialEq, Eq, PartialOrd, Ord, Debug, Default)]
 pub struct Position {
     pub line: u32,
     pub column: u32,
 }
 
+/// What stands elsewhere is the same: places don't count.
+impl std::hash::Hash for Position {
+    fn hash<H: std::hash::Hasher>(&self, _: &mut H) {}
+}
+
 /// From the first character to behind the last.
-#[derive(Clone, Copy, PartialEq, Eq, Debug, Default)]
+#[derive(Clone, Copy, PartialEq, Eq, Hash, Debug, Default)]
 pub struct Span {
     pub start: Position,
     pub end: Position,
@@ -52,7 +57,7 @@ pub enum Delimiter {
 }
 
 /// What a token is.
-#[derive(Clone, Debug)]
+#[derive(Clone, Hash, Debug)]
 pub enum Kind {
     /// A word as it is written, with `r#` where it has it.
     Ident(Arc<str>),
@@ -67,7 +72,7 @@ pub enum Kind {
 }
 
 /// A token tree, and where it stands.
-#[derive(Clone, Debug)]
+#[derive(Clone, Hash, Debug)]
 pub struct Token {
     pub kind: Kind,
     pub span: Span,
@@ -98,8 +103,8 @@ const CHARACTERS: [&str; 25] = [
 
 /// The operator at the front of a run of characters that stand together.
 fn operator(run: &str) -> Option<&'static str> {
-    let all = OPERATORS.iter().chain(&CHARACTERS);
-    all.copied().find(|it| run.starts_with(it))
+    let longer = if run.len() > 1 { &OPERATORS[..] } else { &[] };
+    longer.iter().chain(&CHARACTERS).copied().find(|it| run.starts_with(it))
 }
 
 impl Token {
@@ -190,9 +195,19 @@ impl Words {
     }
 }
 
+fn position_of(it: proc_macro2::LineColumn) -> Position {
+    Position { line: it.line as u32, column: it.column as u32 + 1 }
+}
+
 fn span_of(span: proc_macro2::Span) -> Span {
-    let position = |it: proc_macro2::LineColumn| Position { line: it.line as u32, column: it.column as u32 + 1 };
-    Span { start: position(span.start()), end: position(span.end()) }
+    Span { start: position_of(span.start()), end: position_of(span.end()) }
+}
+
+/// Where a token stands that is on one line. Each question where a span begins or ends is a search among the lines of the
+/// file, so where the token ends is told by its text.
+fn span_on_line(span: proc_macro2::Span, text: &str) -> Span {
+    let start = position_of(span.start());
+    Span { start, end: Position { column: start.column + text.chars().count() as u32, ..start } }
 }
 
 fn trees_of(stream: TokenStream, words: &mut Words, depth: usize) -> Result<Vec<Token>, SyntaxError> {
@@ -219,26 +234,25 @@ fn trees_of(stream: TokenStream, words: &mut Words, depth: usize) -> Result<Vec<
             TokenTree::Ident(it) => {
                 text.clear();
                 let _ = write!(text, "{it}");
-                made.push(Token { kind: Kind::Ident(words.take(&text)), span: span_of(it.span()) });
+                made.push(Token { kind: Kind::Ident(words.take(&text)), span: span_on_line(it.span(), &text) });
             }
             TokenTree::Literal(it) => {
                 text.clear();
                 let _ = write!(text, "{it}");
-                made.push(Token { kind: Kind::Literal(words.take(&text)), span: span_of(it.span()) });
+                let span = if text.contains('\n') { span_of(it.span()) } else { span_on_line(it.span(), &text) };
+                made.push(Token { kind: Kind::Literal(words.take(&text)), span });
             }
             TokenTree::Punct(it) if it.as_char() == '\'' => {
-                let mut span = span_of(it.span());
                 text.clear();
                 text.push('\'');
                 if let Some(TokenTree::Ident(name)) = trees.peek() {
                     let _ = write!(text, "{name}");
-                    span.end = span_of(name.span()).end;
                     trees.next();
                 }
-                made.push(Token { kind: Kind::Lifetime(words.take(&text)), span });
+                made.push(Token { kind: Kind::Lifetime(words.take(&text)), span: span_on_line(it.span(), &text) });
             }
             TokenTree::Punct(it) => {
-                let mut at = span_of(it.span());
+                let start = position_of(it.span().start());
                 text.clear();
                 text.push(it.as_char());
                 let mut is_joint = it.spacing() == proc_macro2::Spacing::Joint;
@@ -250,20 +264,27 @@ fn trees_of(stream: TokenStream, words: &mut Words, depth: usize) -> Result<Vec<
                     is_joint = next.spacing() == proc_macro2::Spacing::Joint;
                     trees.next();
                 }
-                let mut rest = &text[..];
-                while !rest.is_empty() {
-                    let Some(it) = operator(rest) else {
-                        return Err(SyntaxError { at, message: format!("`{rest}` is no token of Rust") });
-                    };
-                    at.end = Position { column: at.start.column + it.len() as u32, ..at.start };
-                    made.push(Token { kind: Kind::Punct(it), span: at });
-                    at.start = at.end;
-                    rest = &rest[it.len()..];
-                }
+                operators_of(&text, start, &mut made)?;
             }
         }
     }
     Ok(made)
+}
+
+/// Adds the operators that characters are which stand together.
+fn operators_of(mut run: &str, mut start: Position, made: &mut Vec<Token>) -> Result<(), SyntaxError> {
+    while !run.is_empty() {
+        let Some(it) = operator(run) else {
+            return Err(SyntaxError {
+                at: Span { start, end: start },
+                message: format!("`{run}` is no token of Rust"),
+            });
+        };
+        let end = Position { column: start.column + it.len() as u32, ..start };
+        made.push(Token { kind: Kind::Punct(it), span: Span { start, end } });
+        (start, run) = (end, &run[it.len()..]);
+    }
+    Ok(())
 }
 
 /// The tokens as a text that reads back as the same tokens, groups of fragments without brackets.
@@ -426,5 +447,46 @@ impl Hash {
         let it = self.0 ^ (self.0 >> 64);
         let it = it ^ (it >> 32);
         (it ^ (it >> 16)) as u16
+    }
+}
+
+#[cfg(test)]
+mod tests {
+    use super::*;
+
+    /// What stands in a text from a position to another.
+    fn between(text: &str, span: Span) -> &str {
+        let offset = |at: Position| {
+            let line: usize = text.split_inclusive('\n').take(at.line as usize - 1).map(str::len).sum();
+            line + text[line..].chars().take(at.column as usize - 1).map(char::len_utf8).sum::<usize>()
+        };
+        &text[offset(span.start)..offset(span.end)]
+    }
+
+    fn check(tokens: &[Token], text: &str) {
+        for it in tokens {
+            let found = between(text, it.span);
+            match &it.kind {
+                Kind::Ident(word) | Kind::Lifetime(word) | Kind::Literal(word) => assert_eq!(found, &**word),
+                Kind::Punct(word) => assert_eq!(found, *word),
+                Kind::Group(_, inner) => {
+                    assert!(found.starts_with(['(', '[', '{']) && found.ends_with([')', ']', '}']), "{found}");
+                    check(inner, text);
+                }
+                Kind::Crate(_) => panic!("no text has one"),
+            }
+        }
+    }
+
+    #[test]
+    fn each_token_stands_where_its_text_is() {
+        for text in [
+            "fn r#é<'ä>(x: &'ä str) -> u8 { a >>= b..=c; !!d && ::e::<f<g>>() }",
+            "\"🦀\nb\" + r#\"c\n  d\"# + b\"e\" + 'é' + '\\'' + \"\\\n  f\" + 1.5e3_f64; g",
+            "a\r\n  b /* 🦀\n */ [c, // d\n e]",
+            "#!/bin/sh\nf",
+        ] {
+            check(&on_a_thread(|| tokens_of(text)).unwrap(), text);
+        }
     }
 }

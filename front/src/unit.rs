@@ -4,18 +4,22 @@ mod attributes;
 mod blocks;
 mod derives;
 
+use std::borrow::Cow;
 use std::collections::HashMap;
 use std::fmt::Write as _;
 use std::sync::Arc;
 
 use crate::cfg::Options;
 use crate::syntax::{
-    plain, Attribute, Call, Field, ImplHead, Item, ItemKind, MacroDefinition, Path, Shape, Unit, UseTree, Visibility,
+    plain, Attribute, Call, Field, ImplHead, Item, ItemKind, MacroDefinition, Path, Shape, Unit, UseTree, Variant,
+    Visibility,
 };
 use crate::token::{opened, Delimiter, Hash, Kind, Span, Token};
-use attributes::{builtin_name, expander_of, is_kept, names_json, write_attributes};
+use attributes::{builtin_name, is_kept, names_json, write_attributes};
 
+pub(crate) use attributes::expander_of;
 pub use attributes::{is_builtin, is_enabled, may_be_macro, numbered, paths_of, text_attribute};
+pub(crate) use blocks::steps_from;
 pub use blocks::{build_blocks, place_json, steps_of, BuiltBlock, Known, Step};
 pub use derives::{Derives, Given, NAMES as DERIVES};
 
@@ -109,8 +113,14 @@ pub struct Built {
     by_id: HashMap<(&'static str, Id), usize>,
     /// Which nodes are imports.
     uses: Vec<usize>,
+    /// Which nodes are impls.
+    impls: Vec<usize>,
+    /// Which nodes are macro calls that aren't items of a trait or an impl.
+    calls: Vec<usize>,
     /// The names of its types, and those that its imports give to anything.
     type_names: Vec<Arc<str>>,
+    /// Those of them that stand for what may have another name.
+    aliases: Vec<Arc<str>>,
 }
 
 impl Built {
@@ -128,9 +138,28 @@ impl Built {
         })
     }
 
+    /// Its impls, each with the items in it.
+    pub fn impls(&self) -> impl Iterator<Item = (&Node, impl Iterator<Item = &Node>)> {
+        let ends = self.impls.iter().skip(1).copied().chain([self.nodes.len()]);
+        self.impls.iter().zip(ends).map(|(at, end)| {
+            let is_its = |it: &&Node| it.of == Some(*at);
+            (&self.nodes[*at], self.nodes[*at..end].iter().filter(is_its))
+        })
+    }
+
+    /// Its macro calls, but for those among the items of traits and impls.
+    pub fn calls(&self) -> impl Iterator<Item = &Node> {
+        self.calls.iter().map(|at| &self.nodes[*at])
+    }
+
     /// The names of its types, and those that its imports give to anything.
     pub fn type_names(&self) -> &[Arc<str>] {
         &self.type_names
+    }
+
+    /// The names of its type aliases, and those that its imports give to anything.
+    pub fn aliases(&self) -> &[Arc<str>] {
+        &self.aliases
     }
 
     /// Notes what is asked of all nodes time and again.
@@ -139,8 +168,18 @@ impl Built {
         let types = self.nodes.iter().filter(is_type).map(|it| &it.name);
         let is_alias = |leaf: &&Leaf| leaf.binds.as_deref() != leaf.path.rsplit("::").next();
         let leaves = self.nodes.iter().flat_map(Node::leaves).filter(is_alias);
-        self.type_names = types.chain(leaves.filter_map(|it| it.binds.as_ref())).cloned().collect();
-        self.uses = (0..self.nodes.len()).filter(|it| matches!(self.nodes[*it].detail, Detail::Use(_))).collect();
+        let given: Vec<Arc<str>> = leaves.filter_map(|it| it.binds.clone()).collect();
+        let declared = self.nodes.iter().filter(|it| it.kind == "TypeAlias" && it.of.is_none()).map(|it| &it.name);
+        self.aliases = declared.chain(&given).cloned().collect();
+        self.type_names = types.cloned().chain(given).collect();
+        for (at, it) in self.nodes.iter().enumerate() {
+            match it.detail {
+                Detail::Use(_) => self.uses.push(at),
+                Detail::Impl(_) => self.impls.push(at),
+                Detail::Call(_) if it.of.is_none() => self.calls.push(at),
+                _ => {}
+            }
+        }
     }
 }
 
@@ -269,28 +308,7 @@ impl Builder<'_> {
     }
 
     fn node(&mut self, item: &Item, modules: &Arc<[Arc<str>]>) {
-        let name = item.name_text();
-        let (kind, known_by): (&'static str, std::borrow::Cow<str>) = match &item.kind {
-            ItemKind::Use(tree) => ("Use", use_text(tree).into()),
-            ItemKind::ExternCrate { alias } => {
-                let alias = alias.as_ref().map_or("", |it| &it.text);
-                ("ExternCrate", format!("{name} {alias}").into())
-            }
-            ItemKind::ExternBlock(_) => ("ExternBlock", item.text.text().into()),
-            ItemKind::Function => ("Fn", name.into()),
-            ItemKind::Static => ("Static", name.into()),
-            ItemKind::Constant => ("Const", name.into()),
-            ItemKind::Struct { .. } => ("Struct", name.into()),
-            ItemKind::Union { .. } => ("Union", name.into()),
-            ItemKind::Enum(_) => ("Enum", name.into()),
-            ItemKind::Trait(_) => ("Trait", name.into()),
-            ItemKind::Impl { .. } => ("Impl", item.text.text().into()),
-            ItemKind::TypeAlias(_) => ("TypeAlias", name.into()),
-            ItemKind::Module(_) => ("Module", name.into()),
-            ItemKind::Call(call) => ("MacroCall", known_call(call).into()),
-            ItemKind::Macro(it) if it.is_rules => ("MacroRules", name.into()),
-            ItemKind::Macro(_) => ("MacroDef", name.into()),
-        };
+        let (name, (kind, known_by)) = (item.name_text(), kind_of_node(item));
         let id = self.id(kind, &known_by);
         let span = self.place_of(match (&item.name, &item.kind) {
             (Some(it), _) => it.span,
@@ -307,15 +325,7 @@ impl Builder<'_> {
             let _ = write!(self.made.json, ",\"name\":{}", quoted(name));
         }
         self.visibility(&item.visibility, ",\"vis\":");
-        let is_looked_up = item.attributes.iter().any(|it| derives::is_looked_up(it, self.left_out));
-        // Elsewhere `derive` is an error.
-        let may_derive = matches!(item.kind, ItemKind::Struct { .. } | ItemKind::Enum(_) | ItemKind::Union { .. });
-        let is_told = |it: &&Attribute| is_kept(it) && (is_looked_up || !may_derive || it.path.text != "derive");
-        let mut told = item.attributes.iter().filter(is_told).peekable();
-        if told.peek().is_some() {
-            self.made.json.push_str(",\"attrs\":");
-            write_attributes(told, self.left_out, &mut self.made.json);
-        }
+        let is_looked_up = self.attributes(item);
         let at = self.made.nodes.len();
         let detail = self.detail(item);
         let was_left_out = self.is_left_out;
@@ -324,7 +334,7 @@ impl Builder<'_> {
         self.made.nodes.push(Node {
             kind,
             id,
-            name: name.into(),
+            name: item.name.as_ref().map_or_else(|| "".into(), |it| it.text.clone()),
             modules: modules.clone(),
             span,
             whole: self.place_of(item.span),
@@ -349,6 +359,20 @@ impl Builder<'_> {
         self.rest(item, at, modules);
         (self.around, self.is_left_out) = (around, was_left_out);
         self.made.json.push('}');
+    }
+
+    /// What is told of the attributes of an item. Answers whether something is looked up for one of them.
+    fn attributes(&mut self, item: &Item) -> bool {
+        let is_looked_up = item.attributes.iter().any(|it| derives::is_looked_up(it, self.left_out));
+        // Elsewhere `derive` is an error.
+        let may_derive = matches!(item.kind, ItemKind::Struct { .. } | ItemKind::Enum(_) | ItemKind::Union { .. });
+        let is_told = |it: &&Attribute| is_kept(it) && (is_looked_up || !may_derive || it.path.text != "derive");
+        let mut told = item.attributes.iter().filter(is_told).peekable();
+        if told.peek().is_some() {
+            self.made.json.push_str(",\"attrs\":");
+            write_attributes(told, self.left_out, &mut self.made.json);
+        }
+        is_looked_up
     }
 
     /// Where something of a span is said to stand.
@@ -407,38 +431,7 @@ impl Builder<'_> {
             }
             ItemKind::Enum(variants) => {
                 self.made.json.push_str(",\"variants\":[");
-                for it in variants {
-                    if !self.made.json.ends_with('[') {
-                        self.made.json.push(',');
-                    }
-                    let id = self.id("Variant", &it.name.text);
-                    let (hash, index) = id;
-                    let _ = write!(
-                        self.made.json,
-                        "{{\"id\":[{hash},{index}],\"name\":{},\"shape\":\"{}\"",
-                        quoted(&it.name.text),
-                        shape_text(it.shape)
-                    );
-                    if it.attributes.iter().any(is_kept) {
-                        self.made.json.push_str(",\"attrs\":");
-                        write_attributes(&it.attributes, self.left_out, &mut self.made.json);
-                    }
-                    self.made.json.push('}');
-                    self.made.by_id.insert(("Variant", id), self.made.nodes.len());
-                    self.made.nodes.push(Node {
-                        kind: "Variant",
-                        id,
-                        name: it.name.text.clone(),
-                        modules: modules.clone(),
-                        span: self.place_of(it.name.span),
-                        whole: self.place_of(it.name.span),
-                        visibility: Visibility::Private,
-                        detail: Detail::None,
-                        item: None,
-                        of: Some(at),
-                        is_left_out: self.is_left_out || !is_enabled(&it.attributes, self.options),
-                    });
-                }
+                variants.iter().for_each(|it| self.variant(it, at, modules));
                 self.made.json.push(']');
             }
             ItemKind::Trait(items) => {
@@ -471,6 +464,40 @@ impl Builder<'_> {
             },
             _ => {}
         }
+    }
+
+    /// A variant of the enum that has this place among the nodes.
+    fn variant(&mut self, variant: &Variant, of_enum: usize, modules: &Arc<[Arc<str>]>) {
+        if !self.made.json.ends_with('[') {
+            self.made.json.push(',');
+        }
+        let id = self.id("Variant", &variant.name.text);
+        let (hash, index) = id;
+        let _ = write!(
+            self.made.json,
+            "{{\"id\":[{hash},{index}],\"name\":{},\"shape\":\"{}\"",
+            quoted(&variant.name.text),
+            shape_text(variant.shape)
+        );
+        if variant.attributes.iter().any(is_kept) {
+            self.made.json.push_str(",\"attrs\":");
+            write_attributes(&variant.attributes, self.left_out, &mut self.made.json);
+        }
+        self.made.json.push('}');
+        self.made.by_id.insert(("Variant", id), self.made.nodes.len());
+        self.made.nodes.push(Node {
+            kind: "Variant",
+            id,
+            name: variant.name.text.clone(),
+            modules: modules.clone(),
+            span: self.place_of(variant.name.span),
+            whole: self.place_of(variant.name.span),
+            visibility: Visibility::Private,
+            detail: Detail::None,
+            item: None,
+            of: Some(of_enum),
+            is_left_out: self.is_left_out || !is_enabled(&variant.attributes, self.options),
+        });
     }
 
     fn visibility(&mut self, visibility: &Visibility, before: &str) {
@@ -523,6 +550,32 @@ impl Builder<'_> {
                 self.made.json.push('}');
             }
         }
+    }
+}
+
+/// What the program calls the kind of an item, and what the item is known by among those of its kind.
+fn kind_of_node(item: &Item) -> (&'static str, Cow<'_, str>) {
+    let name = item.name_text();
+    match &item.kind {
+        ItemKind::Use(tree) => ("Use", use_text(tree).into()),
+        ItemKind::ExternCrate { alias } => {
+            let alias = alias.as_ref().map_or("", |it| &it.text);
+            ("ExternCrate", format!("{name} {alias}").into())
+        }
+        ItemKind::ExternBlock(_) => ("ExternBlock", item.text.text().into()),
+        ItemKind::Function => ("Fn", name.into()),
+        ItemKind::Static => ("Static", name.into()),
+        ItemKind::Constant => ("Const", name.into()),
+        ItemKind::Struct { .. } => ("Struct", name.into()),
+        ItemKind::Union { .. } => ("Union", name.into()),
+        ItemKind::Enum(_) => ("Enum", name.into()),
+        ItemKind::Trait(_) => ("Trait", name.into()),
+        ItemKind::Impl { .. } => ("Impl", item.text.text().into()),
+        ItemKind::TypeAlias(_) => ("TypeAlias", name.into()),
+        ItemKind::Module(_) => ("Module", name.into()),
+        ItemKind::Call(call) => ("MacroCall", known_call(call).into()),
+        ItemKind::Macro(it) if it.is_rules => ("MacroRules", name.into()),
+        ItemKind::Macro(_) => ("MacroDef", name.into()),
     }
 }
 

@@ -7,6 +7,7 @@ mod expansions;
 mod files;
 mod hand_in;
 mod left_out;
+mod names;
 mod places;
 mod type_names;
 mod updates;
@@ -30,6 +31,8 @@ use expanded::{Expanded, Moved, Source};
 pub(crate) use files::bytes_of;
 pub use files::{key_of, parse_text, path_of_key};
 use hand_in::{set_block, set_file};
+use names::Names;
+pub(crate) use names::{Bound, ModulePlace, Seen};
 use type_names::TypeNames;
 
 /// The text that the program knows a file by: its absolute path without the first `/`.
@@ -239,6 +242,7 @@ pub struct Workspace {
     pub(crate) reached: Since<Vec<(usize, Value)>>,
     /// The modules of a crate with a glob, each with where that leads.
     pub(crate) globs: Since<Vec<(Vec<String>, Leads)>>,
+    names: Names,
     progress: Progress,
 }
 
@@ -294,6 +298,7 @@ impl Workspace {
             past_items: HashMap::new(),
             reached: HashMap::new(),
             globs: HashMap::new(),
+            names: Names::default(),
             progress: Box::new(progress),
         };
         if let Some(it) = elsewhere {

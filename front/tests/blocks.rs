@@ -2,17 +2,15 @@
 //! `blocks/program.sh`.
 #![cfg(unix)]
 
-mod common;
-
 use std::path::{Path, PathBuf};
 
+use crate::common::{own, package, write_script, Dice};
 use cargo_nogsimat::lsp::{self, message};
 use cargo_nogsimat::package::Wanted;
 use cargo_nogsimat::program;
 use cargo_nogsimat::token::Position;
 use cargo_nogsimat::unit::place_json;
 use cargo_nogsimat::workspace::{key_of, Workspace};
-use common::{own, package, write_script, Dice};
 use serde_json::{json, Value};
 use tempfile::TempDir;
 
@@ -46,7 +44,7 @@ impl Package {
     }
 
     fn open_with(&self, program: &Path) -> Workspace {
-        common::open_with(&self.root, program)
+        crate::common::open_with(&self.root, program)
     }
 
     /// The commands of these words that were given since the last call.
@@ -97,7 +95,8 @@ fn nothing_is_handed_in_where_the_program_takes_no_blocks() {
     let package = Package::new(TEXT);
     // The commands that come in are kept.
     let program = program::find(None).unwrap();
-    let space = package.open_with(&package.script(&format!("tee -a \"$folder/log\" | {}", program.display())));
+    let space =
+        package.open_with(&package.script(&crate::common::logged("\"$folder/log\"", &program.to_string_lossy())));
     let krate = number_of(&space);
     let given = package.given(&["set block", "remove block"]);
     let takes_blocks =

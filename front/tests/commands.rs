@@ -1,15 +1,13 @@
 //! Each command as one would call it, its output compared to the files in `expected/`. With the variable `UPDATE` set
 //! these files are written anew.
 
-mod common;
-
 use std::io::{BufRead, BufReader, Lines};
 use std::path::{Path, PathBuf};
 use std::process::{Child, ChildStdout, Command, Output, Stdio};
 
 #[cfg(unix)]
-use common::write_script;
-use common::{copy, market, own, package};
+use crate::common::write_script;
+use crate::common::{copy, market, own, package};
 use tempfile::TempDir;
 
 const REGISTRY: &str = "/usr/share/cargo/registry";
@@ -295,6 +293,23 @@ fn bad_input() {
     let made = run(folder.path(), &["check"]);
     assert_eq!(made.status.code(), Some(2));
     assert!(text(&made.stderr).contains("--online lets Cargo fetch what isn't there"), "{}", text(&made.stderr));
+}
+
+/// Nothing is run that a package brings: no build script, and nothing that its configuration has in rustc's place.
+#[cfg(unix)]
+#[test]
+fn what_a_package_brings_is_not_run() {
+    for key in ["rustc", "rustc-wrapper", "rustc-workspace-wrapper"] {
+        let folder = package(&[
+            ("src/lib.rs", ""),
+            ("build.rs", "fn main() { std::fs::write(\"ran\", \"\").unwrap(); }"),
+            (".cargo/config.toml", &format!("[build]\n{key} = \"./script\"\n")),
+        ]);
+        write_script(&folder.path().join("script"), "#!/bin/sh\ntouch ran\nexit 1\n");
+        let made = run(folder.path(), &["check", "--no-std"]);
+        assert_eq!(made.status.code(), Some(0), "{key}: {}", text(&made.stderr));
+        assert!(!folder.path().join("ran").exists(), "{key}");
+    }
 }
 
 /// Files and macros that can't be read are told, and the rest goes on.

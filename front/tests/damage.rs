@@ -1,10 +1,9 @@
 //! Damaged text: nothing panics, whatever a file holds.
 
-mod common;
-
 use std::path::Path;
 use std::sync::Arc;
 
+use crate::common::{own, Dice};
 use cargo_nogsimat::cfg::Options;
 use cargo_nogsimat::macros::Rules;
 use cargo_nogsimat::site::path_at;
@@ -12,7 +11,6 @@ use cargo_nogsimat::syntax::{unit_of, ItemKind};
 use cargo_nogsimat::token::{Hash, Position};
 use cargo_nogsimat::unit::build;
 use cargo_nogsimat::workspace::parse_text;
-use common::{own, Dice};
 
 /// The text with some pieces taken out, doubled, or replaced.
 fn damaged(text: &str, dice: &mut Dice) -> String {

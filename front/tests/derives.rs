@@ -1,11 +1,9 @@
 //! Derives of builtin macros, which are left out of what the program is handed where their names can mean nothing else.
 
-mod common;
-
 use std::path::{Path, PathBuf};
 
+use crate::common::{open, package};
 use cargo_nogsimat::workspace::Workspace;
-use common::{open, package};
 use serde_json::Value;
 use tempfile::TempDir;
 

@@ -1,14 +1,12 @@
 //! A session that takes edits tells what one tells that begins with the edited files.
 
-mod common;
-
 use std::path::PathBuf;
 
+use crate::common::{open, package};
 use cargo_nogsimat::program;
 use cargo_nogsimat::question::{Context, Question};
 use cargo_nogsimat::unit::steps_of;
 use cargo_nogsimat::workspace::Workspace;
-use common::{open, package};
 use tempfile::TempDir;
 
 /// All that a session tells of the package.
@@ -54,8 +52,14 @@ fn what_is_asked_after_an_edit() {
     let edited = write("above/src/lib.rs", text);
     let script = root.join("program");
     let begin = program::find(None).unwrap();
-    common::write_script(&script, &format!("#!/bin/sh\ntee -a {} | {}\n", root.join("log").display(), begin.display()));
-    let mut space = common::open_with(&root, &script);
+    crate::common::write_script(
+        &script,
+        &format!(
+            "#!/bin/sh\n{}\n",
+            crate::common::logged(&root.join("log").to_string_lossy(), &begin.to_string_lossy())
+        ),
+    );
+    let mut space = crate::common::open_with(&root, &script);
     let before = space.report().unwrap().diagnostics;
     std::fs::write(root.join("log"), "").unwrap();
     space.update_text(&edited, &format!("{text}pub fn added() {{}}\n")).unwrap();

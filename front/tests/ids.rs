@@ -1,16 +1,14 @@
 //! Ids that stay: an edit of one item changes the id of no other.
 
-mod common;
-
 use std::path::Path;
 use std::sync::Arc;
 
+use crate::common::Dice;
 use cargo_nogsimat::cfg::Options;
 use cargo_nogsimat::syntax::Item;
 use cargo_nogsimat::token::{Position, Span};
 use cargo_nogsimat::unit::{build, build_blocks, place_json, Built, BuiltBlock, Known};
 use cargo_nogsimat::workspace::parse_text;
-use common::Dice;
 
 fn built(text: &str) -> (Vec<Item>, Built, Vec<BuiltBlock>) {
     let key: Arc<str> = "file.rs".into();
@@ -64,14 +62,15 @@ fn an_edit_of_one_item_leaves_the_ids_of_the_others() {
         files.push(Path::new("/usr/share/cargo/registry").join(it));
     }
     files.retain(|it| it.is_file());
+    let texts: Vec<String> = files.iter().map(|it| std::fs::read_to_string(it).unwrap()).collect();
+    let unedited: Vec<_> = texts.iter().map(|it| built(it)).collect();
     let mut dice = Dice(7);
     let mut blocks = 0;
     for number in 0..100 {
-        let path = &files[number % files.len()];
-        let text = std::fs::read_to_string(path).unwrap();
-        let (items, before, blocks_before) = built(&text);
+        let (path, text) = (&files[number % files.len()], &texts[number % files.len()]);
+        let (items, before, blocks_before) = &unedited[number % files.len()];
         let item = &items[dice.below(items.len())];
-        let (start, end) = (offset(&text, item.span.start), offset(&text, item.span.end));
+        let (start, end) = (offset(text, item.span.start), offset(text, item.span.end));
         let old = &text[start..end];
         let (new, part) = match dice.below(4) {
             // A new item before it.
@@ -94,8 +93,8 @@ fn an_edit_of_one_item_leaves_the_ids_of_the_others() {
             None => behind(item.span.start, &new[..new.find('\n').unwrap()]),
         };
         let (part, new_part) = (part.unwrap_or(nowhere), Span { start: item.span.start, end: new_end });
-        assert_eq!(others(&before, part), others(&after, new_part), "edit {number} of {}", path.display());
-        let (wanted, found) = (other_blocks(&blocks_before, part), other_blocks(&blocks_after, new_part));
+        assert_eq!(others(before, part), others(&after, new_part), "edit {number} of {}", path.display());
+        let (wanted, found) = (other_blocks(blocks_before, part), other_blocks(&blocks_after, new_part));
         assert_eq!(wanted, found, "edit {number} of {}", path.display());
         blocks += wanted.len();
     }

@@ -6,18 +6,17 @@
 //! stands for the package's folder. `session.jsonl` is the recorded session of `lsp_edits.rs`.
 //! With the variable `UPDATE` set the files are written anew.
 
-mod common;
-
-use std::path::Path;
+use std::path::{Path, PathBuf};
 use std::process::Command;
 use std::time::Duration;
 
+use crate::common::client::{program, Client};
+#[cfg(unix)]
+use crate::common::write_script;
+use crate::common::{market, own};
 use cargo_nogsimat::lsp::message;
 use cargo_nogsimat::lsp::text::Text;
-use common::client::{program, Client};
-#[cfg(unix)]
-use common::write_script;
-use common::{market, own};
+use cargo_nogsimat::program::Program;
 use serde_json::{json, Value};
 
 /// Runs the messages of a file; answers the status with which the server ends.
@@ -91,6 +90,96 @@ fn answers_at_places() {
 #[test]
 fn imports_that_nothing_names() {
     assert_eq!(run("actions"), 1);
+}
+
+#[test]
+fn symbols_of_the_package() {
+    assert_eq!(run("found_symbols"), 1);
+}
+
+/// Whether the program lists the names of modules.
+fn lists_names() -> bool {
+    let mut program = Program::start(&program()).unwrap();
+    let ask = |it: &str| it.to_owned();
+    program.ask(ask("{\"do\":\"crates\",\"crates\":[]}")).unwrap();
+    program.ask(ask("{\"do\":\"names\",\"at\":[0]}")).unwrap()["error"] == "unknown place"
+}
+
+#[test]
+fn names_that_may_stand_next() {
+    if lists_names() {
+        assert_eq!(run("completion"), 1);
+    }
+}
+
+#[test]
+fn imports_that_are_missing() {
+    if lists_names() {
+        assert_eq!(run("imports"), 1);
+    }
+}
+
+/// What a path may begin with, by where it stands.
+#[test]
+fn first_names() {
+    if !lists_names() {
+        return;
+    }
+    let folder = market();
+    let mut client = Client::start(folder.path(), &[]);
+    client.initialize();
+    let name = "shop/src/report.rs";
+    client.open(name, "");
+    let mut labels = |line: &str| -> Vec<String> {
+        let text = format!("mod table;\nuse crate::price::{{tax, Price}};\n{}\n", line.replace('|', ""));
+        let document = json!({"uri": format!("file://DIR/{name}"), "version": 2});
+        let changes = json!([{"text": text}]);
+        client.notify("textDocument/didChange", json!({"textDocument": document, "contentChanges": changes}));
+        let made = client.at("textDocument/completion", name, (2, line.find('|').unwrap() as u32));
+        made.as_array().unwrap().iter().map(|it| it["label"].as_str().unwrap().to_owned()).collect()
+    };
+    let mut check = |line: &str, first: &[&str], among: &[&str], none: &[&str]| {
+        let made = labels(line);
+        assert!(made.iter().zip(first).all(|(made, wanted)| made == wanted), "{line}: {made:?}");
+        assert!(among.iter().all(|it| made.iter().any(|made| made == it)), "{line}: {made:?}");
+        assert!(!none.iter().any(|it| made.iter().any(|made| made == it)), "{line}: {made:?}");
+        let mut once = made.clone();
+        once.sort();
+        once.dedup();
+        assert_eq!(once.len(), made.len(), "{line}: {made:?}");
+    };
+    let own = ["Price", "f", "table", "tax"];
+    let of_std = ["Option", "Some", "Vec", "std", "codec", "crate", "self", "super"];
+    check("fn f() { | }", &own, &of_std, &["Item", "Clone!", "println", "alloc", "shop"]);
+    // Of the crate's macros one comes by an expansion.
+    check("fn f() { | }", &own, &["u8", "println!", "ids!", "line_end!"], &["test!", "codecs!"]);
+    check("use c|;", &["Price", "table", "tax"], &of_std, &["u8", "println!", "println", "ids!"]);
+    check("#[derive(|)] struct S;", &["table"], &["Clone", "codec"], &["Price", "println", "ids", "u8"]);
+    check("fn f() { |!(); }", &["table"], &["println", "ids", "codec"], &["Price", "Clone", "test"]);
+    check("fn f() { ::| }", &["codec", "core", "std"], &[], &["Price", "crate", "table"]);
+    check("fn f() { |::x; }", &["Price", "table"], &["Vec", "codec", "u8", "crate"], &["tax", "f", "println!"]);
+    check("fn f() { use crate::model::Item; | }", &["Item", "Price", "f"], &of_std, &[]);
+}
+
+/// A program that doesn't list names: nothing is offered by them, and the rest is answered.
+#[cfg(unix)]
+#[test]
+fn a_program_that_lists_no_names() {
+    let folder = market();
+    let script = folder.path().join("program");
+    let text = format!("#!/bin/sh\nsed -u 's/{{\"do\":\"names\"/{{\"do\":\"none\"/' | {}\n", program().display());
+    write_script(&script, &text);
+    let mut client = Client::start(folder.path(), &["--program", script.to_str().unwrap()]);
+    client.initialize();
+    let name = "shop/src/report.rs";
+    client.open(name, "use crate::price::{Price};\nfn f() { Order; }\n");
+    assert_eq!(client.at("textDocument/completion", name, (0, 19)), json!([]));
+    let place = json!({"line": 1, "character": 10});
+    let params = json!({
+        "textDocument": {"uri": format!("file://DIR/{name}")}, "range": {"start": place, "end": place}, "context": {},
+    });
+    assert_eq!(client.request("textDocument/codeAction", params), json!([]));
+    assert_eq!(client.at("textDocument/definition", name, (0, 20))[0]["uri"], "file://DIR/shop/src/price.rs");
 }
 
 #[test]
@@ -255,18 +344,42 @@ fn neovim() {
     assert_eq!(told, std::fs::read_to_string(&path).unwrap_or_default(), "{errors}");
 }
 
-/// The lines of the readme for Neovim 0.7, which newer ones still take.
-#[test]
-fn neovim_with_the_configuration_of_the_readme() {
+/// A file with the lines of the readme for Neovim 0.7, which newer ones still take.
+fn configuration(folder: &Path) -> PathBuf {
     let readme = std::fs::read_to_string(own("README.md")).unwrap();
     let (_, behind) = readme.split_once("```lua\n").unwrap();
     let (lines, _) = behind.split_once("```").unwrap();
+    let path = folder.join("init.lua");
+    std::fs::write(&path, lines).unwrap();
+    path
+}
+
+#[test]
+fn neovim_with_the_configuration_of_the_readme() {
     let folder = market();
-    let configuration = folder.path().join("init.lua");
-    std::fs::write(&configuration, lines).unwrap();
+    let configuration = configuration(folder.path());
     let made = in_neovim(folder.path(), configuration.to_str().unwrap(), "tests/lsp/configured.lua");
     if let Some((told, errors)) = made {
         assert_eq!(told, "client: nogsimat\ndiagnostics: 1\ngd: price.rs:2\n", "{errors}");
+    }
+}
+
+/// Names that Neovim's keys for it complete, with the configuration of the readme.
+#[test]
+fn completion_in_neovim() {
+    if !lists_names() {
+        return;
+    }
+    let folder = market();
+    let configuration = configuration(folder.path());
+    let made = in_neovim(folder.path(), configuration.to_str().unwrap(), "tests/lsp/completes.lua");
+    if let Some((told, errors)) = made {
+        let wanted = "fn f(price: u8) { Price::: of total; fn f(price: u8) { Price::of\n\
+                      fn g(cents: u8) { cen: cents; fn g(cents: u8) { cents\n\
+                      use crate::price::: Price tax; use crate::price::Price\n\
+                      use crate::model::Ord: Order OrderId; use crate::model::Order\n\
+                      fn f() { table::row(crate::model::Item::: Book Gift; fn f() { table::row(crate::model::Item::Book\n";
+        assert_eq!(told, wanted, "{errors}");
     }
 }
 
@@ -280,7 +393,8 @@ fn parameters_without_sense() {
     let text = std::fs::read_to_string(folder.path().join(name)).unwrap();
     client.open(name, &text);
     let uri = format!("file://DIR/{name}");
-    let methods = ["definition", "hover", "references", "documentSymbol"].map(|it| format!("textDocument/{it}"));
+    let methods = ["definition", "hover", "references", "documentSymbol", "completion"];
+    let methods = methods.map(|it| format!("textDocument/{it}"));
     let documents = [
         json!({"uri": uri}),
         json!({"uri": "file://DIR/shop"}),

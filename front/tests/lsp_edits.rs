@@ -1,14 +1,12 @@
 //! The language server under edits: random ones, and a recorded session of 200, each beside a fresh server.
 
-mod common;
-
 use std::collections::BTreeMap;
 use std::path::Path;
 
+use crate::common::client::Client;
+use crate::common::{market, own, Dice};
 use cargo_nogsimat::lsp::message;
 use cargo_nogsimat::lsp::text::Text;
-use common::client::Client;
-use common::{market, own, Dice};
 use serde_json::{json, Value};
 
 const FILES: [&str; 5] =

@@ -1,12 +1,10 @@
 //! What paths name at places of files: those that begin as a builtin type is called, and those in macro calls.
 
-mod common;
-
 use std::path::PathBuf;
 
+use crate::common::{open, package};
 use cargo_nogsimat::token::Position;
 use cargo_nogsimat::workspace::Workspace;
-use common::{open, package};
 use tempfile::TempDir;
 
 /// A session over a package of one file, in which words that are asked stand in `«»`.
@@ -192,6 +190,8 @@ pub mod shapes {
     impl Area for Circle { const UNIT: u8 = 1; type Number = u8; fn area(&self) {} }
     impl Area for &Kind { const UNIT: u8 = 1; type Number = u8; fn area(&self) {} }
     impl Other { fn first() {} }
+    pub trait Named { fn named(&self); }
+    impl Named for Alias { fn named(&self) {} }
     impl<T> Boxed<T> where T: Area { pub fn of(it: T) {} }
     flags! { Flags }
 }
@@ -208,6 +208,7 @@ fn h() { Kind::«first»; Other::«Round»; Kinds::<u8>::«Round»; Kinds::«fir
 fn i() { <Circle as Area>::«area»; <Circle>::«new»; <Boxed<u8>>::«of»; return <Circle as shapes::Area>::«UNIT»; }
 fn j() { struct Local; type L = Local; impl Local { fn inner() {} } Local::«inner»; L::«inner»; }
 fn k() { Circle::«gone»; Kind::«area»; Area::«gone»; Kind::Round::«first»; Circle::new::«x»; u8::«MAX»; Kind::«Round»; }
+fn m() { Circle::«named»; Alias::«named»; }
 fn l() -> <Circle as Area>::«Number» { let x: Circle::«Number» = 1; x }
 ";
     let mut asked = Asked::open(&format!("{MEMBERS}{calls}"));
@@ -244,6 +245,8 @@ fn l() -> <Circle as Area>::«Number» { let x: Circle::«Number» = 1; x }
         "one: struct one::shapes::Circle up to new",
         "one: builtin type u8 up to MAX",
         "one: variant one::shapes::Kind::Round",
+        "one: associated function one::shapes::Circle::named",
+        "one: associated function one::shapes::Circle::named",
         "one: associated type one::shapes::Area::Number",
         "one: associated type one::shapes::Circle::Number",
     ];
@@ -256,6 +259,31 @@ fn l() -> <Circle as Area>::«Number» { let x: Circle::«Number» = 1; x }
         changed[it] = changed[it].replace("function", "constant");
     }
     assert_eq!(asked.answers(), changed);
+}
+
+/// A derive counts as an impl of the trait that its path names.
+#[test]
+fn items_of_traits_that_are_derived() {
+    let items = "\
+mod m { pub trait Shape { const SIDES: u8; fn shape() {} } pub use self::Shape as Form; }
+use m::Shape;
+#[derive(Shape)] struct Square;
+#[derive(Clone)] #[cfg_attr(all(), derive(Missing, m::Form))] enum Circle { Shape }
+#[cfg_attr(any(), derive(Shape))] struct Line;
+impl Square { fn shape() {} }
+fn f() { Square::«shape»; Square::«SIDES»; Circle::«shape»; Circle::«SIDES»; Line::«shape»; }
+fn g() { use m::Shape as Own; #[derive(Own)] struct Inner; Inner::«shape» }
+";
+    let wanted = [
+        "one: associated function one::Square::shape",
+        "one: associated constant one::m::Shape::SIDES",
+        "one: associated function one::m::Shape::shape",
+        "one: associated constant one::m::Shape::SIDES",
+        "one: struct one::Line up to shape",
+        // Items of bodies are kept without such attributes.
+        "one::g: struct one::g::Inner up to shape",
+    ];
+    assert_eq!(Asked::open(items).answers(), wanted);
 }
 
 /// Where such an item stands, in which impl, and who sees it.

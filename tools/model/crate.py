@@ -71,14 +71,16 @@ BUILTIN = {name: Builtin(name) for name in BUILTINS}
 
 
 class Module:
-    """A module of a map. `file` is that of its definition; a block's root has that of the module that holds the block."""
+    """A module of a map. `file` is that of its definition; a block's root has that of the module that holds the block. `own` is
+    the file that it has to itself, if it has one."""
 
     def __init__(self, map_, parent, item, directory, file):
         self.map, self.parent, self.item, self.directory, self.file = map_, parent, item, directory, file
-        self.krate = map_.crate
+        self.krate, self.own, self.name = map_.crate, None, None
+        map_.modules.append(self)
         self.children = {}
         self.scope = {kind: {} for kind in KINDS}
-        # names that were pushed with nothing; traits without a name, each with its visibility and whether an import brought it
+        # names that were pushed with nothing; traits without a name, each with its visibility and the import that brought it
         self.unresolved, self.unnamed = set(), {}
         self.impls = []
         # the macros in textual scope, of each name all in their order
@@ -106,6 +108,19 @@ class Module:
 
     def text(self):
         return self.map.root_text() if self.item is None else self.item.text()
+
+    def place(self):
+        """The place of a module of a crate's map; None where another module has its name, or the name of one around it."""
+        if self.parent is None:
+            return [self.krate.number]
+        above = self.parent.place()
+        return above + [self.name] if above is not None and self.parent.children[self.name] is self else None
+
+    def names(self):
+        """Each name with what it stands for in each namespace, and then the traits without a name."""
+        names = sorted(self.unresolved.union(*self.scope.values()), key=str.encode)
+        named = [(name, {ns: self.scope[ns][name] for ns in KINDS if name in self.scope[ns]}) for name in names]
+        return named + [("_", {"types": Binding(trait, vis, by)}) for trait, (vis, by) in self.unnamed.items()]
 
 
 class Binding:
@@ -167,7 +182,7 @@ class Crate:
         self.run()
 
     def begin(self):
-        self.imports, self.calls, self.edges, self.diagnostics, self.asked = [], [], [], [], {}
+        self.imports, self.calls, self.edges, self.diagnostics, self.asked, self.modules = [], [], [], [], {}, []
         self.helpers, self.derived, self.exported = {}, [], []
 
     def root_text(self):
@@ -203,6 +218,7 @@ class Crate:
         no_core = "no_core" in flags
         no_std = "no_std" in flags or no_core
         self.root = Module(self, None, None, ("", False, 0), self.fields["root"])
+        self.root.own = self.fields["root"]
         self.extern_prelude, self.macro_use, self.prelude = {}, {}, None
         for dependency in self.fields.get("deps", []):
             name = dependency["name"]
@@ -548,6 +564,7 @@ class Crate:
                 attrs = attrs + inner_attrs
                 plain = path is None and not file.endswith("/mod.rs") and file != "mod.rs"
                 child = self.declare(node, at, item, (name + "/" if plain else "", plain, deep + 1), file)
+                child.own = file
                 self.walk(unit.get("nodes", []), child, Source(file), 1)
                 break
             if child is None:
@@ -559,6 +576,7 @@ class Crate:
 
     def declare(self, node, at, item, directory, file):
         module = Module(self, at, item, directory, file)
+        module.name = node["name"]
         at.children.setdefault(node["name"], module)
         self.push(at, node["name"], {"types": Binding(module, self.written(node.get("vis"), at))}, None)
         return module
@@ -830,11 +848,11 @@ class Crate:
             for trait in source.unnamed:
                 self.unnamed_along(edge, trait)
 
-    def push_unnamed(self, at, trait, vis, is_import):
+    def push_unnamed(self, at, trait, vis, by):
         """Keeps a trait without a name, once; of two visibilities the greater."""
         old = at.unnamed.get(trait)
         if old is None:
-            at.unnamed[trait] = [vis, is_import]
+            at.unnamed[trait] = [vis, by]
         else:
             wide = self.compare(old[0], vis, False)
             if wide is None or wide == old[0]:
@@ -848,7 +866,7 @@ class Crate:
         vis = edge.source.unnamed[trait][0]
         is_shown = self.sees(vis, edge.importer) if edge.source.krate is self.crate else vis == "pub"
         if is_shown:
-            self.push_unnamed(edge.importer, trait, self.compare(edge.vis, vis, True) or edge.vis, False)
+            self.push_unnamed(edge.importer, trait, self.compare(edge.vis, vis, True) or edge.vis, None)
 
     def take(self, import_):
         """Tries an import; whether it was taken."""
@@ -890,7 +908,7 @@ class Crate:
         elif import_.is_unnamed and "types" in found:
             trait = found["types"].definition
             if isinstance(trait, Item) and trait.kind == "Trait":
-                self.push_unnamed(at, trait, own, True)
+                self.push_unnamed(at, trait, own, ("import", import_.item, import_.place))
         return True
 
     def settle(self):
@@ -908,7 +926,7 @@ class Crate:
         return "\n".join(lines) + "\n" + ("" if self.holder is None else "\n" + self.holder.map.dump())
 
     def lines(self, path, at):
-        lines = [path] + ["- _ : type" + (" (import)" if is_import else "") for _, is_import in at.unnamed.values()]
+        lines = [path] + ["- _ : type" + (" (import)" if by is not None else "") for _, by in at.unnamed.values()]
         for name in sorted(at.unresolved.union(*at.scope.values()), key=str.encode):
             words = ""
             for ns in KINDS:

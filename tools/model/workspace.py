@@ -131,6 +131,8 @@ class Workspace:
             return {"error": status + " place"}
         if command["do"] == "dump":
             return {"ok": at.map.dump()}
+        if command["do"] == "names":
+            return {"ok": [{"name": name, **{ns: self.answer(found.get(ns)) for ns in KINDS}} for name, found in at.names()]}
         if command["do"] == "impl items":
             number = command["impl"]
             return {"ok": at.map.held(at.impls[number])} if number < len(at.impls) else {"error": "no such impl"}
@@ -194,14 +196,21 @@ class Workspace:
             return {"ok": self.refresh()}
         if do == "status":
             return {"ok": self.status(read_place(command["at"]))[0]}
-        if do in ("resolve", "dump", "trait items", "impl items"):
+        if do in ("resolve", "dump", "names", "trait items", "impl items"):
             return self.ask(command)
-        if do == "diagnostics":
+        if do == "modules" and "file" in command:
+            file = fold(command["file"])
+            modules = [module for number in sorted(self.maps) for module in self.maps[number].modules if module.own == file]
+            return {"ok": [place for place in (module.place() for module in modules) if place is not None]}
+        if do in ("diagnostics", "modules"):
             if command["crate"] >= len(self.crates):
                 return {"error": "unknown crate"}
             if command["crate"] not in self.maps:
                 return {"error": "stale place"}
-            return {"ok": self.maps[command["crate"]].diagnostics}
+            krate = self.maps[command["crate"]]
+            if do == "diagnostics":
+                return {"ok": krate.diagnostics}
+            return {"ok": [place for place in (module.place() for module in krate.modules) if place is not None]}
         return None
 
 

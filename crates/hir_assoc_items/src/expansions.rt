@@ -11,7 +11,7 @@ ghost use Rattle.hir_assoc_items.specs.Steps.{SeesCall, container_view};
 
 use crate::container::Container;
 use crate::error::AssocItemsError;
-use crate::sources::{input_at, is_meant, source_at, text_at};
+use crate::sources::{input_at, is_meant, text_at};
 use hir_base::ast_id::{AstId, HirFileId, MacroCallId};
 use hir_base::ids::{Crate, HasModule};
 use hir_base::macro_kind::{
@@ -19,6 +19,7 @@ use hir_base::macro_kind::{
 };
 use hir_base::text::Text;
 use hir_collector_rules::source_database::{ExpansionLook, SourceDatabase};
+use hir_collector_start::sources::source_at;
 use hir_def_map::def_maps::DefMaps;
 use hir_item_tree::source_tree::SourceTree;
 use hir_item_tree::tree_id::{TreeId, TreeKey};

@@ -7,7 +7,7 @@ ghost use Rattle.std.specs.Cmp.Rules.{comparing, hashing};
 ghost use Rattle.std.proofs.Common.{rules};
 ghost use Rattle.std.specs.Fmt.{debug_str};
 ghost use Rattle.std.specs.Hash as fed;
-ghost use Rattle.hir_base.specs.Head.{head_of, AreBytes};
+ghost use Rattle.hir_base.specs.Head.{head_of, rest_of, AreBytes};
 ghost use Rattle.std.specs.Rc.{rc_str_bytes};
 ghost use Rattle.hir_base.specs.BuiltinType.{builtin_text};
 
@@ -29,11 +29,13 @@ pub(crate) enum Kept {
     Shared(RcStr),
 }
 
-/// A text with its first eight bytes as a number, by which most texts are told apart without a look at their bytes.
+/// A text with its first fifteen bytes and its length, up to 16, as two numbers. They tell texts apart and put them in order
+/// without a look at their bytes, but for two that are longer than fifteen bytes and begin with the same.
 #[derive(Drop)]
 pub(crate) struct Headed {
     kept: Kept,
     head: u64,
+    rest: u64,
 }
 
 impl Model for Headed {
@@ -41,12 +43,12 @@ impl Model for Headed {
 
     ghost Value = { List ℕ };
 
-    ghost use Rattle.hir_base.specs.Head.{head_of, AreBytes};
+    ghost use Rattle.hir_base.specs.Head.{head_of, rest_of, AreBytes};
     ghost use Rattle.hir_base.specs.Text.{kept_bytes};
 
     ghost view = { λ t. kept_bytes t.kept };
 
-    ghost invariant = { λ t. (t.head ≡ head_of (kept_bytes t.kept)) × AreBytes (kept_bytes t.kept) };
+    ghost invariant = { λ t. (t.head ≡ head_of (kept_bytes t.kept)) × (t.rest ≡ rest_of (kept_bytes t.kept)) × AreBytes (kept_bytes t.kept) };
 }
 
 /// The byte at a place, 0 behind the end.
@@ -76,14 +78,35 @@ fn head_of(text: &str) -> u64
     seven * 256 + byte_at(bytes, 7)
 }
 
+/// The next seven bytes as a number, and behind them the length, 16 where it is greater.
+fn rest_of(text: &str) -> u64
+    ensures value { result ≡ rest_of text.now }
+{
+    let bytes = text.as_bytes();
+    let length = if bytes.len() < 16 {
+        bytes.len() as u64
+    } else {
+        16
+    };
+    let two = byte_at(bytes, 8) * 256 + byte_at(bytes, 9);
+    let three = two * 256 + byte_at(bytes, 10);
+    let four = three * 256 + byte_at(bytes, 11);
+    let five = four * 256 + byte_at(bytes, 12);
+    let six = five * 256 + byte_at(bytes, 13);
+    let seven = six * 256 + byte_at(bytes, 14);
+    seven * 256 + length
+}
+
 impl Headed {
     fn shared(text: RcStr) -> Headed
         ensures value { result ≡ rc_str_bytes text }
     {
         let head = head_of(text.as_str());
+        let rest = rest_of(text.as_str());
         Headed {
             kept: Kept::Shared(text),
             head,
+            rest,
         }
     }
 
@@ -93,6 +116,7 @@ impl Headed {
         Headed {
             kept: Kept::Blank,
             head: head_of("blank"),
+            rest: rest_of("blank"),
         }
     }
 
@@ -102,6 +126,7 @@ impl Headed {
         Headed {
             kept: Kept::Builtin(builtin),
             head: head_of(builtin.as_str()),
+            rest: rest_of(builtin.as_str()),
         }
     }
 
@@ -110,6 +135,13 @@ impl Headed {
         ensures bytes { AreBytes self.now }
     {
         self.head
+    }
+
+    fn rest(&self) -> u64
+        ensures value { result ≡ rest_of self.now }
+        ensures bytes { AreBytes self.now }
+    {
+        self.rest
     }
 
     fn as_str(&self) -> &str
@@ -133,6 +165,7 @@ impl Headed {
         Ok(Headed {
             kept,
             head: self.head,
+            rest: self.rest,
         })
     }
 }
@@ -193,12 +226,40 @@ impl Text {
         self.kept.as_str()
     }
 
-    /// How two texts compare, by all their bytes.
+    /// How two texts compare whose first eight bytes are equal.
     #[inline(never)]
-    fn cmp_whole(&self, other: &Text) -> Ordering
+    fn cmp_behind(&self, other: &Text) -> Ordering
+        requires heads { head_of self.now ≡ head_of other.now }
         ensures value { result ≡ slice_cmp nat_cmp self.now other.now }
     {
+        let rest = self.kept.rest();
+        let other_rest = other.kept.rest();
+        if rest < other_rest {
+            return Ordering::Less;
+        }
+        if rest > other_rest {
+            return Ordering::Greater;
+        }
+        if rest % 256 < 16 {
+            return Ordering::Equal;
+        }
         self.as_str().cmp(other.as_str())
+    }
+
+    /// Whether two texts are equal whose first eight bytes are.
+    #[inline(never)]
+    fn is_same_behind(&self, other: &Text) -> bool
+        requires heads { head_of self.now ≡ head_of other.now }
+        ensures value { result ≡ pointwise nat_eq self.now other.now }
+    {
+        let rest = self.kept.rest();
+        if rest != other.kept.rest() {
+            return false;
+        }
+        if rest % 256 < 16 {
+            return true;
+        }
+        self.as_str() == other.as_str()
     }
 
     /// The same text, which both then keep.
@@ -218,7 +279,7 @@ impl PartialEq for Text {
 
     #[inline(always)]
     fn eq(&self, other: &Text) -> bool {
-        self.kept.head() == other.kept.head() && self.as_str() == other.as_str()
+        self.kept.head() == other.kept.head() && self.is_same_behind(other)
     }
 }
 
@@ -246,7 +307,7 @@ impl Ord for Text {
         if head > other_head {
             return Ordering::Greater;
         }
-        self.cmp_whole(other)
+        self.cmp_behind(other)
     }
 }
 

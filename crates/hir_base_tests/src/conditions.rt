@@ -38,14 +38,15 @@ const ATOMS: [(&str, Option<&str>, bool); 4] = [
 
 fn is_set(alloc: Global, key: &str, value: Option<&str>) -> Result<bool, Fail> {
     let atom = atom(alloc, key, value)?;
-    Ok(options(alloc)?.check_atom(&atom))
+    let options = options(alloc)?;
+    Ok(options.check_atom(&atom))
 }
 
 #[test]
 fn options_that_are_set(rt: HostRuntime) -> Result<(), Fail> {
-    for (key, value, wanted) in ATOMS {
+    for &(key, value, wanted) in &ATOMS {
         let found = is_set(rt.alloc(), key, value)?;
-        assert_eq!(rt; found, wanted, "{key}");
+        assert!(rt; found == wanted, "{key}");
     }
     Ok(())
 }
@@ -90,14 +91,15 @@ const CONDITIONS: [(&str, &[&str], Option<bool>); 6] = [
 
 fn checked(alloc: Global, words: &[&str]) -> Result<Option<bool>, Fail> {
     let condition = condition(alloc, words)?;
-    Ok(options(alloc)?.check(&condition))
+    let options = options(alloc)?;
+    Ok(options.check(&condition))
 }
 
 #[test]
 fn conditions_of_parts(rt: HostRuntime) -> Result<(), Fail> {
-    for (label, words, wanted) in CONDITIONS {
+    for &(label, words, wanted) in &CONDITIONS {
         let found = checked(rt.alloc(), words)?;
-        assert_eq!(rt; found, wanted, "{label}");
+        assert!(rt; found == wanted, "{label}");
     }
     Ok(())
 }

@@ -77,7 +77,7 @@ fn is_in_the_module(rt: &impl Abort, label: &str, loc: ItemLoc<ItemContainerId>)
 /// An item's module is the one that holds it, or what it is in.
 #[test]
 fn modules_of_what_items_are_in(rt: HostRuntime) {
-    for (label, container) in CONTAINERS {
+    for &(label, container) in &CONTAINERS {
         is_in_the_module(&rt, label, held_by(container));
     }
 }
@@ -185,7 +185,7 @@ fn roots_of_maps(rt: HostRuntime) {
     assert!(rt; map.block.is_none());
     let root = ModuleId::root(map);
     assert!(rt; root.map == map);
-    assert_eq!(rt; root.index, 0);
+    assert!(rt; root.index == 0);
 }
 
 /// What expands a macro, and whether it may be called as a function's, an attribute's and a derive's.
@@ -211,15 +211,15 @@ const PROC_STYLES: [(ProcMacroStyle, bool, bool, bool); 3] = [
 
 fn has_styles(rt: &impl Abort, makro: MacroId, bang: bool, attr: bool, derive: bool) {
     let styles = macro_styles_from_id(makro);
-    assert_eq!(rt; styles.contains(MacroCallStyles::FN_LIKE), bang);
-    assert_eq!(rt; styles.contains(MacroCallStyles::ATTR), attr);
-    assert_eq!(rt; styles.contains(MacroCallStyles::DERIVE), derive);
+    assert!(rt; styles.contains(MacroCallStyles::FN_LIKE) == bang);
+    assert!(rt; styles.contains(MacroCallStyles::ATTR) == attr);
+    assert!(rt; styles.contains(MacroCallStyles::DERIVE) == derive);
 }
 
 /// A macro has the styles of what expands it.
 #[test]
 fn styles_of_macros(rt: HostRuntime) {
-    for (expander, bang, attr, derive) in STYLES {
+    for &(expander, bang, attr, derive) in &STYLES {
         has_styles(&rt, makro(expander), bang, attr, derive);
         let item = Macro2Id {
             loc: location(expander),
@@ -231,7 +231,7 @@ fn styles_of_macros(rt: HostRuntime) {
 /// A procedural macro has its own.
 #[test]
 fn styles_of_procedural_macros(rt: HostRuntime) {
-    for (style, bang, attr, derive) in PROC_STYLES {
+    for &(style, bang, attr, derive) in &PROC_STYLES {
         has_styles(&rt, proc_macro(style), bang, attr, derive);
     }
 }

@@ -18,8 +18,8 @@ fn same_text(rt: &impl Abort, row: &str, shown: &str, wanted: &str) {
     assert_eq!(rt; shown, wanted, "{row}");
 }
 
-fn is_name(rt: &impl Abort, alloc: Global, row: &'static str, text: &str) -> Result<(), Fail> {
-    let name = Name::new(alloc, text).map_err(|_| row)?;
+fn is_name(rt: &impl Abort, alloc: Global, row: &str, text: &str) -> Result<(), Fail> {
+    let name = Name::new(alloc, text)?;
     same_text(rt, row, name.as_str(), text);
     Ok(())
 }
@@ -29,8 +29,8 @@ fn a_name_is_its_text(rt: HostRuntime) -> Result<(), Fail> {
     is_name(&rt, rt.alloc(), "other letters", "größe")
 }
 
-fn path_of(alloc: Global, text: &'static str) -> Result<ModPath, Fail> {
-    Ok(ModPath::parse(alloc, text).map_err(|_| text)?)
+fn path_of(alloc: Global, text: &str) -> Result<ModPath, Fail> {
+    Ok(ModPath::parse(alloc, text)?)
 }
 
 fn verbatim(alloc: Global, path: ModPath) -> Result<String, AllocError> {
@@ -40,64 +40,68 @@ fn verbatim(alloc: Global, path: ModPath) -> Result<String, AllocError> {
 fn is_path(
     rt: &impl Abort,
     alloc: Global,
-    text: &'static str,
+    text: &str,
     segments: usize,
     written: &str,
 ) -> Result<(), Fail> {
     let path = path_of(alloc, text)?;
-    assert_eq!(rt; path.segments().len(), segments);
+    assert!(rt; path.segments().len() == segments);
     let shown = verbatim(alloc, path)?;
     same_text(rt, text, shown.as_str(), written);
     Ok(())
 }
 
+/// Texts of paths, how many segments they have, and how they are written.
+const PATHS: [(&str, usize, &str); 12] = [
+    ("", 0, ""),
+    ("::", 0, "::"),
+    ("a::b", 2, "a::b"),
+    ("::a::b", 2, "::a::b"),
+    ("crate", 0, "crate"),
+    ("crate::a", 1, "crate::a"),
+    ("$3::a", 1, "$3::a"),
+    ("$007", 0, "$7"),
+    ("self::a", 1, "self::a"),
+    ("self::super", 0, "super"),
+    ("super::super::a", 1, "super::super::a"),
+    ("fn::async", 2, "fn::async"),
+];
+
 /// Each text is read as a path, which is written as the other text.
 #[test]
 fn paths_read_and_written(rt: HostRuntime) -> Result<(), Fail> {
-    let rows = [
-        ("", 0, ""),
-        ("::", 0, "::"),
-        ("a::b", 2, "a::b"),
-        ("::a::b", 2, "::a::b"),
-        ("crate", 0, "crate"),
-        ("crate::a", 1, "crate::a"),
-        ("$3::a", 1, "$3::a"),
-        ("$007", 0, "$7"),
-        ("self::a", 1, "self::a"),
-        ("self::super", 0, "super"),
-        ("super::super::a", 1, "super::super::a"),
-        ("fn::async", 2, "fn::async"),
-    ];
-    for (text, segments, written) in rows {
+    for &(text, segments, written) in &PATHS {
         is_path(&rt, rt.alloc(), text, segments, written)?;
     }
     Ok(())
 }
 
-fn in_edition(alloc: Global, text: &'static str, edition: Edition) -> Result<String, Fail> {
+fn in_edition(alloc: Global, text: &str, edition: Edition) -> Result<String, Fail> {
     let path = path_of(alloc, text)?;
     Ok(path.display(edition).to_string(alloc)?)
 }
 
+/// Texts of paths, and how they are written in an edition.
+const IN_EDITIONS: [(&str, Edition, &str); 6] = [
+    ("crate::fn::a", Edition::Edition2015, "crate::r#fn::a"),
+    ("::match", Edition::Edition2024, "::r#match"),
+    ("super::async", Edition::Edition2015, "super::async"),
+    ("super::async", Edition::Edition2018, "super::r#async"),
+    ("gen::dyn", Edition::Edition2021, "gen::r#dyn"),
+    ("gen::dyn", Edition::Edition2024, "r#gen::r#dyn"),
+];
+
 #[test]
 fn paths_of_an_edition(rt: HostRuntime) -> Result<(), Fail> {
-    let rows = [
-        ("crate::fn::a", Edition::Edition2015, "crate::r#fn::a"),
-        ("::match", Edition::Edition2024, "::r#match"),
-        ("super::async", Edition::Edition2015, "super::async"),
-        ("super::async", Edition::Edition2018, "super::r#async"),
-        ("gen::dyn", Edition::Edition2021, "gen::r#dyn"),
-        ("gen::dyn", Edition::Edition2024, "r#gen::r#dyn"),
-    ];
-    for (text, edition, written) in rows {
+    for &(text, edition, written) in &IN_EDITIONS {
         let shown = in_edition(rt.alloc(), text, edition)?;
         same_text(&rt, text, shown.as_str(), written);
     }
     Ok(())
 }
 
-fn is_file(rt: &impl Abort, alloc: Global, text: &'static str, folded: &str) -> Result<(), Fail> {
-    let file = FilePath::parse(alloc, text).map_err(|_| text)?;
+fn is_file(rt: &impl Abort, alloc: Global, text: &str, folded: &str) -> Result<(), Fail> {
+    let file = FilePath::parse(alloc, text)?;
     same_text(rt, text, file.as_str(), folded);
     Ok(())
 }
@@ -110,8 +114,8 @@ fn a_file_is_normalized(rt: HostRuntime) -> Result<(), Fail> {
 /// The names of all builtin types.
 fn names_of_builtin_types(alloc: Global) -> Result<String, AllocError> {
     let mut shown = String::new(alloc);
-    for (at, builtin) in all_builtin_types().into_iter().enumerate() {
-        if at > 0 {
+    for builtin in &all_builtin_types() {
+        if !shown.is_empty() {
             shown.push(' ')?;
         }
         shown.push_str(builtin.as_str())?;
@@ -121,7 +125,7 @@ fn names_of_builtin_types(alloc: Global) -> Result<String, AllocError> {
 
 /// The builtin type with the name of this one.
 fn named_alike(alloc: Global, builtin: BuiltinType) -> Result<Option<BuiltinType>, Fail> {
-    let name = Name::new(alloc, builtin.as_str()).map_err(|_| "a name")?;
+    let name = Name::new(alloc, builtin.as_str())?;
     Ok(BuiltinType::by_name(&name))
 }
 
@@ -132,9 +136,9 @@ fn builtin_types_by_name(rt: HostRuntime) -> Result<(), Fail> {
         "char bool str isize i8 i16 i32 i64 i128 usize u8 u16 u32 u64 u128 f16 f32 f64 f128";
     let shown = names_of_builtin_types(rt.alloc())?;
     same_text(&rt, "all", shown.as_str(), names);
-    for (at, builtin) in all_builtin_types().into_iter().enumerate() {
-        let found = named_alike(rt.alloc(), builtin)?;
-        assert_eq!(rt; found, Some(builtin), "{at}");
+    for builtin in &all_builtin_types() {
+        let found = named_alike(rt.alloc(), *builtin)?;
+        assert!(rt; found == Some(*builtin));
     }
     Ok(())
 }
@@ -151,9 +155,9 @@ fn by_its_own_name(
 /// They are shown by the names that they lend.
 #[test]
 fn builtin_types_as_names(rt: HostRuntime) -> Result<(), Fail> {
-    for builtin in all_builtin_types() {
-        let (found, shown) = by_its_own_name(rt.alloc(), builtin)?;
-        assert_eq!(rt; found, Some(builtin));
+    for builtin in &all_builtin_types() {
+        let (found, shown) = by_its_own_name(rt.alloc(), *builtin)?;
+        assert!(rt; found == Some(*builtin));
         same_text(&rt, "as it is shown", shown.as_str(), builtin.as_str());
     }
     Ok(())
@@ -173,19 +177,27 @@ fn types_by_suffix(
     )
 }
 
+/// Texts, and the types of which they are suffixes.
+const SUFFIXES: [(
+    &str,
+    Option<BuiltinInt>,
+    Option<BuiltinUint>,
+    Option<BuiltinFloat>,
+); 7] = [
+    ("i8", Some(BuiltinInt::I8), None, None),
+    ("isize", Some(BuiltinInt::Isize), None, None),
+    ("u128", None, Some(BuiltinUint::U128), None),
+    ("f64", None, None, Some(BuiltinFloat::F64)),
+    ("char", None, None, None),
+    ("u7", None, None, None),
+    ("", None, None, None),
+];
+
 #[test]
 fn suffixes_of_literals(rt: HostRuntime) {
-    let rows = [
-        ("i8", Some(BuiltinInt::I8), None, None),
-        ("isize", Some(BuiltinInt::Isize), None, None),
-        ("u128", None, Some(BuiltinUint::U128), None),
-        ("f64", None, None, Some(BuiltinFloat::F64)),
-        ("char", None, None, None),
-        ("u7", None, None, None),
-        ("", None, None, None),
-    ];
-    for (suffix, int, uint, float) in rows {
-        assert_eq!(rt; types_by_suffix(suffix), (int, uint, float), "{suffix}");
+    for &(suffix, int, uint, float) in &SUFFIXES {
+        let found = types_by_suffix(suffix);
+        assert!(rt; found == (int, uint, float), "{suffix}");
     }
 }
 
@@ -200,18 +212,20 @@ fn types_by_suffix_name(
     ))
 }
 
+/// Names, and the types of which they are suffixes.
+const NAMED_SUFFIXES: [(&str, Option<BuiltinInt>, Option<BuiltinUint>); 4] = [
+    ("i8", Some(BuiltinInt::I8), None),
+    ("usize", None, Some(BuiltinUint::Usize)),
+    ("f64", None, None),
+    ("u7", None, None),
+];
+
 /// The same of suffixes that are names.
 #[test]
 fn names_as_suffixes(rt: HostRuntime) -> Result<(), Fail> {
-    let rows = [
-        ("i8", Some(BuiltinInt::I8), None),
-        ("usize", None, Some(BuiltinUint::Usize)),
-        ("f64", None, None),
-        ("u7", None, None),
-    ];
-    for (suffix, int, uint) in rows {
+    for &(suffix, int, uint) in &NAMED_SUFFIXES {
         let found = types_by_suffix_name(rt.alloc(), suffix)?;
-        assert_eq!(rt; found, (int, uint), "{suffix}");
+        assert!(rt; found == (int, uint), "{suffix}");
     }
     Ok(())
 }
@@ -285,7 +299,7 @@ fn in_the_latest_edition(alloc: Global, path: &ModPath) -> Result<String, AllocE
 #[test]
 fn path_of_parts(rt: HostRuntime) -> Result<(), Fail> {
     let path = behind_self(rt.alloc(), "gen")?;
-    assert_eq!(rt; path.kind(), PathKind::Super(0));
+    assert!(rt; path.kind() == PathKind::Super(0));
     let shown = in_the_latest_edition(rt.alloc(), &path)?;
     same_text(&rt, "its text", shown.as_str(), "self::r#gen");
     Ok(())

@@ -24,20 +24,20 @@ fn number_of(alloc: Global, table: &mut Locations<Name>, text: &str) -> Result<u
 /// A table of the names, each of which got its number.
 fn filled(rt: &impl Abort, alloc: Global) -> Result<Locations<Name>, Fail> {
     let mut table = Locations::new(alloc);
-    for (text, wanted) in ROWS {
+    for &(text, wanted) in &ROWS {
         let number = number_of(alloc, &mut table, text)?;
-        assert_eq!(rt; number, wanted, "{text}");
+        assert!(rt; number == wanted, "{text}");
     }
     Ok(table)
 }
 
 fn has_the_names(rt: &impl Abort, table: &Locations<Name>) {
-    for (text, number) in ROWS {
-        assert_eq!(rt;
-            table.get(number).map(|name| name.as_str()),
-            Some(text),
-            "{number}"
-        );
+    for &(text, number) in &ROWS {
+        let has_it = match table.get(number) {
+            Some(name) => name.as_str() == text,
+            None => false,
+        };
+        assert!(rt; has_it, "{text}");
     }
 }
 
@@ -46,6 +46,6 @@ fn numbers_of_names(rt: HostRuntime) -> Result<(), Fail> {
     let table = filled(&rt, rt.alloc())?;
     has_the_names(&rt, &table);
     assert!(rt; table.get(3).is_none(), "a number that no name has");
-    assert_eq!(rt; table.len(), 3, "names that differ");
+    assert!(rt; table.len() == 3, "names that differ");
     Ok(())
 }

@@ -1,58 +1,38 @@
 -- What is idle once slots are woken, and what it watches.
-use Rattle.std.proofs.Common.{◌≡◌, ◌∙◌, ap, sym, subst, ℕ, ◌==◌, Bool, true, false, ◌||◌, List, Option, None, Some, refl, arith}
-use Rattle.std.proofs.lemmas.Bool.Decides.{nat_tests}
+use Rattle.std.proofs.Common.{◌≡◌, sym, subst, ℕ, ◌==◌, true, false, List, Option, None, Some, refl}
 use Rattle.std.specs.List.{All}
+use Rattle.hir_base.specs.contracts.ast_id.AstIdOrd.TheImpl.Laws.{total-law as item_total}
 use Rattle.hir_base.specs.declared.ast_id.AstId.{AstId}
 use Rattle.hir_def_map.specs.contracts.nameres.path_resolution.slots.SlotOrd.TheImpl.Laws.{total-law as slot_total}
 use Rattle.hir_def_map.specs.declared.nameres.path_resolution.slots.Slot.{Slot as PathSlot}
 use Rattle.hir_worklist.proofs.Idle.{idle-woken}
 use Rattle.hir_worklist.proofs.Settled.{IsUnread}
 use Rattle.hir_worklist.specs.Moves.{Wakes}
-use Rattle.hir_worklist.specs.Queue.{IsIdle, Queue, is_among}
+use Rattle.hir_worklist.specs.Queue.{IsIdle, Queue}
 use Rattle.hir_worklist.specs.Settling.{AreSettled, WatchesEach}
-use Rattle.hir_worklist.specs.declared.watchers.Watchers.{Watchers}
-use Rattle.hir_import_resolution.specs.Inner.Queue.{IsSamePass, KeepsWatched, WakesEach, more, none, slot_cmp}
-use Rattle.hir_import_resolution.proofs.Waking.{pass_woken, same_pass, woken_settled}
-use Rattle.hir_call_queue.specs.Changes.{ChangedValue, IsThere}
-use Rattle.hir_call_queue.proofs.Items.{idle_items, items_apart, items_still}
-use Rattle.hir_call_queue.specs.Waking.{AreWatching, GoesOn, IsWatching, IsWoken, KeepsItems, KeepsQueued, WakesItems, attributes_of, is_apart, watchers_of}
+use Rattle.hir_import_resolution.specs.Inner.Queue.{KeepsWatched, WakesEach, slot_cmp}
+use Rattle.hir_worklist.specs.Waking as waking
+use Rattle.hir_worklist.specs.Waking.{IsSamePass, KeepsQueued}
+use Rattle.hir_worklist.proofs.Passes.{pass_woken, queued_still, queued_woken, same_pass}
+use Rattle.hir_worklist.proofs.Woken.{idle_each, itself, watched_apart, watched_still, woken_settled}
+use Rattle.hir_import_rules.specs.Changed.{ChangedValue, IsThere, item_cmp}
+use Rattle.hir_call_queue.specs.Waking.{AreWatching, GoesOn, IsWatching, IsWoken, KeepsItems, attributes_of, is_apart, watchers_of}
 use Rattle.hir_call_queue.specs.Waking.{watches_item, worklist_of}
 use Rattle.hir_call_queue.specs.declared.queue.CallQueue.{CallQueue}
-
-either_true : (a b : Bool) → a ≡ true → (a || b) ≡ true
-either_true a b e = ap (λ (x : Bool). x || b) e
-
--- ---- what is to be taken in the pass
-
-pub queued_still : (q : Queue) → KeepsQueued q q
-queued_still q = record { still = λ p e. e }
-
-pub queued_join : (p q r : Queue) → KeepsQueued p q → KeepsQueued q r → KeepsQueued p r
-queued_join p q r first then = record { still = λ k e. then.still k (first.still k e) }
-
-pub queued_woken : (q r : Queue) (chosen : ℕ → Bool) → Wakes q r chosen → KeepsQueued q r
-queued_woken q r chosen w = record { still = λ p e. w.current p ∙ either_true (is_among p q.current) _ e }
 
 pub goes_on_itself : (q : CallQueue) → GoesOn q q
 goes_on_itself q = record { apart = refl; pass = same_pass (worklist_of q); queued = queued_still (worklist_of q) }
 
 -- ---- what is idle
 
--- what is idle once slots are woken, one after another, was idle
-idle_each : (r : Queue) (after : Watchers PathSlot) (q : Queue) (watchers : Watchers PathSlot) (slots : List PathSlot) → WakesEach r after q watchers slots
-    → (p : ℕ) → IsIdle r p → IsIdle q p
-idle_each r after _ _ _ none p idle = idle
-idle_each r after _ _ _ (more q b watchers forgot slot slots wakes forgets rest) p idle =
-    (idle-woken q b _ p wakes (idle_each r after b forgot slots rest p idle)).0
-
 module _ (changed : ChangedValue) (old new : CallQueue) (on : GoesOn old new) where
   -- those that watch one of the slots are queued, and then those that watch one of the items
   pub woken_some : changed.all ≡ false → is_apart old ≡ true → (between : Queue) → WakesEach between (watchers_of new) (worklist_of old) (watchers_of old)
       changed.slots
-      → WakesItems (worklist_of new) (attributes_of new) between (attributes_of old) changed.items → IsWoken changed old new
+      → waking.WakesEach item_cmp (worklist_of new) (attributes_of new) between (attributes_of old) changed.items → IsWoken changed old new
   woken_some some apart between each items = record {
     on = on;
-    idle = λ p idle. idle_each between (watchers_of new) (worklist_of old) (watchers_of old) changed.slots each p (before p idle);
+    idle = λ p idle. idle_each slot_cmp between (watchers_of new) (worklist_of old) (watchers_of old) changed.slots each p (before p idle);
     watching = λ a seen watched. record { each = λ p idle other. (settled seen watched).watched.each p (before p idle) other };
     some = λ a p idle. some;
     untouched = λ a seen watched p idle slot has. record {
@@ -60,20 +40,24 @@ module _ (changed : ChangedValue) (old new : CallQueue) (on : GoesOn old new) wh
       other = λ among. ((settled seen watched).settled p (before p idle) (λ e. absurd cc)).unread slot among has;
     };
     items = λ a p idle item e. record {
-      still = items_still (worklist_of new) (attributes_of new) between (attributes_of old) changed.items items p idle item e;
+      still = watched_still item_cmp item_total (worklist_of new) (attributes_of new) between (attributes_of old) changed.items items p idle item e;
       unhelped =
-          record { some = some; other = items_apart (worklist_of new) (attributes_of new) between (attributes_of old) changed.items items p idle item e };
+          record {
+            some = some;
+            other = watched_apart item_cmp item_total (worklist_of new) (attributes_of new) between (attributes_of old) changed.items items
+                p idle item e;
+          };
     };
     alone = λ a p idle. absurd (let no : ⊥ = cc in no);
   }
     where
       before : (p : ℕ) → IsIdle (worklist_of new) p → IsIdle between p
-      before p idle = idle_items (worklist_of new) (attributes_of new) between (attributes_of old) changed.items items p idle
+      before p idle = idle_each item_cmp (worklist_of new) (attributes_of new) between (attributes_of old) changed.items items p idle
 
       settled : (seen : ℕ → List PathSlot) → AreWatching seen old
           → AreSettled slot_cmp seen (IsUnread slot_cmp slot_total seen (λ (p : ℕ). Unit {0}) changed.slots) None between (watchers_of new)
       settled seen watched =
-          woken_settled seen (λ (p : ℕ). Unit {0}) None between (watchers_of new) (worklist_of old) (watchers_of old) changed.slots each
+          woken_settled slot_cmp slot_total seen (λ (p : ℕ). Unit {0}) None between (watchers_of new) (worklist_of old) (watchers_of old) changed.slots each
           (record { watched = watched; settled = λ p idle other. tt })
 
   -- all are
@@ -89,9 +73,6 @@ module _ (changed : ChangedValue) (old new : CallQueue) (on : GoesOn old new) wh
   }
 
 -- ---- what a call watches
-
-pub itself : (n : ℕ) → (n == n) ≡ true
-itself n = grind (arith, nat_tests)
 
 module _ (modules : ℕ) (slots : List PathSlot) (on_item : Option AstId) (i : ℕ) where
   -- where nothing is watched

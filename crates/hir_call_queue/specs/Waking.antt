@@ -1,16 +1,17 @@
 -- What is queued, and what is watched?
-use Rattle.std.specs.Prelude.{◌≡◌, ℕ, Bool, true, false, List, [], ◌∷◌, Option, None, Some, Contains}
+use Rattle.std.specs.Prelude.{◌≡◌, ℕ, Bool, true, false, List, Option, None, Some, Contains}
 use Rattle.std.specs.List.{All}
 use Rattle.hir_base.specs.declared.ast_id.AstId.{AstId}
 use Rattle.hir_def_map.specs.declared.nameres.path_resolution.slots.Slot.{Slot as PathSlot}
-use Rattle.hir_worklist.specs.Moves.{Wakes}
-use Rattle.hir_worklist.specs.Queue.{IsIdle, Queue, is_among}
+use Rattle.hir_worklist.specs.Queue.{IsIdle, Queue}
 use Rattle.hir_worklist.specs.Settling.{AreWatched, WatchesEach}
-use Rattle.hir_worklist.specs.Watching.{Forgets, is_watching}
+use Rattle.hir_worklist.specs.Watching.{is_watching}
 use Rattle.hir_worklist.specs.declared.watchers.Watchers.{Watchers}
-use Rattle.hir_import_resolution.specs.Inner.Queue.{IsSamePass, KeepsWatched, slot_cmp}
+use Rattle.hir_import_resolution.specs.Inner.Queue.{KeepsWatched, slot_cmp}
+use Rattle.hir_worklist.specs.Waking as waking
+use Rattle.hir_worklist.specs.Waking.{IsSamePass, KeepsQueued}
 use Rattle.hir_call_queue.specs.declared.queue.CallQueue.{CallQueue}
-use Rattle.hir_call_queue.specs.Changes.{ChangedValue, IsThere, IsUnhelped, IsUntouched, item_cmp}
+use Rattle.hir_import_rules.specs.Changed.{ChangedValue, IsThere, IsUnhelped, IsUntouched, item_cmp}
 
 -- the parts of a queue
 abbrev pub is_apart : CallQueue → Bool
@@ -40,14 +41,7 @@ watches_item attributes item p = is_watching item_cmp attributes item p
 
 -- what watched an item watches it still
 abbrev pub KeepsItems : Watchers AstId → Watchers AstId → Type 0
-KeepsItems old new = (item : AstId) (p : ℕ) → watches_item old item p ≡ true → watches_item new item p ≡ true
-
--- what watches each of these items is queued, one item after another, and watches it no more
-pub data WakesItems (r : Queue) (after : Watchers AstId) : Queue → Watchers AstId → List AstId → Type 0 where
-  none : WakesItems r after r after []
-  more : (q between : Queue) (attributes left : Watchers AstId) (item : AstId) (items : List AstId)
-      → Wakes q between (watches_item attributes item) → Forgets item_cmp attributes left item → WakesItems r after between left items
-      → WakesItems r after q attributes (item ∷ items)
+KeepsItems = waking.KeepsWatched item_cmp
 
 -- an attribute that is idle watches the items that it watched, and no helper came into scope on one
 pub record IsUnhelpedOn (changed : ChangedValue) (new : CallQueue) (p : ℕ) (item : AstId) : Type 0 where
@@ -55,10 +49,6 @@ pub record IsUnhelpedOn (changed : ChangedValue) (new : CallQueue) (p : ℕ) (it
   pub unhelped : IsUnhelped changed item
 
 -- ---- what is woken
-
--- what was to be taken in a pass is so still
-pub record KeepsQueued (old new : Queue) : Type 0 where
-  pub still : (p : ℕ) → is_among p old.current ≡ true → is_among p new.current ≡ true
 
 -- a pass goes on where it was: what was to be taken in it is so still
 pub record GoesOn (old new : CallQueue) : Type 0 where

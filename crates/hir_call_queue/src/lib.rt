@@ -6,8 +6,7 @@
 //! So to try a call that isn't queued would be in vain.
 #![tactic(auto)]
 
-pub mod changed;
 pub mod queue;
 
-pub use changed::Changed;
+pub use hir_import_growth::Changed;
 pub use queue::CallQueue;

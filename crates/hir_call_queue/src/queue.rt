@@ -1,17 +1,18 @@
 //! Which calls are to be tried.
-ghost use Rattle.std.specs.Prelude.{◌≡◌, ◌≤◌, ℕ, true, false, [], IfNone, IfOk, IfSome, OnOk, Some};
+ghost use Rattle.std.specs.Prelude.{◌≡◌, ◌≤◌, true, false, [], IfNone, IfOk, IfSome, OnOk, Some};
 ghost use Rattle.std.specs.List.{All};
 ghost use Rattle.hir_def_map.specs.Scoping.Slots.{slot_of};
 ghost use Rattle.hir_worklist.specs.Moves.{Takes, closed, empty_queue, opened};
-ghost use Rattle.hir_worklist.specs.Queue.{IsIdle, count_of};
+ghost use Rattle.hir_worklist.specs.Queue.{count_of};
 ghost use Rattle.hir_worklist.specs.Settling.{WatchesEach};
-ghost use Rattle.hir_import_resolution.specs.Inner.Queue.{IsLonger, IsSamePass, KeepsWatched, WakesEach, slot_cmp};
-ghost use Rattle.hir_call_queue.specs.Changes.{IsThere};
-ghost use Rattle.hir_call_queue.specs.Waking.{IsWatching, IsWoken, KeepsItems, KeepsQueued, WakesItems, is_apart, watches_item, with_worklist, worklist_of};
+ghost use Rattle.hir_worklist.specs.Waking.{IsLonger};
+ghost use Rattle.hir_import_resolution.specs.Inner.Queue.{KeepsWatched, slot_cmp};
+ghost use Rattle.hir_import_rules.specs.Changed.{IsThere};
+ghost use Rattle.hir_call_queue.specs.Waking.{IsWatching, IsWoken, KeepsItems, is_apart, watches_item, with_worklist, worklist_of};
 
-use crate::changed::Changed;
 use hir_base::ast_id::AstId;
 use hir_def_map::nameres::path_resolution::slots::{PathSlots, Slot, SlotRef};
+use hir_import_growth::Changed;
 use hir_worklist::{Watchers, Worklist};
 use std::alloc::{AllocError, Global};
 
@@ -27,61 +28,6 @@ pub struct CallQueue {
     watchers: Watchers<Slot>,
     /// The attributes that were tried, by the items that they stand on.
     attributes: Watchers<AstId>,
-}
-
-/// Appends calls until there are so many.
-fn append_to(worklist: &mut Worklist, count: usize) -> Result<(), AllocError>
-    ensures longer { OnOk result (IsLonger worklist.old worklist.new) }
-    ensures count { OnOk result (count_of worklist.old ≤ count → count_of worklist.new ≡ count) }
-{
-    'calls: while worklist.len() < count {
-        worklist.push()?;
-    }
-    Ok(())
-}
-
-/// Queues what watches slots.
-fn wake_slots(
-    watchers: &mut Watchers<Slot>,
-    worklist: &mut Worklist,
-    slots: &[Slot],
-) -> Result<(), AllocError>
-    ensures woken { OnOk result (WakesEach worklist.new watchers.new worklist.old watchers.old slots.now) }
-    ensures pass { OnOk result (IsSamePass worklist.old worklist.new) }
-    ensures queued { OnOk result (KeepsQueued worklist.old worklist.new) }
-{
-    for slot in slots {
-        watchers.wake_all(slot, worklist)?;
-    }
-    Ok(())
-}
-
-/// Queues the attributes that watch items.
-fn wake_items(
-    attributes: &mut Watchers<AstId>,
-    worklist: &mut Worklist,
-    items: &[AstId],
-) -> Result<(), AllocError>
-    ensures woken { OnOk result (WakesItems worklist.new attributes.new worklist.old attributes.old items.now) }
-    ensures pass { OnOk result (IsSamePass worklist.old worklist.new) }
-    ensures queued { OnOk result (KeepsQueued worklist.old worklist.new) }
-{
-    for item in items {
-        attributes.wake_all(item, worklist)?;
-    }
-    Ok(())
-}
-
-/// Queues all calls.
-fn wake_all(worklist: &mut Worklist) -> Result<(), AllocError>
-    ensures none { OnOk result ((p : ℕ) → ¬ IsIdle worklist.new p) }
-    ensures pass { OnOk result (IsSamePass worklist.old worklist.new) }
-    ensures queued { OnOk result (KeepsQueued worklist.old worklist.new) }
-{
-    for position in 0..worklist.len() {
-        worklist.wake(position)?;
-    }
-    Ok(())
 }
 
 /// Whether a slot is of a module that is there, or of the preludes.
@@ -150,7 +96,7 @@ impl CallQueue {
         ensures count { OnOk result (count_of (worklist_of self.old) ≤ count → count_of (worklist_of self.new) ≡ count) }
         ensures rest { self.new ≡ with_worklist self.old (worklist_of self.new) }
     {
-        append_to(&mut self.worklist, count)
+        self.worklist.append_to(count)
     }
 
     /// Begins a pass over what is queued.
@@ -178,8 +124,10 @@ impl CallQueue {
         requires some { changed.now.all ≡ false }
         ensures woken { OnOk result (IsWoken changed.now self.old self.new) }
     {
-        wake_slots(&mut self.watchers, &mut self.worklist, changed.slots())?;
-        wake_items(&mut self.attributes, &mut self.worklist, changed.items())?;
+        self.watchers
+            .wake_each(changed.slots(), &mut self.worklist)?;
+        self.attributes
+            .wake_each(changed.items(), &mut self.worklist)?;
         Ok(())
     }
 
@@ -193,7 +141,7 @@ impl CallQueue {
         }
         self.watchers = Watchers::new(self.alloc);
         self.attributes = Watchers::new(self.alloc);
-        wake_all(&mut self.worklist)?;
+        self.worklist.wake_all()?;
         Ok(())
     }
 

@@ -4,14 +4,14 @@ ghost use Rattle.hir_item_tree.specs.Collected.{is_enabled};
 ghost use Rattle.hir_item_tree.specs.KeptForest.{leaf, function, structure, union_structure, constant, static_item, trait_item, type_alias};
 ghost use Rattle.hir_def_map.specs.WorldParts.{part_of};
 ghost use Rattle.hir_collector_rules.specs.Keys.{Environment};
-ghost use Rattle.hir_collector_rules.specs.State.{core_in, counted, with_map};
+ghost use Rattle.hir_collector_rules.specs.State.{core_in, counted};
 ghost use Rattle.hir_collector_rules.specs.ItemIds.{module_id};
 ghost use Rattle.hir_collector_rules.specs.Items.{constructor_of, declared_struct, meet_of, own_visibility, type_declaration, value_declaration};
-ghost use Rattle.hir_import_resolution.specs.Visibilities.{visibility_in};
+ghost use Rattle.hir_import_rules.specs.Visibilities.{visibility_in};
 ghost use Rattle.hir_collector_rules.specs.TreeReads.{head_of};
 ghost use Rattle.hir_collector_rules.specs.Steps.{visit, with_declaration};
 ghost use Rattle.hir_collector_rules.specs.Moves.{Handles};
-ghost use Rattle.hir_collector_rules.specs.Waiting.{IsNoted};
+ghost use Rattle.hir_collector_state.specs.Waiting.{IsNoted};
 
 use crate::exports::{declare_exporting, export_at};
 use hir_base::ids::{
@@ -22,37 +22,15 @@ use hir_base::name::Name;
 use hir_collector_rules::declaration::Declaration;
 use hir_collector_rules::site::{ItemHead, Site};
 use hir_collector_rules::start::{STEP_LIMIT, StepError};
+use hir_collector_state::declare::declare;
 use hir_collector_state::def_collector::DefCollector;
 use hir_def_map::world::part::WorldPart;
-use hir_import_resolution::answers::lesser;
+use hir_import_growth::visibilities::lesser;
 use hir_item_tree::kinds::Struct;
 use hir_item_tree::raw_visibility::RawVisibility;
 use hir_item_tree::shape::FieldsShape;
 use hir_scope::per_ns::{Item, PerNs};
 use hir_scope::visibility::Visibility;
-use std::alloc::AllocError;
-
-/// Lists a definition in a module, and binds its name there.
-pub fn bind(run: &mut DefCollector, home: u32, declaration: Declaration) -> Result<(), AllocError>
-    ensures ok { OnOk result (core_in run.new ≡ with_declaration (core_in run.old) home declaration) }
-    ensures noted { OnOk result (IsNoted run.old run.new) }
-{
-    let Declaration { name, def, items } = declaration;
-    run.declare(home, def)?;
-    run.bind(home, name, items)?;
-    Ok(())
-}
-
-/// The same as the last part of a step.
-pub fn declare(run: &mut DefCollector, home: u32, declaration: Declaration) -> Result<(), StepError>
-    ensures ok { OnOk result (core_in run.new ≡ counted (with_declaration (core_in run.old) home declaration)) }
-    ensures noted { OnOk result (IsNoted run.old run.new) }
-    ensures many { result ≡ Err StepError.TooMany → STEP_LIMIT ≤ (core_in run.old).count }
-{
-    bind(run, home, declaration)?;
-    run.tick()?;
-    Ok(())
-}
 
 /// Declares what an item's name stands for as a type.
 fn declare_type(

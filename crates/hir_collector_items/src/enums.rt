@@ -9,16 +9,16 @@ ghost use Rattle.hir_collector_rules.specs.Enums.{variant_of, variants_by_name, 
 ghost use Rattle.hir_collector_rules.specs.TreeReads.{head_of};
 ghost use Rattle.hir_collector_rules.specs.Steps.{visit};
 ghost use Rattle.hir_collector_rules.specs.Moves.{Handles, OnceGrown};
-ghost use Rattle.hir_collector_rules.specs.Waiting.{IsNoted};
+ghost use Rattle.hir_collector_state.specs.Waiting.{IsNoted};
 
-use crate::declare::declare;
-use crate::sources::source_at;
 use hir_base::ids::{AdtId, EnumId, EnumVariantId, ItemLoc, ModuleDefId};
 use hir_base::name::Name;
 use hir_collector_rules::declaration::Declaration;
 use hir_collector_rules::site::{ItemHead, Site};
 use hir_collector_rules::source_database::SourceDatabase;
 use hir_collector_rules::start::{STEP_LIMIT, StepError};
+use hir_collector_start::sources::source_at;
+use hir_collector_state::declare::declare;
 use hir_collector_state::def_collector::DefCollector;
 use hir_def_map::nameres::enum_variants::{EnumVariant, EnumVariants};
 use hir_def_map::world::part::WorldPart;

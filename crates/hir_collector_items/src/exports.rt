@@ -9,17 +9,18 @@ ghost use Rattle.hir_collector_rules.specs.Items.{value_declaration};
 ghost use Rattle.hir_collector_rules.specs.Moves.{with_export};
 ghost use Rattle.hir_collector_rules.specs.State.{core_in, counted};
 ghost use Rattle.hir_collector_rules.specs.TreeReads.{head_of};
-ghost use Rattle.hir_collector_rules.specs.Waiting.{IsNoted};
+ghost use Rattle.hir_collector_state.specs.Waiting.{IsNoted};
 
-use crate::declare::{bind, declare};
 use hir_base::ids::{FunctionId, ModuleDefId};
 use hir_base::macro_kind::{MacroId, ProcMacroId, ProcMacroLoc, ProcMacroStyle};
 use hir_base::name::Name;
 use hir_collector_rules::crate_attrs::{is_keyed, says};
 use hir_collector_rules::declaration::Declaration;
 use hir_collector_rules::exported::{Export, ExportedFunction};
+use hir_collector_rules::names::cloned;
 use hir_collector_rules::site::{ItemHead, Site};
 use hir_collector_rules::start::{STEP_LIMIT, StepError};
+use hir_collector_state::declare::{bind, declare};
 use hir_collector_state::def_collector::DefCollector;
 use hir_def_map::nameres::macro_data::MacroData;
 use hir_item_tree::attrs::Attr;
@@ -27,17 +28,6 @@ use hir_item_tree::raw_attr::{AttrInput, TokenTree};
 use hir_scope::per_ns::PerNs;
 use hir_scope::visibility::Visibility;
 use std::alloc::{AllocError, Global};
-
-/// The same names again.
-pub fn cloned(alloc: Global, names: &[Name]) -> Result<Vec<Name>, AllocError>
-    ensures value { IfOk result (λ copies. copies.items ≡ names.now) }
-{
-    let mut copies = Vec::new(alloc);
-    for name in names {
-        copies.push(name.clone()?)?;
-    }
-    Ok(copies)
-}
 
 /// A derive macro, with its own name and its helpers, if an attribute names one.
 fn derive_export(alloc: Global, input: &Option<AttrInput>) -> Result<Option<Export>, AllocError>

@@ -10,7 +10,7 @@ use Rattle.hir_item_tree.specs.declared.side_lists.VariantItem.{VariantItem}
 use Rattle.hir_def_map_rules.specs.State.{Map, module_at}
 use Rattle.hir_def_map_rules.specs.declared.declaration.Declaration.TheVariants as listings
 use Rattle.hir_def_map_rules.specs.Overlay.{Maps}
-use Rattle.hir_import_resolution.specs.Changes.{pushes}
+use Rattle.hir_import_rules.specs.Changes.{pushes}
 use Rattle.hir_collector_rules.specs.Types.{Declaration, Key, Site}
 use Rattle.hir_collector_rules.specs.declared.source_database.Key.TheVariants as keys
 use Rattle.hir_tables.specs.Tables.{TablesValue}

@@ -37,9 +37,9 @@ use Rattle.hir_def_map_rules.specs.State.{Map, ModuleValue, changed_at, entry_of
 use Rattle.hir_def_map_rules.specs.Overlay.{Maps}
 use Rattle.hir_glob_imports.specs.declared.edge.Key.{Key}
 use Rattle.hir_glob_imports.specs.declared.edge.Key.TheVariants.{Types, Values, Macros, Unnamed}
-use Rattle.hir_import_resolution.specs.declared.namespaces.Namespaces.{Namespaces}
-use Rattle.hir_import_resolution.specs.Directives.{AreAmong, namespaces_of, both_of, brought, brought_type, imported}
-use Rattle.hir_import_resolution.specs.Names.{redefined, revised, with_trait}
+use Rattle.hir_import_rules.specs.declared.namespaces.Namespaces.{Namespaces}
+use Rattle.hir_import_rules.specs.Directives.{AreAmong, namespaces_of, both_of, brought, brought_type, imported}
+use Rattle.hir_import_rules.specs.Names.{redefined, revised, with_trait}
 use Rattle.hir_collector_rules.proofs.Entries.{rewritten_at, still_set, still_with_entry}
 use Rattle.hir_collector_rules.proofs.ImportEdits.{Edit, edit, keeps_unnamed, pushes_to, redefines, revises}
 

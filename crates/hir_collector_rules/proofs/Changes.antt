@@ -11,8 +11,8 @@ use Rattle.hir_scope.specs.declared.visibility.Visibility.TheVariants as visibil
 use Rattle.hir_def_map_rules.specs.Overlay.{Maps}
 use Rattle.hir_def_map_rules.specs.State.{Map}
 use Rattle.hir_def_map_rules.specs.declared.derive_helpers.DeriveHelper.{DeriveHelper}
-use Rattle.hir_import_resolution.specs.Changes.{Change as ImportChange, pushes}
-use Rattle.hir_import_resolution.specs.State.{ImportState}
+use Rattle.hir_import_rules.specs.Changes.{Change as ImportChange, pushes}
+use Rattle.hir_import_rules.specs.State.{ImportState}
 use Rattle.hir_collector_rules.specs.Types.{Key, MacroDirective}
 use Rattle.hir_collector_rules.specs.Keys.{Environment}
 use Rattle.hir_collector_rules.specs.State.{State, import_state}

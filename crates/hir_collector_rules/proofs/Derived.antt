@@ -22,8 +22,8 @@ use Rattle.hir_collector_rules.specs.CallMoves.{ComesToRest, NoneWaits, cut_off,
 use Rattle.hir_collector_rules.specs.Rounds as rounds
 use Rattle.hir_collector_rules.specs.Rounds.{HasManyRounds, IsRound, Rounds, WasTried, handled, met}
 use Rattle.hir_collector_rules.specs.State.{State, Core, at_rest, import_state}
-use Rattle.hir_import_resolution.specs.Directives.{kind_of, reached_by}
-use Rattle.hir_import_resolution.specs.Rest.{BroughtStands, IsClosed, IsRecorded, IsSettled}
+use Rattle.hir_import_rules.specs.Directives.{kind_of, reached_by}
+use Rattle.hir_import_rules.specs.Rest.{BroughtStands, IsClosed, IsRecorded, IsSettled}
 use Rattle.hir_collector_rules.specs.ModuleFiles.{Reading}
 use Rattle.hir_collector_rules.specs.Ended.{ended, exporting_scope}
 use Rattle.hir_def_map_rules.specs.State.{Map, crate_map, with_scope}

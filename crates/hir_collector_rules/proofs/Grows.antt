@@ -34,7 +34,7 @@ use Rattle.hir_collector_rules.specs.Types.{Declaration}
 use Rattle.hir_collector_rules.specs.Keys.{Environment}
 use Rattle.hir_collector_rules.specs.State.{Core, State, counted, import_state, with_map}
 use Rattle.hir_collector_rules.specs.ItemIds.{module_id}
-use Rattle.hir_import_resolution.specs.Directives.{AreAmong, namespaces_of}
+use Rattle.hir_import_rules.specs.Directives.{AreAmong, namespaces_of}
 use Rattle.hir_collector_rules.specs.Macros.{textual_at, with_macros_used}
 use Rattle.hir_collector_rules.specs.Moves.{begun}
 use Rattle.hir_collector_rules.specs.Changes.{Change, lists, makes, gives_variants, begins_paths, reaches, awaits, ends, settles, changes_imports, adds_textual}

@@ -14,14 +14,14 @@ use Rattle.hir_scope.specs.declared.per_ns.PerNs.{PerNs}
 use Rattle.hir_glob_imports.specs.Rules.{Act}
 use Rattle.hir_glob_imports.specs.declared.edge.Target.{Target}
 use Rattle.hir_def_map_rules.specs.Scoping.{Resolution}
-use Rattle.hir_import_resolution.specs.declared.directive.ImportDirective.{ImportDirective}
-use Rattle.hir_import_resolution.specs.declared.directive.ImportSource.{ImportSource}
-use Rattle.hir_import_resolution.specs.declared.namespaces.Namespaces.{Namespaces}
-use Rattle.hir_import_resolution.specs.Directives.{AreAmong, TakenValue, answer_to, kept_by, kept_trait, kind_of, leaf_of, name_of, namespaces_of}
-use Rattle.hir_import_resolution.specs.Directives.{no_namespaces, not_taken, nothing_taken, offered_by, taken_after, taken_for, visibility_of}
-use Rattle.hir_import_resolution.specs.Changes.{Change as ImportChange, act as act_on_imports, along, keeps_trait, pushes, pushing, records, takes}
-use Rattle.hir_import_resolution.specs.Rules.{CanTake, Rule as ImportRule, May as MayImport, acts as import_acts, goes_along, takes_glob, takes_import}
-use Rattle.hir_import_resolution.specs.State.{ImportState}
+use Rattle.hir_import_rules.specs.declared.directive.ImportDirective.{ImportDirective}
+use Rattle.hir_import_rules.specs.declared.directive.ImportSource.{ImportSource}
+use Rattle.hir_import_rules.specs.declared.namespaces.Namespaces.{Namespaces}
+use Rattle.hir_import_rules.specs.Directives.{AreAmong, TakenValue, answer_to, kept_by, kept_trait, kind_of, leaf_of, name_of, namespaces_of}
+use Rattle.hir_import_rules.specs.Directives.{no_namespaces, not_taken, nothing_taken, offered_by, taken_after, taken_for, visibility_of}
+use Rattle.hir_import_rules.specs.Changes.{Change as ImportChange, act as act_on_imports, along, keeps_trait, pushes, pushing, records, takes}
+use Rattle.hir_import_rules.specs.Rules.{CanTake, Rule as ImportRule, May as MayImport, acts as import_acts, goes_along, takes_glob, takes_import}
+use Rattle.hir_import_rules.specs.State.{ImportState}
 use Rattle.hir_collector_rules.specs.Types.{Site, Start}
 use Rattle.hir_tables.specs.Tables.{TablesValue}
 use Rattle.hir_collector_rules.specs.Workspace.{Workspace, transitive_dependencies_in}

@@ -19,9 +19,9 @@ use Rattle.hir_glob_imports.specs.declared.edge.Bound.{Bound}
 use Rattle.hir_glob_imports.specs.declared.edge.Key.{Key}
 use Rattle.hir_glob_imports.specs.declared.edge.Slot.{Slot}
 use Rattle.hir_glob_imports.specs.declared.edge.Key.TheVariants.{Types, Values, Macros, Unnamed}
-use Rattle.hir_import_resolution.specs.Changes.{Change as ImportChange, act as act_on_imports, along, kept_vis, keeps_trait, pushes, pushing, records, takes}
-use Rattle.hir_import_resolution.specs.Names.{bound_of, copied_where, followed_where, items_by, redefined, revised, trait_vis, with_trait}
-use Rattle.hir_import_resolution.specs.State.{ImportState, scopes_of}
+use Rattle.hir_import_rules.specs.Changes.{Change as ImportChange, act as act_on_imports, along, kept_vis, keeps_trait, pushes, pushing, records, takes}
+use Rattle.hir_import_rules.specs.Names.{bound_of, copied_where, followed_where, items_by, redefined, revised, trait_vis, with_trait}
+use Rattle.hir_import_rules.specs.State.{ImportState, scopes_of}
 
 -- a change of one scope
 pub data Edit : Type 0 where

@@ -31,7 +31,7 @@ use Rattle.hir_tables.specs.Tables.{TablesValue, KeepsTables, entry_at, file_at,
 use Rattle.hir_tables.proofs.Growth.{source_of-kept}
 use Rattle.hir_def_map_rules.specs.State.{Map}
 use Rattle.hir_def_map_rules.specs.Overlay.{Maps}
-use Rattle.hir_import_resolution.specs.Rules.{acts as import_acts}
+use Rattle.hir_import_rules.specs.Rules.{acts as import_acts}
 use Rattle.hir_collector_rules.specs.Types.{Key, MacroDirective, Site, Start, WaitingItem}
 use Rattle.hir_use_tree.specs.UseTree.{count_of}
 use Rattle.hir_collector_rules.specs.declared.source_database.Key.TheVariants as keys

@@ -9,11 +9,11 @@ use Rattle.hir_def_map_rules.specs.declared.diagnostics.DefDiagnostic.{DefDiagno
 use Rattle.hir_base.specs.declared.ids.Crate.{Crate}
 use Rattle.hir_tables.specs.Tables.{TablesValue}
 use Rattle.hir_glob_imports.specs.declared.edge.Target.{Target}
-use Rattle.hir_import_resolution.specs.declared.directive.ImportDirective.{ImportDirective}
-use Rattle.hir_import_resolution.specs.declared.directive.ImportSource.{ImportSource}
-use Rattle.hir_import_resolution.specs.Directives.{AreAmong, TakenValue, glob_of, is_untaken, kept_by_kind, kind_of, name_of, namespaces_of, reached_by}
-use Rattle.hir_import_resolution.specs.Directives.{target_of, way_of}
-use Rattle.hir_import_resolution.specs.Rest.{BroughtStands, IsClosed, IsSettled, IsSource}
+use Rattle.hir_import_rules.specs.declared.directive.ImportDirective.{ImportDirective}
+use Rattle.hir_import_rules.specs.declared.directive.ImportSource.{ImportSource}
+use Rattle.hir_import_rules.specs.Directives.{AreAmong, TakenValue, glob_of, is_untaken, kept_by_kind, kind_of, name_of, namespaces_of, reached_by}
+use Rattle.hir_import_rules.specs.Directives.{target_of, way_of}
+use Rattle.hir_import_rules.specs.Rest.{BroughtStands, IsClosed, IsSettled, IsSource}
 use Rattle.hir_collector_rules.specs.declared.collected.Collected.{Collected}
 use Rattle.hir_collector_rules.specs.declared.start.TheConstants.{STEP_LIMIT}
 use Rattle.hir_collector_rules.specs.declared.macro_directive.MacroDirective.{MacroDirective}

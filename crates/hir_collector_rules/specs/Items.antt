@@ -18,7 +18,7 @@ use Rattle.hir_def_map_rules.specs.State.{Local, Map, new_id}
 use Rattle.hir_def_map_rules.specs.Overlay.{Maps}
 use Rattle.hir_def_map_rules.specs.declared.origin.ModuleOrigin.{ModuleOrigin}
 use Rattle.hir_def_map_rules.specs.declared.origin.ModuleOrigin.TheVariants as origins
-use Rattle.hir_import_resolution.specs.Visibilities.{lesser_in, visibility_in}
+use Rattle.hir_import_rules.specs.Visibilities.{lesser_in, visibility_in}
 use Rattle.hir_collector_rules.specs.declared.declaration.Declaration.{Declaration}
 use Rattle.hir_collector_rules.specs.declared.site.Site.{Site}
 use Rattle.hir_collector_rules.specs.State.{Visit}

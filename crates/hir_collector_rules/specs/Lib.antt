@@ -34,7 +34,6 @@ pub mod Growth
 -- ---- words of private code
 pub mod Moves
 pub mod CallMoves
-pub mod Waiting
 pub mod TreeReads
 pub mod Codes
 pub mod CollectedCodes

@@ -23,7 +23,7 @@ use Rattle.hir_scope.specs.declared.imports.ImportOrExternCrate.{ImportOrExternC
 use Rattle.hir_scope.specs.declared.visibility.Visibility.{Visibility}
 use Rattle.hir_def_map_rules.specs.Overlay.{Maps, map_in}
 use Rattle.hir_def_map_rules.specs.State.{Map, crate_map, scope_at, with_name, with_scope}
-use Rattle.hir_import_resolution.specs.Visibilities.{is_public}
+use Rattle.hir_import_rules.specs.Visibilities.{is_public}
 use Rattle.hir_collector_rules.specs.declared.declaration.Declaration.{Declaration}
 use Rattle.hir_collector_rules.specs.declared.source_database.Dependency.{Dependency}
 use Rattle.hir_collector_rules.specs.CrateTop.{is_keyed, listed_under, says}

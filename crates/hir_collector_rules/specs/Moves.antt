@@ -29,8 +29,8 @@ use Rattle.hir_def_map_rules.specs.Overlay.{Maps}
 use Rattle.hir_def_map_rules.specs.State.{Map, ModuleValue, new_module, with_module}
 use Rattle.hir_collector_rules.specs.declared.site.Site.{Site}
 use Rattle.hir_def_map_rules.specs.declared.add_module_error.AddModuleError.TheVariants as refusals
-use Rattle.hir_import_resolution.specs.declared.resolve.ImportError.{ImportError}
-use Rattle.hir_import_resolution.specs.declared.resolve.ImportError.TheVariants as imports
+use Rattle.hir_import_rules.specs.declared.error.ImportError.{ImportError}
+use Rattle.hir_import_rules.specs.declared.error.ImportError.TheVariants as imports
 use Rattle.hir_collector_rules.specs.declared.start.CollectError.{CollectError}
 use Rattle.hir_collector_rules.specs.declared.start.CollectError.TheVariants as runs
 use Rattle.hir_collector_rules.specs.declared.start.StepError.{StepError}

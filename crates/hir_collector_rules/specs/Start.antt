@@ -9,7 +9,7 @@ use Rattle.hir_base.specs.declared.ids.UseId.{UseId}
 use Rattle.hir_base.specs.declared.edition.Edition.TheVariants.{Edition2024}
 use Rattle.hir_item_tree.specs.Collected.{is_enabled}
 use Rattle.hir_item_tree.specs.ItemTree.{Tree}
-use Rattle.hir_item_tree.specs.declared.raw_visibility.VisibilityExplicitness.TheVariants.{Implicit}
+use Rattle.hir_raw_visibility.specs.declared.raw_visibility.VisibilityExplicitness.TheVariants.{Implicit}
 use Rattle.hir_item_tree.specs.declared.tree_id.TreeId.{TreeId}
 use Rattle.hir_item_tree.specs.declared.tree_id.TreeKey.{TreeKey}
 use Rattle.hir_mod_dir.specs.ModuleFiles.{root as root_directory}

@@ -8,11 +8,11 @@ use Rattle.hir_def_map_rules.specs.State.{Local, Map, globs_after, no_globs, pus
 use Rattle.hir_glob_imports.specs.Rules.{BroughtBy}
 use Rattle.hir_glob_imports.specs.Waves.{GlobsValue, brought_of}
 use Rattle.hir_glob_imports.specs.declared.edge.Edge.{Edge}
-use Rattle.hir_import_resolution.specs.Changes.{forgotten}
-use Rattle.hir_call_queue.specs.Changes.{ChangedValue}
-use Rattle.hir_import_resolution.specs.declared.directive.ImportDirective.{ImportDirective}
-use Rattle.hir_import_resolution.specs.Directives.{TakenValue, not_taken}
-use Rattle.hir_import_resolution.specs.State.{ImportState, nothing_brought}
+use Rattle.hir_import_rules.specs.Changes.{forgotten}
+use Rattle.hir_import_rules.specs.Changed.{ChangedValue}
+use Rattle.hir_import_rules.specs.declared.directive.ImportDirective.{ImportDirective}
+use Rattle.hir_import_rules.specs.Directives.{TakenValue, not_taken}
+use Rattle.hir_import_rules.specs.State.{ImportState, nothing_brought}
 use Rattle.hir_collector_rules.specs.declared.exported.ExportedFunction.{ExportedFunction}
 use Rattle.hir_collector_rules.specs.declared.macro_directive.Fate.{Fate}
 use Rattle.hir_collector_rules.specs.declared.macro_directive.Fate.TheVariants.{Waits}

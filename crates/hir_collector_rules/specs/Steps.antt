@@ -40,10 +40,10 @@ use Rattle.hir_scope.specs.declared.visibility.Visibility.{Visibility}
 use Rattle.hir_scope.specs.declared.visibility.Visibility.TheVariants as visibilities
 use Rattle.hir_tables.specs.Tables.{TablesValue}
 use Rattle.hir_collector_rules.specs.declared.declaration.Declaration.{Declaration}
-use Rattle.hir_import_resolution.specs.declared.directive.ImportDirective.{ImportDirective}
-use Rattle.hir_import_resolution.specs.Changes.{pushes}
-use Rattle.hir_import_resolution.specs.Rest.{IsClosed, IsSettled}
-use Rattle.hir_import_resolution.specs.Rules.{Rule as ImportRule, May as MayImport, acts as import_acts}
+use Rattle.hir_import_rules.specs.declared.directive.ImportDirective.{ImportDirective}
+use Rattle.hir_import_rules.specs.Changes.{pushes}
+use Rattle.hir_import_rules.specs.Rest.{IsClosed, IsSettled}
+use Rattle.hir_import_rules.specs.Rules.{Rule as ImportRule, May as MayImport, acts as import_acts}
 use Rattle.hir_collector_rules.specs.declared.exported.Export.{Export}
 use Rattle.hir_collector_rules.specs.declared.exported.ExportedFunction.{ExportedFunction}
 use Rattle.hir_collector_rules.specs.declared.macro_directive.Fate.TheVariants.{GivenUp, Handled}

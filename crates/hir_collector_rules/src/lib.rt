@@ -6,6 +6,7 @@ pub mod crate_attrs;
 pub mod declaration;
 pub mod exported;
 pub mod macro_directive;
+pub mod names;
 pub mod shared_tree;
 pub mod site;
 pub mod source_database;

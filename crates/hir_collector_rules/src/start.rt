@@ -8,7 +8,7 @@ use hir_base::locations::LocationsError;
 use hir_def_map::nameres::origin::ModuleOrigin;
 use hir_def_map::nameres::{AddModuleError, BlockInfo};
 use hir_glob_imports::MAX_STEPS;
-use hir_import_resolution::ImportError;
+use hir_import_rules::ImportError;
 use hir_item_tree::raw_visibility::VisibilityExplicitness;
 use hir_scope::visibility::Visibility;
 use std::alloc::AllocError;

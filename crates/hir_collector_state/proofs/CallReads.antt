@@ -32,7 +32,7 @@ use Rattle.hir_collector_rules.specs.declared.macro_directive.WaitingItem.{Waiti
 use Rattle.hir_collector_rules.specs.declared.macro_directive.MacroDirectiveKind.TheVariants.{Attr, Derive, FnLike}
 use Rattle.hir_collector_rules.specs.Attributes.{is_helper_among}
 use Rattle.hir_collector_rules.specs.Calls.{by_style, called_macro, is_inert_by, item_in, path_of_call, style_of, suited}
-use Rattle.hir_collector_rules.specs.Waiting.{KeepsModules, StandsStill, call_reads, is_helped}
+use Rattle.hir_collector_state.specs.Waiting.{KeepsModules, StandsStill, call_reads, is_helped}
 use Rattle.hir_collector_rules.specs.State.{Core}
 use Rattle.hir_collector_state.proofs.EnumMacros.{enums_bring_no_macro, macros_of}
 

@@ -7,7 +7,7 @@ use Rattle.hir_def_map_rules.proofs.Grown.{kept, length-changed}
 use Rattle.hir_def_map_rules.specs.Overlay.{Maps}
 use Rattle.hir_def_map_rules.specs.State.{IsBefore, IsInOrder, Map, ModuleValue, changed_at, module_at, new_id, numbered, parent_of, with_child, with_module}
 use Rattle.hir_def_map_rules.specs.State.{with_module_scope, with_scope}
-use Rattle.hir_import_resolution.specs.Rules.{acts as import_acts}
+use Rattle.hir_import_rules.specs.Rules.{acts as import_acts}
 use Rattle.hir_collector_rules.specs.Calls.{error_of}
 use Rattle.hir_collector_rules.specs.Keys.{Environment}
 use Rattle.hir_collector_rules.specs.State.{State, import_state}

@@ -1,10 +1,6 @@
 pub mod MacroUses
 pub mod Made
-pub mod ImportSteps
-pub mod Untaken
 pub mod InOrder
 pub mod EnumMacros
 pub mod CallReads
 pub mod Noted
-pub mod NotedImports
-pub mod Spreading

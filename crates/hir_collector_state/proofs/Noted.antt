@@ -47,21 +47,21 @@ use Rattle.hir_def_map_laws.specs.SlotChanges.{ChangesOnly}
 use Rattle.hir_textual_scope.specs.Macros.{with_macro}
 use Rattle.hir_glob_imports.specs.View.{View}
 use Rattle.hir_glob_imports.specs.Waves.{GlobsValue, IsKept, brought_of}
-use Rattle.hir_import_resolution.proofs.GlobsLasting.{globs_pushed, globs_still}
-use Rattle.hir_import_resolution.proofs.GrowingAround.{enums_around, lists_around, modules_around, scopes_around}
-use Rattle.hir_import_resolution.specs.Changes.{forgotten}
-use Rattle.hir_import_resolution.specs.Directives.{TakenValue}
-use Rattle.hir_import_resolution.specs.Inner.Steps.{IsBound}
-use Rattle.hir_import_resolution.specs.Rounds.{GlobsLast, GrowsAround, HaveGlobs}
-use Rattle.hir_import_resolution.specs.declared.directive.ImportDirective.{ImportDirective}
-use Rattle.hir_call_queue.specs.Changes.{ChangedValue, IsThere, IsUnhelped, IsUntouched, everything, item_cmp, with_item, with_preludes, with_slot}
+use Rattle.hir_import_growth.proofs.GlobsLasting.{globs_pushed, globs_still}
+use Rattle.hir_import_growth.proofs.GrowingAround.{enums_around, lists_around, modules_around, scopes_around}
+use Rattle.hir_import_rules.specs.Changes.{forgotten}
+use Rattle.hir_import_rules.specs.Directives.{TakenValue}
+use Rattle.hir_import_growth.specs.Binding.{IsBound}
+use Rattle.hir_import_growth.specs.Growth.{GlobsLast, GrowsAround, HaveGlobs}
+use Rattle.hir_import_rules.specs.declared.directive.ImportDirective.{ImportDirective}
+use Rattle.hir_import_rules.specs.Changed.{ChangedValue, IsThere, IsUnhelped, IsUntouched, everything, item_cmp, with_item, with_preludes, with_slot}
 use Rattle.hir_collector_rules.specs.Attributes.{is_named_by}
 use Rattle.hir_collector_rules.specs.Changes.{with_builtin_derive, with_derived}
 use Rattle.hir_collector_rules.specs.Invocations.{Invocation, with_invocation, with_noted}
 use Rattle.hir_collector_rules.specs.Macros.{textual_at, with_textual_macro}
 use Rattle.hir_collector_rules.specs.Moves.{begun}
 use Rattle.hir_collector_rules.specs.State.{Run, at_rest, core_in, import_state}
-use Rattle.hir_collector_rules.specs.Waiting.{IsNoted, IsNotedBeside, KeepsModules, LeavesGlobs, LeavesImports, NotesSlots, is_helped}
+use Rattle.hir_collector_state.specs.Waiting.{IsNoted, IsNotedBeside, KeepsModules, LeavesGlobs, LeavesImports, NotesSlots, is_helped}
 use Rattle.hir_collector_state.proofs.CallReads.{agree_itself, agree_later, modules_kept_itself}
 use Rattle.hir_collector_state.proofs.InOrder.{in_order_made, in_order_scope}
 use Rattle.hir_collector_rules.proofs.Lists.{get_inside, get_left}

@@ -1,19 +1,13 @@
 //! Where a run stands, and what each change leaves.
 #![tactic(auto, unfolding(hir_collector_rules::specs::State::core_in))]
 
-ghost use Rattle.std.specs.Prelude.{◌≡◌, ◌<◌, ◌≤◌, ℕ, true, false, ◌∷◌, [], Some, length, option_map, slice_get, slice_set, IfNone, IfOk, IfSome, None, OnOk};
-ghost use Rattle.hir_def_map_rules.specs.State.{IsInOrder, with_enum, new_id, new_module, with_declared, with_use, with_impl, with_extern_block, with_extern_crate, with_unnamed_const};
+ghost use Rattle.std.specs.Prelude.{◌≡◌, ◌<◌, ◌≤◌, true, false, ◌∷◌, [], Some, length, option_map, slice_get, slice_set, IfNone, IfOk, IfSome, None, OnOk};
+ghost use Rattle.hir_def_map_rules.specs.State.{with_enum, new_id, new_module, with_declared, with_use, with_impl, with_extern_block, with_extern_crate, with_unnamed_const};
 ghost use Rattle.hir_def_map.specs.WorldParts.{part_of};
 ghost use Rattle.hir_def_map_rules.specs.Macros.{with_diagnostic, with_macro_def};
-ghost use Rattle.hir_def_map_laws.specs.SlotChanges.{ScopesChangeAmong};
-ghost use Rattle.hir_import_resolution.specs.Inner.State.{IsApart, state_in};
-ghost use Rattle.hir_import_resolution.specs.Rest.{IsAtRest, IsClosed, IsSound, IsSpent as ImportsAreSpent};
-ghost use Rattle.hir_import_resolution.specs.Rounds.{GlobsLast, IsResumable, IsUpToDate as AreUpToDate, is_apart, is_lasting};
-ghost use Rattle.hir_import_resolution.specs.Rules.{Steps as StepsOfImports};
-ghost use Rattle.hir_import_resolution.specs.Visibilities.{visibility_in};
-ghost use Rattle.hir_call_queue.specs.Changes.{nothing};
-ghost use Rattle.hir_collector_rules.specs.Keys.{Environment};
-ghost use Rattle.hir_collector_rules.specs.State.{at_rest, core_in, core_with_imports, counted, import_state, with_asked, with_bound, with_calls, with_fate, with_imports, with_local, with_map, with_settled};
+ghost use Rattle.hir_import_rules.specs.Visibilities.{visibility_in};
+ghost use Rattle.hir_import_rules.specs.Changed.{nothing};
+ghost use Rattle.hir_collector_rules.specs.State.{at_rest, core_in, counted, with_asked, with_bound, with_calls, with_fate, with_imports, with_local, with_map};
 ghost use Rattle.hir_collector_rules.specs.ItemIds.{container_of, module_id};
 ghost use Rattle.hir_collector_rules.specs.Items.{own_visibility};
 ghost use Rattle.hir_collector_rules.specs.Calls.{IsWaiting};
@@ -23,19 +17,11 @@ ghost use Rattle.hir_collector_rules.specs.Imports.{crate_named, dependency_name
 ghost use Rattle.hir_collector_rules.specs.Macros.{macros_brought, other_scope, textual_at, with_macros_used, with_textual_macro, with_textual_scope};
 ghost use Rattle.hir_collector_rules.specs.Start.{core_by};
 ghost use Rattle.hir_collector_rules.specs.ModuleFiles.{file_key};
-ghost use Rattle.hir_collector_rules.specs.Steps.{Steps};
-ghost use Rattle.hir_collector_rules.specs.Derivation.{IsSpent, collected_view, finished_run};
+ghost use Rattle.hir_collector_rules.specs.Derivation.{collected_view, finished_run};
 ghost use Rattle.hir_collector_rules.specs.Moves.{begun};
-ghost use Rattle.hir_collector_rules.specs.Waiting.{IsNoted, NotesSlots};
+ghost use Rattle.hir_collector_state.specs.Waiting.{IsNoted};
 
-use crate::censor::censor_root;
-use crate::def_collector::changes::{changed_by, changed_by_imports, note_variants};
-use crate::diagnostics::{report_calls, report_unresolved, unresolved_crates};
-use crate::first_keys::first_keys;
-use crate::leftovers::untaken;
-use crate::macro_use::{root_scope, use_prelude_macros, use_wanted};
-use crate::preludes::own_prelude;
-use crate::textual;
+use crate::def_collector::changes::note_variants;
 use hir_base::ast_id::{AstId, EditionedFileId, FileId, HirFileId};
 use hir_base::cfg_options::CfgOptions;
 use hir_base::ids::{
@@ -44,7 +30,6 @@ use hir_base::ids::{
 };
 use hir_base::macro_kind::MacroId;
 use hir_base::name::Name;
-use hir_call_queue::Changed;
 use hir_collector_rules::collected::{Asked, Collected};
 use hir_collector_rules::crate_attrs::says;
 use hir_collector_rules::exported::ExportedFunction;
@@ -52,6 +37,13 @@ use hir_collector_rules::macro_directive::{Fate, MacroDirective};
 use hir_collector_rules::site::{ItemHead, Site};
 use hir_collector_rules::source_database::{Dependency, Key};
 use hir_collector_rules::start::{STEP_LIMIT, Start, StepError};
+use hir_collector_start::censor::censor_root;
+use hir_collector_start::diagnostics::{report_calls, report_unresolved, unresolved_crates};
+use hir_collector_start::first_keys::first_keys;
+use hir_collector_start::leftovers::untaken;
+use hir_collector_start::macro_use::{root_scope, use_prelude_macros, use_wanted};
+use hir_collector_start::preludes::own_prelude;
+use hir_collector_start::textual;
 use hir_crate_graph::crate_set::CrateSet;
 use hir_def_map::nameres::DefMap;
 use hir_def_map::nameres::crate_data::DefMapCrateData;
@@ -62,11 +54,9 @@ use hir_def_map::nameres::module_data::ModuleData;
 use hir_def_map::nameres::origin::ModuleOrigin;
 use hir_def_map::world::part::WorldPart;
 use hir_glob_imports::GlobImports;
-use hir_import_resolution::answers::visibility;
-use hir_import_resolution::{
-    ImportDirective, ImportError, ImportQueue, ImportSource, Imports, Resting, Taken,
-    begin_imports, forget, resume_imports, spread_globs,
-};
+use hir_import_growth::visibilities::visibility;
+use hir_import_growth::{Changed, forget};
+use hir_import_rules::{ImportDirective, ImportSource, Taken};
 use hir_item_tree::raw_visibility::RawVisibility;
 use hir_item_tree::shape::ExternCrateName;
 use hir_item_tree::tree_id::{TreeId, TreeKey};
@@ -80,29 +70,28 @@ use std::rc::Rc;
 
 mod changes;
 mod invocations;
-mod spreading;
 mod waiting;
 
-/// Where a run stands, what it has still to visit aside.
+/// Where a run stands, what it has still to visit aside. Its parts are changed here, and by `hir_collector_imports` alone.
 #[derive(Drop)]
 pub struct DefCollector {
-    map: DefMap,
-    local: LocalDefMap,
-    dependencies: Vec<Dependency>,
-    options: CfgOptions,
-    from_glob_import: PerNsGlobImports,
-    globs: GlobImports,
-    reached: Vec<ImportDirective>,
-    taken: Vec<Taken>,
-    calls: Vec<MacroDirective>,
-    fates: Vec<Fate>,
-    settled: usize,
-    is_proc_macro: bool,
-    exported: Vec<ExportedFunction>,
-    asked: Vec<Key>,
-    count: u32,
+    pub map: DefMap,
+    pub local: LocalDefMap,
+    pub dependencies: Vec<Dependency>,
+    pub options: CfgOptions,
+    pub from_glob_import: PerNsGlobImports,
+    pub globs: GlobImports,
+    pub reached: Vec<ImportDirective>,
+    pub taken: Vec<Taken>,
+    pub calls: Vec<MacroDirective>,
+    pub fates: Vec<Fate>,
+    pub settled: usize,
+    pub is_proc_macro: bool,
+    pub exported: Vec<ExportedFunction>,
+    pub asked: Vec<Key>,
+    pub count: u32,
     /// The slots of paths that may have changed since calls were tried.
-    changed: Changed,
+    pub changed: Changed,
 }
 
 impl Model for DefCollector {
@@ -149,6 +138,17 @@ fn dependency_named(dependencies: &[Dependency], name: &Name) -> Option<Crate>
     None
 }
 
+/// Whether the call at the place waits.
+fn waits(fates: &Vec<Fate>, i: usize) -> bool
+    ensures yes { result ≡ true → slice_get fates.now.items i ≡ Some Fate.Waits }
+    ensures no { result ≡ false → ¬ (slice_get fates.now.items i ≡ Some Fate.Waits) }
+{
+    match fates.get(i) {
+        Some(Fate::Waits) => true,
+        Some(Fate::Handled | Fate::GivenUp) | None => false,
+    }
+}
+
 /// This becomes of the call at the place.
 fn end(fates: &mut Vec<Fate>, i: usize, fate: Fate)
     ensures value { fates.new.items ≡ slice_set fates.old.items i fate }
@@ -156,40 +156,6 @@ fn end(fates: &mut Vec<Fate>, i: usize, fate: Fate)
     if i < fates.len() {
         fates[i] = fate;
     }
-}
-
-/// Takes imports until no more comes of them: all, or where what was found out lasts and not all slots count as changed, those
-/// of the queue that have read one of the slots, and those that came besides.
-fn take_imports(
-    alloc: Global,
-    world: WorldPart<'_>,
-    apart: bool,
-    queue: ImportQueue,
-    grown: &Changed,
-    imports: Imports,
-) -> Result<Resting, ImportError>
-    requires small { imports.count ≤ STEP_LIMIT }
-    requires apart { apart ≡ true → IsApart (part_of world) imports.map.id imports.local }
-    requires there { (i : ℕ) (r : ImportDirective) → slice_get imports.imports.items i ≡ Some r → r.home < length imports.map.modules }
-    requires in_order { IsInOrder imports.map }
-    requires sound { IsSound (part_of world) (state_in imports) }
-    requires queue { is_lasting queue ≡ true → is_apart queue ≡ apart }
-    requires resumable { is_lasting queue ≡ true → grown.now.all ≡ false → IsResumable (part_of world) queue (state_in imports) grown.now.slots }
-    requires globs { is_lasting queue ≡ true → grown.now.all ≡ false → GlobsLast (part_of world) (state_in imports) imports.globs }
-    ensures derived { IfOk result (λ r. StepsOfImports (part_of world.entry) (state_in imports) (state_in r.imports)) }
-    ensures rests { IfOk result (λ r. IsAtRest (part_of world.entry) (state_in r.imports)) }
-    ensures sound { IfOk result (λ r. IsSound (part_of world.entry) (state_in r.imports)) }
-    ensures up_to_date { IfOk result (λ r. AreUpToDate (part_of world.entry) r.queue (state_in r.imports)) }
-    ensures changes { IfOk result (λ r. apart ≡ true → ScopesChangeAmong imports.map r.imports.map imports.local r.changed.items) }
-    ensures local { IfOk result (λ r. r.imports.local ≡ imports.local) }
-    ensures small { IfOk result (λ r. r.imports.count ≤ STEP_LIMIT) }
-    ensures apart { IfOk result (λ r. is_apart r.queue ≡ apart) }
-    ensures many { result ≡ Err ImportError.TooMany → ImportsAreSpent (part_of world.entry) (state_in imports) }
-{
-    if queue.lasts() && !grown.is_everything() {
-        return resume_imports(alloc, world, queue, imports, grown.slots());
-    }
-    begin_imports(alloc, world, apart, imports)
 }
 
 impl DefCollector {
@@ -314,7 +280,7 @@ impl DefCollector {
         Ok(())
     }
 
-    /// Binds what a declaration brings under a name in a module. Along globs it goes with `spread_changes`.
+    /// Binds what a declaration brings under a name in a module. Along globs it goes with `hir_collector_imports::spread_changes`.
     ///
     /// After rust-analyzer's `DefCollector::update`.
     pub fn bind(&mut self, home: u32, name: Name, items: PerNs) -> Result<(), AllocError>
@@ -609,9 +575,10 @@ impl DefCollector {
         ensures waits { IfSome result (λ call. IsWaiting (at_rest (core_in self.now)) i call.now) }
         ensures none { IfNone result ((call : MacroDirective) → ¬ IsWaiting (at_rest (core_in self.now)) i call) }
     {
-        match self.fates.get(i)? {
-            Fate::Waits => self.calls.get(i),
-            Fate::Handled | Fate::GivenUp => None,
+        if waits(&self.fates, i) {
+            self.calls.get(i)
+        } else {
+            None
         }
     }
 
@@ -667,119 +634,6 @@ impl DefCollector {
         }
         self.settled = there;
         self.tick()
-    }
-
-    /// Takes imports, and what comes of them along globs, until no more comes. Of those in `queue`, where what was found out of
-    /// them lasts and not all slots count as changed, only those are tried that have read one of the slots that have changed
-    /// since they rested, `grown`.
-    pub fn settle(
-        self,
-        world: WorldPart<'_>,
-        apart: bool,
-        queue: ImportQueue,
-        grown: &Changed,
-    ) -> Result<(DefCollector, ImportQueue), StepError>
-        requires apart { apart ≡ true → IsApart (part_of world) (core_in self).map.id (core_in self).local }
-        requires there { (i : ℕ) (r : ImportDirective) → slice_get (core_in self).reached i ≡ Some r → r.home < length (core_in self).map.modules }
-        requires in_order { IsInOrder (core_in self).map }
-        requires sound { IsSound (part_of world) (import_state (at_rest (core_in self))) }
-        requires queue { is_lasting queue ≡ true → is_apart queue ≡ apart }
-        requires resumable { is_lasting queue ≡ true → grown.now.all ≡ false → IsResumable (part_of world) queue (import_state (at_rest (core_in self))) grown.now.slots }
-        requires globs { is_lasting queue ≡ true → grown.now.all ≡ false → GlobsLast (part_of world) (import_state (at_rest (core_in self))) self.globs }
-        ensures ok { IfOk result (λ r. (env : Environment) → Steps env (part_of world.entry) (at_rest (core_in self)) (at_rest (core_in r.0))) }
-        ensures noted { IfOk result (λ r. NotesSlots self r.0) }
-        ensures rests { IfOk result (λ r. IsAtRest (part_of world.entry) (import_state (at_rest (core_in r.0)))) }
-        ensures sound { IfOk result (λ r. IsSound (part_of world.entry) (import_state (at_rest (core_in r.0)))) }
-        ensures up_to_date { IfOk result (λ r. AreUpToDate (part_of world.entry) r.1 (import_state (at_rest (core_in r.0)))) }
-        ensures apart { IfOk result (λ r. is_apart r.1 ≡ apart) }
-        ensures others { IfOk result (λ r. core_in r.0 ≡ core_with_imports (core_in self) (import_state (at_rest (core_in r.0)))) }
-        ensures many { result ≡ Err StepError.TooMany → (env : Environment) → IsSpent env (part_of world.entry) (at_rest (core_in self)) }
-    {
-        let alloc = self.allocator();
-        let before = self.count;
-        let resting = take_imports(
-            alloc,
-            world,
-            apart,
-            queue,
-            grown,
-            Imports {
-                map: self.map,
-                local: self.local,
-                from_glob_import: self.from_glob_import,
-                imports: self.reached,
-                taken: self.taken,
-                globs: self.globs,
-                count: self.count,
-            },
-        )?;
-        let imports = resting.imports;
-        let slots = resting.changed.as_slice();
-        let changed = changed_by_imports(self.changed, apart, slots, before, imports.count)?;
-        let run = DefCollector {
-            map: imports.map,
-            local: imports.local,
-            dependencies: self.dependencies,
-            options: self.options,
-            from_glob_import: imports.from_glob_import,
-            globs: imports.globs,
-            reached: imports.imports,
-            taken: imports.taken,
-            calls: self.calls,
-            fates: self.fates,
-            settled: self.settled,
-            is_proc_macro: self.is_proc_macro,
-            exported: self.exported,
-            asked: self.asked,
-            count: imports.count,
-            changed,
-        };
-        Ok((run, resting.queue))
-    }
-
-    /// Lets names go along globs until none is left to go.
-    pub fn spread(self, world: WorldPart<'_>) -> Result<DefCollector, StepError>
-        requires sound { IsSound (part_of world) (import_state (at_rest (core_in self))) }
-        ensures ok { IfOk result (λ run. (env : Environment) → Steps env (part_of world.entry) (at_rest (core_in self)) (at_rest (core_in run))) }
-        ensures noted { IfOk result (λ run. NotesSlots self run) }
-        ensures closed { IfOk result (λ run. IsClosed (part_of world.entry) (import_state (at_rest (core_in run)))) }
-        ensures sound { IfOk result (λ run. IsSound (part_of world.entry) (import_state (at_rest (core_in run)))) }
-        ensures others { IfOk result (λ run. core_in run ≡ core_with_imports (core_in self) (import_state (at_rest (core_in run)))) }
-        ensures many { result ≡ Err StepError.TooMany → (env : Environment) → IsSpent env (part_of world.entry) (at_rest (core_in self)) }
-    {
-        let alloc = self.allocator();
-        let before = self.count;
-        let imports = spread_globs(
-            alloc,
-            world,
-            Imports {
-                map: self.map,
-                local: self.local,
-                from_glob_import: self.from_glob_import,
-                imports: self.reached,
-                taken: self.taken,
-                globs: self.globs,
-                count: self.count,
-            },
-        )?;
-        Ok(DefCollector {
-            map: imports.map,
-            local: imports.local,
-            dependencies: self.dependencies,
-            options: self.options,
-            from_glob_import: imports.from_glob_import,
-            globs: imports.globs,
-            reached: imports.imports,
-            taken: imports.taken,
-            calls: self.calls,
-            fates: self.fates,
-            settled: self.settled,
-            is_proc_macro: self.is_proc_macro,
-            exported: self.exported,
-            asked: self.asked,
-            count: imports.count,
-            changed: changed_by(self.changed, before, imports.count),
-        })
     }
 
     /// What a run comes to: what waits still is left over, and reported.

@@ -16,8 +16,8 @@ use Rattle.hir_collector_rules.specs.ModuleFiles.{IsFileMeant, is_file_meant}
 use Rattle.hir_def_map_laws.specs.ReadLaw.{KeepApart}
 use Rattle.hir_def_map_laws.proofs.Apart.{some_apart, worlds_apart}
 use Rattle.hir_import_resolution.specs.Inner.State.{IsApart}
-use Rattle.hir_def_collector.proofs.Outside.{outside_by}
-use Rattle.hir_def_collector.specs.Outside.{begins_outside}
+use Rattle.hir_collector_imports.proofs.Outside.{outside_by}
+use Rattle.hir_collector_imports.specs.Outside.{begins_outside}
 
 -- a map that isn't there
 pub no_map : (p : Option Placed) → option_map (λ (placed : Placed). placed.map) p ≡ None → p ≡ None

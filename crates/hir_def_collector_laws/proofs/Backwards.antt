@@ -34,8 +34,8 @@ use Rattle.hir_def_map_rules.specs.State.{CrateData, Map, module_at, new_id}
 use Rattle.hir_def_map_rules.specs.declared.diagnostics.DefDiagnostic.{DefDiagnostic}
 use Rattle.hir_def_map_rules.specs.declared.derive_helpers.DeriveHelper.{DeriveHelper}
 use Rattle.hir_def_map_rules.specs.declared.origin.ModuleOrigin.{ModuleOrigin}
-use Rattle.hir_import_resolution.specs.Changes.{Change as ImportChange}
-use Rattle.hir_import_resolution.specs.Rules.{acts as import_acts}
+use Rattle.hir_import_rules.specs.Changes.{Change as ImportChange}
+use Rattle.hir_import_rules.specs.Rules.{acts as import_acts}
 use Rattle.hir_collector_rules.specs.declared.declaration.Declaration.{Declaration}
 use Rattle.hir_collector_rules.specs.declared.exported.Export.{Export}
 use Rattle.hir_collector_rules.specs.declared.macro_directive.MacroDirective.{MacroDirective}

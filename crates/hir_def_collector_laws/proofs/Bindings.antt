@@ -55,15 +55,15 @@ use Rattle.hir_glob_imports.specs.declared.edge.Bound.{Bound}
 use Rattle.hir_glob_imports.specs.declared.edge.Edge.{Edge}
 use Rattle.hir_glob_imports.specs.declared.edge.Key.{Key}
 use Rattle.hir_glob_imports.specs.declared.edge.Key.TheVariants.{Types, Values, Macros, Unnamed}
-use Rattle.hir_import_resolution.specs.Changes.{Change as ImportChange, along, keeps_trait, pushes, pushing, records, takes}
-use Rattle.hir_import_resolution.specs.Directives.{answer_by_source, answer_of_crate, glob_of, is_unnamed, kept_by, kept_of, kept_trait, kind_of, leaf_of}
-use Rattle.hir_import_resolution.specs.Directives.{path_answer, trait_among, way_of}
-use Rattle.hir_import_resolution.specs.Names.{bound_of, redefined, revised, scope_table, view_of, with_trait}
-use Rattle.hir_import_resolution.specs.Rules.{Rule as ImportRule, May as MayImport, acts as import_acts, goes_along, takes_glob, takes_import}
-use Rattle.hir_import_resolution.specs.State.{ImportState, glob_state, scopes_of}
-use Rattle.hir_import_resolution.specs.declared.directive.ImportDirective.{ImportDirective}
-use Rattle.hir_import_resolution.specs.declared.directive.ImportSource.{ImportSource}
-use Rattle.hir_import_resolution.specs.declared.directive.ImportSource.TheVariants as sources
+use Rattle.hir_import_rules.specs.Changes.{Change as ImportChange, along, keeps_trait, pushes, pushing, records, takes}
+use Rattle.hir_import_rules.specs.Directives.{answer_by_source, answer_of_crate, glob_of, is_unnamed, kept_by, kept_of, kept_trait, kind_of, leaf_of}
+use Rattle.hir_import_rules.specs.Directives.{path_answer, trait_among, way_of}
+use Rattle.hir_import_rules.specs.Names.{bound_of, redefined, revised, scope_table, view_of, with_trait}
+use Rattle.hir_import_rules.specs.Rules.{Rule as ImportRule, May as MayImport, acts as import_acts, goes_along, takes_glob, takes_import}
+use Rattle.hir_import_rules.specs.State.{ImportState, glob_state, scopes_of}
+use Rattle.hir_import_rules.specs.declared.directive.ImportDirective.{ImportDirective}
+use Rattle.hir_import_rules.specs.declared.directive.ImportSource.{ImportSource}
+use Rattle.hir_import_rules.specs.declared.directive.ImportSource.TheVariants as sources
 use Rattle.hir_collector_rules.specs.Calls.{error_of}
 use Rattle.hir_collector_rules.specs.Changes.{Change, lists, makes, gives_variants, begins_paths, reaches, awaits, ends, settles, changes_imports, adds_textual}
 use Rattle.hir_collector_rules.specs.Changes.{takes_textual, defines, describes, helps, lists_derive, notes, exports, uses_macros, tells, goes_on, act, perform}

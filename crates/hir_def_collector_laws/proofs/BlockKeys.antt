@@ -24,7 +24,7 @@ use Rattle.hir_def_map_rules.specs.State.{numbered}
 use Rattle.hir_def_map_rules.specs.WellFormed.{AreWellFormed}
 use Rattle.hir_def_map_rules.proofs.NoneOf.{neither, none_at, not_first}
 use Rattle.hir_def_map_rules.proofs.StaysSourced.{HoldsNowhere-overlay}
-use Rattle.hir_import_resolution.specs.Rules.{acts as import_acts}
+use Rattle.hir_import_rules.specs.Rules.{acts as import_acts}
 use Rattle.hir_tables.specs.Tables.{TablesValue}
 use Rattle.hir_collector_rules.specs.Attributes.{attr_id, item_node}
 use Rattle.hir_collector_rules.specs.Calls.{by_style, called_macro, error_of, path_of_call, style_of, suited, suits}

@@ -17,11 +17,11 @@ use Rattle.hir_def_map_rules.specs.Overlay.{Maps}
 use Rattle.hir_def_map_rules.specs.State.{Map, numbered}
 use Rattle.hir_def_map_rules.specs.declared.diagnostics.DefDiagnostic.{DefDiagnostic}
 use Rattle.hir_def_map_rules.specs.declared.diagnostics.DefDiagnosticKind.TheVariants as kinds
-use Rattle.hir_import_resolution.specs.Directives.{TakenValue, is_untaken}
-use Rattle.hir_import_resolution.specs.Rules.{acts as import_acts}
-use Rattle.hir_import_resolution.specs.declared.directive.ImportDirective.{ImportDirective}
-use Rattle.hir_import_resolution.specs.declared.directive.ImportSource.{ImportSource}
-use Rattle.hir_import_resolution.specs.declared.directive.ImportSource.TheVariants as sources
+use Rattle.hir_import_rules.specs.Directives.{TakenValue, is_untaken}
+use Rattle.hir_import_rules.specs.Rules.{acts as import_acts}
+use Rattle.hir_import_rules.specs.declared.directive.ImportDirective.{ImportDirective}
+use Rattle.hir_import_rules.specs.declared.directive.ImportSource.{ImportSource}
+use Rattle.hir_import_rules.specs.declared.directive.ImportSource.TheVariants as sources
 use Rattle.hir_collector_rules.specs.declared.macro_directive.Fate.{Fate}
 use Rattle.hir_collector_rules.specs.declared.macro_directive.MacroDirective.{MacroDirective}
 use Rattle.hir_collector_rules.specs.declared.macro_directive.MacroDirectiveKind.{MacroDirectiveKind}

@@ -6,7 +6,7 @@ use Rattle.hir_base.specs.declared.macro_kind.MacroId.{MacroId}
 use Rattle.hir_base.specs.declared.ids.ModuleDefId.{ModuleDefId}
 use Rattle.hir_def_map_rules.specs.Overlay.{Maps}
 use Rattle.hir_def_map_rules.specs.State.{Map, module_at}
-use Rattle.hir_import_resolution.specs.Rules.{acts as import_acts}
+use Rattle.hir_import_rules.specs.Rules.{acts as import_acts}
 use Rattle.hir_collector_rules.specs.declared.macro_directive.Fate.{Fate}
 use Rattle.hir_collector_rules.specs.declared.macro_directive.MacroDirective.{MacroDirective}
 use Rattle.hir_collector_rules.specs.declared.macro_directive.Fate.TheVariants.{GivenUp, Handled, Waits}

@@ -45,7 +45,7 @@ use Rattle.hir_base.specs.declared.ids.ItemContainerId.TheVariants as containers
 use Rattle.hir_base.specs.declared.ids.ModuleDefId.TheVariants as definitions
 use Rattle.hir_base.specs.declared.macro_kind.MacroExpander.TheVariants as expanders
 use Rattle.hir_base.specs.declared.macro_kind.MacroId.TheVariants as macros
-use Rattle.hir_item_tree.specs.contracts.raw_visibility.VisibilityExplicitness.{the_type as ways_of_writing}
+use Rattle.hir_raw_visibility.specs.contracts.raw_visibility.VisibilityExplicitness.{the_type as ways_of_writing}
 use Rattle.hir_scope.specs.declared.item_in_ns.ItemInNs.{ItemInNs}
 use Rattle.hir_scope.specs.declared.visibility.Visibility.{Visibility}
 use Rattle.hir_scope.specs.declared.item_in_ns.ItemInNs.TheVariants as in_ns

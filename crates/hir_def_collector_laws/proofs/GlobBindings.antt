@@ -47,16 +47,16 @@ use Rattle.hir_glob_imports.specs.declared.edge.Brought.{Brought}
 use Rattle.hir_glob_imports.specs.declared.edge.Edge.{Edge}
 use Rattle.hir_glob_imports.specs.declared.edge.Key.{Key}
 use Rattle.hir_glob_imports.specs.declared.edge.Key.TheVariants.{Types, Values, Macros, Unnamed}
-use Rattle.hir_import_resolution.specs.Changes.{Change as ImportChange, along, keeps_trait, kept_vis, pushes, pushing, records, takes}
-use Rattle.hir_import_resolution.specs.Inner.ScopeLaws.{vacant_of}
-use Rattle.hir_import_resolution.specs.Names.{ScopesValue, bound_at, bound_by, bound_of, copied, copied_where, entries_of, followed, followed_where, raised}
-use Rattle.hir_import_resolution.specs.Names.{scope_table, trait_vis, view_of, with_trait}
-use Rattle.hir_import_resolution.specs.Rules.{Rule as ImportRule, May as MayImport, goes_along, takes_glob, takes_import}
-use Rattle.hir_import_resolution.specs.State.{glob_state, scopes_of}
-use Rattle.hir_import_resolution.specs.Visibilities.{greater_in, lesser_in}
-use Rattle.hir_import_resolution.specs.declared.directive.ImportDirective.{ImportDirective}
-use Rattle.hir_import_resolution.specs.declared.directive.ImportSource.{ImportSource}
-use Rattle.hir_import_resolution.specs.declared.directive.ImportSource.TheVariants as sources
+use Rattle.hir_import_rules.specs.Changes.{Change as ImportChange, along, keeps_trait, kept_vis, pushes, pushing, records, takes}
+use Rattle.hir_import_rules.specs.ScopeLaws.{vacant_of}
+use Rattle.hir_import_rules.specs.Names.{ScopesValue, bound_at, bound_by, bound_of, copied, copied_where, entries_of, followed, followed_where, raised}
+use Rattle.hir_import_rules.specs.Names.{scope_table, trait_vis, view_of, with_trait}
+use Rattle.hir_import_rules.specs.Rules.{Rule as ImportRule, May as MayImport, goes_along, takes_glob, takes_import}
+use Rattle.hir_import_rules.specs.State.{glob_state, scopes_of}
+use Rattle.hir_import_rules.specs.Visibilities.{greater_in, lesser_in}
+use Rattle.hir_import_rules.specs.declared.directive.ImportDirective.{ImportDirective}
+use Rattle.hir_import_rules.specs.declared.directive.ImportSource.{ImportSource}
+use Rattle.hir_import_rules.specs.declared.directive.ImportSource.TheVariants as sources
 use Rattle.hir_collector_rules.specs.Calls.{error_of}
 use Rattle.hir_collector_rules.specs.Changes.{Change, lists, makes, gives_variants, begins_paths, reaches, awaits, ends, settles, changes_imports, adds_textual}
 use Rattle.hir_collector_rules.specs.Changes.{takes_textual, defines, describes, helps, lists_derive, notes, exports, uses_macros, tells, goes_on, act, perform}

@@ -19,7 +19,7 @@ use Rattle.hir_def_map_rules.specs.declared.declaration.Declaration.TheVariants 
 use Rattle.hir_def_map_rules.specs.declared.derive_helpers.DeriveHelper.{DeriveHelper}
 use Rattle.hir_def_map_rules.proofs.Grown.{length-changed}
 use Rattle.hir_def_map_rules.proofs.StaysWellFormed.{length-made}
-use Rattle.hir_import_resolution.specs.Changes.{Change as ImportChange, pushes}
+use Rattle.hir_import_rules.specs.Changes.{Change as ImportChange, pushes}
 use Rattle.hir_collector_rules.specs.declared.exported.ExportedFunction.{ExportedFunction}
 use Rattle.hir_collector_rules.specs.declared.macro_directive.MacroDirective.{MacroDirective}
 use Rattle.hir_collector_rules.specs.Causes.{declarations_of}

@@ -28,7 +28,7 @@ use Rattle.hir_glob_imports.specs.declared.edge.Slot.{Slot}
 use Rattle.hir_glob_imports.specs.declared.edge.Key.TheVariants.{Types, Values, Macros}
 use Rattle.hir_glob_imports.proofs.Exact.{exact_slot}
 use Rattle.hir_glob_imports.proofs.Settling.{same_itself}
-use Rattle.hir_import_resolution.specs.Changes.{forgotten, forgotten_in}
+use Rattle.hir_import_rules.specs.Changes.{forgotten, forgotten_in}
 use Rattle.hir_def_collector_laws.specs.Globs.{glob_by, is_open_in}
 use Rattle.hir_def_collector_laws.proofs.Places.{now_with, still_with, still_without}
 

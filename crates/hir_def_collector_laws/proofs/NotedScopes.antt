@@ -36,8 +36,8 @@ use Rattle.hir_glob_imports.specs.declared.edge.Brought.{Brought}
 use Rattle.hir_glob_imports.specs.declared.edge.Edge.{Edge}
 use Rattle.hir_glob_imports.specs.declared.edge.Key.{Key}
 use Rattle.hir_glob_imports.specs.declared.edge.Key.TheVariants.{Types, Values, Macros, Unnamed}
-use Rattle.hir_import_resolution.specs.Changes.{forgotten}
-use Rattle.hir_import_resolution.specs.Names.{with_macro, with_macro_vis, with_type, with_type_vis, with_value, with_value_vis}
+use Rattle.hir_import_rules.specs.Changes.{forgotten}
+use Rattle.hir_import_rules.specs.Names.{with_macro, with_macro_vis, with_type, with_type_vis, with_value, with_value_vis}
 use Rattle.hir_def_collector_laws.specs.Globs.{glob_of_value}
 use Rattle.hir_def_collector_laws.proofs.ModuleLists.{IsChanged, IsOfLonger, changed-at, changed_one, newest, of_longer, older, other_one}
 use Rattle.hir_def_collector_laws.proofs.Noted.{AreNotedIn, GivesAll, IsAsOpen, IsExplicit, KeepsEdges, copied_here, explicit_here, forgot_macros, forgot_types}

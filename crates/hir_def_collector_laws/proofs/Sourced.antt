@@ -27,10 +27,10 @@ use Rattle.hir_item_tree.specs.Imports.{imports_of}
 use Rattle.hir_item_tree.specs.KeptForest.{Head, Leaf, KeptItem, KeptForest, leaf, holder, import, extern_crate, function, structure, union_structure}
 use Rattle.hir_item_tree.specs.KeptForest.{enumeration, constant, static_item, trait_item, implementation, type_alias, outline_module, macro_call, macro_rules}
 use Rattle.hir_item_tree.specs.KeptForest.{macro_def}
-use Rattle.hir_item_tree.specs.declared.raw_visibility.RawVisibility.{RawVisibility}
+use Rattle.hir_raw_visibility.specs.declared.raw_visibility.RawVisibility.{RawVisibility}
 use Rattle.hir_item_tree.specs.declared.tree_id.TreeId.{TreeId}
 use Rattle.hir_item_tree.specs.declared.tree_id.TreeKey.{TreeKey}
-use Rattle.hir_item_tree.specs.declared.raw_visibility.RawVisibility.TheVariants as raws
+use Rattle.hir_raw_visibility.specs.declared.raw_visibility.RawVisibility.TheVariants as raws
 use Rattle.hir_use_tree.specs.declared.imports.ImportKind.TheVariants as import_kinds
 use Rattle.hir_mod_dir.specs.Directory.{Directory}
 use Rattle.hir_mod_dir.specs.ModuleFiles.{inline_directory}
@@ -80,18 +80,18 @@ use Rattle.hir_glob_imports.specs.declared.edge.Key.{Key as GlobKey}
 use Rattle.hir_glob_imports.specs.declared.edge.Key.TheVariants.{Types, Values, Macros, Unnamed}
 use Rattle.hir_glob_imports.specs.declared.edge.Target.TheVariants as targets
 use Rattle.hir_use_tree.specs.UseTree.{count_of}
-use Rattle.hir_import_resolution.specs.Changes.{Change as ImportChange, act as act_on_imports, along, keeps_trait, pushes, pushing, records, takes}
-use Rattle.hir_import_resolution.specs.Names.{ScopesValue, bound_of, entries_of, is_foreign, scope_table, traits_of, view_of}
-use Rattle.hir_import_resolution.specs.Rules.{Rule as ImportRule, May as MayImport, acts as import_acts, goes_along, takes_glob, takes_import}
-use Rattle.hir_import_resolution.specs.State.{ImportState, glob_state, scopes_of}
-use Rattle.hir_import_resolution.specs.declared.directive.ImportDirective.{ImportDirective}
-use Rattle.hir_import_resolution.specs.declared.directive.ImportSource.{ImportSource}
-use Rattle.hir_import_resolution.specs.declared.directive.ImportSource.TheVariants as sources
+use Rattle.hir_import_rules.specs.Changes.{Change as ImportChange, act as act_on_imports, along, keeps_trait, pushes, pushing, records, takes}
+use Rattle.hir_import_rules.specs.Names.{ScopesValue, bound_of, entries_of, is_foreign, scope_table, traits_of, view_of}
+use Rattle.hir_import_rules.specs.Rules.{Rule as ImportRule, May as MayImport, acts as import_acts, goes_along, takes_glob, takes_import}
+use Rattle.hir_import_rules.specs.State.{ImportState, glob_state, scopes_of}
+use Rattle.hir_import_rules.specs.declared.directive.ImportDirective.{ImportDirective}
+use Rattle.hir_import_rules.specs.declared.directive.ImportSource.{ImportSource}
+use Rattle.hir_import_rules.specs.declared.directive.ImportSource.TheVariants as sources
 use Rattle.hir_collector_rules.specs.Derivation.{CollectedValue, Ends, leftover_reports}
-use Rattle.hir_import_resolution.specs.Directives.{answer_in, answer_to, edge_to, glob_of, is_one_name, kept_by_kind, kept_trait, kind_of, leaf_of, name_of}
-use Rattle.hir_import_resolution.specs.Directives.{offered_by, open_items, visibility_of, way_of}
+use Rattle.hir_import_rules.specs.Directives.{answer_in, answer_to, edge_to, glob_of, is_one_name, kept_by_kind, kept_trait, kind_of, leaf_of, name_of}
+use Rattle.hir_import_rules.specs.Directives.{offered_by, open_items, visibility_of, way_of}
 use Rattle.hir_collector_rules.specs.Imports.{extern_by}
-use Rattle.hir_import_resolution.specs.Visibilities.{visibility_in}
+use Rattle.hir_import_rules.specs.Visibilities.{visibility_in}
 use Rattle.hir_collector_rules.specs.ItemIds.{enum_id, macro_def_id, macro_rules_id, module_id}
 use Rattle.hir_collector_rules.specs.Items.{constructor_of, declaration_of, declared_by, declared_by_leaf, declared_type, file_origin, inline_origin}
 use Rattle.hir_collector_rules.specs.Items.{own_visibility}

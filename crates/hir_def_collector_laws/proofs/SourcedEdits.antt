@@ -14,7 +14,7 @@ use Rattle.hir_base.specs.declared.ids.ModuleDefId.{ModuleDefId}
 use Rattle.hir_base.specs.declared.ids.ModuleId.{ModuleId}
 use Rattle.hir_base.specs.declared.ids.ModuleDefId.TheVariants as definitions
 use Rattle.hir_item_tree.specs.Shape.{has_constructor}
-use Rattle.hir_item_tree.specs.declared.raw_visibility.VisibilityExplicitness.{VisibilityExplicitness}
+use Rattle.hir_raw_visibility.specs.declared.raw_visibility.VisibilityExplicitness.{VisibilityExplicitness}
 use Rattle.hir_scope.specs.Bindings.{with_item_definition, with_item_visibility}
 use Rattle.hir_scope.specs.ModuleTree.{is_at_or_above, same_crate, same_module}
 use Rattle.hir_scope.specs.PerNs.{Item, with_constructor}
@@ -44,8 +44,8 @@ use Rattle.hir_glob_imports.specs.declared.edge.Bound.{Bound}
 use Rattle.hir_glob_imports.specs.declared.edge.Edge.{Edge}
 use Rattle.hir_glob_imports.specs.declared.edge.Key.{Key}
 use Rattle.hir_glob_imports.specs.declared.edge.Key.TheVariants.{Types, Values, Macros, Unnamed}
-use Rattle.hir_import_resolution.specs.Names.{bound_at, bound_by, items_by, redefined, revised, variant_items}
-use Rattle.hir_import_resolution.specs.Visibilities.{greater_in}
+use Rattle.hir_import_rules.specs.Names.{bound_at, bound_by, items_by, redefined, revised, variant_items}
+use Rattle.hir_import_rules.specs.Visibilities.{greater_in}
 use Rattle.hir_collector_rules.proofs.Entries.{none_rewritten}
 use Rattle.hir_collector_rules.proofs.ImportEdits.{Edit, edit, edited, keeps_unnamed, pushes_to, redefines, revises}
 

@@ -14,7 +14,7 @@ use Rattle.hir_use_tree.specs.declared.imports.Import.{Import}
 use Rattle.hir_use_tree.specs.declared.imports.ImportKind.{ImportKind}
 use Rattle.hir_item_tree.specs.declared.shape.FieldsShape.{FieldsShape}
 use Rattle.hir_item_tree.specs.declared.side_lists.VariantItem.{VariantItem}
-use Rattle.hir_item_tree.specs.declared.raw_visibility.VisibilityExplicitness.{VisibilityExplicitness}
+use Rattle.hir_raw_visibility.specs.declared.raw_visibility.VisibilityExplicitness.{VisibilityExplicitness}
 use Rattle.hir_item_tree.specs.declared.shape.FieldsShape.TheVariants.{Record, Tuple, Unit as UnitShape}
 use Rattle.hir_use_tree.specs.declared.imports.ImportKind.TheVariants as import_kinds
 use Rattle.hir_scope.specs.ModuleTree.{is_at_or_above, same_crate, same_module}
@@ -32,14 +32,14 @@ use Rattle.hir_def_map_rules.specs.Sources.{HoldsOfNone, SourceTest, on_def, on_
 use Rattle.hir_def_map_rules.specs.Sources.{on_value_import, on_values, on_variant, on_visibility}
 use Rattle.hir_def_map_rules.specs.State.{Map, Variants}
 use Rattle.hir_def_map_rules.specs.Overlay.{Maps, overlay}
-use Rattle.hir_import_resolution.specs.declared.directive.ImportSource.{ImportSource}
-use Rattle.hir_import_resolution.specs.declared.directive.ImportSource.TheVariants as sources
+use Rattle.hir_import_rules.specs.declared.directive.ImportSource.{ImportSource}
+use Rattle.hir_import_rules.specs.declared.directive.ImportSource.TheVariants as sources
 use Rattle.hir_collector_rules.specs.declared.site.Site.{Site}
 use Rattle.hir_collector_rules.specs.Enums.{variant_of, variants_of, with_variant}
-use Rattle.hir_import_resolution.specs.Directives.{answer_by_kind, answer_by_source, brought, brought_type, imported, is_of_extern_crate, kept_by_kind}
-use Rattle.hir_import_resolution.specs.Directives.{open_items}
+use Rattle.hir_import_rules.specs.Directives.{answer_by_kind, answer_by_source, brought, brought_type, imported, is_of_extern_crate, kept_by_kind}
+use Rattle.hir_import_rules.specs.Directives.{open_items}
 use Rattle.hir_collector_rules.specs.Imports.{reached_import}
-use Rattle.hir_import_resolution.specs.Visibilities.{is_public, lesser_in}
+use Rattle.hir_import_rules.specs.Visibilities.{is_public, lesser_in}
 use Rattle.hir_collector_rules.specs.ItemIds.{use_id}
 use Rattle.hir_collector_rules.specs.Items.{constructor_of, declared_struct, declared_type, meet_of}
 use Rattle.hir_collector_rules.specs.State.{Task, Visit, visits, visits_over}

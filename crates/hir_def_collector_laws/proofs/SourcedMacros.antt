@@ -1,5 +1,5 @@
 -- Macros that are clear of a test of sources leave a map clear of it.
-use Rattle.std.specs.Prelude.{◌≡◌, ◌||◌, ℕ, Bool, true, false, List, [], ◌∷◌, codes, is_none, Option, None, Some, cond, if◌then◌else◌, option_and_then}
+use Rattle.std.specs.Prelude.{◌≡◌, ◌||◌, ℕ, Bool, true, false, List, [], ◌∷◌, codes, is_none, Option, None, Some, cond, option_and_then}
 use Rattle.std.specs.Prelude.{option_map}
 use Rattle.std.specs.BTreeMap.{is_at}
 use Rattle.std.specs.Cmp.Lexicographic.{slice_cmp}
@@ -15,7 +15,7 @@ use Rattle.hir_item_tree.specs.Collected.{Numbered}
 use Rattle.hir_item_tree.specs.KeptForest.{Head}
 use Rattle.hir_item_tree.specs.declared.shape.ExternCrateName.{ExternCrateName}
 use Rattle.hir_item_tree.specs.declared.shape.ExternCrateName.TheVariants.{SelfCrate, Name}
-use Rattle.hir_textual_scope.specs.Macros.{is_before, with_macro}
+use Rattle.hir_textual_scope.specs.Macros.{with_macro}
 use Rattle.hir_textual_scope.specs.declared.textual_scope.TextualMacro.{TextualMacro}
 use Rattle.hir_scope.specs.Entries.{item_at}
 use Rattle.hir_scope.specs.ModuleTree.{same_crate}
@@ -29,7 +29,7 @@ use Rattle.hir_def_map_rules.specs.Sources.{on_macros_in, on_some, on_values, on
 use Rattle.hir_def_map_rules.specs.State.{Map, ModuleValue, module_at, scope_at, with_name, with_scope}
 use Rattle.hir_def_map_rules.proofs.NoneOf.{neither, none_at, none_found, none_inserted, not_first, not_second}
 use Rattle.hir_def_map_rules.proofs.StaysSourced.{HoldsNowhereIn-scope}
-use Rattle.hir_import_resolution.specs.Visibilities.{is_public}
+use Rattle.hir_import_rules.specs.Visibilities.{is_public}
 use Rattle.hir_collector_rules.specs.CrateTop.{listed_under}
 use Rattle.hir_collector_rules.specs.Imports.{dependency_named}
 use Rattle.hir_collector_rules.specs.Macros.{macros_beside, macros_brought, other_scope, public_among, public_at, public_in, public_named, public_one}
@@ -45,13 +45,8 @@ module _ (t : SourceTest) where
 
   pub textual_more : (ms : List TextualMacro) (name : List ℕ) (makro : MacroId) → list_any on_textual ms ≡ false → on_macro t makro ≡ false
       → list_any on_textual (with_macro ms name makro) ≡ false
-  textual_more [] name makro f g = neither (on_macro t makro) false g refl
-  textual_more (m ∷ ms) name makro f g = go (textual_more ms name makro (not_second (on_textual m) (list_any on_textual ms) f) g) (is_before name m.name)
-    where
-      go : list_any on_textual (with_macro ms name makro) ≡ false → (b : Bool) → list_any on_textual (if b then record { name = name; makro = makro } ∷ m ∷ ms
-          else m ∷ with_macro ms name makro) ≡ false
-      go behind true = neither (on_macro t makro) (list_any on_textual (m ∷ ms)) g f
-      go behind false = neither (on_textual m) (list_any on_textual (with_macro ms name makro)) (not_first (on_textual m) (list_any on_textual ms) f) behind
+  textual_more ms name makro f g =
+      none_joined on_textual ms (record { name = name; makro = makro } ∷ []) f (neither (on_macro t makro) false g refl)
 
   -- a change of what is in textual scope in a module
   pub textual_changed : (m : Map) (home : ℕ) (change : List TextualMacro → List TextualMacro) → ((ms : List TextualMacro) → list_any on_textual ms ≡ false

@@ -8,9 +8,9 @@ use Rattle.hir_base.specs.declared.ids.ModuleDefId.{ModuleDefId}
 use Rattle.hir_base.specs.declared.ids.ModuleId.{ModuleId}
 use Rattle.hir_base.specs.declared.ids.ModuleDefId.TheVariants as definitions
 use Rattle.hir_item_tree.specs.declared.shape.FieldsShape.{FieldsShape}
-use Rattle.hir_item_tree.specs.declared.raw_visibility.RawVisibility.{RawVisibility}
-use Rattle.hir_item_tree.specs.declared.raw_visibility.VisibilityExplicitness.{VisibilityExplicitness}
-use Rattle.hir_item_tree.specs.declared.raw_visibility.RawVisibility.TheVariants as raws
+use Rattle.hir_raw_visibility.specs.declared.raw_visibility.RawVisibility.{RawVisibility}
+use Rattle.hir_raw_visibility.specs.declared.raw_visibility.VisibilityExplicitness.{VisibilityExplicitness}
+use Rattle.hir_raw_visibility.specs.declared.raw_visibility.RawVisibility.TheVariants as raws
 use Rattle.hir_item_tree.specs.declared.shape.FieldsShape.TheVariants.{Record, Tuple, Unit as UnitShape}
 use Rattle.hir_scope.specs.ModuleTree.{is_at_or_above, same_crate, same_map, same_module}
 use Rattle.hir_scope.specs.PerNs.{Item}
@@ -37,8 +37,8 @@ use Rattle.hir_glob_imports.specs.Waves.{Records, adds, edge_with_vis, stays, wi
 use Rattle.hir_glob_imports.specs.declared.edge.Edge.{Edge}
 use Rattle.hir_glob_imports.specs.declared.edge.Target.{Target}
 use Rattle.hir_glob_imports.specs.declared.edge.Target.TheVariants as targets
-use Rattle.hir_import_resolution.specs.Directives.{brought, brought_type, imported, is_of_extern_crate}
-use Rattle.hir_import_resolution.specs.Visibilities.{greater_in, lesser_in, visibility_in}
+use Rattle.hir_import_rules.specs.Directives.{brought, brought_type, imported, is_of_extern_crate}
+use Rattle.hir_import_rules.specs.Visibilities.{greater_in, lesser_in, visibility_in}
 use Rattle.hir_collector_rules.specs.Items.{constructor_of, meet_of}
 
 -- what a glob leads out of, where that is no module of the map itself

@@ -26,7 +26,7 @@ use Rattle.hir_item_tree.specs.Shape.{has_constructor}
 use Rattle.hir_item_tree.specs.KeptForest.{Head, function, leaf}
 use Rattle.hir_item_tree.specs.Imports.{imports_of}
 use Rattle.hir_item_tree.specs.declared.shape.ExternCrateName.{ExternCrateName}
-use Rattle.hir_item_tree.specs.declared.raw_visibility.RawVisibility.{RawVisibility}
+use Rattle.hir_raw_visibility.specs.declared.raw_visibility.RawVisibility.{RawVisibility}
 use Rattle.hir_item_tree.specs.declared.shape.ExternCrateName.TheVariants.{SelfCrate, Name}
 use Rattle.hir_scope.specs.declared.imports.GlobId.{GlobId}
 use Rattle.hir_scope.specs.declared.imports.ImportId.{ImportId}
@@ -82,23 +82,23 @@ use Rattle.hir_glob_imports.specs.declared.edge.Target.{Target}
 use Rattle.hir_glob_imports.specs.Rules.{Rule as GlobRule, acts as glob_acts, copies_along, follows_along, raises_along, May as MayAlong}
 use Rattle.hir_glob_imports.specs.declared.edge.Key.TheVariants.{Types, Values, Macros, Unnamed}
 use Rattle.hir_glob_imports.specs.declared.edge.Target.TheVariants as targets
-use Rattle.hir_import_resolution.specs.declared.directive.ImportDirective.{ImportDirective}
-use Rattle.hir_import_resolution.specs.declared.directive.ImportSource.{ImportSource}
+use Rattle.hir_import_rules.specs.declared.directive.ImportDirective.{ImportDirective}
+use Rattle.hir_import_rules.specs.declared.directive.ImportSource.{ImportSource}
 use Rattle.hir_collector_rules.specs.Workspace.{Workspace, dependencies_in, transitive_dependencies_in}
 use Rattle.hir_tables.specs.Tables.{TablesValue}
 use Rattle.hir_collector_rules.specs.Keys.{Environment, environment}
 use Rattle.hir_collector_rules.specs.State.{State, Visit, import_state, Task, visits, behind}
 use Rattle.hir_collector_rules.specs.ItemIds.{enum_id, extern_crate_id, function_id, macro_rules_id, module_id, use_id, macro_def_id, node_of}
 use Rattle.hir_collector_rules.specs.Items.{declaration_of, declared_module, declared_type, file_origin, inline_origin, own_visibility}
-use Rattle.hir_import_resolution.specs.Visibilities.{visibility_in, greater_in}
+use Rattle.hir_import_rules.specs.Visibilities.{visibility_in, greater_in}
 use Rattle.hir_collector_rules.specs.Enums.{variants_of}
-use Rattle.hir_import_resolution.specs.Directives.{answer_in, answer_to, is_one_name, kept_by_kind, kept_trait, kind_of, leaf_of, name_of, offered_by}
-use Rattle.hir_import_resolution.specs.Directives.{open_items, visibility_of, edge_to, path_answer, target_among, target_at, target_by}
-use Rattle.hir_import_resolution.specs.Changes.{along, keeps_trait, pushes, kept_vis, Change as ImportChange}
-use Rattle.hir_import_resolution.specs.Names.{ScopesValue, bound_at, bound_by, bound_of, bound_trait, entries_of, is_foreign, items_by, traits_of}
-use Rattle.hir_import_resolution.specs.Names.{variant_items, view_of, is_open, open_vis, scope_table, trait_vis}
-use Rattle.hir_import_resolution.specs.Rules.{Rule as ImportRule, May as MayImport, acts as import_acts, goes_along, takes_glob, takes_import}
-use Rattle.hir_import_resolution.specs.State.{ImportState, scopes_of, glob_state}
+use Rattle.hir_import_rules.specs.Directives.{answer_in, answer_to, is_one_name, kept_by_kind, kept_trait, kind_of, leaf_of, name_of, offered_by}
+use Rattle.hir_import_rules.specs.Directives.{open_items, visibility_of, edge_to, path_answer, target_among, target_at, target_by}
+use Rattle.hir_import_rules.specs.Changes.{along, keeps_trait, pushes, kept_vis, Change as ImportChange}
+use Rattle.hir_import_rules.specs.Names.{ScopesValue, bound_at, bound_by, bound_of, bound_trait, entries_of, is_foreign, items_by, traits_of}
+use Rattle.hir_import_rules.specs.Names.{variant_items, view_of, is_open, open_vis, scope_table, trait_vis}
+use Rattle.hir_import_rules.specs.Rules.{Rule as ImportRule, May as MayImport, acts as import_acts, goes_along, takes_glob, takes_import}
+use Rattle.hir_import_rules.specs.State.{ImportState, scopes_of, glob_state}
 use Rattle.hir_collector_rules.specs.Imports.{crate_import, crate_named, dependency_named}
 use Rattle.hir_collector_rules.specs.Attributes.{proc_macro_id}
 use Rattle.hir_collector_rules.specs.Calls.{error_of}

@@ -20,7 +20,7 @@ use Rattle.hir_item_tree.specs.KeptForest.{constant, static_item, trait_item, im
 use Rattle.hir_use_tree.specs.declared.imports.Import.{Import}
 use Rattle.hir_use_tree.specs.declared.imports.ImportKind.{ImportKind}
 use Rattle.hir_use_tree.specs.declared.imports.ImportKind.TheVariants as import_kinds
-use Rattle.hir_item_tree.specs.declared.raw_visibility.RawVisibility.{RawVisibility}
+use Rattle.hir_raw_visibility.specs.declared.raw_visibility.RawVisibility.{RawVisibility}
 use Rattle.hir_scope.specs.declared.imports.ImportId.{ImportId}
 use Rattle.hir_scope.specs.declared.per_ns.PerNs.{PerNs}
 use Rattle.hir_scope.specs.declared.visibility.Visibility.{Visibility}
@@ -55,17 +55,17 @@ use Rattle.hir_collector_rules.specs.declared.source_database.Dependency.{Depend
 use Rattle.hir_glob_imports.specs.declared.edge.Bound.{Bound}
 use Rattle.hir_glob_imports.specs.declared.edge.Edge.{Edge}
 use Rattle.hir_glob_imports.specs.Rules.{brings, copies, follows, raises}
-use Rattle.hir_import_resolution.specs.declared.directive.ImportDirective.{ImportDirective}
-use Rattle.hir_import_resolution.specs.declared.directive.ImportSource.{ImportSource}
-use Rattle.hir_import_resolution.specs.declared.directive.ImportSource.TheVariants as sources
+use Rattle.hir_import_rules.specs.declared.directive.ImportDirective.{ImportDirective}
+use Rattle.hir_import_rules.specs.declared.directive.ImportSource.{ImportSource}
+use Rattle.hir_import_rules.specs.declared.directive.ImportSource.TheVariants as sources
 use Rattle.hir_collector_rules.specs.State.{State, Visit, import_state}
 use Rattle.hir_collector_rules.specs.ItemIds.{module_id}
 use Rattle.hir_collector_rules.specs.Items.{constructor_of, declared_by, declared_by_leaf, declared_struct, declared_type, own_visibility, declared_value}
-use Rattle.hir_import_resolution.specs.Visibilities.{visibility_in, is_public}
-use Rattle.hir_import_resolution.specs.Directives.{answer_by_kind, answer_by_source, kept_by_kind, name_of, open_items}
-use Rattle.hir_import_resolution.specs.Changes.{act as act_on_imports, along, keeps_trait, pushes, Change as ImportChange, records, takes}
-use Rattle.hir_import_resolution.specs.Names.{trait_vis}
-use Rattle.hir_import_resolution.specs.State.{ImportState}
+use Rattle.hir_import_rules.specs.Visibilities.{visibility_in, is_public}
+use Rattle.hir_import_rules.specs.Directives.{answer_by_kind, answer_by_source, kept_by_kind, name_of, open_items}
+use Rattle.hir_import_rules.specs.Changes.{act as act_on_imports, along, keeps_trait, pushes, Change as ImportChange, records, takes}
+use Rattle.hir_import_rules.specs.Names.{trait_vis}
+use Rattle.hir_import_rules.specs.State.{ImportState}
 use Rattle.hir_collector_rules.specs.Imports.{extern_by, reached_import}
 use Rattle.hir_collector_rules.specs.Changes.{Change, lists, makes, gives_variants, begins_paths, reaches, awaits, ends, settles, changes_imports, adds_textual}
 use Rattle.hir_collector_rules.specs.Changes.{takes_textual, defines, describes, helps, lists_derive, notes, exports, uses_macros, tells, goes_on, act, on_map}

@@ -14,7 +14,7 @@ use Rattle.hir_def_map_rules.specs.declared.reference.Reference.{Reference}
 use Rattle.hir_def_map_laws.proofs.Updates.{macro_keeps, macro_vis_keeps, trait_keeps, type_keeps, type_vis_keeps, value_keeps, value_vis_keeps}
 use Rattle.hir_glob_imports.specs.declared.edge.Key.{Key}
 use Rattle.hir_glob_imports.specs.declared.edge.Key.TheVariants.{Types, Values, Macros, Unnamed}
-use Rattle.hir_import_resolution.specs.Names.{redefined, revised, with_trait}
+use Rattle.hir_import_rules.specs.Names.{redefined, revised, with_trait}
 use Rattle.hir_collector_rules.proofs.ImportEdits.{Edit, edit, keeps_unnamed, pushes_to, redefines, revises}
 
 -- ---- what an edit brings is there

@@ -35,10 +35,10 @@ use Rattle.hir_glob_imports.specs.Rules.{Act, brings, copies, follows, raises}
 use Rattle.hir_glob_imports.specs.View.{View}
 use Rattle.hir_glob_imports.specs.Waves.{Records, widens, stays, adds}
 use Rattle.hir_glob_imports.specs.declared.edge.Edge.{Edge}
-use Rattle.hir_import_resolution.specs.Changes.{Change as ImportChange, along, keeps_trait, pushes, records, takes}
-use Rattle.hir_import_resolution.specs.Directives.{glob_of}
-use Rattle.hir_import_resolution.specs.Rules.{Rule as ImportRule, May as MayImport, acts as import_acts, goes_along, takes_glob, takes_import}
-use Rattle.hir_import_resolution.specs.declared.directive.ImportDirective.{ImportDirective}
+use Rattle.hir_import_rules.specs.Changes.{Change as ImportChange, along, keeps_trait, pushes, records, takes}
+use Rattle.hir_import_rules.specs.Directives.{glob_of}
+use Rattle.hir_import_rules.specs.Rules.{Rule as ImportRule, May as MayImport, acts as import_acts, goes_along, takes_glob, takes_import}
+use Rattle.hir_import_rules.specs.declared.directive.ImportDirective.{ImportDirective}
 use Rattle.hir_collector_rules.specs.declared.source_database.Dependency.{Dependency}
 use Rattle.hir_collector_rules.specs.declared.source_database.Key.{Key}
 use Rattle.hir_collector_rules.specs.declared.macro_directive.MacroDirective.{MacroDirective}

@@ -1,120 +1,36 @@
 //! What a run lists, leaves over and asks for. What the names of its modules stand for are sessions of `hir_session_rows`.
-ghost use Rattle.std.specs.Prelude.{◌≡◌, IfOk, map, option_map};
-ghost use Rattle.hir_item_tree.specs.Source.{source_view};
-ghost use Rattle.hir_tables.specs.SourcePlaces.{source_value};
-ghost use Rattle.hir_def_collector_tests.specs.Crates.{AreTheirs, source_in};
+mod blocks;
+mod files;
+mod invocations;
+mod leftovers;
+mod traits;
 
-mod macros;
-
-use hir_base::ast_id::{BlockId, EditionedFileId, FileId, HirFileId, InFile, SyntaxId};
-use hir_base::cfg_options::CfgOptions;
-use hir_base::edition::Edition;
-use hir_base::file_path::FilePath;
-use hir_base::ids::{AdtId, Crate, ItemContainerId, MapId, ModuleDefId, ModuleId};
-use hir_base::macro_kind::ExpansionKey;
-use hir_base::name::Name;
-use hir_base::place::{BlockPlace, Place};
-use hir_crate_graph::crate_set::CrateSet;
-use hir_crate_graph::transitive::TransitiveDependencies;
+use hir_base::ids::{Crate, ItemContainerId, MapId, ModuleDefId};
+use hir_collector_fixtures::crates::{Collect, Crates, collected, collected_over, entry};
 use hir_def_collector::collector::collected::Collected;
-use hir_def_collector::collector::{Start, collect_defs};
-use hir_def_collector::source_database::{
-    Config, CrateRoot, Dependency, ExpansionLook, Key, SourceDatabase,
-};
+use hir_def_collector::collector::{CollectError, Start, collect_defs};
+use hir_def_collector::source_database::Key;
 use hir_def_map::nameres::DefMap;
 use hir_def_map::world::World;
-use hir_item_tree::source::Source;
-use hir_item_tree::source_tree::SourceTree;
 use hir_item_tree::tree_id::TreeId;
-use hir_scope::per_ns::PerNs;
-use hir_tables::{SourcePlace, Tables};
-use hir_wire::{Command, Edit, read_command};
-use std::alloc::{AllocError, Global};
-use std::collections::BTreeMap;
+use hir_tables::Tables;
+use std::alloc::Global;
 use std::process::Abort;
-use std::rc::Rc;
 use std::test::Fail;
 
-/// Crates by number, what each was handed in with, the files by path, and the source of each block.
-#[derive(Drop)]
-struct Crates {
-    crates: Vec<CrateRoot>,
-    configs: Vec<Config>,
-    transitive: TransitiveDependencies,
-    files: BTreeMap<FilePath, Source>,
-    within: Option<Source>,
-    ghost depends: { AreTheirs configs.items transitive },
-}
+/// The collector.
+pub struct Runs;
 
-impl SourceDatabase for Crates {
-    ghost use Rattle.std.specs.Prelude.{None, false, []};
-    ghost use Rattle.hir_item_tree.specs.Attributes.{no_attributes};
-    ghost use Rattle.hir_item_tree.specs.SourceTree.{source_tree_of};
-    ghost use Rattle.hir_def_collector_tests.specs.Crates.{config_in, source_in};
-
-    ghost workspace = { λ d. record {
-      crates = d.crates.items;
-      config = config_in d.configs.items;
-      tree = λ krate source. source_tree_of (λ _. false) no_attributes (source_in d.files.entries d.within source);
-      entry = λ key. record { present = false; error = None; inner = [] };
-    } };
-
-    fn krate(&self, krate: Crate) -> Option<&CrateRoot> {
-        self.crates.get(krate.0 as usize)
-    }
-
-    fn config(&self, krate: Crate) -> Option<&Config> {
-        self.configs.get(krate.0 as usize)
-    }
-
-    fn transitive_dependencies(&self, krate: Crate) -> Option<&Rc<CrateSet>> {
-        self.transitive.get(krate)
-    }
-
-    fn tree(
-        &mut self,
+impl Collect for Runs {
+    fn collect(
         alloc: Global,
-        _krate: Crate,
-        source: SourcePlace<'_>,
-    ) -> Result<Rc<SourceTree>, AllocError> {
-        let front = Vec::new(alloc);
-        let options = CfgOptions::new(alloc);
-        let tree = SourceTree::new(alloc, self.source_at(source), &front, &options)?;
-        Ok(Rc::new(alloc, tree)?)
-    }
-
-    fn present(&self, _krate: Crate, source: SourcePlace<'_>) -> bool {
-        self.source_at(source).is_some()
-    }
-
-    fn expansion(&self, _key: &ExpansionKey) -> ExpansionLook<'_> {
-        ExpansionLook {
-            present: false,
-            error: None,
-            inner: &[],
-        }
-    }
-}
-
-impl Crates {
-    /// The source at a place, if it is that of a file that is there or of a block.
-    fn source_at(&self, source: SourcePlace<'_>) -> Option<&Source>
-        ensures value { option_map (λ s. source_view s.now) result ≡ source_in self.now.files.entries self.now.within (source_value source.entry) }
-    {
-        match source {
-            SourcePlace::File(path) => self.files.get(path),
-            SourcePlace::Block(_) => self.within.as_ref(),
-            SourcePlace::Expansion(_) => None,
-        }
-    }
-}
-
-/// The source that a line hands in.
-fn source(alloc: Global, line: &str) -> Result<Source, Fail> {
-    match read_command(alloc, line.as_bytes()) {
-        Ok(Command::Edit(Edit::SetFile { file: _, source })) => Ok(source),
-        Ok(_) => Err("another command")?,
-        Err(error) => Err(error)?,
+        db: &mut Crates,
+        world: &World,
+        tables: &mut Tables,
+        start: Start,
+        tree: TreeId,
+    ) -> Result<Collected, CollectError> {
+        collect_defs(alloc, db, world, tables, start, tree, None)
     }
 }
 
@@ -179,170 +95,9 @@ const THROUGH_A_BUILTIN: &str = r#"{"do":"set file","file":"b.rs","unit":{"nodes
 {"kind":"Use","id":[2,0],"tree":{"single":"x::y"}},
 {"kind":"Use","id":[3,0],"tree":{"single":"core::thing","as":"u8"}}]}}"#;
 
-fn root(number: u32) -> EditionedFileId {
-    EditionedFileId {
-        file_id: FileId(number),
-        edition: Edition::Edition2021,
-    }
-}
-
-fn start(number: u32) -> Start {
-    Start::Crate {
-        krate: Crate(number),
-        root: root(number),
-    }
-}
-
-/// The direct dependencies of a crate.
-fn direct(alloc: Global, config: &Config) -> Result<Vec<Crate>, Fail>
-    ensures value { IfOk result (λ crates. crates.items ≡ map (λ d. d.krate) config.now.dependencies.items) }
-{
-    let mut crates = Vec::new(alloc);
-    for dependency in &config.dependencies {
-        crates.push(dependency.krate)?;
-    }
-    Ok(crates)
-}
-
-/// The transitive dependencies of crates that were handed in so.
-fn transitive(alloc: Global, configs: &Vec<Config>) -> Result<TransitiveDependencies, Fail>
-    ensures value { IfOk result (λ transitive. AreTheirs configs.now.items transitive) }
-{
-    let mut found = TransitiveDependencies::new(alloc);
-    for config in configs {
-        let crates = direct(alloc, config)?;
-        found.push(crates.as_slice())?;
-    }
-    Ok(found)
-}
-
-/// Crate 0 under the name `core`.
-fn dependencies(alloc: Global, is_prelude: bool) -> Result<Vec<Dependency>, Fail> {
-    let dependency = Dependency {
-        krate: Crate(0),
-        name: Name::new(alloc, "core")?,
-        is_prelude,
-    };
-    Ok(vec![in alloc; dependency]?)
-}
-
-fn config(alloc: Global, dependencies: Vec<Dependency>) -> Config {
-    Config {
-        edition: Edition::Edition2021,
-        attributes: Vec::new(alloc),
-        dependencies,
-        options: CfgOptions::new(alloc),
-    }
-}
-
-fn lower_config(alloc: Global) -> Config {
-    config(alloc, Vec::new(alloc))
-}
-
-fn configs_of_both(alloc: Global, is_prelude: bool) -> Result<Vec<Config>, Fail> {
-    let mut configs = vec![in alloc; lower_config(alloc)]?;
-    configs.push(config(alloc, dependencies(alloc, is_prelude)?))?;
-    Ok(configs)
-}
-
-/// A crate with its root at this path.
-fn crate_at(alloc: Global, path: &str) -> Result<CrateRoot, Fail> {
-    Ok(CrateRoot {
-        root: FilePath::parse(alloc, path)?,
-        is_proc_macro: false,
-    })
-}
-
-fn crates_of_both(alloc: Global) -> Result<Vec<CrateRoot>, Fail> {
-    let mut crates = vec![in alloc; crate_at(alloc, "a.rs")?]?;
-    crates.push(crate_at(alloc, "b.rs")?)?;
-    Ok(crates)
-}
-
-/// The numbers of both root files.
-fn files_of_both(alloc: Global) -> Result<Tables, Fail> {
-    let mut tables = Tables::new(alloc);
-    tables.intern_file(FilePath::parse(alloc, "a.rs")?)?;
-    tables.intern_file(FilePath::parse(alloc, "b.rs")?)?;
-    Ok(tables)
-}
-
-/// Files by their paths and the lines that hand them in.
-fn files_of(alloc: Global, files: &[(&str, &str)]) -> Result<BTreeMap<FilePath, Source>, Fail> {
-    let mut found = BTreeMap::new(alloc);
-    for (path, line) in files {
-        found.insert(FilePath::parse(alloc, path)?, source(alloc, line)?)?;
-    }
-    Ok(found)
-}
-
-fn crates_over(
-    alloc: Global,
-    crates: Vec<CrateRoot>,
-    configs: Vec<Config>,
-    files: BTreeMap<FilePath, Source>,
-) -> Result<Crates, Fail> {
-    let transitive = transitive(alloc, &configs)?;
-    Ok(Crates {
-        crates,
-        configs,
-        transitive,
-        files,
-        within: None,
-    })
-}
-
-/// Crate 0, and crate 1, which depends on it under the name `core`.
-fn two_crates(alloc: Global, lower: &str, upper: &str, is_prelude: bool) -> Result<Crates, Fail> {
-    let files = files_of(alloc, &[("a.rs", lower), ("b.rs", upper)])?;
-    crates_over(
-        alloc,
-        crates_of_both(alloc)?,
-        configs_of_both(alloc, is_prelude)?,
-        files,
-    )
-}
-
-/// What the lower crate comes to by itself, in a world.
-fn world_of(alloc: Global, lower: Collected) -> Result<World, Fail> {
-    let mut world = World::new(alloc);
-    if world.insert(lower.map, lower.local).is_ok() {
-        Ok(world)
-    } else {
-        Err("a map that names nothing else")?
-    }
-}
-
-/// What a crate comes to beside the maps of a world.
-fn collected_of(
-    alloc: Global,
-    db: &mut Crates,
-    world: &World,
-    number: u32,
-) -> Result<Collected, Fail> {
-    let mut tables = files_of_both(alloc)?;
-    let tree = TreeId::new(HirFileId::File(root(number)), None);
-    Ok(collect_defs(alloc, db, world, &mut tables, start(number), tree, None)?)
-}
-
-fn lower_collected(alloc: Global, db: &mut Crates) -> Result<Collected, Fail> {
-    collected_of(alloc, db, &World::new(alloc), 0)
-}
-
-fn lower_world(alloc: Global, db: &mut Crates) -> Result<World, Fail> {
-    world_of(alloc, lower_collected(alloc, db)?)
-}
-
-/// What the upper crate comes to beside the lower one.
-fn upper_collected(alloc: Global, db: &mut Crates) -> Result<Collected, Fail> {
-    let world = lower_world(alloc, db)?;
-    collected_of(alloc, db, &world, 1)
-}
-
-fn collected(alloc: Global, lower: &str, upper: &str, is_prelude: bool) -> Result<Collected, Fail> {
-    let mut db = two_crates(alloc, lower, upper, is_prelude)?;
-    upper_collected(alloc, &mut db)
-}
+/// `pub struct S;`
+const STRUCT: &str = r#"{"do":"set file","file":"b.rs","unit":{"nodes":[
+{"kind":"Struct","id":[1,0],"name":"S","shape":"unit","vis":"pub"}]}}"#;
 
 /// The sources of the lower and the upper crate, whether the lower one is marked as its core library, how many imports are left over, and
 /// how many keys are asked.
@@ -366,15 +121,15 @@ const ROWS: [Row; 6] = [
 
 fn counts(rt: &impl Abort, found: &Collected, row: &Row) {
     let (label, _, _, _, leftover, asked) = *row;
-    assert_eq!(rt; found.leftover.len(), leftover, "{label}");
-    assert_eq!(rt; found.asked.own().len(), asked, "{label}");
-    assert_eq!(rt; found.map.crate_data().dependencies().len(), 1, "{label}");
+    assert!(rt; found.leftover.len() == leftover, "{label}");
+    assert!(rt; found.asked.own().len() == asked, "{label}");
+    assert!(rt; found.map.crate_data().dependencies().len() == 1, "{label}");
     assert!(rt; !found.round_limit_met, "{label}");
 }
 
 fn finds(rt: &impl Abort, alloc: Global, row: &Row) -> Result<(), Fail> {
     let (_, lower, upper, is_prelude, _, _) = *row;
-    let found = collected(alloc, lower, upper, is_prelude)?;
+    let found = collected::<Runs>(alloc, lower, upper, is_prelude)?;
     counts(rt, &found, row);
     Ok(())
 }
@@ -406,38 +161,20 @@ const ITEMS: &str = r#"{"do":"set file","file":"lib.rs","unit":{"nodes":[
 {"kind":"Trait","id":[0,0],"name":"T","items":[],"vis":"pub"},
 {"kind":"Impl","id":[0,0],"trait":true,"items":[],"vis":"pub"}]}}"#;
 
-/// Crate 0 over files, of which `a.rs` is its root.
-fn one_crate(alloc: Global, files: &[(&str, &str)]) -> Result<Crates, Fail> {
-    let crates = vec![in alloc; crate_at(alloc, "a.rs")?]?;
-    let configs = vec![in alloc; lower_config(alloc)]?;
-    crates_over(alloc, crates, configs, files_of(alloc, files)?)
-}
-
-fn collected_over(alloc: Global, files: &[(&str, &str)]) -> Result<Collected, Fail> {
-    let mut db = one_crate(alloc, files)?;
-    lower_collected(alloc, &mut db)
-}
-
 fn items(alloc: Global) -> Result<Collected, Fail> {
-    collected_over(alloc, &[("a.rs", ITEMS)])
+    collected_over::<Runs>(alloc, &[("a.rs", ITEMS)])
 }
 
 fn items_of_root(rt: &impl Abort, map: &DefMap) -> Result<(), Fail> {
     let scope = map.scope(0).ok_or("the root")?;
-    assert_eq!(rt; scope.declarations().len(), 5);
-    assert_eq!(rt; scope.use_decls().len(), 1);
-    assert_eq!(rt; scope.extern_blocks().len(), 1);
-    assert_eq!(rt; scope.unnamed_consts().len(), 1);
+    assert!(rt; scope.declarations().len() == 5);
+    assert!(rt; scope.use_decls().len() == 1);
+    assert!(rt; scope.extern_blocks().len() == 1);
+    assert!(rt; scope.unnamed_consts().len() == 1);
     let mut of_traits = scope.trait_impls();
     assert!(rt; of_traits.next().is_some());
     assert!(rt; of_traits.next().is_none());
     Ok(())
-}
-
-/// What a name of the root stands for.
-fn entry(alloc: Global, map: &DefMap, text: &str) -> Result<PerNs, Fail> {
-    let name = Name::new(alloc, text)?;
-    Ok(map.entry(0, &name))
 }
 
 fn container_of_ext(rt: &impl Abort, alloc: Global, map: &DefMap) -> Result<(), Fail> {
@@ -455,8 +192,8 @@ fn container_of_ext(rt: &impl Abort, alloc: Global, map: &DefMap) -> Result<(), 
 
 fn lists_of(rt: &impl Abort, alloc: Global, found: &Collected) -> Result<(), Fail> {
     items_of_root(rt, &found.map)?;
-    assert_eq!(rt; found.leftover.len(), 0);
-    assert_eq!(rt; found.asked.own().len(), 1);
+    assert!(rt; found.leftover.len() == 0);
+    assert!(rt; found.asked.own().len() == 1);
     assert!(rt; entry(alloc, &found.map, "S")?.types.is_some());
     container_of_ext(rt, alloc, &found.map)
 }
@@ -469,26 +206,10 @@ fn lists(rt: HostRuntime) -> Result<(), Fail> {
     lists_of(&rt, rt.alloc(), &found)
 }
 
-/// A name that was imported through a builtin type stays what it was as that type's name comes to mean another crate's module.
-#[test]
-fn imported_through_a_builtin(rt: HostRuntime) -> Result<(), Fail> {
-    let found = collected(rt.alloc(), TWO_THINGS, THROUGH_A_BUILTIN, true)?;
-    is_builtin(&rt, rt.alloc(), &found.map)
-}
-
-fn is_builtin(rt: &impl Abort, alloc: Global, map: &DefMap) -> Result<(), Fail> {
-    let of_builtin = matches!(
-        entry(alloc, map, "y")?.types.ok_or("a type")?.def,
-        ModuleDefId::BuiltinType(_)
-    );
-    assert!(rt; of_builtin);
-    Ok(())
-}
-
 /// The keys that a run asked for: those of its steps, and then the map of the crate on which it stands.
 #[test]
 fn asked_one_after_another(rt: HostRuntime) -> Result<(), Fail> {
-    let found = collected(rt.alloc(), LOWER, ENUMS, false)?;
+    let found = collected::<Runs>(rt.alloc(), LOWER, ENUMS, false)?;
     walks_all(&rt, &found)
 }
 
@@ -500,304 +221,4 @@ fn walks_all(rt: &impl Abort, found: &Collected) -> Result<(), Fail> {
     assert!(rt; keys.next() == Some(Key::Map(MapId::of_crate(Crate(0)))));
     assert!(rt; keys.next().is_none());
     Ok(())
-}
-
-/// `mod a;`
-const MOD_A: &str = r#"{"do":"set file","file":"a.rs","unit":{"nodes":[
-{"kind":"Module","id":[1,0],"name":"m","vis":"pub"}]}}"#;
-
-/// `mod a { mod b; }`
-const MOD_IN_MOD: &str = r#"{"do":"set file","file":"a.rs","unit":{"nodes":[
-{"kind":"Module","id":[1,0],"name":"m","nodes":[
-    {"kind":"Module","id":[2,0],"name":"n"}]}]}}"#;
-
-/// `#[path = "x/y.rs"] mod a;`
-const MOD_BY_PATH: &str = r#"{"do":"set file","file":"a.rs","unit":{"nodes":[
-{"kind":"Module","id":[1,0],"name":"m","attrs":[{"path":"path","literal":"x/y.rs"}]}]}}"#;
-
-/// `mod b;`
-const MOD_B: &str = r#"{"do":"set file","file":"b.rs","unit":{"nodes":[
-{"kind":"Module","id":[1,0],"name":"n"}]}}"#;
-
-/// `pub struct S;`
-const STRUCT: &str = r#"{"do":"set file","file":"b.rs","unit":{"nodes":[
-{"kind":"Struct","id":[1,0],"name":"S","shape":"unit","vis":"pub"}]}}"#;
-
-/// `#![cfg(false)]`
-const DISABLED: &str =
-    r#"{"do":"set file","file":"b.rs","unit":{"attrs":[{"path":"cfg","cfg":false}],"nodes":[]}}"#;
-
-/// Files, how many modules they make, how many files are asked for, and how many diagnostics there are.
-type FileRow = (
-    &'static str,
-    &'static [(&'static str, &'static str)],
-    usize,
-    usize,
-    usize,
-);
-
-const FILE_ROWS: [FileRow; 8] = [
-    (
-        "beside",
-        &[("a.rs", MOD_A), ("m.rs", STRUCT), ("m/mod.rs", STRUCT)],
-        2,
-        2,
-        0,
-    ),
-    (
-        "in its directory",
-        &[("a.rs", MOD_A), ("m/mod.rs", STRUCT)],
-        2,
-        3,
-        0,
-    ),
-    ("nowhere", &[("a.rs", MOD_A)], 2, 3, 1),
-    (
-        "in an inline module",
-        &[
-            ("a.rs", MOD_IN_MOD),
-            ("m/n.rs", MOD_B),
-            ("m/n/n.rs", STRUCT),
-        ],
-        4,
-        3,
-        0,
-    ),
-    (
-        "by its path",
-        &[("a.rs", MOD_BY_PATH), ("x/y.rs", MOD_B), ("x/n.rs", STRUCT)],
-        3,
-        3,
-        0,
-    ),
-    (
-        "disabled at its top",
-        &[("a.rs", MOD_A), ("m.rs", DISABLED)],
-        1,
-        2,
-        1,
-    ),
-    (
-        "beside the declaring file",
-        &[("a.rs", MOD_A), ("m.rs", MOD_B), ("m/n.rs", STRUCT)],
-        3,
-        3,
-        0,
-    ),
-    (
-        "not beside it",
-        &[("a.rs", MOD_A), ("m.rs", MOD_B), ("n.rs", STRUCT)],
-        3,
-        4,
-        1,
-    ),
-];
-
-fn makes_modules(rt: &impl Abort, alloc: Global, row: &FileRow) -> Result<(), Fail> {
-    let (label, files, modules, asked, diagnostics) = *row;
-    let found = collected_over(alloc, files)?;
-    assert_eq!(rt; found.map.modules().len(), modules, "{label}");
-    assert_eq!(rt; found.asked.own().len(), asked, "{label}");
-    assert_eq!(rt;
-        found.map.diagnostics().as_slice().len(),
-        diagnostics,
-        "{label}"
-    );
-    Ok(())
-}
-
-/// A module's items are in the first of its files that is there, and each file that was looked for is asked for.
-#[test]
-fn files_of_modules(rt: HostRuntime) -> Result<(), Fail> {
-    for row in &FILE_ROWS {
-        makes_modules(&rt, rt.alloc(), row)?;
-    }
-    Ok(())
-}
-
-/// `mod a { pub trait T {} } use a::T as _;`
-const UNNAMED: &str = r#"{"do":"set file","file":"a.rs","unit":{"nodes":[
-{"kind":"Module","id":[1,0],"name":"a","nodes":[
-    {"kind":"Trait","id":[2,0],"name":"T","items":[],"vis":"pub"}]},
-{"kind":"Use","id":[3,0],"tree":{"single":"a::T","as":"_"}}]}}"#;
-
-/// `mod a { pub trait T {} } mod b { pub use crate::a::T as _; } mod m { use crate::b::*; } use m::*;`
-const UNNAMED_PRIVATELY: &str = r#"{"do":"set file","file":"a.rs","unit":{"nodes":[
-{"kind":"Module","id":[1,0],"name":"a","nodes":[
-    {"kind":"Trait","id":[2,0],"name":"T","items":[],"vis":"pub"}]},
-{"kind":"Module","id":[3,0],"name":"b","nodes":[
-    {"kind":"Use","id":[4,0],"vis":"pub","tree":{"single":"crate::a::T","as":"_"}}]},
-{"kind":"Module","id":[5,0],"name":"m","nodes":[
-    {"kind":"Use","id":[6,0],"tree":{"glob":"crate::b"}}]},
-{"kind":"Use","id":[7,0],"tree":{"glob":"m"}}]}}"#;
-
-/// The same with `pub use crate::c::*;` in `m`, and `mod c { pub use crate::a::T as _; }`.
-const UNNAMED_RAISED: &str = r#"{"do":"set file","file":"a.rs","unit":{"nodes":[
-{"kind":"Module","id":[1,0],"name":"a","nodes":[
-    {"kind":"Trait","id":[2,0],"name":"T","items":[],"vis":"pub"}]},
-{"kind":"Module","id":[3,0],"name":"b","nodes":[
-    {"kind":"Use","id":[4,0],"vis":"pub","tree":{"single":"crate::a::T","as":"_"}}]},
-{"kind":"Module","id":[5,0],"name":"c","nodes":[
-    {"kind":"Use","id":[6,0],"vis":"pub","tree":{"single":"crate::a::T","as":"_"}}]},
-{"kind":"Module","id":[7,0],"name":"m","nodes":[
-    {"kind":"Use","id":[8,0],"tree":{"glob":"crate::b"}},
-    {"kind":"Use","id":[9,0],"vis":"pub","tree":{"glob":"crate::c"}}]},
-{"kind":"Use","id":[10,0],"tree":{"glob":"m"}}]}}"#;
-
-/// The same with two globs of one module, `use crate::b::*; pub use crate::b::*;` in `m`.
-const UNNAMED_WIDENED: &str = r#"{"do":"set file","file":"a.rs","unit":{"nodes":[
-{"kind":"Module","id":[1,0],"name":"a","nodes":[
-    {"kind":"Trait","id":[2,0],"name":"T","items":[],"vis":"pub"}]},
-{"kind":"Module","id":[3,0],"name":"b","nodes":[
-    {"kind":"Use","id":[4,0],"vis":"pub","tree":{"single":"crate::a::T","as":"_"}}]},
-{"kind":"Module","id":[5,0],"name":"m","nodes":[
-    {"kind":"Use","id":[6,0],"tree":{"glob":"crate::b"}},
-    {"kind":"Use","id":[7,0],"vis":"pub","tree":{"glob":"crate::b"}}]},
-{"kind":"Use","id":[8,0],"tree":{"glob":"m"}}]}}"#;
-
-/// A file, and what its modules bind.
-type DumpRow = (&'static str, &'static str, &'static str);
-
-const DUMPS: [DumpRow; 4] = [
-    (
-        "by an import",
-        UNNAMED,
-        "crate\n- _ : type (import)\n- a : type\n\ncrate::a\n- T : type\n",
-    ),
-    (
-        "along a private glob",
-        UNNAMED_PRIVATELY,
-        "crate\n- a : type\n- b : type\n- m : type\n\ncrate::a\n- T : type\n\ncrate::b\n- _ : type (import)\n\ncrate::m\n- _ : type\n",
-    ),
-    (
-        "along a private glob and a public one",
-        UNNAMED_RAISED,
-        "crate\n- _ : type\n- a : type\n- b : type\n- c : type\n- m : type\n\ncrate::a\n- T : type\n\ncrate::b\n- _ : type (import)\n\ncrate::c\n- _ : type (import)\n\ncrate::m\n- _ : type\n",
-    ),
-    (
-        "along two globs of one module",
-        UNNAMED_WIDENED,
-        "crate\n- _ : type\n- a : type\n- b : type\n- m : type\n\ncrate::a\n- T : type\n\ncrate::b\n- _ : type (import)\n\ncrate::m\n- _ : type\n",
-    ),
-];
-
-fn shows(rt: &impl Abort, alloc: Global, map: &DefMap, row: &DumpRow) -> Result<(), Fail> {
-    let (label, _, expected) = *row;
-    let text = map.dump(alloc, &World::new(alloc))?;
-    assert_eq!(rt; text.as_str(), expected, "{label}");
-    Ok(())
-}
-
-fn dumps(rt: &impl Abort, alloc: Global, row: &DumpRow) -> Result<(), Fail> {
-    let (_, line, _) = *row;
-    let mut db = one_crate(alloc, &[("a.rs", line)])?;
-    let found = lower_collected(alloc, &mut db)?;
-    shows(rt, alloc, &found.map, row)?;
-    let world = world_of(alloc, found)?;
-    let again = collected_of(alloc, &mut db, &world, 0)?;
-    shows(rt, alloc, &again.map, row)
-}
-
-/// Traits that are imported without a name: for those who may see them by any of the globs that bring them; and the same
-/// again beside the crate's own finished map.
-#[test]
-fn traits_without_a_name(rt: HostRuntime) -> Result<(), Fail> {
-    for row in &DUMPS {
-        dumps(&rt, rt.alloc(), row)?;
-    }
-    Ok(())
-}
-
-/// `pub struct S; pub mod m { pub struct T; }`
-const HOLDER: &str = r#"{"do":"set file","file":"a.rs","unit":{"nodes":[
-{"kind":"Struct","id":[1,0],"name":"S","shape":"unit","vis":"pub"},
-{"kind":"Module","id":[2,0],"name":"m","vis":"pub","nodes":[
-    {"kind":"Struct","id":[3,0],"name":"T","shape":"unit","vis":"pub"}]}]}}"#;
-
-/// In a block of the root: `struct S; use S as Own; use m::T; use nope::X; mod file;`
-const IN_BLOCK: &str =
-    r#"{"do":"set file","file":"a.rs","unit":{"attrs":[{"path":"cfg","cfg":false}],"nodes":[
-{"kind":"Struct","id":[1,0],"name":"S","shape":"unit"},
-{"kind":"Use","id":[2,0],"tree":{"single":"S","as":"Own"}},
-{"kind":"Use","id":[3,0],"tree":{"single":"m::T"}},
-{"kind":"Use","id":[4,0],"tree":{"single":"nope::X"}},
-{"kind":"Module","id":[5,0],"name":"file"}]}}"#;
-
-const AT: SyntaxId = SyntaxId { hash: 9, index: 0 };
-
-/// The root of crate 0.
-fn holder() -> ModuleId {
-    ModuleId {
-        map: MapId::of_crate(Crate(0)),
-        index: 0,
-    }
-}
-
-/// A block of the root of crate 0.
-fn within(block: BlockId) -> Start {
-    Start::Block {
-        krate: Crate(0),
-        block,
-        holder: holder(),
-        at: InFile {
-            file_id: HirFileId::File(root(0)),
-            value: AT,
-        },
-    }
-}
-
-/// What a block of the root of crate 0 comes to beside the maps of a world.
-fn block_collected(alloc: Global, db: &mut Crates, world: &World) -> Result<Collected, Fail> {
-    let mut tables = files_of_both(alloc)?;
-    let block = tables.intern_block(BlockPlace {
-        holder: Place::new(Crate(0), Vec::new(alloc)),
-        id: AT,
-    })?;
-    let tree = TreeId::new(HirFileId::File(root(0)), Some(block));
-    Ok(collect_defs(alloc, db, world, &mut tables, within(block), tree, None)?)
-}
-
-fn in_block(alloc: Global) -> Result<Collected, Fail> {
-    let mut db = one_crate(alloc, &[("a.rs", HOLDER), ("file.rs", STRUCT)])?;
-    let world = lower_world(alloc, &mut db)?;
-    db.within = Some(source(alloc, IN_BLOCK)?);
-    block_collected(alloc, &mut db, &world)
-}
-
-/// The map in which a struct stands that a name stands for.
-fn map_of(alloc: Global, map: &DefMap, name: &str) -> Result<MapId, Fail> {
-    match entry(alloc, map, name)?.types.ok_or("a type")?.def {
-        ModuleDefId::AdtId(AdtId::StructId(id)) => Ok(id.loc.container.map),
-        _ => Err("a struct")?,
-    }
-}
-
-/// A block's own names come before those of the module that holds it, which are there too; a block is declared though
-/// disabled at its top, and the files of its modules are looked for beside the file in which it is written.
-fn names_in_block(rt: &impl Abort, alloc: Global, found: &Collected) -> Result<(), Fail> {
-    let own = found.map.id();
-    assert!(rt; own.block.is_some());
-    assert!(rt; map_of(alloc, &found.map, "Own")? == own);
-    assert!(rt; map_of(alloc, &found.map, "T")? == MapId::of_crate(Crate(0)));
-    assert_eq!(rt; found.leftover.len(), 1);
-    assert_eq!(rt; found.map.module_count(), 2);
-    Ok(())
-}
-
-/// It asks for its tree, for the maps of its crate and of what holds it, and for the file of its module.
-fn keys_of_block(rt: &impl Abort, found: &Collected) -> Result<(), Fail> {
-    let keys = found.asked.own();
-    assert_eq!(rt; keys.len(), 4);
-    assert!(rt; matches!(keys[0], Key::Tree(_)));
-    assert!(rt; keys[1] == Key::Map(MapId::of_crate(Crate(0))));
-    assert!(rt; keys[2] == Key::Map(MapId::of_crate(Crate(0))));
-    Ok(())
-}
-
-/// A run of a block beside its crate's map.
-#[test]
-fn block_beside_its_crate(rt: HostRuntime) -> Result<(), Fail> {
-    let found = in_block(rt.alloc())?;
-    names_in_block(&rt, rt.alloc(), &found)?;
-    keys_of_block(&rt, &found)
 }

@@ -28,10 +28,10 @@ use Rattle.hir_glob_imports.specs.declared.edge.Slot.{Slot}
 use Rattle.hir_glob_imports.specs.declared.edge.Target.{Target}
 use Rattle.hir_glob_imports.specs.declared.edge.Key.TheVariants.{Types, Values, Macros, Unnamed}
 use Rattle.hir_glob_imports.proofs.Settling.{same_itself}
-use Rattle.hir_import_resolution.specs.Changes.{Change as ImportChange, along, forgotten, forgotten_in, keeps_trait, kept_vis, pushes, pushing, records, takes}
-use Rattle.hir_import_resolution.specs.Inner.ScopeLaws.{vacant_of}
-use Rattle.hir_import_resolution.specs.Names.{bound_by, bound_of, entries_of, items_by, scope_table, trait_vis, view_of, with_trait}
-use Rattle.hir_import_resolution.specs.State.{ImportState, glob_state, scopes_of}
+use Rattle.hir_import_rules.specs.Changes.{Change as ImportChange, along, forgotten, forgotten_in, keeps_trait, kept_vis, pushes, pushing, records, takes}
+use Rattle.hir_import_rules.specs.ScopeLaws.{vacant_of}
+use Rattle.hir_import_rules.specs.Names.{bound_by, bound_of, entries_of, items_by, scope_table, trait_vis, view_of, with_trait}
+use Rattle.hir_import_rules.specs.State.{ImportState, glob_state, scopes_of}
 use Rattle.hir_collector_rules.specs.Changes.{Change, lists, makes, gives_variants, begins_paths, reaches, awaits, ends, settles, changes_imports, adds_textual}
 use Rattle.hir_collector_rules.specs.Changes.{takes_textual, defines, describes, helps, lists_derive, notes, exports, uses_macros, tells, goes_on, act}
 use Rattle.hir_collector_rules.specs.Changes.{with_builtin_derive}

@@ -24,13 +24,13 @@ use Rattle.hir_scope.specs.declared.visibility.Visibility.TheVariants as visibil
 use Rattle.hir_tables.specs.Tables.{TablesValue}
 use Rattle.hir_def_map_rules.specs.Overlay.{Maps}
 use Rattle.hir_def_map_rules.specs.State.{Map, module_at}
-use Rattle.hir_import_resolution.specs.Changes.{pushes, pushing}
-use Rattle.hir_import_resolution.specs.Directives.{answer_by_source, answer_of_crate, brought, kept_by, kept_of, kind_of, offered_by, path_answer}
-use Rattle.hir_import_resolution.specs.Directives.{visibility_of, way_of}
-use Rattle.hir_import_resolution.specs.Rules.{goes_along, takes_glob, takes_import}
-use Rattle.hir_import_resolution.specs.declared.directive.ImportDirective.{ImportDirective}
-use Rattle.hir_import_resolution.specs.declared.directive.ImportSource.{ImportSource}
-use Rattle.hir_import_resolution.specs.declared.directive.ImportSource.TheVariants as sources
+use Rattle.hir_import_rules.specs.Changes.{pushes, pushing}
+use Rattle.hir_import_rules.specs.Directives.{answer_by_source, answer_of_crate, brought, kept_by, kept_of, kind_of, offered_by, path_answer}
+use Rattle.hir_import_rules.specs.Directives.{visibility_of, way_of}
+use Rattle.hir_import_rules.specs.Rules.{goes_along, takes_glob, takes_import}
+use Rattle.hir_import_rules.specs.declared.directive.ImportDirective.{ImportDirective}
+use Rattle.hir_import_rules.specs.declared.directive.ImportSource.{ImportSource}
+use Rattle.hir_import_rules.specs.declared.directive.ImportSource.TheVariants as sources
 use Rattle.hir_collector_rules.specs.declared.declaration.Declaration.{Declaration}
 use Rattle.hir_collector_rules.specs.declared.exported.Export.{Export}
 use Rattle.hir_collector_rules.specs.declared.site.Site.{Site}

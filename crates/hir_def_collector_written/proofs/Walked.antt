@@ -30,9 +30,9 @@ use Rattle.hir_def_map_rules.specs.State.{Map, ModuleValue, module_at, new_modul
 use Rattle.hir_def_map_rules.specs.declared.derive_helpers.DeriveHelper.{DeriveHelper}
 use Rattle.hir_def_map_rules.specs.declared.origin.ModuleOrigin.{ModuleOrigin}
 use Rattle.hir_def_map_rules.specs.declared.origin.ModuleOrigin.TheVariants as origins
-use Rattle.hir_import_resolution.specs.Changes.{Change as ImportChange}
-use Rattle.hir_import_resolution.specs.Rules.{acts as import_acts}
-use Rattle.hir_import_resolution.specs.declared.directive.ImportDirective.{ImportDirective}
+use Rattle.hir_import_rules.specs.Changes.{Change as ImportChange}
+use Rattle.hir_import_rules.specs.Rules.{acts as import_acts}
+use Rattle.hir_import_rules.specs.declared.directive.ImportDirective.{ImportDirective}
 use Rattle.hir_collector_rules.specs.declared.source_database.Dependency.{Dependency}
 use Rattle.hir_collector_rules.specs.declared.macro_directive.Fate.{Fate}
 use Rattle.hir_collector_rules.specs.declared.macro_directive.MacroDirective.{MacroDirective}

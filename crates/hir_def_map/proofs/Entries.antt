@@ -26,7 +26,7 @@ is_id id = is_at (map_order.ghosts.cmp id)
 
 -- ---- one id at another
 
-either_way : (a b : MapId) → is_id a b ≡ is_id b a
+pub either_way : (a b : MapId) → is_id a b ≡ is_id b a
 either_way a b = go (is_id a b) refl (is_id b a) refl
   where
     turned : (a b : MapId) → is_id a b ≡ true → is_id b a ≡ true

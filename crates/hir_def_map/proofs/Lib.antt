@@ -8,3 +8,4 @@ pub mod Naming
 pub mod Falling
 pub mod Entries
 pub mod FallingSteps
+pub mod Removed

@@ -1,7 +1,7 @@
 -- Which maps fall with a map?
-use Rattle.std.specs.Prelude.{◌≡◌, ◌⊎◌, Bool, true, false, not, is_some, Option, None, Some}
-use Rattle.std.specs.List.{list_any}
-use Rattle.std.specs.BTreeMap.{BTreeMap, get}
+use Rattle.std.specs.Prelude.{◌≡◌, ◌+◌, ◌⊎◌, ◌&&◌, Bool, true, false, cond, not, is_some, List, Option, None, Some}
+use Rattle.std.specs.List.{count_by, list_any}
+use Rattle.std.specs.BTreeMap.{BTreeMap, get, is_at}
 use Rattle.std.specs.BTreeSet.{BTreeSet, contains}
 use Rattle.hir_base.specs.declared.ids.MapId.{MapId}
 use Rattle.hir_base.specs.contracts.ids.MapIdOrd.TheImpl as map_order
@@ -31,6 +31,15 @@ refers_of (Some finished) id = refers_to finished.map finished.local id
 -- whether a finished map refers to another one
 abbrev pub refers_in : BTreeMap MapId Finished → MapId → MapId → Bool
 refers_in maps id other = refers_of (get map_order.ghosts.cmp maps id) other
+
+-- whether the map of an id was there and is gone
+abbrev pub is_removed : BTreeMap MapId Finished → BTreeMap MapId Finished → MapId → Bool
+is_removed old new id = is_some (get map_order.ghosts.cmp old id) && not (is_some (get map_order.ghosts.cmp new id))
+
+-- a list gains the id of each map that was there and is gone, once, and no other
+abbrev pub GainsRemoved : BTreeMap MapId Finished → BTreeMap MapId Finished → List MapId → List MapId → Type 0
+GainsRemoved old new before after = (id : MapId)
+    → count_by (is_at (map_order.ghosts.cmp id)) after ≡ count_by (is_at (map_order.ghosts.cmp id)) before + cond (is_removed old new id) 1 0
 
 -- ---- the same by the ids that are recorded for each map
 

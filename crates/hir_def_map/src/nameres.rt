@@ -48,7 +48,6 @@ use std::marker::Model;
 pub const MAX_MODULES: usize = 0x7fff_ffff;
 
 /// The modules of a crate or of a block by number, the root first, with what their names stand for.
-#[derive(Drop)]
 pub struct DefMap {
     holder: Option<ModuleId>,
     modules: ModulesMap,
@@ -61,6 +60,24 @@ pub struct DefMap {
     derive_helpers: BTreeMap<AstId, DeriveHelpers>,
     diagnostics: DefDiagnostics,
     crate_data: DefMapCrateData,
+}
+
+impl Drop for DefMap {
+    fn drop(self) {
+        let DefMap {
+            holder: _,
+            modules: _,
+            enums: _,
+            macro_use_prelude: _,
+            prelude: _,
+            macro_ids: _,
+            proc_macros: _,
+            macro_data: _,
+            derive_helpers: _,
+            diagnostics: _,
+            crate_data: _,
+        } = self;
+    }
 }
 
 impl Model for DefMap {

@@ -182,7 +182,7 @@ pub fn proc_macro(at: ModuleId, id: SyntaxId) -> ProcMacroId {
     }
 }
 
-fn choice(at: ModuleId, id: SyntaxId) -> EnumId {
+pub fn choice(at: ModuleId, id: SyntaxId) -> EnumId {
     EnumId {
         loc: location(at, id),
     }
@@ -236,6 +236,13 @@ pub fn push(alloc: Global, draft: &mut Draft, words: &[&str]) -> Result<(), Faul
     let items = items(at, kind, of, vis, None)?;
     bind(draft, at, words::name_of(alloc, name)?, items, None)?;
     Ok(())
+}
+
+/// The `use` item of a node.
+pub fn use_item(at: ModuleId, id: SyntaxId) -> UseId {
+    UseId {
+        loc: location(at, id),
+    }
 }
 
 /// What brings a name: an import, a glob or an `extern crate`, by its node.

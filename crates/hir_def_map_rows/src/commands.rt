@@ -3,13 +3,14 @@ use crate::asks::OfPath;
 use crate::shows::MapText;
 use crate::stage::{Draft, Stage};
 use crate::words::{Fault, find};
-use crate::{asks, build, keeps, words};
+use crate::{asks, build, facts, keeps, reports, words};
 use hir_base::edition::Edition;
 use hir_base::ids::{Crate, MapId, ModuleId};
 use hir_crate_graph::CrateSet;
 use hir_def_map::{InsertError, LocalDefMap, Refused, World};
 use std::alloc::Global;
 use std::fmt::Write;
+use std::mem;
 
 #[derive(Clone, Copy)]
 enum Command {
@@ -46,9 +47,23 @@ enum Command {
     Equal,
     Held,
     Fields,
+    Say,
+    Top,
+    Roots,
+    Written,
+    Preludes,
+    VariantsOf,
+    Means,
+    InTrait,
+    Aside,
+    Agrees,
+    Report,
+    Reports,
+    Child,
+    Children,
 }
 
-const COMMANDS: [(&str, Command); 38] = [
+const COMMANDS: [(&str, Command); 52] = [
     ("crate", Command::Crate),
     ("block", Command::Block),
     ("mod", Command::Module),
@@ -87,6 +102,20 @@ const COMMANDS: [(&str, Command); 38] = [
     ("equal", Command::Equal),
     ("held", Command::Held),
     ("fields", Command::Fields),
+    ("say", Command::Say),
+    ("top", Command::Top),
+    ("roots", Command::Roots),
+    ("written", Command::Written),
+    ("preludes", Command::Preludes),
+    ("variants_of", Command::VariantsOf),
+    ("means", Command::Means),
+    ("in_trait", Command::InTrait),
+    ("aside", Command::Aside),
+    ("agrees", Command::Agrees),
+    ("report", Command::Report),
+    ("reports", Command::Reports),
+    ("child", Command::Child),
+    ("children", Command::Children),
 ];
 
 /// What begins or fills the open map; other commands are no concern of this.
@@ -102,6 +131,9 @@ fn fill(alloc: Global, draft: &mut Draft, command: Command, words: &[&str]) -> R
         Command::Prelude => build::prelude(draft, words),
         Command::Extern => build::extern_crate(alloc, draft, words),
         Command::Keep => keeps::keep(alloc, draft, words),
+        Command::Say => facts::say(alloc, draft, words),
+        Command::Child => facts::child(alloc, draft, words),
+        Command::Report => reports::report(alloc, draft, words),
         _ => Err(Fault::Bad),
     }
 }
@@ -114,6 +146,12 @@ fn update(alloc: Global, draft: &mut Draft, words: &[&str], out: &mut String) ->
         " -> unchanged"
     })?;
     Ok(())
+}
+
+/// Puts the world aside, and begins one without maps.
+fn put_aside(alloc: Global, stage: &mut Stage) {
+    mem::swap(&mut stage.world, &mut stage.aside);
+    stage.world = World::new(alloc);
 }
 
 /// Adds the open map to the world; one that is refused stays open.
@@ -240,6 +278,10 @@ fn change(
             Ok(())
         }
         Command::Insert => insert_draft(stage, out),
+        Command::Aside => {
+            put_aside(alloc, stage);
+            Ok(())
+        }
         Command::Remove => remove(&mut stage.world, words),
         Command::Crates => add_crates(alloc, &mut stage.world, count(words)?),
         Command::Chain => add_chain(alloc, &mut stage.world, count(words)?),
@@ -251,6 +293,22 @@ fn change(
             Some(draft) => fill(alloc, draft, command, words),
             None => Err(Fault::Bad),
         },
+    }
+}
+
+/// What asks a map for what it says of itself.
+fn ask_of_map(
+    stage: &Stage,
+    command: Command,
+    words: &[&str],
+    out: &mut String,
+) -> Result<(), Fault> {
+    match command {
+        Command::Top => facts::top(stage, words, out),
+        Command::Roots => facts::roots(stage, words, out),
+        Command::Written => facts::written(stage, words, out),
+        Command::Children => facts::children(stage, words, out),
+        _ => facts::preludes(stage, words, out),
     }
 }
 
@@ -280,6 +338,13 @@ fn ask(
         Command::Equal => keeps::equal(alloc, stage, out),
         Command::Held => keeps::held(stage, words, out),
         Command::Fields => keeps::fields(alloc, stage, words, out),
+        Command::Top | Command::Roots | Command::Written | Command::Children | Command::Preludes =>
+            ask_of_map(stage, command, words, out),
+        Command::VariantsOf => facts::variants_of(stage, words, out),
+        Command::Means => facts::means(alloc, stage, words, out),
+        Command::InTrait => facts::in_trait(alloc, stage, words, out),
+        Command::Agrees => facts::agrees(alloc, stage, words, out),
+        Command::Reports => reports::reports(stage, words, out),
         Command::Maps => maps(&stage.world, words, out),
         Command::Count => {
             write!(out, " -> {}", stage.world.maps.len())?;
@@ -307,6 +372,16 @@ fn is_question(command: Command) -> bool {
             | Command::Equal
             | Command::Held
             | Command::Fields
+            | Command::Top
+            | Command::Roots
+            | Command::Written
+            | Command::Preludes
+            | Command::VariantsOf
+            | Command::Means
+            | Command::InTrait
+            | Command::Agrees
+            | Command::Reports
+            | Command::Children
             | Command::Maps
             | Command::Count
     )

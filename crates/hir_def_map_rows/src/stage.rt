@@ -12,10 +12,11 @@ pub struct Draft {
     pub globs: PerNsGlobImports,
 }
 
-/// The finished maps, and the open one.
+/// The finished maps, those of the world that was put aside, and the open one.
 #[derive(Drop)]
 pub struct Stage {
     pub world: World,
+    pub aside: World,
     pub draft: Option<Draft>,
 }
 
@@ -32,6 +33,7 @@ impl Stage {
     pub fn new(alloc: Global) -> Stage {
         Stage {
             world: World::new(alloc),
+            aside: World::new(alloc),
             draft: None,
         }
     }

@@ -14,9 +14,14 @@ use std::marker::Model;
 /// The extern prelude of a crate, which only the crate itself asks, after rust-analyzer's `LocalDefMap`.
 ///
 /// Its names stand in the order in which they were added, and equal ones have them in one order.
-#[derive(Drop)]
 pub struct LocalDefMap {
     extern_prelude: IndexMap<Name, (ModuleId, Option<ExternCrateId>)>,
+}
+
+impl Drop for LocalDefMap {
+    fn drop(self) {
+        let LocalDefMap { extern_prelude: _ } = self;
+    }
 }
 
 impl Model for LocalDefMap {

@@ -12,13 +12,24 @@ use std::collections::{BTreeMap, btree_map};
 use std::marker::Model;
 
 /// The globs of a map that were recorded, what each brought, and where changes have yet to go along them.
-#[derive(Drop)]
 pub struct GlobImports {
     pub(crate) edges: Vec<Edge>,
     pub(crate) brought: BTreeMap<Slot, Brought>,
     pub(crate) pending: Vec<(usize, Key)>,
     pub(crate) out_of: EdgesByModule,
     pub(crate) into: EdgesByModule,
+}
+
+impl Drop for GlobImports {
+    fn drop(self) {
+        let GlobImports {
+            edges: _,
+            brought: _,
+            pending: _,
+            out_of: _,
+            into: _,
+        } = self;
+    }
 }
 
 impl Model for GlobImports {

@@ -12,13 +12,13 @@ use Rattle.hir_glob_imports.specs.Rules.{StepsIn, act as act_along, acts as acts
 use Rattle.hir_glob_imports.specs.Rules.{follows_along, raises_along, more as more_along, more_in, none as none_along, none_in, perform as perform_along}
 use Rattle.hir_glob_imports.specs.Rules.{slot_of, ticked as ticked_along}
 use Rattle.hir_glob_imports.specs.declared.edge.Slot.{Slot}
-use Rattle.hir_import_resolution.specs.Changes.{along, perform}
+use Rattle.hir_import_rules.specs.Changes.{along, perform}
 use Rattle.hir_import_resolution.specs.Inner.State.{path_slots, slots_named}
-use Rattle.hir_import_resolution.specs.Names.{ScopesValue, scope_table, view_of}
-use Rattle.hir_import_resolution.specs.Rest.{IsSpent}
-use Rattle.hir_import_resolution.specs.Rules.{Step, Steps, goes_along, more, none}
+use Rattle.hir_import_rules.specs.Names.{ScopesValue, scope_table, view_of}
+use Rattle.hir_import_rules.specs.Rest.{IsSpent}
+use Rattle.hir_import_rules.specs.Rules.{Step, Steps, goes_along, more, none}
 use Rattle.hir_import_resolution.specs.Scopes.{open_table, value_of}
-use Rattle.hir_import_resolution.specs.State.{ImportState, glob_state, scopes_of, ticked, with_glob_state}
+use Rattle.hir_import_rules.specs.State.{ImportState, glob_state, scopes_of, ticked, with_glob_state}
 use Rattle.hir_import_resolution.specs.Types.{OpenScopes}
 use Rattle.hir_import_resolution.proofs.Writes.{Writes, again, copies_write, follows_write, raises_write, stays, wider}
 use Rattle.hir_import_resolution.specs.Inner.OpenLaws.{copies_kept, follows_kept}

@@ -1,5 +1,5 @@
 -- What stands in a resolver once an import has bound something.
-use Rattle.std.proofs.Common.{◌≡◌, ◌∙◌, ap, sym, subst, ℕ, Bool, List, Option, None, Some, is_some, Result, Ok, Err, OnOk}
+use Rattle.std.proofs.Common.{◌≡◌, ◌∙◌, ap, sym, subst, ℕ, List, Option, None, Some, Result, Ok, Err, OnOk}
 use Rattle.hir_base.specs.declared.ids.TraitId.{TraitId}
 use Rattle.hir_scope.specs.declared.imports.ImportId.{ImportId}
 use Rattle.hir_scope.specs.declared.imports.ImportOrExternCrate.{ImportOrExternCrate}
@@ -7,55 +7,23 @@ use Rattle.hir_scope.specs.declared.per_ns.PerNs.{PerNs}
 use Rattle.hir_scope.specs.declared.visibility.Visibility.{Visibility}
 use Rattle.hir_def_map_rules.specs.State.{globs_after, module_at, pushed, with_scope}
 use Rattle.hir_glob_imports.specs.Keys.{slot_at}
-use Rattle.hir_glob_imports.specs.Rules.{BroughtBy, with_brought}
-use Rattle.hir_glob_imports.specs.View.{View}
-use Rattle.hir_glob_imports.specs.Waves.{GlobsValue, IsExplicit, IsKept, brought_of}
-use Rattle.hir_glob_imports.specs.declared.edge.Key.TheVariants.{Types, Values, Macros, Unnamed}
-use Rattle.hir_import_resolution.specs.Changes.{bound_in, forgotten, forgotten_in, kept_vis, with_kept}
-use Rattle.hir_import_resolution.specs.Directives.{way_of}
+use Rattle.hir_glob_imports.specs.Rules.{with_brought}
+use Rattle.hir_glob_imports.specs.Waves.{GlobsValue, IsExplicit, brought_of}
+use Rattle.hir_glob_imports.specs.declared.edge.Key.TheVariants.{Unnamed}
+use Rattle.hir_import_rules.specs.Changes.{bound_in, forgotten, kept_vis, with_kept}
+use Rattle.hir_import_rules.specs.Directives.{way_of}
 use Rattle.hir_import_resolution.specs.Inner.State.{finished_by, state_by}
-use Rattle.hir_import_resolution.specs.Inner.Steps.{IsBound, MayBind}
-use Rattle.hir_import_resolution.specs.Names.{trait_vis, view_of, with_trait}
+use Rattle.hir_import_growth.specs.Binding.{IsBound}
+use Rattle.hir_import_rules.specs.Names.{trait_vis, view_of, with_trait}
 use Rattle.hir_import_resolution.specs.Scopes.{value_of}
-use Rattle.hir_import_resolution.specs.Types.{ImportSource, OpenScopes, Resolver}
-use Rattle.hir_import_resolution.proofs.Binding.{keep_binds, push_binds}
+use Rattle.hir_import_resolution.specs.Types.{OpenScopes, Resolver}
+use Rattle.hir_import_rules.specs.declared.directive.ImportSource.{ImportSource}
+use Rattle.hir_import_growth.proofs.Binding.{keep_binds, push_binds}
 
 -- two facts of the state after a call that may fail
 pub on_both : {T E : Type 0} (r : Result T E) (P Q R : Type 0) → (P → Q → R) → OnOk r P → OnOk r Q → OnOk r R
 on_both (Ok x) P Q R f p q = f p q
 on_both (Err e) P Q R f p q = p
-
--- ---- what globs brought
-
-module _ (home : ℕ) (name n1 n2 n3 : List ℕ) (items : PerNs) (b1 b2 b3 : Bool) (is1 : n1 ≡ name) (is2 : n2 ≡ name) (is3 : n3 ≡ name)
-    (binds1 : b1 ≡ is_some items.types) (binds2 : b2 ≡ is_some items.values) (binds3 : b3 ≡ is_some items.macros) where
-  pub forgotten_thrice : (f0 f1 f2 f3 : BroughtBy) → f1 ≡ forgotten_in home (Types n1) b1 f0 → f2 ≡ forgotten_in home (Values n2) b2 f1
-      → f3 ≡ forgotten_in home (Macros n3) b3 f2 → f3 ≡ forgotten home name items f0
-  forgotten_thrice f0 f1 f2 f3 first second third =
-      third ∙ (λ i. forgotten_in home (Macros (is3 i)) (binds3 i)
-      ((second ∙ (λ j. forgotten_in home (Values (is2 j)) (binds2 j) ((first ∙ (λ k. forgotten_in home (Types (is1 k)) (binds1 k) f0)) j))) i))
-
-  pub kept_thrice : (g0 g1 g2 g3 : GlobsValue) → ((v w : View) → IsKept v g0 → MayBind home (Types n1) b1 v w → IsKept w g1)
-      → ((v w : View) → IsKept v g1 → MayBind home (Values n2) b2 v w → IsKept w g2) → ((v w : View) → IsKept v g2 → MayBind home (Macros n3) b3 v w
-      → IsKept w g3)
-      → (v w : View) → IsKept v g0 → IsBound home name items v w → IsKept w g3
-  kept_thrice g0 g1 g2 g3 first second third v w kept bound =
-      third bound.with_values w
-      (second bound.with_types bound.with_values
-      (first v bound.with_types kept (types bound.types)) (values bound.values)) (macros bound.macros)
-    where
-      types : MayBind home (Types name) (is_some items.types) v bound.with_types → MayBind home (Types n1) b1 v bound.with_types
-      types h = subst (λ (b : Bool). MayBind home (Types n1) b v bound.with_types) (sym binds1)
-          (subst (λ (n : List ℕ). MayBind home (Types n) (is_some items.types) v bound.with_types) (sym is1) h)
-
-      values : MayBind home (Values name) (is_some items.values) bound.with_types bound.with_values → MayBind home (Values n2) b2 bound.with_types
-          bound.with_values
-      values h = subst (λ (b : Bool). MayBind home (Values n2) b bound.with_types bound.with_values) (sym binds2)
-          (subst (λ (n : List ℕ). MayBind home (Values n) (is_some items.values) bound.with_types bound.with_values) (sym is2) h)
-
-      macros : MayBind home (Macros name) (is_some items.macros) bound.with_values w → MayBind home (Macros n3) b3 bound.with_values w
-      macros h = subst (λ (b : Bool). MayBind home (Macros n3) b bound.with_values w) (sym binds3)
-          (subst (λ (n : List ℕ). MayBind home (Macros n) (is_some items.macros) bound.with_values w) (sym is3) h)
 
 -- ---- a push
 

@@ -2,10 +2,10 @@
 use Rattle.std.proofs.Common.{◌≡◌, ◌∙◌, ap, refl, ◌+◌, ◌<◌, ◌≤◌, List, [], ◌∷◌, None, Some, arith}
 use Rattle.hir_def_map_rules.specs.Overlay.{Maps}
 use Rattle.hir_glob_imports.specs.Rules.{brings, copies, follows, raises}
-use Rattle.hir_import_resolution.specs.Changes.{Change, act, along, keeps_trait, perform, pushes, records, takes}
-use Rattle.hir_import_resolution.specs.Rest.{IsSpent}
-use Rattle.hir_import_resolution.specs.Rules.{Step, Steps, acts, more, none}
-use Rattle.hir_import_resolution.specs.State.{ImportState}
+use Rattle.hir_import_rules.specs.Changes.{Change, act, along, keeps_trait, perform, pushes, records, takes}
+use Rattle.hir_import_rules.specs.Rest.{IsSpent}
+use Rattle.hir_import_rules.specs.Rules.{Step, Steps, acts, more, none}
+use Rattle.hir_import_rules.specs.State.{ImportState}
 
 act_count : (s : ImportState) (c : Change) → (act s c).count ≡ s.count
 act_count s (pushes home None items source) = refl

@@ -10,14 +10,16 @@ use Rattle.hir_def_map_rules.specs.Overlay.{Maps}
 use Rattle.hir_glob_imports.specs.Waves.{Records}
 use Rattle.hir_glob_imports.specs.declared.edge.Edge.{Edge}
 use Rattle.hir_glob_imports.specs.declared.step.TheConstants.{MAX_STEPS}
-use Rattle.hir_import_resolution.specs.Types.{ImportDirective, ImportSource, Taking}
-use Rattle.hir_import_resolution.specs.Changes.{bound_as, with_kept}
-use Rattle.hir_import_resolution.specs.Directives.{TakenValue, edge_to, goes_beyond, leaf_of, namespaces_of, reached_by, taken_after, taken_for}
+use Rattle.hir_import_resolution.specs.Types.{Taking}
+use Rattle.hir_import_rules.specs.declared.directive.ImportDirective.{ImportDirective}
+use Rattle.hir_import_rules.specs.declared.directive.ImportSource.{ImportSource}
+use Rattle.hir_import_rules.specs.Changes.{bound_as, with_kept}
+use Rattle.hir_import_rules.specs.Directives.{TakenValue, edge_to, goes_beyond, leaf_of, namespaces_of, reached_by, taken_after, taken_for}
 use Rattle.hir_import_resolution.specs.Inner.Steps.{IsLinking, taking_at, taking_for, taking_of}
-use Rattle.hir_import_resolution.specs.Names.{view_of}
-use Rattle.hir_import_resolution.specs.Rest.{IsSpent}
-use Rattle.hir_import_resolution.specs.Rules.{Step, none, takes_glob, takes_import}
-use Rattle.hir_import_resolution.specs.State.{ImportState, scopes_of, ticked, with_taken}
+use Rattle.hir_import_rules.specs.Names.{view_of}
+use Rattle.hir_import_rules.specs.Rest.{IsSpent}
+use Rattle.hir_import_rules.specs.Rules.{Step, none, takes_glob, takes_import}
+use Rattle.hir_import_rules.specs.State.{ImportState, scopes_of, ticked, with_taken}
 
 -- the import at the place, what its takings reached before, and that it reaches another namespace
 pub record Due (finished : Maps) (s : ImportState) (i : ℕ) (taking : Taking) : Type 0 where

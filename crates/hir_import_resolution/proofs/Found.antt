@@ -10,9 +10,9 @@ use Rattle.hir_def_map_rules.specs.State.{Map, ModuleValue, module_at, scope_at,
 use Rattle.hir_glob_imports.specs.declared.edge.Key.{Key}
 use Rattle.hir_glob_imports.specs.declared.edge.Key.TheVariants.{Types, Values, Macros, Unnamed}
 use Rattle.hir_import_resolution.specs.KeyLists.{scope_in}
-use Rattle.hir_import_resolution.specs.Names.{trait_vis}
-use Rattle.hir_import_resolution.specs.Inner.ScopeLaws.{bound_scope}
-use Rattle.hir_import_resolution.specs.Inner.ViewLaws.{bound_inside, inside_scope}
+use Rattle.hir_import_rules.specs.Names.{trait_vis}
+use Rattle.hir_import_rules.specs.ScopeLaws.{bound_scope}
+use Rattle.hir_import_growth.specs.ViewLaws.{bound_inside, inside_scope}
 
 module _ (maps : Maps) where
   module-found : (m : ModuleId) (map : Map) → map_in maps m.map ≡ Some map → module_in maps m ≡ module_at map m.index

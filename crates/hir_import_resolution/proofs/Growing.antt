@@ -1,84 +1,27 @@
 -- What was up to date stays so while the map grows, once what has changed is woken and what came besides is queued.
-use Rattle.std.proofs.Common.{◌≡◌, ◌∙◌, ap, sym, refl, subst, ℕ, zero, suc, ◌<◌, ◌≤◌, Bool, true, false, ◌++◌, None, Some, List, [], ◌∷◌, length, get_or, drop}
-use Rattle.std.proofs.Common.{length-append, ◌+◌, arith}
-use Rattle.std.proofs.Math.Seq.{drop-cons}
-use Rattle.std.proofs.lemmas.List.{drop_all}
+use Rattle.std.proofs.Common.{◌≡◌, ◌∙◌, ap, sym, refl, subst, ℕ, suc, ◌<◌, ◌≤◌, Bool, true, None, Some, List, [], ◌∷◌, length, arith}
 use Rattle.std.specs.Prelude.{not, slice_get, slice_index_or}
 use Rattle.hir_def_map_rules.specs.Overlay.{Maps}
 use Rattle.hir_def_map.specs.declared.nameres.path_resolution.slots.Slot.{Slot as PathSlot}
-use Rattle.hir_worklist.proofs.Idle.{idle-appended}
-use Rattle.hir_worklist.specs.Moves.{Appends, Wakes, empty_queue}
+use Rattle.hir_worklist.proofs.Passes.{idle_below}
+use Rattle.hir_worklist.specs.Moves.{empty_queue}
 use Rattle.hir_worklist.specs.Queue.{IsIdle, Queue, count_of, is_unfinished}
-use Rattle.hir_worklist.specs.Watching.{Forgets, is_watching}
+use Rattle.hir_worklist.specs.Waking.{IsLonger}
 use Rattle.hir_worklist.specs.declared.watchers.Watchers.{Watchers}
-use Rattle.hir_import_resolution.specs.Types.{ImportDirective, ImportQueue}
-use Rattle.hir_import_resolution.specs.Inner.Queue.{AreIdleSettled, IsLonger, IsWoken, WakesEach, slot_cmp, more, none}
+use Rattle.hir_import_resolution.specs.Types.{ImportQueue}
+use Rattle.hir_import_rules.specs.declared.directive.ImportDirective.{ImportDirective}
+use Rattle.hir_import_resolution.specs.Inner.Queue.{AreIdleSettled, IsWoken}
 use Rattle.hir_import_resolution.specs.Rounds.{AreQueued, IsResumable, is_lasting}
-use Rattle.hir_import_resolution.specs.State.{ImportState}
+use Rattle.hir_import_rules.specs.State.{ImportState}
 use Rattle.hir_import_resolution.proofs.Settled.{unchanged_grown}
 use Rattle.hir_import_resolution.proofs.Trying.{woken_anew}
-
--- ---- slots that are woken, one after another
-
--- one of those that are left, and the others
-pub wakes_one : (slots : List PathSlot) (s : PathSlot) (n : ℕ) (r : Queue) (after : Watchers PathSlot) (q between : Queue) (watchers left : Watchers PathSlot)
-    → n < length slots
-    → get_or slots n s ≡ s → Wakes q between (is_watching slot_cmp watchers s) → Forgets slot_cmp watchers left s → WakesEach r after between left
-    (drop (n + 1) slots)
-    → WakesEach r after q watchers (drop n slots)
-wakes_one slots s n r after q between watchers left below is wakes forgets then =
-    subst (λ (xs : List PathSlot). WakesEach r after q watchers xs) (sym (drop-cons slots n s below ∙ (λ i. is i ∷ drop (suc n) slots)))
-    (more q between watchers left s (drop (suc n) slots) wakes forgets (subst (λ (m : ℕ). WakesEach r after between left (drop m slots)) (add_one n) then))
-  where
-    add_one : (n : ℕ) → n + 1 ≡ suc n
-    add_one n = omega arith
-
--- none is left
-pub wakes_all : (slots : List PathSlot) (n : ℕ) (q : Queue) (watchers : Watchers PathSlot) → length slots ≤ n → WakesEach q watchers q watchers (drop n slots)
-wakes_all slots n q watchers over = subst (λ (xs : List PathSlot). WakesEach q watchers q watchers xs) (sym (drop_all n slots over)) none
-
--- ---- things that are appended
-
-below_unfinished : (finished : List Bool) (p : ℕ) → not (slice_index_or finished p true) ≡ true → p < length finished
-below_unfinished [] p e = absurd cc
-below_unfinished (x ∷ xs) zero e = omega arith
-below_unfinished (x ∷ xs) (suc p) e = let below : p < length xs = below_unfinished xs p e in omega arith
-
--- what isn't finished is there
-pub idle_below : (q : Queue) (p : ℕ) → IsIdle q p → p < count_of q
-idle_below q p idle = below_unfinished q.finished p idle.unfinished
-
--- the last thing isn't finished
-push_unfinished : (finished : List Bool) (p : ℕ) → ((k : ℕ) → k < length finished → not (slice_index_or finished k true) ≡ true)
-    → p < length (finished ++ false ∷ [])
-    → not (slice_index_or (finished ++ false ∷ []) p true) ≡ true
-push_unfinished [] zero all below = refl
-push_unfinished [] (suc p) all below = absurd (omega arith)
-push_unfinished (x ∷ xs) zero all below = all 0 (omega arith)
-push_unfinished (x ∷ xs) (suc p) all below = push_unfinished xs p (λ k l. all (suc k) (omega arith)) (omega arith)
-
-pub as_long : (q : Queue) → IsLonger q q
-as_long q = record { idle = λ p i. i; unfinished = λ all p below. all p below; current = refl; end = refl }
-
-pub one_longer : (q r s : Queue) → IsLonger q r → Appends r s → IsLonger q s
-one_longer q r s first then = record {
-  idle = λ p i. first.idle p (idle-appended r s p then i).0;
-  unfinished = λ all p below.
-      subst (λ (f : List Bool). not (slice_index_or f p true) ≡ true) (sym then.finished)
-      (push_unfinished r.finished p (first.unfinished all) (subst (λ (f : List Bool). p < length f) then.finished below));
-  current = then.current ∙ first.current;
-  end = then.end ∙ first.end;
-}
-
-pub counts_one : (r s : Queue) → Appends r s → count_of s ≡ count_of r + 1
-counts_one r s a = ap (λ (f : List Bool). length f) a.finished ∙ length-append r.finished (false ∷ [])
 
 -- ---- at first
 
 -- nothing is idle where nothing was
 pub none_idle : (q r : Queue) → q ≡ empty_queue → IsLonger q r → (p : ℕ) → ¬ IsIdle r p
 none_idle q r empty longer p idle =
-    let before : p < 0 = below_unfinished [] p (subst (λ (x : Queue). is_unfinished x p ≡ true) empty (longer.idle p idle).unfinished) in absurd (omega arith)
+    let before : p < 0 = subst (λ (x : Queue). p < count_of x) empty (idle_below q p (longer.idle p idle)) in absurd (omega arith)
 
 -- so in a queue of all imports each is queued
 pub queued_first : (finished : Maps) (queue : ImportQueue) (q : Queue) (s : ImportState) (n : ℕ) → q ≡ empty_queue → IsLonger q queue.worklist → n

@@ -34,12 +34,12 @@ use Rattle.hir_glob_imports.specs.declared.edge.Key.{Key}
 use Rattle.hir_glob_imports.specs.declared.edge.Target.{Target}
 use Rattle.hir_glob_imports.specs.declared.edge.Key.TheVariants.{Types, Values, Macros, Unnamed}
 use Rattle.hir_glob_imports.specs.declared.edge.Target.TheVariants as targets
-use Rattle.hir_import_resolution.specs.Directives.{open_items}
+use Rattle.hir_import_rules.specs.Directives.{open_items}
 use Rattle.hir_import_resolution.specs.KeyLists.{enum_keys, has_namespace, key_in, keys_among, keys_in, keys_of, name_keys, scope_keys, trait_key, trait_keys}
 use Rattle.hir_import_resolution.specs.KeyLists.{traits_in, variant_keys}
-use Rattle.hir_import_resolution.specs.Names.{ScopesValue, bound_at, bound_by, bound_of, bound_trait, is_foreign, is_open, open_vis, trait_vis, variant_items}
-use Rattle.hir_import_resolution.specs.Visibilities.{is_public}
-use Rattle.hir_import_resolution.specs.Inner.ScopeLaws.{same_trait}
+use Rattle.hir_import_rules.specs.Names.{ScopesValue, bound_at, bound_by, bound_of, bound_trait, is_foreign, is_open, open_vis, trait_vis, variant_items}
+use Rattle.hir_import_rules.specs.Visibilities.{is_public}
+use Rattle.hir_import_rules.specs.ScopeLaws.{same_trait}
 
 tie : (o : Ordering) → is_eq o ≡ true → o ≡ Equal
 tie Less e = absurd (true≢false (sym e))

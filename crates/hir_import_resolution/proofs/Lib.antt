@@ -1,8 +1,6 @@
 -- what look-ups find
 pub mod Lists
 pub mod Found
-pub mod Lent
-pub mod Targets
 pub mod KeyLists
 -- what is due of an import
 pub mod Due
@@ -11,10 +9,8 @@ pub mod Recorded
 pub mod Writes
 pub mod Along
 -- what a push changes
-pub mod Binding
 pub mod Bound
 -- what lasts
-pub mod Firm
 pub mod Placed
 -- what a resolver does
 pub mod Spread
@@ -31,11 +27,6 @@ pub mod Restarting
 pub mod Starting
 -- what is queued before a round
 pub mod Growing
-pub mod GrownPlaces
-pub mod GlobsGrowing
 pub mod GlobsLasting
-pub mod Placing
-pub mod PairsGrowing
-pub mod GrowingAround
 -- what is sound
 pub mod Soundness

@@ -10,13 +10,14 @@ use Rattle.hir_worklist.proofs.Idle.{idle-settled}
 use Rattle.hir_worklist.proofs.Settled.{pass_closed, pass_opened, taken}
 use Rattle.hir_worklist.specs.Moves.{Takes, closed, opened}
 use Rattle.hir_worklist.specs.Queue.{Queue}
-use Rattle.hir_import_resolution.specs.Types.{ImportDirective, Resolver}
+use Rattle.hir_import_resolution.specs.Types.{Resolver}
+use Rattle.hir_import_rules.specs.declared.directive.ImportDirective.{ImportDirective}
 use Rattle.hir_import_resolution.specs.Inner.Queue.{AreIdleSettled, IsRunning, IsSettledFor, reads_at, slot_cmp}
 use Rattle.hir_import_resolution.specs.Inner.State.{finished_by, state_by}
-use Rattle.hir_import_resolution.specs.Names.{view_of}
-use Rattle.hir_import_resolution.specs.Rest.{IsAtRest, IsSettled, IsSpent}
-use Rattle.hir_import_resolution.specs.Rules.{Steps}
-use Rattle.hir_import_resolution.specs.State.{scopes_of}
+use Rattle.hir_import_rules.specs.Names.{view_of}
+use Rattle.hir_import_rules.specs.Rest.{IsAtRest, IsSettled, IsSpent}
+use Rattle.hir_import_rules.specs.Rules.{Steps}
+use Rattle.hir_import_rules.specs.State.{scopes_of}
 use Rattle.hir_import_resolution.proofs.Counting.{spent_after, steps_append, steps_count}
 use Rattle.hir_import_resolution.proofs.Running.{requeued}
 

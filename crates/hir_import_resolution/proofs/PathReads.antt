@@ -12,10 +12,10 @@ use Rattle.hir_def_map_rules.specs.Scoping.Asking.{Asking}
 use Rattle.hir_def_map.specs.Scoping.Slots.{reads, slots_of}
 use Rattle.hir_def_map_rules.specs.State.{Map, numbered}
 use Rattle.hir_def_map.specs.declared.nameres.path_resolution.slots.Slot.{Slot}
-use Rattle.hir_import_resolution.specs.Types.{ImportDirective}
-use Rattle.hir_import_resolution.specs.declared.directive.ImportSource.TheVariants as sources
+use Rattle.hir_import_rules.specs.declared.directive.ImportDirective.{ImportDirective}
+use Rattle.hir_import_rules.specs.declared.directive.ImportSource.TheVariants as sources
 use Rattle.hir_import_resolution.specs.Inner.Queue.{path_reads, reads_at, reads_by}
-use Rattle.hir_import_resolution.specs.State.{ImportState}
+use Rattle.hir_import_rules.specs.State.{ImportState}
 
 -- what a `use` reads
 pub reads_use : (apart : Bool) (finished : Maps) (s : ImportState) (i : ℕ) (r : ImportDirective) (id : ImportId) (kind : ImportKind) → apart ≡ true

@@ -10,10 +10,10 @@ use Rattle.hir_glob_imports.specs.Waves.{Records, adds, edge_with_vis, same_own,
 use Rattle.hir_glob_imports.specs.declared.edge.Edge.{Edge}
 use Rattle.hir_glob_imports.specs.declared.edge.Target.{Target}
 use Rattle.hir_glob_imports.specs.declared.edge.Target.TheVariants as targets
-use Rattle.hir_import_resolution.specs.Types.{ImportDirective}
-use Rattle.hir_import_resolution.specs.Directives.{TakenValue, taken_for}
-use Rattle.hir_import_resolution.specs.Rest.{IsRecorded, IsSource}
-use Rattle.hir_import_resolution.specs.State.{ImportState}
+use Rattle.hir_import_rules.specs.declared.directive.ImportDirective.{ImportDirective}
+use Rattle.hir_import_rules.specs.Directives.{TakenValue, taken_for}
+use Rattle.hir_import_rules.specs.Rest.{IsRecorded, IsSource}
+use Rattle.hir_import_rules.specs.State.{ImportState}
 
 -- ---- lists with one value set
 

@@ -9,10 +9,10 @@ use Rattle.hir_glob_imports.specs.Waves.{GlobsValue}
 use Rattle.hir_glob_imports.specs.declared.edge.Edge.{Edge}
 use Rattle.hir_import_resolution.specs.Types.{ImportQueue, Resolver}
 use Rattle.hir_import_resolution.specs.Inner.State.{AreRecorded, IsKeptIn, finished_by, queue_by, state_by, with_globs}
-use Rattle.hir_import_resolution.specs.Names.{view_of}
-use Rattle.hir_import_resolution.specs.Rest.{IsClosed, IsRecorded, IsSound}
+use Rattle.hir_import_rules.specs.Names.{view_of}
+use Rattle.hir_import_rules.specs.Rest.{IsClosed, IsRecorded, IsSound}
 use Rattle.hir_import_resolution.specs.Scopes.{value_of}
-use Rattle.hir_import_resolution.specs.State.{ImportState, scopes_of}
+use Rattle.hir_import_rules.specs.State.{ImportState, scopes_of}
 
 -- ---- the globs
 

@@ -22,23 +22,25 @@ use Rattle.hir_glob_imports.specs.declared.step.TheConstants.{MAX_STEPS}
 use Rattle.hir_worklist.specs.Queue.{Queue}
 use Rattle.hir_worklist.specs.Settling.{WatchesEach}
 use Rattle.hir_worklist.specs.declared.watchers.Watchers.{Watchers}
-use Rattle.hir_import_resolution.specs.Types.{ImportDirective, ImportSource, OpenScopes, Resolver, Taking}
-use Rattle.hir_import_resolution.specs.declared.directive.ImportSource.TheVariants as sources
-use Rattle.hir_import_resolution.specs.Directives.{TakenValue, answer_to, path_answer, taken_after, taken_for, target_of}
+use Rattle.hir_import_resolution.specs.Types.{OpenScopes, Resolver, Taking}
+use Rattle.hir_import_rules.specs.declared.directive.ImportDirective.{ImportDirective}
+use Rattle.hir_import_rules.specs.declared.directive.ImportSource.{ImportSource}
+use Rattle.hir_import_rules.specs.declared.directive.ImportSource.TheVariants as sources
+use Rattle.hir_import_rules.specs.Directives.{TakenValue, answer_to, path_answer, taken_after, taken_for, target_of}
 use Rattle.hir_import_resolution.specs.Inner.Queue.{AreIdleSettled, IsBegun, IsFirmBy, IsRunning, IsSettledFor, IsTrying, IsWoken, KeepsWatched, Reports}
 use Rattle.hir_import_resolution.specs.Inner.Queue.{path_reads, reads_at, reads_by, slot_cmp}
 use Rattle.hir_import_resolution.specs.Inner.State.{AreRecorded, ChangesSlots, IsApart, IsKeptIn, IsLinked, IsTaken, finished_by, slots_named, state_by}
 use Rattle.hir_import_resolution.specs.Inner.State.{with_lasting}
 use Rattle.hir_import_resolution.specs.Inner.Steps.{IsLinkedAt, IsLinking, taking_at, taking_of}
-use Rattle.hir_import_resolution.specs.Lasting.{IsThere, Lasts}
-use Rattle.hir_import_resolution.specs.Rest.{IsSpent}
-use Rattle.hir_import_resolution.specs.Rules.{Step, Steps}
-use Rattle.hir_import_resolution.specs.State.{ImportState, with_taken}
+use Rattle.hir_import_rules.specs.Lasting.{IsThere, Lasts}
+use Rattle.hir_import_rules.specs.Rest.{IsSpent}
+use Rattle.hir_import_rules.specs.Rules.{Step, Steps}
+use Rattle.hir_import_rules.specs.State.{ImportState, with_taken}
 use Rattle.hir_import_resolution.proofs.Counting.{counts_on, spent_first, step_first}
 use Rattle.hir_import_resolution.proofs.Due.{Due, due}
 use Rattle.hir_import_resolution.proofs.Settled.{linked_settled, nothing_due, only_one, taken_settled}
 use Rattle.hir_import_resolution.proofs.Trying.{announced, lowered, noted, same_scopes, tried}
-use Rattle.hir_import_resolution.proofs.Waking.{still_settled}
+use Rattle.hir_worklist.proofs.Woken.{still_settled}
 
 -- ---- the queue alone
 
@@ -97,7 +99,8 @@ watched r i watchers lasting old keeps watches fewer firm = record {
     begun = record {
       settled =
           lowered r.lasting lasting r.apart (finished_by r) (state_by r) (Some i) r.worklist watchers fewer
-          (still_settled (reads_at r.apart (finished_by r) (state_by r)) (IsSettledFor r.lasting (finished_by r) (state_by r)) (Some i) r.worklist r.watchers
+          (still_settled slot_cmp (reads_at r.apart (finished_by r) (state_by r)) (IsSettledFor r.lasting (finished_by r) (state_by r)) (Some i) r.worklist
+          r.watchers
           watchers old.begun.settled keeps);
       unfinished = old.begun.unfinished;
       count = old.begun.count;

@@ -21,19 +21,22 @@ use Rattle.hir_def_map_laws.proofs.SlotLists.{unread_scopes}
 use Rattle.hir_def_map_laws.specs.ReadLaw.{AgreeAt, IsReadAlike, stops_bare}
 use Rattle.hir_def_map_laws.specs.SlotChanges.{ScopesChangeAmong}
 use Rattle.hir_glob_imports.specs.declared.edge.Target.{Target}
-use Rattle.hir_import_resolution.specs.Types.{ImportDirective, ImportSource, Namespaces, Taking}
-use Rattle.hir_import_resolution.specs.declared.directive.ImportSource.TheVariants as sources
-use Rattle.hir_import_resolution.specs.Directives.{AreAmong, TakenValue, answer_by_source, answer_in, answer_to, both_of, glob_of, goes_beyond, namespaces_of}
-use Rattle.hir_import_resolution.specs.Directives.{path_answer, reached_by, taken_after, taken_for, target_among, target_of}
+use Rattle.hir_import_resolution.specs.Types.{Taking}
+use Rattle.hir_import_rules.specs.declared.directive.ImportDirective.{ImportDirective}
+use Rattle.hir_import_rules.specs.declared.directive.ImportSource.{ImportSource}
+use Rattle.hir_import_rules.specs.declared.namespaces.Namespaces.{Namespaces}
+use Rattle.hir_import_rules.specs.declared.directive.ImportSource.TheVariants as sources
+use Rattle.hir_import_rules.specs.Directives.{AreAmong, TakenValue, answer_by_source, answer_in, answer_to, both_of, glob_of, goes_beyond, namespaces_of}
+use Rattle.hir_import_rules.specs.Directives.{path_answer, reached_by, taken_after, taken_for, target_among, target_of}
 use Rattle.hir_import_resolution.specs.Inner.Queue.{IsFirmBy, path_reads}
 use Rattle.hir_import_resolution.specs.Inner.State.{IsApart}
 use Rattle.hir_import_resolution.specs.Inner.Steps.{IsLinkedAt, taking_at, taking_for, taking_of}
-use Rattle.hir_import_resolution.specs.Lasting.{IsThere}
-use Rattle.hir_import_resolution.specs.Rest.{IsSettled}
+use Rattle.hir_import_rules.specs.Lasting.{IsThere}
+use Rattle.hir_import_rules.specs.Rest.{IsSettled}
 use Rattle.hir_import_resolution.specs.Rounds.{Grew}
-use Rattle.hir_import_resolution.specs.State.{ImportState, with_taken}
+use Rattle.hir_import_rules.specs.State.{ImportState, with_taken}
 use Rattle.hir_import_resolution.proofs.Due.{Due}
-use Rattle.hir_import_resolution.proofs.Firm.{all_there_still, as_many, more_variants, same_variants, still_unstopped}
+use Rattle.hir_import_growth.proofs.Firm.{all_there_still, as_many, more_variants, same_variants, still_unstopped}
 use Rattle.hir_import_resolution.proofs.Recorded.{set_elsewhere, set_here}
 
 -- ---- what an import reaches at two times

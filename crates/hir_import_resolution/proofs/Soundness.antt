@@ -29,20 +29,21 @@ use Rattle.hir_glob_imports.specs.declared.edge.Slot.{Slot}
 use Rattle.hir_glob_imports.specs.declared.edge.Target.{Target}
 use Rattle.hir_glob_imports.specs.declared.edge.Key.TheVariants.{Types, Values, Macros, Unnamed}
 use Rattle.hir_glob_imports.specs.declared.edge.Target.TheVariants as targets
-use Rattle.hir_import_resolution.specs.Types.{ImportDirective, ImportSource}
-use Rattle.hir_import_resolution.specs.Changes.{along, bound_as, forgotten, forgotten_in, kept_vis, perform, pushing, with_kept}
-use Rattle.hir_import_resolution.specs.Directives.{TakenValue, answer_to, edge_to, kept_trait, leaf_of, name_of, not_taken, nothing_taken, offered_by}
-use Rattle.hir_import_resolution.specs.Directives.{taken_after, taken_for, visibility_of}
-use Rattle.hir_import_resolution.specs.Inner.Steps.{IsBound, MayBind}
+use Rattle.hir_import_rules.specs.declared.directive.ImportDirective.{ImportDirective}
+use Rattle.hir_import_rules.specs.declared.directive.ImportSource.{ImportSource}
+use Rattle.hir_import_rules.specs.Changes.{along, bound_as, forgotten, forgotten_in, kept_vis, perform, pushing, with_kept}
+use Rattle.hir_import_rules.specs.Directives.{TakenValue, answer_to, edge_to, kept_trait, leaf_of, name_of, not_taken, nothing_taken, offered_by}
+use Rattle.hir_import_rules.specs.Directives.{taken_after, taken_for, visibility_of}
+use Rattle.hir_import_growth.specs.Binding.{IsBound, MayBind}
 use Rattle.hir_import_resolution.specs.Inner.TableLaws.{is_name_table}
-use Rattle.hir_import_resolution.specs.Inner.ViewLaws.{bound_inside, inside_own}
-use Rattle.hir_import_resolution.specs.Names.{ScopesValue, bound_at, copied, followed, raised, scope_table, trait_vis, view_of, with_trait}
-use Rattle.hir_import_resolution.specs.Rest.{IsSound, IsSource}
-use Rattle.hir_import_resolution.specs.Rules.{May, Rule, after, goes_along, takes_glob, takes_import}
+use Rattle.hir_import_growth.specs.ViewLaws.{bound_inside, inside_own}
+use Rattle.hir_import_rules.specs.Names.{ScopesValue, bound_at, copied, followed, raised, scope_table, trait_vis, view_of, with_trait}
+use Rattle.hir_import_rules.specs.Rest.{IsSound, IsSource}
+use Rattle.hir_import_rules.specs.Rules.{May, Rule, after, goes_along, takes_glob, takes_import}
 use Rattle.hir_import_resolution.specs.Sound.{GrowthKeepsSound, LocalKeepsSound, PushesKeepSound, ReachedImportsKeepSound, StepsKeepSound}
-use Rattle.hir_import_resolution.specs.State.{ImportState, glob_state, scopes_of, ticked, with_glob_state, with_taken}
+use Rattle.hir_import_rules.specs.State.{ImportState, glob_state, scopes_of, ticked, with_glob_state, with_taken}
 use Rattle.hir_import_resolution.proofs.Along.{performed}
-use Rattle.hir_import_resolution.proofs.Binding.{keep_binds, push_binds}
+use Rattle.hir_import_growth.proofs.Binding.{keep_binds, push_binds}
 use Rattle.hir_import_resolution.proofs.Recorded.{found_set, recorded_kept, recorded_linked, recorded_taken}
 use Rattle.hir_import_resolution.proofs.Writes.{copies_write, follows_write, raises_write}
 

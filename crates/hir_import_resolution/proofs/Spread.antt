@@ -8,19 +8,21 @@ use Rattle.hir_glob_imports.specs.Waves.{brought_of, state_of}
 use Rattle.hir_glob_imports.specs.declared.step.GlobError.{GlobError}
 use Rattle.hir_glob_imports.specs.declared.edge.Slot.{Slot}
 use Rattle.hir_glob_imports.specs.declared.step.GlobError.TheVariants as glob_errors
-use Rattle.hir_import_resolution.specs.Inner.State.{AreRecorded, IsKeptIn, IsSpread, finished_by, path_slots, refusal_of, state_by}
+use Rattle.hir_import_resolution.specs.Inner.State.{AreRecorded, IsKeptIn, IsSpread, finished_by, path_slots, state_by}
+use Rattle.hir_import_rules.specs.Refusals.{refusal_of}
 use Rattle.hir_import_resolution.specs.Inner.OpenLaws.{is_open_table}
-use Rattle.hir_import_resolution.specs.Lasting.{IsPlaced, Lasts}
-use Rattle.hir_import_resolution.specs.Names.{view_of}
+use Rattle.hir_import_rules.specs.Lasting.{IsPlaced, Lasts}
+use Rattle.hir_import_rules.specs.Names.{view_of}
 use Rattle.hir_import_resolution.specs.Scopes.{open_table, value_of}
-use Rattle.hir_import_resolution.specs.Rest.{IsSpent}
-use Rattle.hir_import_resolution.specs.Rules.{Steps}
-use Rattle.hir_import_resolution.specs.declared.resolve.ImportError.TheVariants as errors
+use Rattle.hir_import_rules.specs.Rest.{IsSpent}
+use Rattle.hir_import_rules.specs.Rules.{Steps}
+use Rattle.hir_import_rules.specs.declared.error.ImportError.TheVariants as errors
 use Rattle.hir_import_resolution.specs.Types.{Resolver}
 use Rattle.hir_import_resolution.proofs.Along.{Goes, goes, shown, spent_along, spent_shown, steps_in_shown, world_stays}
-use Rattle.hir_import_resolution.proofs.Firm.{as_many}
-use Rattle.hir_import_resolution.proofs.Placed.{kind_through, lasts_changed, placed_through}
-use Rattle.hir_import_resolution.proofs.Placing.{placed_kind}
+use Rattle.hir_import_growth.proofs.Firm.{as_many}
+use Rattle.hir_import_growth.proofs.Placed.{kind_through, placed_through}
+use Rattle.hir_import_resolution.proofs.Placed.{lasts_changed}
+use Rattle.hir_import_growth.proofs.Placing.{placed_kind}
 use Rattle.hir_import_resolution.proofs.Recorded.{recorded_kept}
 
 -- the resolver once names went along globs

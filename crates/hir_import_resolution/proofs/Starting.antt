@@ -9,11 +9,12 @@ use Rattle.hir_glob_imports.specs.declared.step.TheConstants.{MAX_STEPS}
 use Rattle.hir_import_resolution.specs.Types.{ImportQueue, Imports, Resolver}
 use Rattle.hir_import_resolution.specs.Inner.Queue.{IsBegun, IsRunning, Reports}
 use Rattle.hir_import_resolution.specs.Inner.State.{IsApart, IsKeptIn, finished_by, queue_by, state_by, state_in}
-use Rattle.hir_import_resolution.specs.Names.{view_of}
-use Rattle.hir_import_resolution.specs.Rest.{IsAtRest, IsRecorded, IsSpent}
-use Rattle.hir_import_resolution.specs.Rounds.{AreQueued, IsUpToDate, Lasts, is_apart, is_lasting}
-use Rattle.hir_import_resolution.specs.Rules.{Steps}
-use Rattle.hir_import_resolution.specs.State.{ImportState, scopes_of}
+use Rattle.hir_import_rules.specs.Names.{view_of}
+use Rattle.hir_import_rules.specs.Rest.{IsAtRest, IsRecorded, IsSpent}
+use Rattle.hir_import_rules.specs.Lasting.{Lasts}
+use Rattle.hir_import_resolution.specs.Rounds.{AreQueued, IsUpToDate, is_apart, is_lasting}
+use Rattle.hir_import_rules.specs.Rules.{Steps}
+use Rattle.hir_import_rules.specs.State.{ImportState, scopes_of}
 
 pub queued_through : (f g : Maps) (queue other : ImportQueue) (s t : ImportState) → f ≡ g → queue ≡ other → s ≡ t → AreQueued f queue s → AreQueued g other t
 queued_through f g queue other s t same queued state old =

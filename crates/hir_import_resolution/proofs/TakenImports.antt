@@ -18,19 +18,20 @@ use Rattle.hir_glob_imports.proofs.OfKind.{kind_linked}
 use Rattle.hir_glob_imports.specs.Rules.{BroughtBy}
 use Rattle.hir_glob_imports.specs.Waves.{AreOfKind, GlobsValue, IsKept, Records, adds, brought_of, edge_with_vis, stays as stays_recorded, widens}
 use Rattle.hir_glob_imports.specs.declared.edge.Edge.{Edge}
-use Rattle.hir_import_resolution.specs.Changes.{bound_as, kept_vis, pushing, with_kept}
-use Rattle.hir_import_resolution.specs.Directives.{TakenValue, leaf_of, taken_after, taken_for}
+use Rattle.hir_import_rules.specs.Changes.{bound_as, kept_vis, pushing, with_kept}
+use Rattle.hir_import_rules.specs.Directives.{TakenValue, leaf_of, taken_after, taken_for}
 use Rattle.hir_import_resolution.specs.Inner.State.{ArePlacedIn, AreRecorded, IsKeptIn, IsLinked, IsTaken, IsTraitPlaced, finished_by, slots_named, state_by}
 use Rattle.hir_import_resolution.specs.Inner.State.{with_globs}
 use Rattle.hir_import_resolution.specs.Inner.Steps.{IsLinking, taking_at}
-use Rattle.hir_import_resolution.specs.Lasting.{HasVariants, IsPlaced, Lasts}
-use Rattle.hir_import_resolution.specs.Names.{trait_vis, view_of}
+use Rattle.hir_import_rules.specs.Lasting.{HasVariants, IsPlaced, Lasts}
+use Rattle.hir_import_rules.specs.Names.{trait_vis, view_of}
 use Rattle.hir_import_resolution.specs.Scopes.{value_of}
-use Rattle.hir_import_resolution.specs.Rules.{Step}
-use Rattle.hir_import_resolution.specs.State.{ImportState, ticked, with_taken}
-use Rattle.hir_import_resolution.specs.Types.{ImportSource, Resolver, Taking}
+use Rattle.hir_import_rules.specs.Rules.{Step}
+use Rattle.hir_import_rules.specs.State.{ImportState, ticked, with_taken}
+use Rattle.hir_import_resolution.specs.Types.{Resolver, Taking}
+use Rattle.hir_import_rules.specs.declared.directive.ImportSource.{ImportSource}
 use Rattle.hir_import_resolution.proofs.Due.{Due, due, linked_to, linking_steps, noted_apart, taken_to, taking_steps}
-use Rattle.hir_import_resolution.proofs.Placing.{placed_kind}
+use Rattle.hir_import_growth.proofs.Placing.{placed_kind}
 use Rattle.hir_import_resolution.proofs.Recorded.{recorded_linked, recorded_taken}
 use Rattle.hir_import_resolution.proofs.Writes.{again, stays, wider}
 

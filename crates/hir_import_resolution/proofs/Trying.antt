@@ -12,15 +12,16 @@ use Rattle.hir_worklist.proofs.Settled.{IsUnread, restated, tried_settled}
 use Rattle.hir_worklist.specs.Queue.{IsIdle, Queue}
 use Rattle.hir_worklist.specs.Settling.{WatchesEach}
 use Rattle.hir_worklist.specs.declared.watchers.Watchers.{Watchers}
-use Rattle.hir_import_resolution.specs.Types.{ImportDirective, ImportSource}
-use Rattle.hir_import_resolution.specs.declared.directive.ImportSource.TheVariants as sources
-use Rattle.hir_import_resolution.specs.Directives.{TakenValue, path_answer, reached_by, target_of}
+use Rattle.hir_import_rules.specs.declared.directive.ImportDirective.{ImportDirective}
+use Rattle.hir_import_rules.specs.declared.directive.ImportSource.{ImportSource}
+use Rattle.hir_import_rules.specs.declared.directive.ImportSource.TheVariants as sources
+use Rattle.hir_import_rules.specs.Directives.{TakenValue, path_answer, reached_by, target_of}
 use Rattle.hir_import_resolution.specs.Inner.Queue.{AreIdleSettled, IsFirmBy, IsSettledFor, IsWoken, path_reads, reads_at, reads_by, slot_cmp}
 use Rattle.hir_import_resolution.specs.Inner.State.{IsApart}
-use Rattle.hir_import_resolution.specs.Lasting.{IsThere}
-use Rattle.hir_import_resolution.specs.State.{ImportState, with_taken}
+use Rattle.hir_import_rules.specs.Lasting.{IsThere}
+use Rattle.hir_import_rules.specs.State.{ImportState, with_taken}
 use Rattle.hir_import_resolution.proofs.Settled.{IsAlike, IsUnchanged, others_settled, stays_settled, unchanged}
-use Rattle.hir_import_resolution.proofs.Waking.{woken_settled}
+use Rattle.hir_worklist.proofs.Woken.{woken_settled}
 
 -- what is to last less
 pub lowered : (lasting less apart : Bool) (finished : Maps) (s : ImportState) (now : Option ℕ) (q : Queue) (watchers : Watchers PathSlot)
@@ -106,7 +107,7 @@ woken_anew lasting true finished s t slots q r watchers after stay same idle wok
     restated slot_cmp slot_total (reads_at true finished s) (reads_at true finished t)
     (IsUnread slot_cmp slot_total (reads_at true finished s) (IsSettledFor lasting finished s) slots)
     (IsSettledFor lasting finished t) None r after
-    (woken_settled (reads_at true finished s) (IsSettledFor lasting finished s) None r after q watchers slots (woken.watching refl) idle)
+    (woken_settled slot_cmp slot_total (reads_at true finished s) (IsSettledFor lasting finished s) None r after q watchers slots (woken.watching refl) idle)
     (λ p rests other old.
     ap (reads_by finished t) (stay p rests).import ∙ same_reads p (slice_get s.imports p) refl (λ e d at. old.settled.firm e d at)
     (λ slot among. old.unread slot among))

@@ -31,10 +31,10 @@ use Rattle.hir_glob_imports.specs.declared.edge.Target.{Target}
 use Rattle.hir_glob_imports.specs.declared.edge.Key.TheVariants.{Types, Values, Macros, Unnamed}
 use Rattle.hir_glob_imports.specs.declared.edge.Target.TheVariants as targets
 use Rattle.hir_import_resolution.specs.Inner.State.{slots_named}
-use Rattle.hir_import_resolution.specs.Inner.ScopeLaws.{keeps-trait}
-use Rattle.hir_import_resolution.specs.Inner.ViewLaws.{changes_in_slot}
-use Rattle.hir_import_resolution.specs.Names.{ScopesValue, bound_of, bound_trait, copied, copied_to, copied_where, followed, followed_to, followed_where}
-use Rattle.hir_import_resolution.specs.Names.{items_by, raised, redefined, revised, trait_vis, with_trait}
+use Rattle.hir_import_rules.specs.ScopeLaws.{keeps-trait}
+use Rattle.hir_import_growth.specs.ViewLaws.{changes_in_slot}
+use Rattle.hir_import_rules.specs.Names.{ScopesValue, bound_of, bound_trait, copied, copied_to, copied_where, followed, followed_to, followed_where}
+use Rattle.hir_import_rules.specs.Names.{items_by, raised, redefined, revised, trait_vis, with_trait}
 
 -- scopes change among more slots
 pub wider : (old new : Map) (local : Local) (xs ys : List PathSlot) → ((p : PathSlot) → Contains xs p → Contains ys p) → ScopesChangeAmong old new local xs

@@ -1,6 +1,4 @@
 -- Words of private code.
-pub mod ScopeLaws
-pub mod ViewLaws
 pub mod TableLaws
 pub mod OpenLaws
 pub mod State

@@ -17,7 +17,7 @@ use Rattle.hir_glob_imports.specs.declared.edge.Key.{Key}
 use Rattle.hir_glob_imports.specs.declared.edge.Target.{Target}
 use Rattle.hir_glob_imports.specs.declared.edge.Key.TheVariants.{Types, Values, Macros, Unnamed}
 use Rattle.hir_glob_imports.specs.declared.edge.Target.TheVariants as targets
-use Rattle.hir_import_resolution.specs.Names.{ScopesValue, is_foreign, is_open, variant_items}
+use Rattle.hir_import_rules.specs.Names.{ScopesValue, is_foreign, is_open, variant_items}
 
 abbrev pub key_in : Namespace → List ℕ → Key
 key_in namespaces.Types name = Types name

@@ -2,7 +2,7 @@
 use Rattle.hir_def_map.specs.WorldParts.{part_of}
 use Rattle.hir_glob_imports.specs.View.{NameTable}
 use Rattle.hir_import_resolution.specs.declared.scopes.OpenScopes.{OpenScopes}
-use Rattle.hir_import_resolution.specs.Names.{ScopesValue, copied, followed, raised, view_of}
+use Rattle.hir_import_rules.specs.Names.{ScopesValue, copied, followed, raised, view_of}
 
 -- what they hold, with the finished maps beside them
 abbrev pub value_of : OpenScopes → ScopesValue

@@ -3,13 +3,13 @@ use Rattle.std.specs.Prelude.{◌≡◌, ℕ, ◌<◌, ◌++◌, List, Option, N
 use Rattle.hir_def_map_rules.specs.Overlay.{Maps}
 use Rattle.hir_def_map_rules.specs.State.{Local, Map}
 use Rattle.hir_scope.specs.declared.per_ns.PerNs.{PerNs}
-use Rattle.hir_import_resolution.specs.declared.directive.ImportDirective.{ImportDirective}
-use Rattle.hir_import_resolution.specs.Changes.{act, pushes}
-use Rattle.hir_import_resolution.specs.Directives.{not_taken}
-use Rattle.hir_import_resolution.specs.Rest.{IsSound}
-use Rattle.hir_import_resolution.specs.Rounds.{GrowsAround}
-use Rattle.hir_import_resolution.specs.Rules.{Step}
-use Rattle.hir_import_resolution.specs.State.{ImportState}
+use Rattle.hir_import_rules.specs.declared.directive.ImportDirective.{ImportDirective}
+use Rattle.hir_import_rules.specs.Changes.{act, pushes}
+use Rattle.hir_import_rules.specs.Directives.{not_taken}
+use Rattle.hir_import_rules.specs.Rest.{IsSound}
+use Rattle.hir_import_growth.specs.Growth.{GrowsAround}
+use Rattle.hir_import_rules.specs.Rules.{Step}
+use Rattle.hir_import_rules.specs.State.{ImportState}
 
 -- a step, where the modules of the imports are there
 abbrev pub StepsKeepSound : Type 0

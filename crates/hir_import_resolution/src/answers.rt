@@ -1,8 +1,8 @@
 //! What the paths of imports reach, and what imports offer of it.
 ghost use Rattle.std.specs.Prelude.{◌≡◌, option_map};
 ghost use Rattle.hir_def_map.specs.WorldParts.{part_of};
-ghost use Rattle.hir_import_resolution.specs.Directives.{answer_in, answer_of_crate, brought, brought_type, enum_by, imported, is_of_extern_crate, kept_by_kind, kept_of, open_items, target_among, target_at, target_by, trait_among};
-ghost use Rattle.hir_import_resolution.specs.Visibilities.{is_public, lesser_in, visibility_in};
+ghost use Rattle.hir_import_rules.specs.Directives.{answer_in, answer_of_crate, brought, brought_type, imported, is_of_extern_crate, kept_by_kind, kept_of, open_items, target_among, target_at, trait_among};
+ghost use Rattle.hir_import_rules.specs.Visibilities.{is_public};
 
 use hir_base::ids::{AdtId, Crate, MapId, ModuleDefId, ModuleId, TraitId};
 use hir_base::mod_path::ModPath;
@@ -16,42 +16,14 @@ use hir_def_map::nameres::path_resolution::{
 };
 use hir_def_map::world::part::WorldPart;
 use hir_glob_imports::Target;
-use hir_item_tree::raw_visibility::RawVisibility;
+pub use hir_import_growth::visibilities::{lesser, visibility};
 use hir_item_tree::shape::ImportKind;
 use hir_scope::imports::ImportOrExternCrate;
 use hir_scope::per_ns::{Item, PerNs, TypesItem};
 use hir_scope::visibility::Visibility;
 
-/// What a visibility means that is written in a module of the map; one whose path leads to no module counts as public.
-#[tactic(auto, unfolding(crate::specs::Visibilities::visibility_in, hir_def_map::specs::DefMaps::maps_of))]
-pub fn visibility(
-    map: &DefMap,
-    local: &LocalDefMap,
-    world: WorldPart<'_>,
-    at: ModuleId,
-    raw: &RawVisibility,
-) -> Visibility
-    ensures value { result ≡ visibility_in (part_of world.entry) local.now map.now at raw.now }
-{
-    DefMaps::new(world, map).visibility_from_ast(Some(local), at, raw)
-}
-
-/// The lesser of two visibilities in the map beside finished ones, if they aren't unrelated.
-#[tactic(auto, unfolding(crate::specs::Visibilities::lesser_in, hir_def_map::specs::DefMaps::maps_of))]
-pub fn lesser(
-    map: &DefMap,
-    world: WorldPart<'_>,
-    one: Visibility,
-    other: Visibility,
-) -> Option<Visibility>
-    ensures value { result ≡ lesser_in (part_of world.entry) map.now one other }
-{
-    let maps = DefMaps::new(world, map);
-    one.min(&maps, other, map.id())
-}
-
 /// What a path means that a module's import names.
-#[tactic(auto, unfolding(crate::specs::Directives::answer_in))]
+#[tactic(auto, unfolding(hir_import_rules::specs::Directives::answer_in))]
 pub fn answer(
     map: &DefMap,
     local: &LocalDefMap,

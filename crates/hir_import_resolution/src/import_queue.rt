@@ -2,10 +2,10 @@
 ghost use Rattle.std.specs.Prelude.{◌≡◌, ◌≤◌, false, OnOk};
 ghost use Rattle.hir_worklist.specs.Moves.{empty_queue};
 ghost use Rattle.hir_worklist.specs.Queue.{count_of};
-ghost use Rattle.hir_import_resolution.specs.Inner.Queue.{IsLonger, IsSamePass, IsWoken, WakesEach};
+ghost use Rattle.hir_worklist.specs.Waking.{IsLonger};
+ghost use Rattle.hir_import_resolution.specs.Inner.Queue.{IsWoken};
 ghost use Rattle.hir_import_resolution.specs.Rounds.{is_lasting};
 
-use crate::resolver::watch::wake_everything;
 use hir_def_map::nameres::path_resolution::slots::Slot;
 use hir_worklist::{Watchers, Worklist};
 use std::alloc::{AllocError, Global};
@@ -21,32 +21,6 @@ pub struct ImportQueue {
     pub(crate) worklist: Worklist,
     /// The imports by the slots that their last tries read.
     pub(crate) watchers: Watchers<Slot>,
-}
-
-/// Appends things until there are so many.
-fn append_to(worklist: &mut Worklist, count: usize) -> Result<(), AllocError>
-    ensures longer { OnOk result (IsLonger worklist.old worklist.new) }
-    ensures count { OnOk result (count_of worklist.old ≤ count → count_of worklist.new ≡ count) }
-{
-    'things: while worklist.len() < count {
-        worklist.push()?;
-    }
-    Ok(())
-}
-
-/// Queues what watches slots.
-fn wake_slots(
-    watchers: &mut Watchers<Slot>,
-    worklist: &mut Worklist,
-    slots: &[Slot],
-) -> Result<(), AllocError>
-    ensures woken { OnOk result (WakesEach worklist.new watchers.new worklist.old watchers.old slots.now) }
-    ensures pass { OnOk result (IsSamePass worklist.old worklist.new) }
-{
-    for slot in slots {
-        watchers.wake_all(slot, worklist)?;
-    }
-    Ok(())
 }
 
 impl ImportQueue {
@@ -88,7 +62,7 @@ impl ImportQueue {
         ensures count { OnOk result (count_of self.old.worklist ≤ count → count_of self.new.worklist ≡ count) }
         ensures rest { self.new ≡ record self.old { worklist = self.new.worklist } }
     {
-        append_to(&mut self.worklist, count)
+        self.worklist.append_to(count)
     }
 
     /// Queues the imports that read one of the slots; all where they watch nothing.
@@ -98,9 +72,9 @@ impl ImportQueue {
         ensures lasting { self.new.lasting ≡ self.old.lasting }
     {
         if self.apart {
-            wake_slots(&mut self.watchers, &mut self.worklist, slots)
+            self.watchers.wake_each(slots, &mut self.worklist)
         } else {
-            wake_everything(&mut self.worklist)
+            self.worklist.wake_all()
         }
     }
 }

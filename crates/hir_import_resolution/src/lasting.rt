@@ -13,9 +13,9 @@ ghost use Rattle.hir_glob_imports.specs.declared.edge.Edge.{Edge};
 ghost use Rattle.hir_glob_imports.specs.Waves.{brought_of};
 ghost use Rattle.hir_glob_imports.specs.declared.edge.Slot.{Slot as GlobSlot};
 ghost use Rattle.hir_import_resolution.specs.Inner.State.{IsApart, state_in};
-ghost use Rattle.hir_import_resolution.specs.Inner.ViewLaws.{bound_inside};
-ghost use Rattle.hir_import_resolution.specs.Lasting.{HasVariants, IsPlaced, IsThere, Lasts};
-ghost use Rattle.hir_import_resolution.specs.Names.{trait_vis};
+ghost use Rattle.hir_import_growth.specs.ViewLaws.{bound_inside};
+ghost use Rattle.hir_import_rules.specs.Lasting.{HasVariants, IsPlaced, IsThere, Lasts};
+ghost use Rattle.hir_import_rules.specs.Names.{trait_vis};
 
 use crate::imports::Imports;
 use crate::scopes::{bound_inside, trait_vis};

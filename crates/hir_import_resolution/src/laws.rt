@@ -1,5 +1,6 @@
 //! What happens between two rounds. The functions do nothing: their contracts are the laws.
-ghost use Rattle.hir_import_resolution.specs.Rounds.{EnumsGrowAround, GrowthKeepsGlobs, ListsGrowAround, MacroUsesGrowAround, ModulesGrowAround, PushesBind, PushesKeepGlobs, RestingGlobsLast, ScopesGrowAround};
+ghost use Rattle.hir_import_growth.specs.Growth.{EnumsGrowAround, GrowthKeepsGlobs, ListsGrowAround, MacroUsesGrowAround, ModulesGrowAround, PushesBind, PushesKeepGlobs, ScopesGrowAround};
+ghost use Rattle.hir_import_resolution.specs.Rounds.{RestingGlobsLast};
 ghost use Rattle.hir_import_resolution.specs.Sound.{GrowthKeepsSound, LocalKeepsSound, PushesKeepSound, ReachedImportsKeepSound, StepsKeepSound};
 
 /// What is known of globs when imports rest stays true while their map grows: modules and enums may come, and names may be

@@ -1,50 +1,18 @@
 //! Imports until no more comes of them.
 ghost use Rattle.std.specs.Prelude.{◌≡◌, ◌≤◌, ◌<◌, ℕ, true, IfOk, Some, length, slice_get};
-ghost use Rattle.hir_import_resolution.specs.declared.directive.ImportDirective.{ImportDirective};
+ghost use Rattle.hir_import_rules.specs.declared.directive.ImportDirective.{ImportDirective};
 ghost use Rattle.hir_def_map_rules.specs.State.{IsInOrder};
 ghost use Rattle.hir_def_map.specs.WorldParts.{part_of};
-ghost use Rattle.hir_import_resolution.specs.Rest.{IsAtRest, IsSound, IsSpent};
-ghost use Rattle.hir_import_resolution.specs.Rules.{Steps};
+ghost use Rattle.hir_import_rules.specs.Rest.{IsAtRest, IsSound, IsSpent};
+ghost use Rattle.hir_import_rules.specs.Rules.{Steps};
 ghost use Rattle.hir_import_resolution.specs.Inner.State.{IsApart, state_in};
 
 use crate::imports::Imports;
 use crate::rounds::begin_imports;
 use hir_def_map::world::part::WorldPart;
-use hir_glob_imports::{GlobError, MAX_STEPS};
-use std::alloc::{AllocError, Global};
-
-/// Why imports were given up.
-#[derive(Clone, Copy, Debug, PartialEq, Eq)]
-pub enum ImportError {
-    /// As many steps as are counted, and another was wanted.
-    TooMany,
-    Memory,
-}
-
-impl From<AllocError> for ImportError {
-    ghost use Rattle.std.specs.Prelude.{◌≡◌};
-    ghost use Rattle.hir_import_resolution.specs.declared.resolve.ImportError.TheVariants as Errors;
-
-    ghost from_gives = { λ _ e. e ≡ Errors.Memory };
-
-    fn from(_error: AllocError) -> ImportError {
-        ImportError::Memory
-    }
-}
-
-impl From<GlobError> for ImportError {
-    ghost use Rattle.std.specs.Prelude.{◌≡◌};
-    ghost use Rattle.hir_import_resolution.specs.Inner.State.{refusal_of};
-
-    ghost from_gives = { λ x e. e ≡ refusal_of x };
-
-    fn from(error: GlobError) -> ImportError {
-        match error {
-            GlobError::TooMany => ImportError::TooMany,
-            GlobError::Memory => ImportError::Memory,
-        }
-    }
-}
+use hir_glob_imports::MAX_STEPS;
+use hir_import_rules::error::ImportError;
+use std::alloc::Global;
 
 /// Takes imports, in the order in which they were found, until no more comes of them.
 ///

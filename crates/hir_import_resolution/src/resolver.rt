@@ -14,16 +14,16 @@ mod settle;
 mod steps;
 pub(crate) mod watch;
 
-use crate::directive::ImportDirective;
 use crate::import_queue::ImportQueue;
 use crate::imports::Imports;
 use crate::rounds::Resting;
 use crate::scopes::OpenScopes;
-use crate::taken::Taken;
 use hir_def_map::nameres::local_def_map::LocalDefMap;
 use hir_def_map::nameres::path_resolution::slots::Slot;
 use hir_def_map::world::part::WorldPart;
 use hir_glob_imports::GlobImports;
+use hir_import_rules::directive::ImportDirective;
+use hir_import_rules::taken::Taken;
 use hir_worklist::{Watchers, Worklist};
 use std::alloc::Global;
 

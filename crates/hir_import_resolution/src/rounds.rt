@@ -3,22 +3,23 @@ ghost use Rattle.std.specs.Prelude.{◌≡◌, ◌≤◌, ◌<◌, ℕ, [], true
 ghost use Rattle.hir_def_map_rules.specs.State.{IsInOrder};
 ghost use Rattle.hir_def_map.specs.WorldParts.{part_of};
 ghost use Rattle.hir_def_map_laws.specs.SlotChanges.{ScopesChangeAmong};
-ghost use Rattle.hir_import_resolution.specs.declared.directive.ImportDirective.{ImportDirective};
+ghost use Rattle.hir_import_rules.specs.declared.directive.ImportDirective.{ImportDirective};
 ghost use Rattle.hir_import_resolution.specs.Inner.Queue.{IsBegun};
 ghost use Rattle.hir_import_resolution.specs.Inner.State.{IsApart, finished_by, state_by, state_in};
-ghost use Rattle.hir_import_resolution.specs.Lasting.{Lasts};
-ghost use Rattle.hir_import_resolution.specs.Rest.{IsAtRest, IsSound, IsSpent};
-ghost use Rattle.hir_import_resolution.specs.Rounds.{AreQueued, GlobsLast, IsResumable, IsUpToDate, is_apart, is_lasting};
-ghost use Rattle.hir_import_resolution.specs.Rules.{Steps};
+ghost use Rattle.hir_import_rules.specs.Lasting.{Lasts};
+ghost use Rattle.hir_import_rules.specs.Rest.{IsAtRest, IsSound, IsSpent};
+ghost use Rattle.hir_import_resolution.specs.Rounds.{AreQueued, IsResumable, IsUpToDate, is_apart, is_lasting};
+ghost use Rattle.hir_import_growth.specs.Growth.{GlobsLast};
+ghost use Rattle.hir_import_rules.specs.Rules.{Steps};
 
 use crate::import_queue::ImportQueue;
 use crate::imports::Imports;
 use crate::lasting::do_globs_last;
-use crate::resolve::ImportError;
 use crate::resolver::Resolver;
 use hir_def_map::nameres::path_resolution::slots::Slot;
 use hir_def_map::world::part::WorldPart;
 use hir_glob_imports::MAX_STEPS;
+use hir_import_rules::error::ImportError;
 use std::alloc::{AllocError, Global};
 
 /// Imports that rest.

@@ -2,8 +2,8 @@
 use Rattle.std.specs.Prelude.{◌≡◌, ℕ, suc, ◌+◌, ◌<◌, max, Bool, false, ◌||◌, nat_lt, length, Option, Some, None}
 use Rattle.std.specs.List.{list_any}
 use Rattle.hir_base.specs.ModPath.{Path}
-use Rattle.hir_item_tree.specs.declared.raw_visibility.RawVisibility.{RawVisibility}
-use Rattle.hir_item_tree.specs.declared.raw_visibility.RawVisibility.TheVariants as raw
+use Rattle.hir_raw_visibility.specs.declared.raw_visibility.RawVisibility.{RawVisibility}
+use Rattle.hir_raw_visibility.specs.declared.raw_visibility.RawVisibility.TheVariants as raw
 use Rattle.hir_item_tree.specs.declared.check.NodeId.{NodeId}
 use Rattle.hir_base.specs.Cfg.{Cfg, invalid, constant as constant_cfg, atom, all, any, unless, Cfgs, no_cfgs, cfg as next_cfg}
 use Rattle.hir_item_tree.specs.Attributes.{Tokens, paths, tokens, derive, Input, literal, parentheses, Attribute, meta, cfg, cfg_attr, Attributes}

@@ -5,8 +5,8 @@ use Rattle.hir_base.specs.Display.{shown, path_shown}
 use Rattle.hir_base.specs.ModPath.{Path}
 use Rattle.hir_base.specs.declared.edition.Edition.{Edition}
 use Rattle.hir_base.specs.declared.ast_id.SyntaxId.{SyntaxId}
-use Rattle.hir_item_tree.specs.declared.raw_visibility.RawVisibility.{RawVisibility}
-use Rattle.hir_item_tree.specs.declared.raw_visibility.RawVisibility.TheVariants as raw
+use Rattle.hir_raw_visibility.specs.declared.raw_visibility.RawVisibility.{RawVisibility}
+use Rattle.hir_raw_visibility.specs.declared.raw_visibility.RawVisibility.TheVariants as raw
 use Rattle.hir_use_tree.specs.declared.imports.ImportAlias.{ImportAlias}
 use Rattle.hir_use_tree.specs.declared.imports.ImportAlias.TheVariants as aliases
 use Rattle.hir_item_tree.specs.declared.shape.ExternCrateName.{ExternCrateName}

@@ -33,11 +33,20 @@ use std::marker::Model;
 use std::ops::Index;
 
 /// What is kept of a source: its items, without bodies, and the attributes at its top.
-#[derive(Drop)]
 pub struct ItemTree {
     attrs: AttrsOrCfg,
     top: Vec<ModItemId>,
     rows: Vec<Row>,
+}
+
+impl Drop for ItemTree {
+    fn drop(self) {
+        let ItemTree {
+            attrs: _,
+            top: _,
+            rows: _,
+        } = self;
+    }
 }
 
 impl Model for ItemTree {

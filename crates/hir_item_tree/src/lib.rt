@@ -1,6 +1,7 @@
 //! Handed-in syntax, and the tree of items that is kept of it, after rust-analyzer's `item_tree`.
 #![tactic(auto)]
 
+pub use hir_raw_visibility::raw_visibility;
 pub use hir_use_tree::{imports as expand, joined_path, lower as lower_use_tree, use_tree};
 
 pub mod attr_query;
@@ -16,7 +17,6 @@ pub mod pretty;
 pub mod put_attrs;
 pub mod put_words;
 pub mod raw_attr;
-pub mod raw_visibility;
 pub mod rows;
 pub mod same;
 pub mod same_attrs;

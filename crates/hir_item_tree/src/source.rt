@@ -3,8 +3,8 @@
 //! A node's kind has the name and the parts that the item has in the text. What another crate has to
 //! read, or nobody reads, as a body, is opaque text.
 ghost use Rattle.std.specs.Prelude.{◌≡◌, [], string_bytes};
-ghost use Rattle.hir_item_tree.specs.declared.raw_visibility.RawVisibility.TheVariants as RawVisibility;
-ghost use Rattle.hir_item_tree.specs.declared.raw_visibility.VisibilityExplicitness.TheVariants.{Implicit};
+ghost use Rattle.hir_raw_visibility.specs.declared.raw_visibility.RawVisibility.TheVariants as RawVisibility;
+ghost use Rattle.hir_raw_visibility.specs.declared.raw_visibility.VisibilityExplicitness.TheVariants.{Implicit};
 
 use crate::raw_attr::RawAttr;
 use crate::raw_visibility::{RawVisibility, VisibilityExplicitness};

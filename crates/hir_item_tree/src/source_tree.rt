@@ -21,7 +21,6 @@ use std::collections::BTreeMap;
 use std::marker::Model;
 
 /// What a source has under the options of a crate, behind the attributes of the crate where it is the crate's root.
-#[derive(Drop)]
 pub struct SourceTree {
     present: bool,
     tree: ItemTree,
@@ -29,6 +28,17 @@ pub struct SourceTree {
     sides: Vec<SideEntry>,
     /// Where the first entry of each node stands.
     places: BTreeMap<NodeId, usize>,
+}
+
+impl Drop for SourceTree {
+    fn drop(self) {
+        let SourceTree {
+            present: _,
+            tree: _,
+            sides: _,
+            places: _,
+        } = self;
+    }
 }
 
 impl Model for SourceTree {

@@ -1,4 +1,4 @@
-use crate::units::source_of;
+use crate::units::{holds, is_text, source_of};
 use hir_base::ast_id::AttrId;
 use hir_base::cfg::CfgAtom;
 use hir_base::cfg_options::CfgOptions;
@@ -7,8 +7,9 @@ use hir_item_tree::attr_query::{AttrQuery, Attrs};
 use hir_item_tree::attrs::{AttrsOrCfg, collected};
 use hir_item_tree::raw_attr::{RawAttr, TokenTree};
 use hir_item_tree::source::Source;
-use std::alloc::Global;
+use std::alloc::{AllocError, Global};
 use std::fmt::Write;
+use std::process::Abort;
 use std::test::Fail;
 
 /// These attributes, as they stand at the top of a unit.
@@ -29,7 +30,7 @@ fn with_x(alloc: Global) -> Result<CfgOptions, Fail> {
 }
 
 /// Adds the number and path of each attribute.
-pub fn put_numbers(text: &mut String, attrs: &AttrsOrCfg) -> Result<(), Fail> {
+pub fn put_numbers(text: &mut String, attrs: &AttrsOrCfg) -> Result<(), AllocError> {
     for attr in attrs.attrs().iter() {
         let id = attr.id.0;
         let path = attr.meta.path.display_verbatim();
@@ -55,18 +56,18 @@ fn left(alloc: Global, attrs: &str, x: bool) -> Result<AttrsOrCfg, Fail> {
 }
 
 /// The numbers and paths of what is kept, and whether a condition doesn't hold.
-fn shown(alloc: Global, attrs: &AttrsOrCfg) -> Result<String, Fail> {
+fn shown(alloc: Global, attrs: &AttrsOrCfg) -> Result<String, AllocError> {
     let mut text = String::new(alloc);
     put_numbers(&mut text, attrs)?;
     if !attrs.is_enabled() {
-        write!(text, "disabled")?;
+        text.push_str("disabled")?;
     }
     Ok(text)
 }
 
 fn shown_left(alloc: Global, attrs: &str, x: bool) -> Result<String, Fail> {
     let left = left(alloc, attrs, x)?;
-    shown(alloc, &left)
+    Ok(shown(alloc, &left)?)
 }
 
 /// Whether what is left without `x` is the same as its copy.
@@ -104,17 +105,21 @@ const ATTRS: &[(&str, &str, &str, &str)] = &[
     ),
 ];
 
+fn are_left(rt: &impl Abort, alloc: Global, rows: &[(&str, &str, &str, &str)]) -> Result<(), Fail> {
+    for &(row, attrs, expected, expected_with) in rows {
+        let text = shown_left(alloc, attrs, false)?;
+        is_text(rt, row, text.as_str(), expected);
+        let text = shown_left(alloc, attrs, true)?;
+        is_text(rt, row, text.as_str(), expected_with);
+        holds(rt, row, same_again(alloc, attrs)?);
+    }
+    Ok(())
+}
+
 /// What is left of attributes, without and with the option `x`.
 #[test]
 fn attrs(rt: HostRuntime) -> Result<(), Fail> {
-    for &(row, attrs, expected, expected_with) in ATTRS {
-        for (x, expected) in [(false, expected), (true, expected_with)] {
-            let text = shown_left(rt.alloc(), attrs, x)?;
-            assert_eq!(rt; text.as_str(), expected, "{row}, with x: {x}");
-        }
-        assert!(rt; same_again(rt.alloc(), attrs)?, "{row}, again");
-    }
-    Ok(())
+    are_left(&rt, rt.alloc(), ATTRS)
 }
 
 /// What is left of the first, merged with what is left of the second.
@@ -126,27 +131,25 @@ fn merged(alloc: Global, first: &str, second: &str) -> Result<AttrsOrCfg, Fail> 
 
 fn shown_merged(alloc: Global, first: &str, second: &str) -> Result<String, Fail> {
     let merged = merged(alloc, first, second)?;
-    shown(alloc, &merged)
+    Ok(shown(alloc, &merged)?)
 }
+
+const ONE: &str = r#"[{"path":"a"}]"#;
+
+const OTHER: &str = r#"[{"path":"b"},{"path":"cfg","cfg":false}]"#;
 
 /// Of two lists the first goes in front, unless it is disabled.
 #[test]
 fn merging(rt: HostRuntime) -> Result<(), Fail> {
-    let one = r#"[{"path":"a"}]"#;
-    let other = r#"[{"path":"b"},{"path":"cfg","cfg":false}]"#;
-    let rows = [
-        ("enabled first", one, other, "0 a; 0 b; disabled"),
-        ("disabled first", other, one, "0 b; disabled"),
-    ];
-    for (row, first, second, expected) in rows {
-        let text = shown_merged(rt.alloc(), first, second)?;
-        assert_eq!(rt; text.as_str(), expected, "{row}");
-    }
+    let text = shown_merged(rt.alloc(), ONE, OTHER)?;
+    is_text(&rt, "enabled first", text.as_str(), "0 a; 0 b; disabled");
+    let text = shown_merged(rt.alloc(), OTHER, ONE)?;
+    is_text(&rt, "disabled first", text.as_str(), "0 b; disabled");
     Ok(())
 }
 
 /// The numbers of the attributes of a key, and the tokens that they have in parentheses.
-fn keyed(alloc: Global, query: AttrQuery<'_>) -> Result<String, Fail> {
+fn keyed(alloc: Global, query: AttrQuery<'_>) -> Result<String, AllocError> {
     let mut text = String::new(alloc);
     for attr in query.attrs() {
         let id = attr.id.0;
@@ -166,7 +169,7 @@ const ASKED: &str =
 
 fn keyed_left(alloc: Global, key: &str) -> Result<String, Fail> {
     let left = left(alloc, ASKED, false)?;
-    keyed(alloc, left.attrs().by_key(key))
+    Ok(keyed(alloc, left.attrs().by_key(key))?)
 }
 
 fn exists(alloc: Global, key: &str) -> Result<bool, Fail> {
@@ -183,13 +186,16 @@ fn has_value(alloc: Global, key: &str, value: Option<&str>) -> Result<bool, Fail
 #[test]
 fn queries(rt: HostRuntime) -> Result<(), Fail> {
     let text = keyed_left(rt.alloc(), "path")?;
-    assert_eq!(rt; text.as_str(), "0 2 3 4 (1, 2)");
-    for (key, expected) in [("path", true), ("clippy", false)] {
-        assert_eq!(rt; exists(rt.alloc(), key)?, expected, "{key}");
-    }
-    for (key, value) in [("path", Some("x.rs")), ("inline", None)] {
-        assert!(rt; has_value(rt.alloc(), key, value)?, "{key}");
-    }
+    is_text(&rt, "path", text.as_str(), "0 2 3 4 (1, 2)");
+    holds(&rt, "path is there", exists(rt.alloc(), "path")?);
+    holds(&rt, "clippy isn't", !exists(rt.alloc(), "clippy")?);
+    let has_first = has_value(rt.alloc(), "path", Some("x.rs"))?;
+    holds(&rt, "path has a value", has_first);
+    holds(
+        &rt,
+        "inline has none",
+        has_value(rt.alloc(), "inline", None)?,
+    );
     Ok(())
 }
 
@@ -206,13 +212,9 @@ fn count_after(alloc: Global, after: Option<AttrId>) -> Result<Option<usize>, Fa
 /// Questions by number.
 #[test]
 fn numbers(rt: HostRuntime) -> Result<(), Fail> {
-    for (after, expected) in [
-        (None, Some(5)),
-        (Some(AttrId(2)), Some(2)),
-        (Some(AttrId(5)), None),
-    ] {
-        assert_eq!(rt; count_after(rt.alloc(), after)?, expected);
-    }
-    assert_eq!(rt; Attrs::empty().as_slice().len(), 0);
+    assert!(rt; count_after(rt.alloc(), None)? == Some(5));
+    assert!(rt; count_after(rt.alloc(), Some(AttrId(2)))? == Some(2));
+    assert!(rt; count_after(rt.alloc(), Some(AttrId(5)))?.is_none());
+    assert!(rt; Attrs::empty().as_slice().len() == 0);
     Ok(())
 }

@@ -5,7 +5,7 @@ ghost use Rattle.hir_item_tree.specs.Attributes.{attributes_view};
 ghost use Rattle.hir_item_tree.specs.Source.{source_view};
 
 use crate::attributes::{attributes, options, put_numbers};
-use crate::units::source_of;
+use crate::units::{is_text, source_of};
 use hir_base::ast_id::{EditionedFileId, FileId, HirFileId};
 use hir_base::cfg_options::CfgOptions;
 use hir_base::edition::Edition;
@@ -14,7 +14,8 @@ use hir_item_tree::item_tree::{ItemTree, file_item_tree};
 use hir_item_tree::raw_attr::RawAttr;
 use hir_item_tree::source::Source;
 use hir_item_tree::sources::Sources;
-use std::alloc::Global;
+use std::alloc::{AllocError, Global};
+use std::process::Abort;
 use std::test::Fail;
 
 /// A file, if it is there, that is the root of each crate, their attributes and their options.
@@ -50,27 +51,38 @@ const FILE: HirFileId = HirFileId::File(EditionedFileId {
     edition: Edition::Edition2021,
 });
 
-fn tree_under(alloc: Global, sources: &OneFile) -> Result<ItemTree, Fail> {
-    Ok(file_item_tree(alloc, sources, FILE, Crate(0))?)
+fn tree_under(alloc: Global, sources: OneFile) -> Result<ItemTree, Fail> {
+    Ok(file_item_tree(alloc, &sources, FILE, Crate(0))?)
 }
 
-/// The tree of a unit under a crate with these attributes, without or with the option `x`.
+/// The tree of a unit, or of what is absent, under a crate with these attributes, without or with the option `x`.
+fn tree_of(alloc: Global, front: &str, unit: Option<&str>, x: bool) -> Result<ItemTree, Fail> {
+    let front = attributes(alloc, front)?;
+    let options = options(alloc, x)?;
+    let source = source_or_none(alloc, unit)?;
+    tree_under(
+        alloc,
+        OneFile {
+            source,
+            front,
+            options,
+        },
+    )
+}
+
+fn source_or_none(alloc: Global, unit: Option<&str>) -> Result<Option<Source>, Fail> {
+    match unit {
+        Some(unit) => Ok(Some(source_of(alloc, unit)?)),
+        None => Ok(None),
+    }
+}
+
 fn tree_of_unit(alloc: Global, front: &str, unit: &str, x: bool) -> Result<ItemTree, Fail> {
-    let sources = OneFile {
-        source: Some(source_of(alloc, unit)?),
-        front: attributes(alloc, front)?,
-        options: options(alloc, x)?,
-    };
-    tree_under(alloc, &sources)
+    tree_of(alloc, front, Some(unit), x)
 }
 
 fn absent_tree(alloc: Global, front: &str) -> Result<ItemTree, Fail> {
-    let sources = OneFile {
-        source: None,
-        front: attributes(alloc, front)?,
-        options: options(alloc, false)?,
-    };
-    tree_under(alloc, &sources)
+    tree_of(alloc, front, None, false)
 }
 
 /// `mod inline { use super::*; fn fn_in_module() {} } mod outline;`
@@ -103,15 +115,22 @@ fn page_of_unit(alloc: Global, front: &str, unit: &str) -> Result<String, Fail> 
     Ok(tree.pretty_print(Edition::Edition2021)?)
 }
 
+fn have_pages(
+    rt: &impl Abort,
+    alloc: Global,
+    rows: &[(&str, &str, &str, &str)],
+) -> Result<(), Fail> {
+    for &(label, front, unit, page) in rows {
+        let text = page_of_unit(alloc, front, unit)?;
+        is_text(rt, label, text.as_str(), page);
+    }
+    Ok(())
+}
+
 /// What is handed in is read under the crate's options, behind its attributes.
 #[test]
 fn pages_of_files(rt: HostRuntime) -> Result<(), Fail> {
-    let alloc = rt.alloc();
-    for (label, front, unit, page) in PAGES {
-        let text = page_of_unit(alloc, front, unit)?;
-        assert_eq!(rt; text.as_str(), page, "{label}");
-    }
-    Ok(())
+    have_pages(&rt, rt.alloc(), &PAGES)
 }
 
 /// What is absent has no items.
@@ -126,7 +145,7 @@ fn tree_of_what_is_absent(rt: HostRuntime) -> Result<(), Fail> {
 #[test]
 fn tree_of_an_absent_root(rt: HostRuntime) -> Result<(), Fail> {
     let tree = absent_tree(rt.alloc(), NO_STD)?;
-    assert_eq!(rt; tree.top_level_items().len(), 0);
+    assert!(rt; tree.top_level_items().len() == 0);
     assert!(rt; tree.top_level_attrs().attrs().by_key("no_std").exists());
     Ok(())
 }
@@ -142,9 +161,8 @@ fn is_enabled(alloc: Global, unit: &str, x: bool) -> Result<bool, Fail> {
 /// A condition at its top disables a file.
 #[test]
 fn attributes_at_the_top(rt: HostRuntime) -> Result<(), Fail> {
-    for x in [false, true] {
-        assert_eq!(rt; is_enabled(rt.alloc(), WITH_X, x)?, x);
-    }
+    assert!(rt; !is_enabled(rt.alloc(), WITH_X, false)?);
+    assert!(rt; is_enabled(rt.alloc(), WITH_X, true)?);
     Ok(())
 }
 
@@ -169,10 +187,11 @@ const ATTRIBUTES: &str = r#"{"nodes":[{"kind":"Fn","id":[1,0],"name":"f","attrs"
     {"path":"must_use"}]}]}"#;
 
 /// Adds the numbers and paths of the attributes of the first item.
-fn put_first(text: &mut String, tree: &ItemTree) -> Result<(), Fail> {
-    let first = tree.top_level_items().first().copied().ok_or("an item")?;
-    if tree.contains(first) {
-        put_numbers(text, tree.attrs(first))?;
+fn put_first(text: &mut String, tree: &ItemTree) -> Result<(), AllocError> {
+    if let [first, ..] = tree.top_level_items() {
+        if tree.contains(*first) {
+            put_numbers(text, tree.attrs(*first))?;
+        }
     }
     Ok(())
 }
@@ -187,13 +206,10 @@ fn numbers_of_first(alloc: Global, unit: &str, x: bool) -> Result<String, Fail> 
 /// The attributes of an item by their numbers, without and with the option `x`.
 #[test]
 fn attributes_of_an_item(rt: HostRuntime) -> Result<(), Fail> {
-    let alloc = rt.alloc();
-    for (x, numbers) in [
-        (false, "3 must_use; "),
-        (true, "1 inline; 2 cold; 3 must_use; "),
-    ] {
-        let text = numbers_of_first(alloc, ATTRIBUTES, x)?;
-        assert_eq!(rt; text.as_str(), numbers, "with x: {x}");
-    }
+    let text = numbers_of_first(rt.alloc(), ATTRIBUTES, false)?;
+    is_text(&rt, "without x", text.as_str(), "3 must_use; ");
+    let text = numbers_of_first(rt.alloc(), ATTRIBUTES, true)?;
+    let numbers = "1 inline; 2 cold; 3 must_use; ";
+    is_text(&rt, "with x", text.as_str(), numbers);
     Ok(())
 }

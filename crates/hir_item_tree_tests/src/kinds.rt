@@ -1,9 +1,8 @@
 //! Each kind of item as a tree lends it.
 
-use crate::units::tree_of;
+use crate::units::{is_text, tree_of};
 use hir_base::edition::Edition;
 use hir_base::macro_kind::{MacroCallStyles, MacroExpander};
-use hir_base::mod_path::ModPath;
 use hir_base::name::Name;
 use hir_item_tree::item_tree::ItemTree;
 use hir_item_tree::item_tree_node::ItemTreeNode;
@@ -11,7 +10,8 @@ use hir_item_tree::kinds::{
     ExternBlock, ExternCrate, MacroCall, MacroRules, Mod, ModItemKind, ModKind, Struct,
 };
 use hir_item_tree::shape::{ExternCrateName, FieldsShape, ImportAlias};
-use std::alloc::Global;
+use std::alloc::{AllocError, Global};
+use std::process::Abort;
 use std::test::Fail;
 
 /// An item of each kind.
@@ -57,7 +57,7 @@ fn kind_and_name(kind: ModItemKind<'_>) -> (&'static str, Option<&Name>) {
 }
 
 /// The items at the top of a tree, one after another.
-fn kinds(alloc: Global, tree: &ItemTree) -> Result<String, Fail> {
+fn kinds(alloc: Global, tree: &ItemTree) -> Result<String, AllocError> {
     let mut text = String::new(alloc);
     for id in tree.top_level_items() {
         if tree.contains(*id) {
@@ -73,13 +73,13 @@ fn kinds(alloc: Global, tree: &ItemTree) -> Result<String, Fail> {
     Ok(text)
 }
 
-#[test]
-fn items_of_each_kind(rt: HostRuntime) -> Result<(), Fail> {
-    let tree = tree_of(rt.alloc(), ITEMS)?;
-    let text = kinds(rt.alloc(), &tree)?;
-    assert_eq!(rt;
+fn has_each_kind(rt: &impl Abort, alloc: Global, tree: &ItemTree) -> Result<(), AllocError> {
+    let text = kinds(alloc, tree)?;
+    is_text(
+        rt,
+        "each kind",
         text.as_str(),
-        "Use; ExternCrate; ExternBlock; Function f; Struct S; Union U; Enum E; Const; Static X; Trait T; Impl; TypeAlias A; Mod m; MacroCall; MacroRules r; Macro2 d; "
+        "Use; ExternCrate; ExternBlock; Function f; Struct S; Union U; Enum E; Const; Static X; Trait T; Impl; TypeAlias A; Mod m; MacroCall; MacroRules r; Macro2 d; ",
     );
     Ok(())
 }
@@ -95,43 +95,84 @@ fn node_at<'a, N: ItemTreeNode<'a>>(tree: &'a ItemTree, number: usize) -> Option
 }
 
 /// `extern crate core as c;`
-#[test]
-fn extern_crate_with_its_alias(rt: HostRuntime) -> Result<(), Fail> {
-    let tree = tree_of(rt.alloc(), ITEMS)?;
-    let found: Option<ExternCrate<'_>> = node_at(&tree, 1);
-    let item = found.ok_or("an extern crate")?;
-    let names_core = match item.name {
-        ExternCrateName::Name(name) => name.as_str() == "core",
-        ExternCrateName::SelfCrate => false,
+fn is_core_as_c(found: Option<ExternCrate<'_>>) -> bool {
+    let Some(item) = found else {
+        return false;
     };
-    assert!(rt; names_core);
-    let is_alias = match item.alias {
-        Some(ImportAlias::Alias(name)) => name.as_str() == "c",
+    match (item.name, item.alias) {
+        (ExternCrateName::Name(name), Some(ImportAlias::Alias(alias))) => {
+            name.as_str() == "core" && alias.as_str() == "c"
+        }
         _ => false,
-    };
-    assert!(rt; is_alias);
-    Ok(())
+    }
 }
 
 /// `extern { fn e(); }`
-#[test]
-fn extern_block_with_its_items(rt: HostRuntime) -> Result<(), Fail> {
-    let tree = tree_of(rt.alloc(), ITEMS)?;
-    let found: Option<ExternBlock<'_>> = node_at(&tree, 2);
-    let item = found.ok_or("an extern block")?;
-    assert_eq!(rt; item.children.len(), 1);
-    Ok(())
+fn has_one_item(found: Option<ExternBlock<'_>>) -> bool {
+    match found {
+        Some(item) => item.children.len() == 1,
+        None => false,
+    }
 }
 
 /// `struct S(pub _);`
-#[test]
-fn struct_with_its_shape(rt: HostRuntime) -> Result<(), Fail> {
-    let tree = tree_of(rt.alloc(), ITEMS)?;
-    let found: Option<Struct<'_>> = node_at(&tree, 4);
-    let item = found.ok_or("a struct")?;
-    assert_eq!(rt; item.shape, FieldsShape::Tuple);
-    assert_eq!(rt; item.fields.len(), 1);
+fn is_tuple_of_one(found: Option<Struct<'_>>) -> bool {
+    match found {
+        Some(item) => item.shape == FieldsShape::Tuple && item.fields.len() == 1,
+        None => false,
+    }
+}
+
+/// `mod m;`
+fn is_outline(found: Option<Mod<'_>>) -> bool {
+    match found {
+        Some(item) => matches!(item.kind, ModKind::Outline),
+        None => false,
+    }
+}
+
+/// A `macro_rules!` that is called as an attribute.
+fn is_attribute(found: Option<MacroRules<'_>>) -> bool {
+    let attribute = MacroExpander::Declarative(MacroCallStyles::ATTR);
+    match found {
+        Some(item) => item.expander == attribute && item.helpers.len() == 0,
+        None => false,
+    }
+}
+
+fn has_items(rt: &impl Abort, tree: &ItemTree) {
+    assert!(rt; is_core_as_c(node_at(tree, 1)));
+    assert!(rt; has_one_item(node_at(tree, 2)));
+    assert!(rt; is_tuple_of_one(node_at(tree, 4)));
+    assert!(rt; is_outline(node_at(tree, 12)));
+    assert!(rt; is_attribute(node_at(tree, 14)));
+}
+
+/// The path of `a::b!();`.
+fn path_of_call(alloc: Global, tree: &ItemTree) -> Result<String, AllocError> {
+    let found: Option<MacroCall<'_>> = node_at(tree, 13);
+    match found {
+        Some(item) => item.path.display(Edition::Edition2021).to_string(alloc),
+        None => Ok(String::new(alloc)),
+    }
+}
+
+fn has_call(rt: &impl Abort, alloc: Global, tree: &ItemTree) -> Result<(), AllocError> {
+    let text = path_of_call(alloc, tree)?;
+    is_text(rt, "its path", text.as_str(), "a::b");
     Ok(())
+}
+
+fn has_texts(rt: &impl Abort, alloc: Global, tree: &ItemTree) -> Result<(), AllocError> {
+    has_each_kind(rt, alloc, tree)?;
+    has_call(rt, alloc, tree)
+}
+
+#[test]
+fn items_of_each_kind(rt: HostRuntime) -> Result<(), Fail> {
+    let tree = tree_of(rt.alloc(), ITEMS)?;
+    has_items(&rt, &tree);
+    Ok(has_texts(&rt, rt.alloc(), &tree)?)
 }
 
 /// A struct with named fields has no constructor.
@@ -140,43 +181,4 @@ fn shapes_with_constructors(rt: HostRuntime) {
     assert!(rt; !FieldsShape::Record.has_value_ns_ctor());
     assert!(rt; FieldsShape::Tuple.has_value_ns_ctor());
     assert!(rt; FieldsShape::Unit.has_value_ns_ctor());
-}
-
-/// `mod m;`
-#[test]
-fn module_in_a_file_of_its_own(rt: HostRuntime) -> Result<(), Fail> {
-    let tree = tree_of(rt.alloc(), ITEMS)?;
-    let found: Option<Mod<'_>> = node_at(&tree, 12);
-    let item = found.ok_or("a module")?;
-    assert!(rt; matches!(item.kind, ModKind::Outline));
-    Ok(())
-}
-
-fn shown(alloc: Global, path: &ModPath) -> Result<String, Fail> {
-    Ok(path.display(Edition::Edition2021).to_string(alloc)?)
-}
-
-/// `a::b!();`
-#[test]
-fn call_with_its_path(rt: HostRuntime) -> Result<(), Fail> {
-    let tree = tree_of(rt.alloc(), ITEMS)?;
-    let found: Option<MacroCall<'_>> = node_at(&tree, 13);
-    let item = found.ok_or("a call")?;
-    let text = shown(rt.alloc(), item.path)?;
-    assert_eq!(rt; text.as_str(), "a::b");
-    Ok(())
-}
-
-/// A `macro_rules!` that is called as an attribute.
-#[test]
-fn macro_with_its_styles(rt: HostRuntime) -> Result<(), Fail> {
-    let tree = tree_of(rt.alloc(), ITEMS)?;
-    let found: Option<MacroRules<'_>> = node_at(&tree, 14);
-    let item = found.ok_or("a macro")?;
-    assert_eq!(rt;
-        item.expander,
-        MacroExpander::Declarative(MacroCallStyles::ATTR)
-    );
-    assert_eq!(rt; item.helpers.len(), 0);
-    Ok(())
 }

@@ -1,15 +1,17 @@
 //! Use trees as they are kept, and the places in them.
 
+use crate::units::is_text;
 use crate::use_trees::{tree_of, use_item};
 use hir_base::edition::Edition;
 use hir_item_tree::lower_use_tree::lower_use_tree;
 use hir_item_tree::use_tree::{UseTree, UseTreeKind};
-use std::alloc::Global;
+use std::alloc::{AllocError, Global};
 use std::fmt::Write;
+use std::process::Abort;
 use std::test::Fail;
 
 /// Adds how the tree itself is written, without those inside.
-fn put_head(text: &mut String, tree: &UseTree) -> Result<(), Fail> {
+fn put_head(text: &mut String, tree: &UseTree) -> Result<(), AllocError> {
     match tree.kind() {
         UseTreeKind::Single { path, alias } => {
             let path = path.display(Edition::Edition2021);
@@ -39,7 +41,7 @@ fn put_head(text: &mut String, tree: &UseTree) -> Result<(), Fail> {
 }
 
 /// The trees at the places, in order.
-fn places(alloc: Global, tree: &UseTree) -> Result<String, Fail> {
+fn places(alloc: Global, tree: &UseTree) -> Result<String, AllocError> {
     let mut text = String::new(alloc);
     let (_, positions) = lower_use_tree(alloc, tree)?;
     for position in &positions {
@@ -51,7 +53,10 @@ fn places(alloc: Global, tree: &UseTree) -> Result<String, Fail> {
 
 fn places_of_item(alloc: Global, tree: &str) -> Result<String, Fail> {
     let source = use_item(alloc, tree)?;
-    places(alloc, tree_of(&source).ok_or("no use item")?)
+    match tree_of(&source) {
+        Some(tree) => Ok(places(alloc, tree)?),
+        None => Err(Fail::new("no use item")),
+    }
 }
 
 /// Use trees, and what stands at each place: the tree itself at 0, and then each list before what is in it.
@@ -75,15 +80,16 @@ const PLACES: &[(&str, &str, &str)] = &[
     ),
 ];
 
+fn have_places(rt: &impl Abort, alloc: Global, rows: &[(&str, &str, &str)]) -> Result<(), Fail> {
+    for &(row, tree, expected) in rows {
+        let text = places_of_item(alloc, tree)?;
+        is_text(rt, row, text.as_str(), expected);
+    }
+    Ok(())
+}
+
 /// Which tree stands at which place.
 #[test]
 fn places_in_preorder(rt: HostRuntime) -> Result<(), Fail> {
-    for &(row, tree, expected) in PLACES {
-        assert_eq!(rt;
-            places_of_item(rt.alloc(), tree)?.as_str(),
-            expected,
-            "{row}"
-        );
-    }
-    Ok(())
+    have_places(&rt, rt.alloc(), PLACES)
 }

@@ -1,19 +1,20 @@
 //! What the `use` items of a tree import.
 
-use crate::units::tree_of;
-use crate::use_trees::{USE_TREES, put_import};
+use crate::units::{holds, is_text, tree_of};
+use crate::use_trees::{USE_TREES, put_imports};
 use hir_base::mod_path::ModPath;
 use hir_item_tree::expand::Import;
 use hir_item_tree::item_tree::ItemTree;
 use hir_item_tree::kinds::Use;
 use hir_item_tree::rows::ModItemId;
 use hir_item_tree::shape::{ImportAlias, ImportKind};
-use std::alloc::Global;
+use std::alloc::{AllocError, Global};
 use std::fmt::Write;
+use std::process::Abort;
 use std::test::Fail;
 
 /// The imports that an item hands out.
-fn imports(alloc: Global, item: Use<'_>) -> Result<Vec<Import>, Fail> {
+fn imports(alloc: Global, item: Use<'_>) -> Result<Vec<Import>, AllocError> {
     let mut imports = Vec::new(alloc);
     item.expand(
         alloc,
@@ -36,19 +37,16 @@ fn put_item(
     alloc: Global,
     number: usize,
     item: Option<Use<'_>>,
-) -> Result<(), Fail> {
-    if let Some(item) = item {
-        let imports = imports(alloc, item)?;
-        write!(text, "{number}: ")?;
-        for import in &imports {
-            put_import(text, import)?;
-        }
-    }
-    Ok(())
+) -> Result<(), AllocError> {
+    let Some(item) = item else {
+        return Ok(());
+    };
+    write!(text, "{number}: ")?;
+    put_imports(text, &imports(alloc, item)?)
 }
 
 /// What each `use` item of the tree imports; the numbers are those of the tree's items, inner ones first.
-fn expanded(alloc: Global, tree: &ItemTree) -> Result<String, Fail> {
+fn expanded(alloc: Global, tree: &ItemTree) -> Result<String, AllocError> {
     let mut text = String::new(alloc);
     for number in 0..16usize {
         let id = ModItemId(number);
@@ -61,7 +59,7 @@ fn expanded(alloc: Global, tree: &ItemTree) -> Result<String, Fail> {
 
 fn expanded_unit(alloc: Global, unit: &str) -> Result<String, Fail> {
     let tree = tree_of(alloc, unit)?;
-    expanded(alloc, &tree)
+    Ok(expanded(alloc, &tree)?)
 }
 
 /// What the `use` item of a tree with this item alone imports.
@@ -119,15 +117,25 @@ const UNITS: &[(&str, &str, &str)] = &[
     ),
 ];
 
+fn are_expanded(rt: &impl Abort, alloc: Global, rows: &[(&str, &str, &str)]) -> Result<(), Fail> {
+    for &(row, unit, expected) in rows {
+        let text = expanded_unit(alloc, unit)?;
+        is_text(rt, row, text.as_str(), expected);
+    }
+    Ok(())
+}
+
 /// Which imports the `use` items of a tree mean.
 #[test]
 fn use_items(rt: HostRuntime) -> Result<(), Fail> {
-    for &(row, unit, expected) in UNITS {
-        assert_eq!(rt;
-            expanded_unit(rt.alloc(), unit)?.as_str(),
-            expected,
-            "{row}"
-        );
+    are_expanded(&rt, rt.alloc(), UNITS)
+}
+
+fn are_kept(rt: &impl Abort, alloc: Global, rows: &[(&str, &str, &str)]) -> Result<(), Fail> {
+    for &(row, tree, expected) in rows {
+        let text = expanded_item(alloc, tree)?;
+        let imports = text.as_str().strip_prefix("0: ");
+        holds(rt, row, imports == Some(expected));
     }
     Ok(())
 }
@@ -135,9 +143,5 @@ fn use_items(rt: HostRuntime) -> Result<(), Fail> {
 /// A kept item hands out what its tree does.
 #[test]
 fn kept_use_items(rt: HostRuntime) -> Result<(), Fail> {
-    for &(row, tree, expected) in USE_TREES {
-        let text = expanded_item(rt.alloc(), tree)?;
-        assert_eq!(rt; text.as_str().strip_prefix("0: "), Some(expected), "{row}");
-    }
-    Ok(())
+    are_kept(&rt, rt.alloc(), USE_TREES)
 }

@@ -1,4 +1,4 @@
-use crate::units::source_of;
+use crate::units::{holds, is_text, source_of};
 use hir_base::edition::Edition;
 use hir_base::mod_path::{ModPath, PathKind};
 use hir_item_tree::expand::Import;
@@ -6,12 +6,13 @@ use hir_item_tree::shape::{ImportAlias, ImportKind};
 use hir_item_tree::source::{NodeKind, Source};
 use hir_item_tree::use_tree::{UseTree, UseTreeKind};
 use smallvec::SmallVec;
-use std::alloc::Global;
+use std::alloc::{AllocError, Global};
 use std::fmt::Write;
+use std::process::Abort;
 use std::test::Fail;
 
 /// The imports that the tree hands out.
-fn imports(alloc: Global, tree: &UseTree) -> Result<Vec<Import>, Fail> {
+fn imports(alloc: Global, tree: &UseTree) -> Result<Vec<Import>, AllocError> {
     let mut imports = Vec::new(alloc);
     tree.expand(
         alloc,
@@ -29,7 +30,7 @@ fn imports(alloc: Global, tree: &UseTree) -> Result<Vec<Import>, Fail> {
 }
 
 /// Adds place, path, kind and alias of an import.
-pub fn put_import(text: &mut String, import: &Import) -> Result<(), Fail> {
+fn put_import(text: &mut String, import: &Import) -> Result<(), AllocError> {
     let place = import.place;
     let kind = import.kind;
     let path = import.path.display(Edition::Edition2021);
@@ -42,18 +43,19 @@ pub fn put_import(text: &mut String, import: &Import) -> Result<(), Fail> {
     Ok(())
 }
 
-fn shown(alloc: Global, imports: &Vec<Import>) -> Result<String, Fail> {
-    let mut text = String::new(alloc);
+pub fn put_imports(text: &mut String, imports: &[Import]) -> Result<(), AllocError> {
     for import in imports {
-        put_import(&mut text, import)?;
+        put_import(text, import)?;
     }
-    Ok(text)
+    Ok(())
 }
 
 /// What the tree hands out: place, path, kind and alias of each import.
-pub fn expanded(alloc: Global, tree: &UseTree) -> Result<String, Fail> {
+fn expanded(alloc: Global, tree: &UseTree) -> Result<String, AllocError> {
     let imports = imports(alloc, tree)?;
-    shown(alloc, &imports)
+    let mut text = String::new(alloc);
+    put_imports(&mut text, &imports)?;
+    Ok(text)
 }
 
 /// A file with this `use` item alone.
@@ -78,12 +80,15 @@ pub fn tree_of(source: &Source) -> Option<&UseTree> {
 /// The tree of a `use` item again.
 fn copied(alloc: Global, tree: &str) -> Result<UseTree, Fail> {
     let source = use_item(alloc, tree)?;
-    Ok(tree_of(&source).ok_or("no use item")?.clone()?)
+    match tree_of(&source) {
+        Some(tree) => Ok(tree.clone()?),
+        None => Err(Fail::new("no use item")),
+    }
 }
 
 fn expanded_copy(alloc: Global, tree: &str) -> Result<String, Fail> {
     let copy = copied(alloc, tree)?;
-    expanded(alloc, &copy)
+    Ok(expanded(alloc, &copy)?)
 }
 
 /// Use trees, and what they hand out.
@@ -132,17 +137,18 @@ pub const USE_TREES: &[(&str, &str, &str)] = &[
     ),
 ];
 
+fn are_expanded(rt: &impl Abort, alloc: Global, rows: &[(&str, &str, &str)]) -> Result<(), Fail> {
+    for &(row, tree, expected) in rows {
+        let text = expanded_copy(alloc, tree)?;
+        is_text(rt, row, text.as_str(), expected);
+    }
+    Ok(())
+}
+
 /// Which imports a use tree means, and so its copy.
 #[test]
 fn use_trees(rt: HostRuntime) -> Result<(), Fail> {
-    for &(row, tree, expected) in USE_TREES {
-        assert_eq!(rt;
-            expanded_copy(rt.alloc(), tree)?.as_str(),
-            expected,
-            "{row}"
-        );
-    }
-    Ok(())
+    are_expanded(&rt, rt.alloc(), USE_TREES)
 }
 
 /// So many levels of `super`, which a text can't write.
@@ -151,7 +157,7 @@ fn levels(alloc: Global, levels: u8) -> ModPath {
 }
 
 /// Levels of `super` behind levels of `super`.
-fn supers(alloc: Global, outer: u8, inner: u8) -> Result<UseTree, Fail> {
+fn supers(alloc: Global, outer: u8, inner: u8) -> Result<UseTree, AllocError> {
     let leaf = UseTree::new(UseTreeKind::Single {
         path: levels(alloc, inner),
         alias: None,
@@ -162,7 +168,7 @@ fn supers(alloc: Global, outer: u8, inner: u8) -> Result<UseTree, Fail> {
 }
 
 /// How many imports the tree hands out.
-fn count(alloc: Global, tree: &UseTree) -> Result<u32, Fail> {
+fn count(alloc: Global, tree: &UseTree) -> Result<u32, AllocError> {
     let mut imports = 0u32;
     tree.expand(
         alloc,
@@ -174,22 +180,25 @@ fn count(alloc: Global, tree: &UseTree) -> Result<u32, Fail> {
     Ok(imports)
 }
 
-fn count_supers(alloc: Global, outer: u8, inner: u8) -> Result<u32, Fail> {
+fn count_supers(alloc: Global, outer: u8, inner: u8) -> Result<u32, AllocError> {
     let tree = supers(alloc, outer, inner)?;
     count(alloc, &tree)
 }
 
+/// Levels of `super`, levels behind them, and how many imports there are.
+const LEVELS: &[(&str, u8, u8, u32)] = &[
+    ("254 and 1", 254, 1, 1),
+    ("255 and 1", 255, 1, 0),
+    ("200 and 100", 200, 100, 0),
+    ("0 and 255", 0, 255, 1),
+];
+
 /// Levels of `super` add up to 255 at most.
 #[test]
 fn levels_of_super(rt: HostRuntime) -> Result<(), Fail> {
-    let rows = [
-        ("254 and 1", 254, 1, 1),
-        ("255 and 1", 255, 1, 0),
-        ("200 and 100", 200, 100, 0),
-        ("0 and 255", 0, 255, 1),
-    ];
-    for (row, outer, inner, expected) in rows {
-        assert_eq!(rt; count_supers(rt.alloc(), outer, inner)?, expected, "{row}");
+    for &(row, outer, inner, expected) in LEVELS {
+        let count = count_supers(rt.alloc(), outer, inner)?;
+        holds(&rt, row, count == expected);
     }
     Ok(())
 }

@@ -23,7 +23,7 @@ use Rattle.hir_item_tree.specs.KeptForest.{Head, KeptItem, KeptForest, all_items
 use Rattle.hir_item_tree.specs.Rows.{Content, alone, with_items, numbers_of, items_at, item_of, and_found}
 use Rattle.hir_def_map_rules.specs.Overlay.{Maps}
 use Rattle.hir_def_map_rules.specs.State.{Map}
-use Rattle.hir_mod_collector.specs.Types.{Visited}
+use Rattle.hir_attr_resolution.specs.declared.attributes.Visited.{Visited}
 use Rattle.hir_collector_rules.specs.Attributes.{adt_of}
 use Rattle.hir_collector_rules.specs.declared.site.Site.{Site}
 use Rattle.hir_collector_rules.specs.Keys.{Environment, absent_source}
@@ -35,12 +35,12 @@ use Rattle.hir_collector_rules.specs.Reports.{IsUnconfigured}
 use Rattle.hir_collector_rules.specs.ItemIds.{module_id, node_of}
 use Rattle.hir_collector_rules.specs.Derivation.{IsFull, IsSpent, counted_out}
 use Rattle.hir_collector_rules.specs.Moves.{Drops, HandlesAndSpreads, HandlesTooFar, IsPassed, Passes, PassesTooFar, Walks, WalksTooFar, is_single}
-use Rattle.hir_mod_collector.specs.Walking.{IsVisited}
+use Rattle.hir_attr_resolution.specs.Visiting.{IsVisited}
 use Rattle.hir_collector_rules.proofs.Lists.{drop_at, get_there}
 use Rattle.hir_collector_rules.proofs.Moves.{Steps-append, Steps-one, spent_after}
 use Rattle.hir_collector_state.proofs.Made.{Goes, made}
 use Rattle.hir_collector_rules.proofs.Grows.{Grows-Steps}
-use Rattle.hir_collector_items.proofs.Progress.{goes_next, goes_off, is_outline}
+use Rattle.hir_collector_macros.proofs.Progress.{goes_next, goes_off, is_outline}
 
 -- nothing is anywhere
 abbrev pub nowhere : Environment

@@ -1,7 +1,4 @@
 //! The walk over the items of modules, with those of their files, after rust-analyzer's `ModCollector`.
 #![tactic(auto)]
 
-pub mod attributes;
-pub mod builtin_attr;
 pub mod mod_collector;
-pub mod mod_resolution;

@@ -19,9 +19,9 @@ struct Site {
     dir: ModDir,
 }
 
-fn root(alloc: Global, file: &'static str) -> Result<Site, Fail> {
+fn root(alloc: Global, file: &str) -> Result<Site, Fail> {
     Ok(Site {
-        file: FilePath::parse(alloc, file).map_err(|_| file)?,
+        file: FilePath::parse(alloc, file)?,
         dir: ModDir::root(),
     })
 }
@@ -155,20 +155,35 @@ fn texts(alloc: Global, row: &'static str) -> Result<String, Fail> {
     Ok(text)
 }
 
+/// Asserts a text; of all rows, so that the comparison is proved once.
+fn is_text(rt: &impl Abort, row: &str, found: &str, expected: &str) {
+    assert_eq!(rt; found, expected, "{row}");
+}
+
+fn have_files(rt: &impl Abort, alloc: Global, rows: &[(&'static str, &str)]) -> Result<(), Fail> {
+    for &(row, expected) in rows {
+        let found = files(alloc, row)?;
+        is_text(rt, row, found.as_str(), expected);
+    }
+    Ok(())
+}
+
 #[test]
 fn files_of_candidates(rt: HostRuntime) -> Result<(), Fail> {
-    for &(row, expected) in FILES {
-        assert_eq!(rt; files(rt.alloc(), row)?.as_str(), expected, "{row}");
+    have_files(&rt, rt.alloc(), FILES)
+}
+
+fn have_texts(rt: &impl Abort, alloc: Global, rows: &[(&'static str, &str)]) -> Result<(), Fail> {
+    for &(row, expected) in rows {
+        let found = texts(alloc, row)?;
+        is_text(rt, row, found.as_str(), expected);
     }
     Ok(())
 }
 
 #[test]
 fn texts_of_candidates(rt: HostRuntime) -> Result<(), Fail> {
-    for &(row, expected) in TEXTS {
-        assert_eq!(rt; texts(rt.alloc(), row)?.as_str(), expected, "{row}");
-    }
-    Ok(())
+    have_texts(&rt, rt.alloc(), TEXTS)
 }
 
 /// Whether a candidate of `a` leads to a directory.
@@ -197,15 +212,20 @@ fn deep(alloc: Global, depth: u32) -> Result<Site, Fail> {
     Ok(site)
 }
 
+/// Whether modules go on at this depth.
+fn goes_on(rt: &impl Abort, alloc: Global, depth: u32, wanted: bool) -> Result<(), Fail> {
+    let site = deep(alloc, depth)?;
+    assert!(rt; site.dir.depth() == depth);
+    assert!(rt; is_taken(alloc, &site)? == wanted);
+    assert!(rt; descends(alloc, &site)? == wanted);
+    Ok(())
+}
+
 #[test]
 fn deepest_modules(rt: HostRuntime) -> Result<(), Fail> {
-    for (depth, goes_on) in [(0, true), (31, true), (32, false)] {
-        let site = deep(rt.alloc(), depth)?;
-        assert_eq!(rt; site.dir.depth(), depth);
-        assert_eq!(rt; is_taken(rt.alloc(), &site)?, goes_on, "{depth}");
-        assert_eq!(rt; descends(rt.alloc(), &site)?, goes_on, "{depth}");
-    }
-    Ok(())
+    goes_on(&rt, rt.alloc(), 0, true)?;
+    goes_on(&rt, rt.alloc(), 31, true)?;
+    goes_on(&rt, rt.alloc(), 32, false)
 }
 
 /// A workspace of two files.
@@ -231,18 +251,35 @@ const PRESENT: &[(&str, &str, Option<usize>, usize)] = &[
     ("b.rs", "a/b.rs", None, 2),
 ];
 
+/// The place of the candidate of `a` that is found, and how many files are asked for: looked for by the module's name.
+fn found_by_name(alloc: Global, files: &TwoFiles<'_>) -> Result<(Option<usize>, usize), Fail> {
+    let site = root(alloc, "lib.rs")?;
+    let name = Name::new(alloc, "a")?;
+    let (_, found) = site
+        .dir
+        .resolve_declaration(alloc, files, &site.file, &name, None)?;
+    Ok((found.found, found.asked.len()))
+}
+
+/// The same, among its candidates.
+fn found_among(alloc: Global, files: &TwoFiles<'_>) -> Result<(Option<usize>, usize), Fail> {
+    let site = root(alloc, "lib.rs")?;
+    let candidates = candidates(alloc, &site, "a")?;
+    let found = resolve_declaration(alloc, files, &site.file, candidates.as_slice())?;
+    Ok((found.found, found.asked.len()))
+}
+
 fn resolves(
     rt: &impl Abort,
     alloc: Global,
     row: &(&'static str, &'static str, Option<usize>, usize),
 ) -> Result<(), Fail> {
     let (first, second, place, asked) = *row;
-    let site = root(alloc, "lib.rs")?;
-    let candidates = candidates(alloc, &site, "a")?;
     let files = TwoFiles { first, second };
-    let found = resolve_declaration(alloc, &files, &site.file, candidates.as_slice())?;
-    assert_eq!(rt; found.found, place, "{first} {second}");
-    assert_eq!(rt; found.asked.len(), asked, "{first} {second}");
+    let by_name = found_by_name(alloc, &files)?;
+    let among = found_among(alloc, &files)?;
+    let both = by_name == (place, asked) && among == (place, asked);
+    assert!(rt; both, "{first} {second}");
     Ok(())
 }
 

@@ -7,3 +7,5 @@ pub mod ImportChainLemmas
 pub mod AscendingLemmas
 pub mod WalkLemmas
 pub mod AskLemmas
+pub mod EntryNames
+pub mod Updates

@@ -1,2 +1,3 @@
 -- Words of private code, and lemmas that an `impl` names.
 pub mod Equality
+pub mod Entries

@@ -9,6 +9,10 @@ pub mod ImportRecords
 pub mod Bindings
 pub mod Globs
 pub use Rattle.hir_scope_table.specs.Table
+-- ---- the names of a scope
+pub use Rattle.hir_scope_table.specs.Slots
+pub use Rattle.hir_scope_table.specs.SlotWalk
+pub use Rattle.hir_scope_table.specs.Probe
 -- ---- a scope
 pub mod Scope
 pub mod MacroScope

@@ -61,8 +61,7 @@ pub record ScopeValue : Type 0 where
   pub macro_imports : List (ImportOrExternCrate × ImportOrDef)
   pub use_decls : List UseId
   pub extern_crate_decls : List ExternCrateId
-  -- the macros of each name in textual scope, the first name first
-  -- the macros in textual scope, by name
+  -- the macros in textual scope, as they were defined
   pub legacy_macros : List TextualMacro
   -- the calls that attributes, macro calls and derives became, by node
   pub attr_macros : List (AstId × MacroCallId)

@@ -9,7 +9,7 @@ ghost use Rattle.hir_scope.specs.Visibility.{stands_for, is_visible, greater_of,
 
 use crate::module_tree::ModuleTree;
 use hir_base::ids::{Crate, MapId, ModuleId};
-use hir_item_tree::raw_visibility::VisibilityExplicitness;
+use hir_raw_visibility::raw_visibility::VisibilityExplicitness;
 
 /// The modules that may see an item.
 #[derive(Clone, Copy, Debug, PartialEq, Eq, Hash)]

@@ -6,3 +6,8 @@ pub mod Prevails
 pub mod Pushes
 pub mod Picks
 pub mod Ascending
+pub mod Slots
+pub mod Places
+pub mod Edits
+pub mod Revisions
+pub mod Names

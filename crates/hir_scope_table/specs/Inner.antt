@@ -1,2 +1,4 @@
 pub mod Reserved
 pub mod Picked
+pub mod Place
+pub mod Kept

@@ -1,5 +1,8 @@
 -- ---- names and what they are bound to
 pub mod Entries
+pub mod Slots
+pub mod Probe
+pub mod SlotWalk
 pub mod Bindings
 pub mod Globs
 pub mod Table

@@ -16,15 +16,6 @@ use Rattle.hir_scope_table.specs.Globs.{Place, has_place, with_place, without_pl
 abbrev pub Bindings : Type 0 → Type 0 → Type 0 → Type 0
 Bindings D V I = List (List ℕ × Item D V I)
 
--- what names stand for, and what each import reached
-pub record TableValue (D V I T : Type 0) : Type 0 where
-  pub items : Bindings D V I
-  pub records : List (I × T)
-
--- a table without anything
-abbrev pub empty_table : {D V I T : Type 0} → TableValue D V I T
-empty_table = record { items = []; records = [] }
-
 -- ---- which candidate is taken
 
 -- the slot of a name in a module
@@ -45,6 +36,10 @@ taken same_def same_import items globs place (Some candidate) =
 abbrev pub item_entry : {D V I T : Type 0} → List ℕ → Option (Candidate D V I T) → Option (List ℕ × Item D V I)
 item_entry name None = None
 item_entry name (Some candidate) = Some (name, candidate.push.item)
+
+-- what it binds
+abbrev pub pushed_item : {D V I T : Type 0} → Option (Candidate D V I T) → Option (Item D V I)
+pushed_item candidate = option_map (λ (o : Candidate _ _ _ _). o.push.item) candidate
 
 -- what is recorded of its import
 abbrev pub record_entry : {D V I T : Type 0} → Option (Candidate D V I T) → Option (I × T)

@@ -83,7 +83,7 @@ impl Globs {
 }
 
 // The keys of a set are in order, by an order that is total.
-pub fn keys_are_ordered<K: Ord>(keys: &BTreeSet<K>)
+fn keys_are_ordered<K: Ord>(keys: &BTreeSet<K>)
     ensures total { IsTotalOrder K.cmp }
     ensures ordered { IsStrictlySortedBy K.cmp keys.now.keys }
 {

@@ -1,14 +1,21 @@
-//! The names bound in one namespace of a scope, and what a push makes of them.
+//! The names of a scope, and what a push makes of a name in one namespace.
+//!
+//! An `EntryList` has the names in their order, each with what it stands for in each namespace. A look-up halves the list.
 //!
 //! An explicit binding replaces a glob's, and else stays, but for its own import, which may come to reach another
-//! definition. The difficulty is memory: a push writes a binding, the record of its import and the name's entry in
-//! the glob table, in up to three namespaces, and a failed allocation may leave none of them changed. So a push first
-//! reserves what it needs, which alone can fail and is rolled back where it does, and then writes.
+//! definition. The difficulty is memory: a push writes the entry of its name, and in up to three namespaces the record of
+//! its import and a place in the glob table, and a failed allocation may leave none of them changed. So a push first
+//! reserves records and places, and then writes the entry. Where one of these steps fails, what was reserved is rolled
+//! back. The rest needs no memory.
 #![tactic(auto)]
 
+pub mod entry;
+pub mod entry_list;
 pub mod globs;
 pub mod item;
 pub mod laws;
 pub mod merge_sorted;
+pub mod probe;
+pub mod records;
 mod reserved;
-pub mod table;
+pub mod slot_walk;

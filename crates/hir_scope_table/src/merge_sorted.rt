@@ -6,7 +6,6 @@ ghost use Rattle.hir_scope_table.specs.Inner.Picked.{with_head, pick};
 ghost use Rattle.hir_scope_table.specs.Merge.{merge};
 
 use std::cmp::Ordering;
-use std::collections::{btree_map, btree_set};
 
 /// A walk over items in ascending order, each once.
 pub trait SortedWalk<'a, K> {
@@ -15,22 +14,6 @@ pub trait SortedWalk<'a, K> {
 
     fn advance(&mut self) -> Option<&'a K>
         ensures first { YieldsFirstRef left self.old result self.new };
-}
-
-impl<'a, K, V> SortedWalk<'a, K> for btree_map::Keys<'a, K, V> {
-    ghost left = { λ walk. walk };
-
-    fn advance(&mut self) -> Option<&'a K> {
-        self.next()
-    }
-}
-
-impl<'a, K> SortedWalk<'a, K> for btree_set::Iter<'a, K> {
-    ghost left = { λ walk. walk };
-
-    fn advance(&mut self) -> Option<&'a K> {
-        self.next()
-    }
 }
 
 /// The items of two ascending walks in ascending order, each once.

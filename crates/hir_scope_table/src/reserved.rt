@@ -7,10 +7,9 @@ use std::alloc::AllocError;
 use std::collections::btree_map::Entry;
 use std::collections::{BTreeMap, BTreeSet};
 
-/// What was added to a table and to the glob table before a candidate is written.
+/// What was added to the records and to the glob table before a candidate is written.
 #[derive(Clone, Copy)]
 pub struct Reserved {
-    pub(crate) item: bool,
     pub(crate) glob: bool,
     pub(crate) source: bool,
 }

@@ -1,3 +1,1 @@
-pub mod Laws
-pub mod Runs
-pub mod Serving
+pub mod Lending

@@ -1,8 +1,10 @@
 //! A session that stays right between edits, and the run that serves it over a reader and a writer.
 #![tactic(auto)]
 
-pub mod laws;
+mod collector;
 mod server;
+pub mod server_state;
+pub mod session;
 
 pub use hir_base::ast_id::SyntaxId;
 pub use hir_base::edition::Edition;
@@ -15,22 +17,23 @@ pub use hir_base::place::{BlockPlace, Place, PlaceElement};
 pub use hir_item_tree::source::{Node, NodeKind, Source, Unit};
 pub use hir_lines::open_line::LINE_LIMIT;
 pub use hir_lines::output::Fault;
-pub use hir_session_core::session;
-pub use hir_session_core::session::Session;
-pub use hir_session_machine::server_state;
-pub use hir_session_machine::server_state::Machine;
+pub use hir_session_laws::laws;
+pub use hir_session_server::server::MOST_READS;
 pub use hir_session_sources::crate_info::CrateInfo;
 pub use hir_session_sources::files::Files;
 pub use hir_session_sources::{crate_info, files};
 pub use hir_session_state::error;
 pub use hir_session_state::error::{
-    DiagnosticsError, EditError, ImplItemsError, NewSessionError, QueryError, RefreshError,
-    TraitItemsError, TreeTextError,
+    DiagnosticsError, EditError, ImplItemsError, ModulesError, NewSessionError, QueryError,
+    RefreshError, TraitItemsError, TreeTextError,
 };
 pub use hir_wire::answer::Answer;
 pub use hir_wire::command::{CrateInput, MacroStyle, Shadow};
 pub use hir_wire::diagnostic::{Diagnostic, DiagnosticKind};
 pub use hir_wire::edit::{Edit, ExpansionEntry};
 pub use hir_wire::items::{AssocItem, Items};
-pub use hir_wire::reply::Status;
-pub use server::{MOST_READS, run};
+pub use hir_wire::names::{BoundName, BoundNames};
+pub use hir_wire::reply::{Places, Status};
+pub use server::run;
+pub use server_state::Machine;
+pub use session::Session;

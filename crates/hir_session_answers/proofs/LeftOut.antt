@@ -284,7 +284,7 @@ module _ (tables : TablesValue) (maps : Maps) where
     of_import : (d v i : Bool) → (d || (v || i)) ≡ false → i ≡ false
     of_import d v i f = not_second v i (not_second d (v || i) f)
 
-    types : (o : Option (Item ModuleDefId ImportOrExternCrate)) → on_some (on_type unsourced) o ≡ false → FailsAtItem (is_missing maps) o
+    pub types : (o : Option (Item ModuleDefId ImportOrExternCrate)) → on_some (on_type unsourced) o ≡ false → FailsAtItem (is_missing maps) o
         → is_some (option_and_then (answered_type tables maps) o) ≡ is_some o
     types None f there = refl
     types (Some i) f there =
@@ -299,7 +299,7 @@ module _ (tables : TablesValue) (maps : Maps) where
         (maybe_there (import_source tables) (on_import unsourced) import_there i.import (of_import d v by f))
         (visible i.vis (of_vis d v by f))
 
-    values : (o : Option (Item ModuleDefId ImportOrGlob)) → on_some (on_value unsourced) o ≡ false
+    pub values : (o : Option (Item ModuleDefId ImportOrGlob)) → on_some (on_value unsourced) o ≡ false
         → is_some (option_and_then (answered_value tables maps) o) ≡ is_some o
     values None f = refl
     values (Some i) f =
@@ -312,7 +312,7 @@ module _ (tables : TablesValue) (maps : Maps) where
         (maybe_there (value_import_source tables) (on_value_import unsourced) value_import_there i.import (of_import d v by f))
         (visible i.vis (of_vis d v by f))
 
-    macros : (o : Option (Item MacroId ImportOrExternCrate)) → on_some (on_macro_item unsourced) o ≡ false
+    pub macros : (o : Option (Item MacroId ImportOrExternCrate)) → on_some (on_macro_item unsourced) o ≡ false
         → is_some (option_and_then (answered_macro tables maps) o) ≡ is_some o
     macros None f = refl
     macros (Some i) f =

@@ -11,3 +11,5 @@ pub mod Differ
 pub mod Stand
 pub mod Diagnosing
 pub mod Listed
+pub mod Placing
+pub mod Naming

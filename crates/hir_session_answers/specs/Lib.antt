@@ -9,6 +9,9 @@ pub mod TreeText
 pub mod Diagnostics
 pub mod DiagnosticsStand
 pub mod Dumps
+pub mod Names
+pub mod NamesStand
+pub mod Modules
 pub mod AssocItems
 pub mod ItemsStand
 pub mod Histories

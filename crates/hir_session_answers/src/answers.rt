@@ -88,7 +88,7 @@ fn maybe_value_import(
 }
 
 /// What a type is answered.
-fn type_at(
+pub fn type_at(
     alloc: Global,
     tables: &Tables,
     maps: &DefMaps<'_>,
@@ -108,7 +108,7 @@ fn type_at(
 }
 
 /// What a value is answered.
-fn value_at(
+pub fn value_at(
     alloc: Global,
     tables: &Tables,
     maps: &DefMaps<'_>,
@@ -128,7 +128,7 @@ fn value_at(
 }
 
 /// What a macro is answered.
-fn macro_item_at(
+pub fn macro_item_at(
     alloc: Global,
     tables: &Tables,
     maps: &DefMaps<'_>,

@@ -58,7 +58,6 @@ use std::marker::Model;
 pub const MAX_CRATES: usize = 10000;
 
 /// Crates and sources as they were handed in, and for each place that was resolved what its names stand for.
-#[derive(Drop)]
 pub struct Session {
     inputs: Inputs,
     tables: Tables,
@@ -66,6 +65,18 @@ pub struct Session {
     askers: Askers,
     /// The blocks that are set and of which nothing is kept; None where that isn't known.
     pending: Option<BTreeSet<PendingBlock>>,
+}
+
+impl Drop for Session {
+    fn drop(self) {
+        let Session {
+            inputs: _,
+            tables: _,
+            kept: _,
+            askers: _,
+            pending: _,
+        } = self;
+    }
 }
 
 impl Model for Session {

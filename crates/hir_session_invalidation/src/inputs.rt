@@ -20,7 +20,7 @@ ghost use Rattle.hir_session_sources.specs.SourceTrees.{AreTreesOf};
 mod assoc_items;
 
 pub use self::assoc_items::AssocList;
-use crate::sources::{HeldBlock, Sources, collect, collect_block};
+use crate::sources::{CollectDefs, HeldBlock, Sources, collect, collect_block};
 use hir_base::file_path::FilePath;
 use hir_base::ids::Crate;
 use hir_base::macro_kind::ExpansionKey;
@@ -184,7 +184,7 @@ impl Inputs {
     }
 
     /// Resolves a crate over the present sources, beside finished maps. What the sources have under the crate is kept.
-    pub fn resolve(
+    pub fn resolve<C: CollectDefs>(
         &mut self,
         alloc: Global,
         tables: &mut Tables,
@@ -208,14 +208,14 @@ impl Inputs {
             table: &self.sources,
             trees,
         };
-        let found = collect(alloc, &mut sources, tables, world, k);
+        let found = collect::<C>(alloc, &mut sources, tables, world, k);
         self.trees = sources.trees;
         found
     }
 
     /// Resolves a block in the module that holds it, over the present sources, beside finished maps. What the sources have
     /// under its crate is kept.
-    pub fn resolve_block(
+    pub fn resolve_block<C: CollectDefs>(
         &mut self,
         alloc: Global,
         tables: &mut Tables,
@@ -238,7 +238,7 @@ impl Inputs {
             table: &self.sources,
             trees,
         };
-        let found = collect_block(alloc, &mut sources, tables, world, at);
+        let found = collect_block::<C>(alloc, &mut sources, tables, world, at);
         self.trees = sources.trees;
         found
     }

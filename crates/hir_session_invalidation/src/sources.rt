@@ -19,7 +19,6 @@ use hir_collector_rules::collected::Collected;
 use hir_collector_rules::source_database::{Config, CrateRoot, ExpansionLook, SourceDatabase};
 use hir_collector_rules::start::{CollectError, Start};
 use hir_crate_graph::CrateSet;
-use hir_def_collector::collector::collect_defs;
 use hir_def_map::world::World;
 use hir_item_tree::source_tree::SourceTree;
 use hir_item_tree::tree_id::TreeId;
@@ -112,30 +111,30 @@ pub struct HeldBlock {
     pub id: SyntaxId,
 }
 
-/// Runs the import rules from a start, beside finished maps.
-fn run(
-    alloc: Global,
-    sources: &mut Sources<'_>,
-    tables: &mut Tables,
-    world: &World,
-    start: Start,
-    tree: TreeId,
-) -> Result<Collected, CollectError>
-    ensures same { workspace_in sources.new.crates.now sources.new.table.now ≡ workspace_in sources.old.crates.now sources.old.table.now }
-    ensures kept { KeepsTables tables.old tables.new }
-    ensures placed { AreCallsPlaced tables.old → AreCallsPlaced tables.new }
-    ensures resolved { IfOk result (λ found. IsResolved tables.new (workspace_in sources.old.crates.now sources.old.table.now)
-        (finished_in world.now.maps) (beginning start tree None) (collected_view found)) }
-    ensures many { result ≡ Err CollectError.TooMany
-        → IsOverlong tables.new (workspace_in sources.old.crates.now sources.old.table.now) (finished_in world.now.maps) (beginning start tree None) }
-    ensures unknown { result ≡ Err CollectError.UnknownSource
-        → MeetsUnknownSource tables.new (workspace_in sources.old.crates.now sources.old.table.now) (finished_in world.now.maps) (beginning start tree None) }
-{
-    collect_defs(alloc, sources, world, tables, start, tree, None)
+/// What runs the import rules: the collector, which sessions know by what it promises alone.
+pub trait CollectDefs {
+    /// Runs the import rules from a start, beside finished maps.
+    fn collect_defs(
+        alloc: Global,
+        sources: &mut Sources<'_>,
+        tables: &mut Tables,
+        world: &World,
+        start: Start,
+        tree: TreeId,
+    ) -> Result<Collected, CollectError>
+        ensures same { workspace_in sources.new.crates.now sources.new.table.now ≡ workspace_in sources.old.crates.now sources.old.table.now }
+        ensures kept { KeepsTables tables.old tables.new }
+        ensures placed { AreCallsPlaced tables.old → AreCallsPlaced tables.new }
+        ensures resolved { IfOk result (λ found. IsResolved tables.new (workspace_in sources.old.crates.now sources.old.table.now)
+            (finished_in world.now.maps) (beginning start tree None) (collected_view found)) }
+        ensures many { result ≡ Err CollectError.TooMany
+            → IsOverlong tables.new (workspace_in sources.old.crates.now sources.old.table.now) (finished_in world.now.maps) (beginning start tree None) }
+        ensures unknown { result ≡ Err CollectError.UnknownSource
+            → MeetsUnknownSource tables.new (workspace_in sources.old.crates.now sources.old.table.now) (finished_in world.now.maps) (beginning start tree None) };
 }
 
 /// Runs the import rules for the crate of a number, beside finished maps.
-pub fn collect(
+pub fn collect<C: CollectDefs>(
     alloc: Global,
     sources: &mut Sources<'_>,
     tables: &mut Tables,
@@ -160,11 +159,11 @@ pub fn collect(
         file: HirFileId::File(root),
         block: None,
     };
-    run(alloc, sources, tables, world, start, tree)
+    C::collect_defs(alloc, sources, tables, world, start, tree)
 }
 
 /// Runs the import rules for a block in the module that holds it, beside finished maps.
-pub fn collect_block(
+pub fn collect_block<C: CollectDefs>(
     alloc: Global,
     sources: &mut Sources<'_>,
     tables: &mut Tables,
@@ -195,5 +194,5 @@ pub fn collect_block(
         file: file_id,
         block: Some(at.block),
     };
-    run(alloc, sources, tables, world, start, tree)
+    C::collect_defs(alloc, sources, tables, world, start, tree)
 }

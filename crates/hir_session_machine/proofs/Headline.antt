@@ -27,7 +27,7 @@ use Rattle.hir_def_map_rules.specs.Sources.{PathsAnswerFromSources}
 use Rattle.hir_session_state.specs.Due.{IsAskedBehind}
 use Rattle.hir_session_machine.specs.Machine.{MachineState, first_state, query_reply, Moves, AnswersCommand, AnswersLine}
 use Rattle.hir_session_machine.specs.Machine.Moves.{applies, refuses, refreshes, refreshes_partly, resolves, tells, shows, shows_none, dumps, dumps_none}
-use Rattle.hir_session_machine.specs.Machine.Moves.{asks_for_trait, asks_for_impl, lists}
+use Rattle.hir_session_machine.specs.Machine.Moves.{asks_for_trait, asks_for_impl, lists, names_all, lists_modules, lists_file_modules}
 use Rattle.hir_session_machine.specs.Machine.AnswersCommand.{finds_no_memory, begins, refuses_session, comes_too_soon, comes_too_late, calls}
 use Rattle.hir_session_machine.specs.Machine.AnswersLine.{finds_no_memory_for_line, reads_no_command, carries_out}
 use Rattle.hir_session_machine.specs.AnsweredLines.{AnswersWithin, AnswersInput, AnswersLines}
@@ -80,6 +80,9 @@ answered_by_call asks (dumps_none at why is_dump same refused told) = absurd (le
 answered_by_call asks (asks_for_trait at query is_trait grown told) = absurd (let wrong : ⊥ = cc in wrong)
 answered_by_call asks (asks_for_impl at number is_impl grown told) = absurd (let wrong : ⊥ = cc in wrong)
 answered_by_call asks (lists krate is_list same told) = absurd (let wrong : ⊥ = cc in wrong)
+answered_by_call asks (names_all at is_names same told) = absurd (let wrong : ⊥ = cc in wrong)
+answered_by_call asks (lists_modules krate is_modules same told) = absurd (let wrong : ⊥ = cc in wrong)
+answered_by_call asks (lists_file_modules page is_modules same told) = absurd (let wrong : ⊥ = cc in wrong)
 
 answered_by_command : {old new : MachineState} {c : CommandValue} {a : Answer} {place : PlaceValue} {path : Path} {shadow : Shadow} {style : Option MacroStyle}
     → c ≡ resolve place path shadow style → AnswersCommand old c (reply.Answer a) new → IsAnswered old place path shadow style a new
@@ -133,6 +136,9 @@ kept_by_call {from} {k = k} read same (dumps_none at why is_dump still refused t
 kept_by_call read same (asks_for_trait at path is_trait grown told) = inl (same_once_grown same grown)
 kept_by_call read same (asks_for_impl at number is_impl grown told) = inl (same_once_grown same grown)
 kept_by_call {from} {k = k} read same (lists krate is_list still told) = inl (subst (λ (x : SessionState). IsSame from x k) (sym still) same)
+kept_by_call {from} {k = k} read same (names_all at is_names still told) = inl (subst (λ (x : SessionState). IsSame from x k) (sym still) same)
+kept_by_call {from} {k = k} read same (lists_modules krate is_modules still told) = inl (subst (λ (x : SessionState). IsSame from x k) (sym still) same)
+kept_by_call {from} {k = k} read same (lists_file_modules path is_modules still told) = inl (subst (λ (x : SessionState). IsSame from x k) (sym still) same)
 
 -- nothing changed
 kept_so : {from s : SessionState} {k : MapId} {old new : MachineState} {line : List ℕ} → old ≡ Some s → IsSame from s k → new ≡ old

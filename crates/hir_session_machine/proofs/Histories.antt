@@ -11,7 +11,7 @@ use Rattle.hir_session_state.proofs.Truth.{on_bool}
 use Rattle.hir_session_sources.proofs.Start.{begins_sound}
 use Rattle.hir_session_machine.specs.Machine.{MachineState, Moves, AnswersCommand, AnswersLine}
 use Rattle.hir_session_machine.specs.Machine.Moves.{applies, refuses, refreshes, refreshes_partly, resolves, tells, shows, shows_none, dumps, dumps_none}
-use Rattle.hir_session_machine.specs.Machine.Moves.{asks_for_trait, asks_for_impl, lists}
+use Rattle.hir_session_machine.specs.Machine.Moves.{asks_for_trait, asks_for_impl, lists, names_all, lists_modules, lists_file_modules}
 use Rattle.hir_session_machine.specs.Machine.AnswersCommand.{finds_no_memory, begins, refuses_session, comes_too_soon, comes_too_late, calls}
 use Rattle.hir_session_machine.specs.Machine.AnswersLine.{finds_no_memory_for_line, reads_no_command, carries_out}
 use Rattle.hir_lines.specs.declared.open_line.TheConstants.{LINE_LIMIT}
@@ -35,6 +35,9 @@ after_call {from} h (dumps_none at why is_dump same refused told) = subst (λ (x
 after_call h (asks_for_trait at path is_trait grown told) = numbers _ _ h grown
 after_call h (asks_for_impl at number is_impl grown told) = numbers _ _ h grown
 after_call {from} h (lists krate is_list same told) = subst (λ (x : SessionState). History from x) (sym same) h
+after_call {from} h (names_all at is_names same told) = subst (λ (x : SessionState). History from x) (sym same) h
+after_call {from} h (lists_modules krate is_modules same told) = subst (λ (x : SessionState). History from x) (sym same) h
+after_call {from} h (lists_file_modules path is_modules same told) = subst (λ (x : SessionState). History from x) (sym same) h
 
 -- a session is there, and its history goes on
 abbrev pub HasHistory : SessionState → MachineState → Type 0

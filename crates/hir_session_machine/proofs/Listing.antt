@@ -19,7 +19,7 @@ use Rattle.hir_session_machine.specs.Machine.{MachineState, AnswersCommand, Answ
 use Rattle.hir_session_machine.specs.Machine.{AnswersImpl as of_impl}
 use Rattle.hir_session_machine.specs.Machine.{AnswersTrait as of_trait}
 use Rattle.hir_session_machine.specs.Machine.Moves.{applies, refuses, refreshes, refreshes_partly, resolves, tells, shows, shows_none, dumps, dumps_none}
-use Rattle.hir_session_machine.specs.Machine.Moves.{asks_for_trait, asks_for_impl, lists}
+use Rattle.hir_session_machine.specs.Machine.Moves.{asks_for_trait, asks_for_impl, lists, names_all, lists_modules, lists_file_modules}
 use Rattle.hir_session_machine.specs.Machine.AnswersCommand.{finds_no_memory, begins, refuses_session, comes_too_soon, comes_too_late, calls}
 use Rattle.hir_session_machine.specs.Machine.AnswersLine.{finds_no_memory_for_line, reads_no_command, carries_out}
 use Rattle.hir_session_machine.specs.AnsweredLines.{AnswersWithin}
@@ -79,6 +79,9 @@ trait_call {s} {t} {place = place} {path = path} {told = told} asks (asks_for_tr
     (subst (λ (x : Path). AnswersTrait s at x (reply.Items told) t) is_path answers))
 trait_call asks (asks_for_impl at other is_impl grown answers) = absurd (let wrong : ⊥ = cc in wrong)
 trait_call asks (lists krate is_list still same) = absurd (let wrong : ⊥ = cc in wrong)
+trait_call asks (names_all at is_names still same) = absurd (let wrong : ⊥ = cc in wrong)
+trait_call asks (lists_modules krate is_modules still same) = absurd (let wrong : ⊥ = cc in wrong)
+trait_call asks (lists_file_modules page is_modules still same) = absurd (let wrong : ⊥ = cc in wrong)
 
 trait_command : {old new : MachineState} {c : CommandValue} {place : PlaceValue} {path : Path} {told : Items} → c ≡ trait_items place path
     → AnswersCommand old c (reply.Items told) new → IsTraitListed old place path told new
@@ -158,6 +161,9 @@ impl_call {s} {t} {place = place} {number = number} {told = told} asks (asks_for
     impl_answered grown (subst (λ (x : PlaceValue). AnswersImpl s x number (reply.Items told) t) is_place
     (subst (λ (x : ℕ). AnswersImpl s at x (reply.Items told) t) is_number answers))
 impl_call asks (lists krate is_list still same) = absurd (let wrong : ⊥ = cc in wrong)
+impl_call asks (names_all at is_names still same) = absurd (let wrong : ⊥ = cc in wrong)
+impl_call asks (lists_modules krate is_modules still same) = absurd (let wrong : ⊥ = cc in wrong)
+impl_call asks (lists_file_modules page is_modules still same) = absurd (let wrong : ⊥ = cc in wrong)
 
 impl_command : {old new : MachineState} {c : CommandValue} {place : PlaceValue} {number : ℕ} {told : Items} → c ≡ impl_items place number
     → AnswersCommand old c (reply.Items told) new → IsImplListed old place number told new

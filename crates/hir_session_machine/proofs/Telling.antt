@@ -11,7 +11,7 @@ use Rattle.hir_session_state.specs.SessionState.{SessionState}
 use Rattle.hir_session_answers.specs.Diagnostics.{diagnostics_of}
 use Rattle.hir_session_machine.specs.Machine.{MachineState, diagnostics_reply, Moves, AnswersCommand, AnswersLine}
 use Rattle.hir_session_machine.specs.Machine.Moves.{applies, refuses, refreshes, refreshes_partly, resolves, tells, shows, shows_none, dumps, dumps_none}
-use Rattle.hir_session_machine.specs.Machine.Moves.{asks_for_trait, asks_for_impl, lists}
+use Rattle.hir_session_machine.specs.Machine.Moves.{asks_for_trait, asks_for_impl, lists, names_all, lists_modules, lists_file_modules}
 use Rattle.hir_session_machine.specs.Machine.AnswersCommand.{finds_no_memory, begins, refuses_session, comes_too_soon, comes_too_late, calls}
 use Rattle.hir_session_machine.specs.Machine.AnswersLine.{finds_no_memory_for_line, reads_no_command, carries_out}
 use Rattle.hir_session_machine.specs.AnsweredLines.{AnswersWithin}
@@ -45,6 +45,9 @@ told_by_call asks (asks_for_trait at query is_trait grown told) = absurd (let wr
 told_by_call asks (asks_for_impl at number is_impl grown told) = absurd (let wrong : ⊥ = cc in wrong)
 told_by_call {s} {krate = krate} {list = list} asks (lists other is_list same told) =
     let is_crate : other ≡ krate = cc in told_ok (diagnostics_of s krate) list (rw is_crate at told)
+told_by_call asks (names_all at is_names same told) = absurd (let wrong : ⊥ = cc in wrong)
+told_by_call asks (lists_modules other is_modules same told) = absurd (let wrong : ⊥ = cc in wrong)
+told_by_call asks (lists_file_modules path is_modules same told) = absurd (let wrong : ⊥ = cc in wrong)
 
 told_by_command : {old new : MachineState} {c : CommandValue} {krate : Crate} {list : List Diagnostic} → c ≡ diagnostics krate
     → AnswersCommand old c (reply.Diagnostics list) new

@@ -7,11 +7,13 @@ use Rattle.hir_base.specs.declared.ids.Crate.{Crate}
 use Rattle.hir_base.specs.declared.ids.ImplId.{ImplId}
 use Rattle.hir_base.specs.declared.ids.TraitId.{TraitId}
 use Rattle.hir_wire.specs.Edits.{EditValue}
-use Rattle.hir_wire.specs.CommandValue.{CommandValue, CrateInputValue, crates, diagnostics, dump, edit, impl_items, refresh, resolve, status, trait_items, tree}
+use Rattle.hir_wire.specs.CommandValue.{CommandValue, CrateInputValue, crate_modules, crates, diagnostics, dump, edit, file_modules, impl_items, names, refresh}
+use Rattle.hir_wire.specs.CommandValue.{resolve, status, trait_items, tree}
 use Rattle.hir_wire.specs.Commands.{reading_of}
 use Rattle.hir_wire.specs.declared.answer.Answer.{Answer}
 use Rattle.hir_wire.specs.declared.diagnostic.Diagnostic.{Diagnostic}
 use Rattle.hir_wire.specs.declared.items.Items.{Items}
+use Rattle.hir_wire.specs.declared.names.BoundName.{BoundName}
 use Rattle.hir_wire.specs.declared.command.MacroStyle.{MacroStyle}
 use Rattle.hir_wire.specs.declared.read_error.ReadError.{ReadError}
 use Rattle.hir_wire.specs.declared.reply.Reply.{Reply}
@@ -21,6 +23,7 @@ use Rattle.hir_wire.specs.declared.reply.Reply.TheVariants as reply
 use Rattle.hir_session_state.specs.declared.error.DiagnosticsError.{DiagnosticsError}
 use Rattle.hir_session_state.specs.declared.error.EditError.{EditError}
 use Rattle.hir_session_state.specs.declared.error.ImplItemsError.{ImplItemsError}
+use Rattle.hir_session_state.specs.declared.error.ModulesError.{ModulesError}
 use Rattle.hir_session_state.specs.declared.error.NewSessionError.{NewSessionError}
 use Rattle.hir_session_state.specs.declared.error.QueryError.{QueryError}
 use Rattle.hir_session_state.specs.declared.error.RefreshError.{RefreshError}
@@ -34,6 +37,7 @@ use Rattle.hir_session_state.specs.declared.error.TraitItemsError.TheVariants as
 use Rattle.hir_session_state.specs.declared.error.ImplItemsError.TheVariants as impl_error
 use Rattle.hir_session_state.specs.declared.error.TreeTextError.TheVariants as tree_text_error
 use Rattle.hir_session_state.specs.declared.error.DiagnosticsError.TheVariants as diagnostics_error
+use Rattle.hir_session_state.specs.declared.error.ModulesError.TheVariants as modules_error
 use Rattle.hir_session_state.specs.SessionState.{SessionState}
 use Rattle.hir_session_state.specs.Refusals.{verdict_of_new, verdict_of_apply}
 use Rattle.hir_session_state.specs.Beginning.{Begins}
@@ -44,6 +48,8 @@ use Rattle.hir_session_answers.specs.Answers.{answer_of}
 use Rattle.hir_session_answers.specs.TreeText.{tree_text_of}
 use Rattle.hir_session_answers.specs.Diagnostics.{diagnostics_of}
 use Rattle.hir_session_answers.specs.Dumps.{dump_at}
+use Rattle.hir_session_answers.specs.Modules.{file_modules_of, modules_of}
+use Rattle.hir_session_answers.specs.Names.{names_of}
 use Rattle.hir_session_answers.specs.AssocItems.{impl_at, trait_at, ListsImpl, ListsTrait, RefusesImpl, RefusesTrait}
 
 -- ---- replies
@@ -108,6 +114,22 @@ diagnostics_error_reply diagnostics_error.Memory = reply.Memory
 abbrev pub diagnostics_reply : Result (List Diagnostic) DiagnosticsError → Reply
 diagnostics_reply (Ok list) = reply.Diagnostics list
 diagnostics_reply (Err why) = diagnostics_error_reply why
+
+-- what is told where the modules of a crate aren't
+abbrev pub modules_error_reply : ModulesError → Reply
+modules_error_reply modules_error.UnknownCrate = reply.UnknownCrate
+modules_error_reply modules_error.StalePlace = reply.StalePlace
+modules_error_reply modules_error.Memory = reply.Memory
+
+-- what a query for them is answered
+abbrev pub modules_reply : Result (List PlaceValue) ModulesError → Reply
+modules_reply (Ok places) = reply.Places places
+modules_reply (Err why) = modules_error_reply why
+
+-- what a query for names is answered
+abbrev pub names_reply : Result (List BoundName) QueryError → Reply
+names_reply (Ok told) = reply.Names told
+names_reply (Err why) = query_error_reply why
 
 -- what is told of a line that is no command
 abbrev pub read_reply : ReadError → Reply
@@ -175,6 +197,12 @@ pub data Moves (s : SessionState) (c : CommandValue) (answer : Reply) (t : Sessi
   asks_for_impl : (at : PlaceValue) (number : ℕ) → c ≡ impl_items at number → Grows s t → AnswersImpl s at number answer t → Moves s c answer t
   -- what couldn't be resolved in a crate is told
   lists : (krate : Crate) → c ≡ diagnostics krate → t ≡ s → answer ≡ diagnostics_reply (diagnostics_of s krate) → Moves s c answer t
+  -- what the names of a module stand for is told
+  names_all : (at : PlaceValue) → c ≡ names at → t ≡ s → answer ≡ names_reply (names_of s at) → Moves s c answer t
+  -- the modules of a crate are listed
+  lists_modules : (krate : Crate) → c ≡ crate_modules krate → t ≡ s → answer ≡ modules_reply (modules_of s krate) → Moves s c answer t
+  -- and those that a file is
+  lists_file_modules : (path : List ℕ) → c ≡ file_modules path → t ≡ s → answer ≡ reply.Places (file_modules_of s path) → Moves s c answer t
 
 -- ---- commands, and lines
 
@@ -198,6 +226,9 @@ makes_session (impl_items at number) = false
 makes_session (dump at) = false
 makes_session (tree krate path) = false
 makes_session (diagnostics krate) = false
+makes_session (names at) = false
+makes_session (crate_modules krate) = false
+makes_session (file_modules path) = false
 
 -- what a command does to the machine, and what is told of it
 pub data AnswersCommand (old : MachineState) (c : CommandValue) (answer : Reply) (new : MachineState) : Type 0 where

@@ -1,19 +1,20 @@
 //! What answers lines: a session, or none before the first that is made.
 ghost use Rattle.std.specs.Prelude.{◌≡◌, map, false, None, Some, Option};
-ghost use Rattle.hir_wire.specs.CommandValue.{command_view, crate_input_view, crates as makes, edit as edits, refresh as refreshes, resolve as resolves, tree as asks_for_tree, diagnostics as asks_for_diagnostics, dump as asks_for_dump, trait_items as asks_for_trait, impl_items as asks_for_impl};
+ghost use Rattle.hir_wire.specs.CommandValue.{command_view, crate_input_view, crates as makes, edit as edits, refresh as refreshes, resolve as resolves, tree as asks_for_tree, diagnostics as asks_for_diagnostics, dump as asks_for_dump, trait_items as asks_for_trait, impl_items as asks_for_impl, names as asks_for_names, crate_modules as asks_for_modules, file_modules as asks_for_file_modules};
 ghost use Rattle.hir_wire.specs.Edits.{edit_view};
 ghost use Rattle.hir_wire.specs.Replies.{is_fixed};
 ghost use Rattle.hir_wire.specs.declared.reply.Reply.TheVariants as reply;
-ghost use Rattle.hir_session_machine.specs.Machine.{MachineState, first_state, new_reply, edit_reply, refresh_reply, query_error_reply, trait_items_reply, impl_items_reply, tree_text_reply, diagnostics_error_reply, read_reply, AnswersCommand, AnswersLine};
+ghost use Rattle.hir_session_machine.specs.Machine.{MachineState, first_state, new_reply, edit_reply, refresh_reply, query_error_reply, trait_items_reply, impl_items_reply, tree_text_reply, diagnostics_error_reply, modules_error_reply, read_reply, AnswersCommand, AnswersLine};
 
 use hir_base::file_path::FilePath;
 use hir_base::ids::Crate;
 use hir_base::mod_path::ModPath;
 use hir_base::place::Place;
 use hir_session_core::session::Session;
+use hir_session_invalidation::sources::CollectDefs;
 use hir_session_state::error::{
-    DiagnosticsError, EditError, ImplItemsError, NewSessionError, QueryError, RefreshError,
-    TraitItemsError, TreeTextError,
+    DiagnosticsError, EditError, ImplItemsError, ModulesError, NewSessionError, QueryError,
+    RefreshError, TraitItemsError, TreeTextError,
 };
 use hir_wire::command::{Command, CrateInput, MacroStyle, Shadow};
 use hir_wire::edit::Edit;
@@ -123,6 +124,16 @@ fn reply_to_diagnostics(error: DiagnosticsError) -> Reply
     }
 }
 
+fn reply_to_modules(error: ModulesError) -> Reply
+    ensures value { result ≡ modules_error_reply error }
+{
+    match error {
+        ModulesError::UnknownCrate => Reply::UnknownCrate,
+        ModulesError::StalePlace => Reply::StalePlace,
+        ModulesError::Memory => Reply::Memory,
+    }
+}
+
 fn reply_to_line(error: ReadError) -> Reply
     ensures value { result ≡ read_reply error }
 {
@@ -147,12 +158,12 @@ fn edited(alloc: Global, session: &mut Session, edit: Edit) -> Reply
 }
 
 /// A refresh of a session.
-fn refreshed(alloc: Global, session: &mut Session) -> Reply
+fn refreshed<C: CollectDefs>(alloc: Global, session: &mut Session) -> Reply
     ensures step { AnswersCommand (Some session.old) refreshes result (Some session.new) }
     ensures or_memory { is_fixed result ≡ false
         → AnswersCommand (Some session.old) refreshes reply.Memory (Some session.new) }
 {
-    match session.refresh(alloc) {
+    match session.refresh_by::<C>(alloc) {
         Ok(places) => Reply::Places(Places::new(places)),
         Err(error) => refresh_error_reply(error),
     }
@@ -229,8 +240,38 @@ fn listed(alloc: Global, session: &Session, krate: Crate) -> Reply
     }
 }
 
+/// What each name of a module stands for.
+fn named(alloc: Global, session: &Session, at: &Place) -> Reply
+    ensures step { AnswersCommand (Some session.now) (asks_for_names at.now) result (Some session.now) }
+{
+    match session.names(alloc, at) {
+        Ok(names) => Reply::Names(names),
+        Err(error) => reply_to_query(error),
+    }
+}
+
+/// The modules of a crate.
+fn modules_listed(alloc: Global, session: &Session, krate: Crate) -> Reply
+    ensures step { AnswersCommand (Some session.now) (asks_for_modules krate) result (Some session.now) }
+{
+    match session.modules(alloc, krate) {
+        Ok(modules) => Reply::Places(modules),
+        Err(error) => reply_to_modules(error),
+    }
+}
+
+/// The modules that a file is.
+fn file_modules_listed(alloc: Global, session: &Session, file: &FilePath) -> Reply
+    ensures step { AnswersCommand (Some session.now) (asks_for_file_modules file.now) result (Some session.now) }
+{
+    match session.file_modules(alloc, file) {
+        Ok(modules) => Reply::Places(modules),
+        Err(_) => Reply::Memory,
+    }
+}
+
 /// What a command does to a session, and what is told of it.
-fn called(alloc: Global, session: &mut Session, command: Command) -> Reply
+fn called<C: CollectDefs>(alloc: Global, session: &mut Session, command: Command) -> Reply
     ensures step { AnswersCommand (Some session.old) (command_view command) result (Some session.new) }
     ensures or_memory { is_fixed result ≡ false
         → AnswersCommand (Some session.old) (command_view command) reply.Memory (Some session.new) }
@@ -238,7 +279,7 @@ fn called(alloc: Global, session: &mut Session, command: Command) -> Reply
     match command {
         Command::Crates(_) => Reply::Command,
         Command::Edit(edit) => edited(alloc, session, edit),
-        Command::Refresh => refreshed(alloc, session),
+        Command::Refresh => refreshed::<C>(alloc, session),
         Command::Resolve {
             at,
             path,
@@ -250,6 +291,9 @@ fn called(alloc: Global, session: &mut Session, command: Command) -> Reply
         Command::TraitItems { at, path } => trait_listed(alloc, session, &at, &path),
         Command::ImplItems { at, number } => impl_listed(alloc, session, &at, number),
         Command::Dump { at } => dumped(alloc, session, &at),
+        Command::Names { at } => named(alloc, session, &at),
+        Command::CrateModules { krate } => modules_listed(alloc, session, krate),
+        Command::FileModules { file } => file_modules_listed(alloc, session, &file),
         Command::Status { at } => Reply::Status(session.status(&at)),
     }
 }
@@ -276,35 +320,43 @@ impl Machine {
         }
     }
 
-    /// Carries out a command.
-    fn carry_out(&mut self, alloc: Global, command: Command) -> Reply
+    /// Carries out a command before the first session.
+    fn carry_out_first(&mut self, alloc: Global, command: Command) -> Reply
+        requires before { self.old ≡ None }
         ensures step { AnswersCommand self.old (command_view command) result self.new }
         ensures or_memory { is_fixed result ≡ false
             → AnswersCommand self.old (command_view command) reply.Memory self.new }
     {
-        match self.session.take() {
-            Some(mut session) => {
-                let told = called(alloc, &mut session, command);
-                self.session = Some(session);
-                told
-            }
-            None => match command {
-                Command::Crates(inputs) => self.begin(alloc, inputs),
-                _ => Reply::Command,
-            },
+        match command {
+            Command::Crates(inputs) => self.begin(alloc, inputs),
+            _ => Reply::Command,
         }
+    }
+
+    /// Carries out a command.
+    fn carry_out<C: CollectDefs>(&mut self, alloc: Global, command: Command) -> Reply
+        ensures step { AnswersCommand self.old (command_view command) result self.new }
+        ensures or_memory { is_fixed result ≡ false
+            → AnswersCommand self.old (command_view command) reply.Memory self.new }
+    {
+        let Some(mut session) = self.session.take() else {
+            return self.carry_out_first(alloc, command);
+        };
+        let told = called::<C>(alloc, &mut session, command);
+        self.session = Some(session);
+        told
     }
 
     /// Answers one line.
     ///
     /// A reply whose text takes memory may be told as want of memory.
-    pub fn answer(&mut self, alloc: Global, line: &[u8]) -> Reply
+    pub fn answer_by<C: CollectDefs>(&mut self, alloc: Global, line: &[u8]) -> Reply
         ensures step { AnswersLine self.old line.now result self.new }
         ensures or_memory { is_fixed result ≡ false
             → AnswersLine self.old line.now reply.Memory self.new }
     {
         match read_command(alloc, line) {
-            Ok(command) => self.carry_out(alloc, command),
+            Ok(command) => self.carry_out::<C>(alloc, command),
             Err(error) => reply_to_line(error),
         }
     }

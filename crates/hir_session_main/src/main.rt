@@ -1,9 +1,6 @@
 //! Serves one session: reads commands from standard input, and writes a reply for each.
 #![tactic(auto)]
 
-#[cfg(test)]
-mod tests;
-
 use hir_session::{Fault, run};
 use std::process::ExitCode;
 

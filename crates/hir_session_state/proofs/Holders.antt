@@ -3,7 +3,7 @@ use Rattle.std.proofs.Common.{◌≡◌, ◌∙◌, Bool, true, false, cond, Opt
 use Rattle.std.specs.Prelude.{ℕ}
 use Rattle.hir_def_map_rules.specs.Overlay.{Maps}
 use Rattle.hir_def_map_rules.specs.State.{Map, with_scope}
-use Rattle.hir_import_resolution.specs.State.{ImportState}
+use Rattle.hir_import_rules.specs.State.{ImportState}
 use Rattle.hir_tables.specs.Tables.{TablesValue}
 use Rattle.hir_collector_rules.specs.Keys.{Environment}
 use Rattle.hir_collector_rules.specs.State.{Core, State, import_state}

@@ -32,6 +32,8 @@ use Rattle.hir_session_state.specs.declared.error.TreeTextError.{TreeTextError}
 use Rattle.hir_session_state.specs.declared.error.TreeTextError.TheVariants as tree_text_error
 use Rattle.hir_session_state.specs.declared.error.DiagnosticsError.{DiagnosticsError}
 use Rattle.hir_session_state.specs.declared.error.DiagnosticsError.TheVariants as diagnostics_error
+use Rattle.hir_session_state.specs.declared.error.ModulesError.{ModulesError}
+use Rattle.hir_session_state.specs.declared.error.ModulesError.TheVariants as modules_error
 use Rattle.hir_session_state.specs.SessionState.{max_crates}
 use Rattle.hir_session_state.specs.Nesting.{is_nested_too_deep}
 use Rattle.hir_session_state.specs.Blocks.{nesting_of, place_of_block}
@@ -55,6 +57,10 @@ IsTreeTextMemory e = e ≡ tree_text_error.Memory
 -- memory ran out for diagnostics
 abbrev pub IsDiagnosticsMemory : DiagnosticsError → Type 0
 IsDiagnosticsMemory e = e ≡ diagnostics_error.Memory
+
+-- memory ran out for a list of modules
+abbrev pub IsModulesMemory : ModulesError → Type 0
+IsModulesMemory e = e ≡ modules_error.Memory
 
 -- why a refresh ends early where a block gets no number
 abbrev pub refresh_error_of_number : LocationsError → RefreshError

@@ -114,6 +114,18 @@ pub enum DiagnosticsError {
     Memory,
 }
 
+/// Why the modules of a crate aren't listed.
+#[derive(Clone, Copy, Debug, PartialEq, Eq, Drop, Error)]
+pub enum ModulesError {
+    #[error("there is no such crate")]
+    UnknownCrate,
+    /// What is kept of the crate may be out of date.
+    #[error("what is kept of the crate may be out of date")]
+    StalePlace,
+    #[error("out of memory")]
+    Memory,
+}
+
 /// What a limit is on.
 fn measured(limit: Limit) -> &'static str {
     match limit {
@@ -257,5 +269,16 @@ impl From<AllocError> for DiagnosticsError {
 
     fn from(_: AllocError) -> DiagnosticsError {
         DiagnosticsError::Memory
+    }
+}
+
+impl From<AllocError> for ModulesError {
+    ghost use Rattle.std.specs.Prelude.{◌≡◌};
+    ghost use Rattle.hir_session_state.specs.declared.error.ModulesError.TheVariants.{Memory};
+
+    ghost from_gives = { λ _ e. e ≡ Memory };
+
+    fn from(_: AllocError) -> ModulesError {
+        ModulesError::Memory
     }
 }

@@ -21,12 +21,22 @@ use std::marker::Model;
 
 /// Which file, block, expansion and macro call a number stands for. A value that is put in again gets the number that
 /// it has.
-#[derive(Drop)]
 pub struct Tables {
     files: Interner<FilePath>,
     blocks: Interner<BlockPlace>,
     entries: Interner<ExpansionKey>,
     calls: Interner<MacroCallLoc>,
+}
+
+impl Drop for Tables {
+    fn drop(self) {
+        let Tables {
+            files: _,
+            blocks: _,
+            entries: _,
+            calls: _,
+        } = self;
+    }
 }
 
 impl Model for Tables {

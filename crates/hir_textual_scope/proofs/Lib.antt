@@ -3,3 +3,4 @@ pub mod MoreMacros
 pub mod NamedMacros
 pub mod Positions
 pub mod NewMacro
+mod ByName

@@ -8,7 +8,7 @@ use Rattle.std.proofs.lemmas.Cmp.{nat_list_cmp_total, upto, alike_right}
 use Rattle.std.proofs.lemmas.Map.Text.{is_eq-slice_cmp}
 use Rattle.std.proofs.lemmas.List.Elements.{All-nil, All-cons, All-head, All-tail}
 use Rattle.hir_textual_scope.specs.Types.{TextualMacro}
-use Rattle.hir_textual_scope.specs.Macros.{is_before, IsInOrder}
+use Rattle.hir_textual_scope.specs.Node.{is_before, IsInOrder}
 
 is_lt-reverse : (r : Ordering) → is_lt (ordering_reverse r) ≡ is_gt r
 is_lt-reverse Less = refl

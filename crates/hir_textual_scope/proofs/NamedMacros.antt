@@ -9,7 +9,8 @@ use Rattle.std.proofs.lemmas.List.{map-append}
 use Rattle.std.proofs.lemmas.List.Elements.{All-head, All-tail, All-weaker, filter-append}
 use Rattle.hir_base.specs.declared.macro_kind.MacroId.{MacroId}
 use Rattle.hir_textual_scope.specs.Types.{TextualMacro}
-use Rattle.hir_textual_scope.specs.Macros.{has_name, is_before, last_of, macros_of, IsInOrder}
+use Rattle.hir_textual_scope.specs.Macros.{has_name, last_of, macros_of}
+use Rattle.hir_textual_scope.specs.Node.{is_before, IsInOrder}
 use Rattle.hir_textual_scope.proofs.NameOrder.{same_name, less_not_before, greater_not_before, left_of_middle, right_of_middle}
 
 pub macros_of-none : (ms : List TextualMacro) (name : List ℕ) → All (λ m. has_name name m ≡ false) ms → macros_of ms name ≡ []
@@ -84,21 +85,3 @@ pub last_from_middle : (ms l : List TextualMacro) (m : TextualMacro) (r : List T
     → ms ≡ l ++ m ∷ r → slice_cmp nat_cmp name m.name ≡ Equal → found ≡ option_or (last_of r name) (Some m.makro) → found ≡ last_of ms name
 last_from_middle ms l m r name found e h f =
     f ∙ sym (last_of-equal l m r name h) ∙ ap (λ xs. last_of xs name) (sym e)
-
-pub named_on_left : (ms l : List TextualMacro) (m : TextualMacro) (r : List TextualMacro) (name : List ℕ)
-    → ms ≡ l ++ m ∷ r → IsInOrder ms → slice_cmp nat_cmp name m.name ≡ Less → macros_of l name ≡ macros_of ms name
-named_on_left ms l m r name e s h = sym (macros_of-less l m r name (subst IsInOrder e s) h) ∙ ap (λ xs. macros_of xs name) (sym e)
-
-pub named_on_right : (ms l : List TextualMacro) (m : TextualMacro) (r : List TextualMacro) (name : List ℕ)
-    → ms ≡ l ++ m ∷ r → IsInOrder ms → slice_cmp nat_cmp name m.name ≡ Greater → macros_of r name ≡ macros_of ms name
-named_on_right ms l m r name e s h = sym (macros_of-greater l m r name (subst IsInOrder e s) h) ∙ ap (λ xs. macros_of xs name) (sym e)
-
--- the macros on the left, that in the middle and those on the right, one after another
-pub named_around : (ms l : List TextualMacro) (m : TextualMacro) (r : List TextualMacro) (name : List ℕ) (old front more : List MacroId)
-    → ms ≡ l ++ m ∷ r → slice_cmp nat_cmp name m.name ≡ Equal → front ≡ old ++ macros_of l name → more ≡ front ++ m.makro ∷ []
-    → more ++ macros_of r name ≡ old ++ macros_of ms name
-named_around ms l m r name old front more e h p q =
-    ap (λ xs. xs ++ macros_of r name) (q ∙ ap (λ xs. xs ++ m.makro ∷ []) p)
-    ∙ append_assoc (old ++ macros_of l name) (m.makro ∷ []) (macros_of r name)
-    ∙ append_assoc old (macros_of l name) (m.makro ∷ macros_of r name)
-    ∙ ap (λ xs. old ++ xs) (sym (macros_of-equal l m r name h) ∙ ap (λ xs. macros_of xs name) (sym e))

@@ -7,4 +7,4 @@ mod node;
 mod tests;
 pub mod textual_scope;
 
-pub use textual_scope::{TextualMacro, TextualMacros, TextualScope};
+pub use textual_scope::{MacrosOf, TextualMacro, TextualMacros, TextualScope};

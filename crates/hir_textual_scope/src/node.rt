@@ -1,11 +1,11 @@
 //! Balanced trees of macros that share their subtrees. What changes a tree copies the nodes above the change.
 //!
 //! Neither side of a node weighs more than three times the other, where a tree weighs one more than its macros.
-ghost use Rattle.std.specs.Prelude.{◌≡◌, ◌+◌, ◌∷◌, ◌++◌, length, slice_get, IfOk, IfSome, OnOk};
+ghost use Rattle.std.specs.Prelude.{◌≡◌, ◌+◌, [], ◌∷◌, ◌++◌, length, slice_get, IfOk, IfSome};
 ghost use Rattle.std.specs.Option.{option_copied, option_eq};
 ghost use Rattle.std.specs.Cmp.Lexicographic.{pointwise};
-ghost use Rattle.hir_textual_scope.specs.Node.{macros_under};
-ghost use Rattle.hir_textual_scope.specs.Macros.{last_of, macros_of, with_macro, IsInOrder};
+ghost use Rattle.hir_textual_scope.specs.Node.{macros_under, count_before, with_named, IsInOrder};
+ghost use Rattle.hir_textual_scope.specs.Macros.{last_of};
 
 use crate::textual_scope::TextualMacro;
 use hir_base::macro_kind::MacroId;
@@ -202,25 +202,41 @@ fn balanced(
 }
 
 /// A tree with one macro more, the last of its name.
-pub(crate) fn with_macro(
+pub(crate) fn with_named(
     alloc: Global,
     tree: &Link,
     new: TextualMacro,
 ) -> Result<Rc<Node>, AllocError>
     requires in_order { IsInOrder (macros_under tree.now) }
-    ensures ok { IfOk result (λ node. node.value ≡ with_macro (macros_under tree.now) new.name new.makro) }
+    ensures ok { IfOk result (λ node. node.value ≡ with_named (macros_under tree.now) new.name new.makro) }
 {
     let Some(node) = tree else {
         return fork(alloc, None, new, None);
     };
     let node: &Node = &**node;
     if new.name < node.entry.name {
-        let left = with_macro(alloc, &node.left, new)?;
+        let left = with_named(alloc, &node.left, new)?;
         balanced(alloc, Some(left), node.entry.clone()?, share(&node.right)?)
     } else {
-        let right = with_macro(alloc, &node.right, new)?;
+        let right = with_named(alloc, &node.right, new)?;
         balanced(alloc, share(&node.left)?, node.entry.clone()?, Some(right))
     }
+}
+
+/// A tree with one macro more, the last of all.
+pub(crate) fn with_last(
+    alloc: Global,
+    tree: &Link,
+    new: TextualMacro,
+) -> Result<Rc<Node>, AllocError>
+    ensures ok { IfOk result (λ node. node.value ≡ macros_under tree.now ++ new ∷ []) }
+{
+    let Some(node) = tree else {
+        return fork(alloc, None, new, None);
+    };
+    let node: &Node = &**node;
+    let right = with_last(alloc, &node.right, new)?;
+    balanced(alloc, share(&node.left)?, node.entry.clone()?, Some(right))
 }
 
 /// The last macro of a name.
@@ -239,27 +255,20 @@ pub(crate) fn last_of(tree: &Link, name: &Name) -> Option<MacroId>
     }
 }
 
-/// Appends the macros of a name, in the order in which they were defined.
-pub(crate) fn push_macros_of(
-    tree: &Link,
-    name: &Name,
-    macros: &mut Vec<MacroId>,
-) -> Result<(), AllocError>
+/// How many macros have a name before this one.
+pub(crate) fn count_before(tree: &Link, name: &Name) -> usize
     requires in_order { IsInOrder (macros_under tree.now) }
-    ensures ok { OnOk result (macros.new.items ≡ macros.old.items ++ macros_of (macros_under tree.now) name.now) }
+    ensures value { result ≡ count_before (macros_under tree.now) name.now }
 {
     let Some(node) = tree else {
-        return Ok(());
+        return 0;
     };
     let node: &Node = &**node;
-    match name.cmp(&node.entry.name) {
-        Ordering::Less => push_macros_of(&node.left, name, macros),
-        Ordering::Equal => {
-            push_macros_of(&node.left, name, macros)?;
-            macros.push(node.entry.makro)?;
-            push_macros_of(&node.right, name, macros)
-        }
-        Ordering::Greater => push_macros_of(&node.right, name, macros),
+    if node.entry.name < *name {
+        let before = node.len - len(&node.right);
+        before + count_before(&node.right, name)
+    } else {
+        count_before(&node.left, name)
     }
 }
 

@@ -49,7 +49,10 @@ fn parent_and_child(alloc: Global) -> Result<(TextualScope, TextualScope), Fail>
 /// The number of the last macro of a name, and how many it has.
 fn found(alloc: Global, scope: &TextualScope, name: &str) -> Result<(Option<u16>, usize), Fail> {
     let name = Name::new(alloc, name)?;
-    let count = scope.macros_of(&name)?.len();
+    let mut count: usize = 0;
+    for _ in scope.macros_of(&name) {
+        count = count.saturating_add(1);
+    }
     match scope.last(&name) {
         Some(MacroId::MacroRulesId(id)) => Ok((Some(id.loc.id.index), count)),
         _ => Ok((None, count)),

@@ -1,6 +1,6 @@
 //! The macros in textual scope at one place.
-ghost use Rattle.std.specs.Prelude.{◌≡◌, ◌↔◌, [], length, IsTrue, IfOk, OnOk, OnErr};
-ghost use Rattle.hir_textual_scope.specs.Macros.{last_of, macros_of, with_macro, IsInOrder};
+ghost use Rattle.std.specs.Prelude.{◌≡◌, ◌↔◌, [], drop, length, IsTrue, IfOk, OnOk, OnErr};
+ghost use Rattle.hir_textual_scope.specs.Macros.{last_of, macros_of, with_macro};
 
 use crate::node::{self, Link};
 use hir_base::macro_kind::MacroId;
@@ -33,26 +33,26 @@ impl TextualMacro {
 /// A module begins with a clone of its parent's, and both share what they have in common: a clone takes the same time
 /// however many macros there are, and a definition takes the logarithm of their number, whatever is shared.
 ///
-/// The macros are kept in a balanced tree by name, and those of one name in the order of their definition. So neither many
-/// names nor many macros of one name make it deep. That it is balanced isn't proved.
+/// The macros are kept in two balanced trees: in the order of their definition, and by name. So neither many names nor
+/// many macros of one name make one deep. That they are balanced isn't proved.
 #[derive(Drop)]
 pub struct TextualScope {
-    root: Link,
+    defined: Link,
+    named: Link,
     alloc: Global,
 }
 
 impl Model for TextualScope {
-    ghost use Rattle.std.specs.Prelude.{List};
+    ghost use Rattle.std.specs.Prelude.{◌≡◌, List};
     ghost use Rattle.hir_textual_scope.specs.declared.textual_scope.TextualMacro.{TextualMacro};
 
     ghost Value = { List TextualMacro };
 
-    ghost use Rattle.hir_textual_scope.specs.Node.{macros_under};
-    ghost use Rattle.hir_textual_scope.specs.Macros.{IsInOrder};
+    ghost use Rattle.hir_textual_scope.specs.Node.{by_name, macros_under};
 
-    ghost view = { λ scope. macros_under scope.root };
+    ghost view = { λ scope. macros_under scope.defined };
 
-    ghost invariant = { λ scope. IsInOrder (macros_under scope.root) };
+    ghost invariant = { λ scope. macros_under scope.named ≡ by_name (macros_under scope.defined) };
 }
 
 impl TextualScope {
@@ -60,7 +60,11 @@ impl TextualScope {
     pub fn new(alloc: Global) -> TextualScope
         ensures value { result ≡ [] }
     {
-        TextualScope { root: None, alloc }
+        TextualScope {
+            defined: None,
+            named: None,
+            alloc,
+        }
     }
 
     /// The same macros. It takes the same time however many there are: both share them.
@@ -68,7 +72,8 @@ impl TextualScope {
         ensures value { IfOk result (λ scope. scope ≡ self.now) }
     {
         Ok(TextualScope {
-            root: node::share(&self.root)?,
+            defined: node::share(&self.defined)?,
+            named: node::share(&self.named)?,
             alloc: self.alloc,
         })
     }
@@ -77,7 +82,7 @@ impl TextualScope {
     pub fn len(&self) -> usize
         ensures value { result ≡ length self.now }
     {
-        node::len(&self.root)
+        node::len(&self.defined)
     }
 
     /// Whether there are none.
@@ -87,14 +92,16 @@ impl TextualScope {
         self.len() == 0
     }
 
-    /// Adds a macro, which is now the last of its name.
+    /// Adds a macro, which is now the last.
     pub fn define(&mut self, name: Name, makro: MacroId) -> Result<(), AllocError>
         ensures ok { OnOk result (self.new ≡ with_macro self.old name makro) }
         ensures err { OnErr result (self.new ≡ self.old) }
     {
         let new = TextualMacro { name, makro };
-        let root = node::with_macro(self.alloc, &self.root, new)?;
-        self.root = Some(root);
+        let named = node::with_named(self.alloc, &self.named, new.clone()?)?;
+        let defined = node::with_last(self.alloc, &self.defined, new)?;
+        self.named = Some(named);
+        self.defined = Some(defined);
         Ok(())
     }
 
@@ -102,33 +109,45 @@ impl TextualScope {
     pub fn last(&self, name: &Name) -> Option<MacroId>
         ensures value { result ≡ last_of self.now name.now }
     {
-        node::last_of(&self.root, name)
+        node::last_of(&self.named, name)
     }
 
-    /// The macros of a name, in the order in which they were defined.
-    pub fn macros_of(&self, name: &Name) -> Result<Vec<MacroId>, AllocError>
-        ensures ok { IfOk result (λ macros. macros.items ≡ macros_of self.now name.now) }
+    /// The macros of a name, in the order in which they were defined. Nothing is copied.
+    pub fn macros_of<'a>(&'a self, name: &'a Name) -> MacrosOf<'a>
+        ensures value { result ≡ macros_of self.now name.now }
     {
-        let mut macros = Vec::new(self.alloc);
-        node::push_macros_of(&self.root, name, &mut macros)?;
-        Ok(macros)
+        MacrosOf {
+            root: &self.named,
+            name,
+            next: node::count_before(&self.named, name),
+        }
     }
 
-    /// All macros, by name, and those of one name in the order in which they were defined.
+    /// All macros, in the order in which they were defined.
     pub fn iter(&self) -> TextualMacros<'_>
         ensures value { result ≡ self.now }
-        ensures in_order { IsInOrder result }
     {
         TextualMacros {
-            root: &self.root,
+            root: &self.defined,
             next: 0,
         }
     }
 
-    /// Whether no path down the tree has more nodes than this.
+    /// The macros behind the first so many. Of a scope that began as a clone of another these are, from the length of
+    /// that one on, what was defined since; what both share isn't looked at.
+    pub fn iter_from(&self, count: usize) -> TextualMacros<'_>
+        ensures value { result ≡ drop count self.now }
+    {
+        TextualMacros {
+            root: &self.defined,
+            next: count,
+        }
+    }
+
+    /// Whether no path down a tree has more nodes than this.
     #[cfg(test)]
     pub(crate) fn is_within(&self, depth: u32) -> bool {
-        node::is_within(depth, &self.root)
+        node::is_within(depth, &self.defined) && node::is_within(depth, &self.named)
     }
 }
 
@@ -142,7 +161,7 @@ impl PartialEq for TextualScope {
     ghost laws = { partial_equiv_from_equiv (lists_equiv macro_laws) };
 
     fn eq(&self, other: &TextualScope) -> bool {
-        node::same(&self.root, &other.root)
+        node::same(&self.defined, &other.defined)
     }
 }
 
@@ -190,5 +209,50 @@ impl<'a> Iterator for TextualMacros<'a> {
         let found = node::get(self.root, self.next);
         self.next += 1;
         found
+    }
+}
+
+/// The macros of a name that are left of a walk; see `TextualScope::macros_of`.
+#[derive(Drop)]
+pub struct MacrosOf<'a> {
+    root: &'a Link,
+    name: &'a Name,
+    next: usize,
+}
+
+impl<'a> Model for MacrosOf<'a> {
+    ghost use Rattle.std.specs.Prelude.{List, drop};
+    ghost use Rattle.hir_base.specs.declared.macro_kind.MacroId.{MacroId};
+
+    ghost Value = { List MacroId };
+
+    ghost use Rattle.hir_textual_scope.specs.Node.{leading, macros_under};
+
+    ghost view = { λ walk. leading walk.name.now (drop walk.next (macros_under walk.root.now)) };
+}
+
+impl<'a> Iterator for MacrosOf<'a> {
+    type Item = MacroId;
+
+    ghost use Rattle.std.specs.Prelude.{List};
+    ghost use Rattle.std.specs.Iterator.{YieldsFirst, item_count};
+    ghost use Rattle.hir_base.specs.declared.macro_kind.MacroId.{MacroId};
+
+    ghost next_gives = { YieldsFirst (λ (left : List MacroId). left) };
+
+    ghost remaining = { item_count (λ (left : List MacroId). left) };
+
+    fn next(&mut self) -> Option<MacroId> {
+        let len = node::len(self.root);
+        if self.next >= len {
+            return None;
+        }
+        let entry = node::get(self.root, self.next)?;
+        if *self.name == entry.name {
+            self.next += 1;
+            Some(entry.makro)
+        } else {
+            None
+        }
     }
 }

@@ -9,7 +9,7 @@ use Rattle.serde_json.specs.Written.{has_float, items_have_float, members_have_f
 use Rattle.hir_base.specs.Place.{PlaceValue}
 use Rattle.hir_base.specs.declared.place.PlaceElement.{PlaceElement}
 use Rattle.hir_base.specs.declared.place.PlaceElement.TheVariants as element
-use Rattle.hir_wire.specs.Types.{Answer, AnswerItem, AnswerVisibility, AssocItem, CalledItem, Definition, Diagnostic, DiagnosticKind, ImportOrigin}
+use Rattle.hir_wire.specs.Types.{Answer, AnswerItem, AnswerVisibility, AssocItem, BoundName, CalledItem, Definition, Diagnostic, DiagnosticKind, ImportOrigin}
 use Rattle.hir_wire.specs.Types.{ImportSource, ItemSource, Items, Reply, SourceCall, SourceCallKind, SourceItem, SourceRoot}
 use Rattle.hir_wire.specs.Types.call
 use Rattle.hir_wire.specs.Types.definition
@@ -20,7 +20,7 @@ use Rattle.hir_wire.specs.Types.root
 use Rattle.hir_wire.specs.Types.visibility
 use Rattle.hir_wire.specs.Replies.{assoc_item_data, element_data, place_data, root_data, call_data, call_members, source_data, definition_data, origin_data}
 use Rattle.hir_wire.specs.Replies.{import_data, or_null, visibility_data, item_data, item_members, number_data, answer_data, called_data, diagnostic_data}
-use Rattle.hir_wire.specs.Replies.{diagnostic_members, items_data, reply_data, source_item_members}
+use Rattle.hir_wire.specs.Replies.{bound_name_data, diagnostic_members, items_data, reply_data, source_item_members}
 
 neither : (a b : Bool) → a ≡ false → b ≡ false → (a || b) ≡ false
 neither a b p q = ap (λ x. x || b) p ∙ q
@@ -143,6 +143,16 @@ plain_items i =
     (neither (items_have_float (items_of (map diagnostic_data i.diagnostics))) _ (plain_diagnostics i.diagnostics)
     (neither (items_have_float (items_of (map assoc_item_data i.items))) false (plain_assoc_items i.items) refl))
 
+plain_bound_name : (n : BoundName) → has_float (bound_name_data n) ≡ false
+plain_bound_name n =
+    neither (has_float (or_null item_data n.macros)) _ (plain_item n.macros)
+    (neither (has_float (or_null item_data n.types)) _ (plain_item n.types)
+    (neither (has_float (or_null item_data n.values)) false (plain_item n.values) refl))
+
+plain_names : (ns : List BoundName) → items_have_float (items_of (map bound_name_data ns)) ≡ false
+plain_names [] = refl
+plain_names (n ∷ ns) = neither (has_float (bound_name_data n)) _ (plain_bound_name n) (plain_names ns)
+
 pub plain_reply : (r : Reply) → has_float (reply_data r) ≡ false
 plain_reply reply.Done = refl
 plain_reply (reply.Places places) = neither (items_have_float (items_of (map place_data places))) false (plain_places places) refl
@@ -150,6 +160,7 @@ plain_reply (reply.Answer answer) = neither (has_float (answer_data answer)) fal
 plain_reply (reply.Status status) = refl
 plain_reply (reply.Diagnostics diagnostics) = neither (items_have_float (items_of (map diagnostic_data diagnostics))) false (plain_diagnostics diagnostics) refl
 plain_reply (reply.Items held) = neither (has_float (items_data held)) false (plain_items held) refl
+plain_reply (reply.Names names) = neither (items_have_float (items_of (map bound_name_data names))) false (plain_names names) refl
 plain_reply (reply.Text text) = refl
 plain_reply reply.Json = refl
 plain_reply reply.Command = refl

@@ -44,6 +44,12 @@ pub data CommandValue : Type 0 where
   status : PlaceValue → CommandValue
   -- of a crate
   diagnostics : Crate → CommandValue
+  -- of a module
+  names : PlaceValue → CommandValue
+  -- of a crate
+  crate_modules : Crate → CommandValue
+  -- of a file
+  file_modules : List ℕ → CommandValue
   -- of a crate, and a file
   tree : Crate → List ℕ → CommandValue
 
@@ -58,4 +64,7 @@ command_view (command.ImplItems at number) = impl_items at number
 command_view (command.Dump at) = dump at
 command_view (command.Status at) = status at
 command_view (command.Diagnostics krate) = diagnostics krate
+command_view (command.Names at) = names at
+command_view (command.CrateModules krate) = crate_modules krate
+command_view (command.FileModules file) = file_modules file
 command_view (command.Tree krate file) = tree krate file

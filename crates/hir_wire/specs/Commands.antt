@@ -1,5 +1,5 @@
 -- Which command does a line mean?
-use Rattle.std.specs.Prelude.{ℕ, List, [], true, false, Option, Some, None, Ok, Err, if◌then◌else◌, codes}
+use Rattle.std.specs.Prelude.{ℕ, Bool, List, [], true, false, Option, Some, None, Ok, Err, if◌then◌else◌, codes}
 use Rattle.std.specs.Str.{bytes_eq, is_utf8}
 use Rattle.serde_json.specs.Data.{Data, null, boolean, number, string, array, object, Members}
 use Rattle.serde_json.specs.Read.{read}
@@ -14,13 +14,14 @@ use Rattle.hir_wire.specs.declared.read.line.Verb.{Verb}
 use Rattle.hir_wire.specs.declared.read.line.Verb.TheVariants as verb
 use Rattle.hir_wire.specs.declared.read_error.ReadError.TheVariants.{Json, Command}
 use Rattle.hir_wire.specs.Attributes.{attributes_of}
-use Rattle.hir_wire.specs.CommandValue.{CommandValue, CrateInputValue, crates, diagnostics, dump, edit, impl_items, refresh, resolve, status, trait_items, tree}
+use Rattle.hir_wire.specs.CommandValue.{CommandValue, CrateInputValue, crate_modules, crates, diagnostics, dump, edit, file_modules, impl_items, names, refresh}
+use Rattle.hir_wire.specs.CommandValue.{resolve, status, trait_items, tree}
 use Rattle.hir_wire.specs.Conditions.{option_of}
 use Rattle.hir_wire.specs.Edits.{set_file, remove_file, set_block, remove_block, set_expansion, remove_expansion}
 use Rattle.hir_wire.specs.Expansions.{entry_in, key_of}
 use Rattle.hir_wire.specs.Nodes.{source_of}
 use Rattle.hir_wire.specs.Paths.{name_of, path_of, file_of, bool_of, crate_of, number_of, place_of, block_place_of}
-use Rattle.hir_wire.specs.Reading.{Reading, made, paired, required, optional, word_as, list_of}
+use Rattle.hir_wire.specs.Reading.{Reading, made, paired, required, optional, word_as, list_of, has_member}
 
 -- the edition that a word stands for
 abbrev pub edition_of_word : List ℕ → Option Edition
@@ -91,7 +92,9 @@ verb_of_word word =
     (if bytes_eq word (codes "dump") then Some verb.Dump else
     (if bytes_eq word (codes "status") then Some verb.Status else
     (if bytes_eq word (codes "diagnostics") then Some verb.Diagnostics else
-    (if bytes_eq word (codes "tree") then Some verb.Tree else None))))))))))))))
+    (if bytes_eq word (codes "names") then Some verb.Names else
+    (if bytes_eq word (codes "modules") then Some verb.Modules else
+    (if bytes_eq word (codes "tree") then Some verb.Tree else None))))))))))))))))
 
 -- the file and the source of an edit
 unfoldable pub set_file_in : Members → Reading CommandValue
@@ -104,6 +107,16 @@ set_block_in ms = made (λ p. edit (set_block p.0 p.1)) (paired (required block_
 -- what an expansion depends on, and what it gives
 unfoldable pub set_expansion_in : Members → Reading CommandValue
 set_expansion_in ms = made (λ p. edit (set_expansion p.0 p.1)) (paired (required key_of (codes "key") ms) (entry_in ms))
+
+-- the crate or the file whose modules are asked for, by whether each of them is there
+abbrev pub modules_by : Bool → Bool → Members → Reading CommandValue
+modules_by true false ms = made crate_modules (required crate_of (codes "crate") ms)
+modules_by false true ms = made file_modules (required file_of (codes "file") ms)
+modules_by true true ms = Err Command
+modules_by false false ms = Err Command
+
+unfoldable pub modules_in : Members → Reading CommandValue
+modules_in ms = modules_by (has_member (codes "crate") ms) (has_member (codes "file") ms) ms
 
 -- the crate and the file of a page
 unfoldable pub tree_in : Members → Reading CommandValue
@@ -140,6 +153,8 @@ fields_of verb.ImplItems ms = impl_items_in ms
 fields_of verb.Dump ms = made dump (required place_of (codes "at") ms)
 fields_of verb.Status ms = made status (required place_of (codes "at") ms)
 fields_of verb.Diagnostics ms = made diagnostics (required crate_of (codes "crate") ms)
+fields_of verb.Names ms = made names (required place_of (codes "at") ms)
+fields_of verb.Modules ms = modules_in ms
 fields_of verb.Tree ms = tree_in ms
 
 -- a command, once its word is read

@@ -10,7 +10,7 @@ use Rattle.hir_base.specs.Place.{PlaceValue}
 use Rattle.hir_base.specs.declared.place.PlaceElement.{PlaceElement}
 use Rattle.hir_base.specs.declared.ast_id.SyntaxId.{SyntaxId}
 use Rattle.hir_base.specs.declared.place.PlaceElement.TheVariants as element
-use Rattle.hir_wire.specs.Types.{Answer, AnswerItem, AnswerVisibility, AssocItem, CalledItem, Definition, Diagnostic, DiagnosticKind, ImportOrigin}
+use Rattle.hir_wire.specs.Types.{Answer, AnswerItem, AnswerVisibility, AssocItem, BoundName, CalledItem, Definition, Diagnostic, DiagnosticKind, ImportOrigin}
 use Rattle.hir_wire.specs.Types.{ImportSource, ItemSource, Items, Reply, SourceCall, SourceCallKind, SourceItem, SourceRoot}
 use Rattle.hir_wire.specs.Types.call
 use Rattle.hir_wire.specs.Types.definition
@@ -164,6 +164,19 @@ items_data held =
     (member (codes "diagnostics") (array (items_of (map diagnostic_data held.diagnostics)))
     (member (codes "items") (array (items_of (map assoc_item_data held.items))) no_members)))
 
+-- ---- names of modules
+
+-- the name; a trait that is imported without one has an underscore
+abbrev pub name_word : Option (List ℕ) → List ℕ
+name_word None = codes "_"
+name_word (Some name) = name
+
+-- what a name stands for
+abbrev pub bound_name_data : BoundName → Data
+bound_name_data bound =
+    object (member (codes "macros") (or_null item_data bound.macros) (member (codes "name") (string (name_word bound.name))
+    (member (codes "types") (or_null item_data bound.types) (member (codes "values") (or_null item_data bound.values) no_members))))
+
 -- ---- replies
 
 -- what went well
@@ -182,6 +195,7 @@ reply_data (reply.Answer answer) = success (answer_data answer)
 reply_data (reply.Status status) = success (string (status_word status))
 reply_data (reply.Diagnostics diagnostics) = success (array (items_of (map diagnostic_data diagnostics)))
 reply_data (reply.Items held) = success (items_data held)
+reply_data (reply.Names names) = success (array (items_of (map bound_name_data names)))
 reply_data (reply.Text text) = success (string (string_bytes text))
 reply_data reply.Json = refusal (codes "json") no_members
 reply_data reply.Command = refusal (codes "command") no_members
@@ -210,6 +224,7 @@ is_fixed (reply.Answer answer) = false
 is_fixed (reply.Status status) = true
 is_fixed (reply.Diagnostics diagnostics) = false
 is_fixed (reply.Items held) = false
+is_fixed (reply.Names names) = false
 is_fixed (reply.Text text) = false
 is_fixed reply.Json = true
 is_fixed reply.Command = true

@@ -34,6 +34,7 @@ pub use Rattle.hir_wire.specs.declared.edit.Edit.TheVariants as edit
 pub use Rattle.hir_wire.specs.declared.edit.ExpansionEntry.{ExpansionEntry}
 pub use Rattle.hir_wire.specs.declared.items.AssocItem.{AssocItem}
 pub use Rattle.hir_wire.specs.declared.items.Items.{Items}
+pub use Rattle.hir_wire.specs.declared.names.BoundName.{BoundName}
 pub use Rattle.hir_wire.specs.declared.read_error.ReadError.{ReadError}
 pub use Rattle.hir_wire.specs.declared.read_error.ReadError.TheVariants as read_error
 pub use Rattle.hir_wire.specs.declared.reply.Reply.{Reply}

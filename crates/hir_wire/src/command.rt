@@ -135,6 +135,18 @@ pub enum Command {
     Diagnostics {
         krate: Crate,
     },
+    /// What each name of a module stands for.
+    Names {
+        at: Place,
+    },
+    /// The modules of a crate.
+    CrateModules {
+        krate: Crate,
+    },
+    /// The modules that a file is.
+    FileModules {
+        file: FilePath,
+    },
     /// The page of a file's tree in a crate.
     Tree {
         krate: Crate,

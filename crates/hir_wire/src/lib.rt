@@ -7,6 +7,7 @@ pub mod diagnostic;
 pub mod edit;
 pub mod items;
 pub mod json;
+pub mod names;
 pub mod read;
 pub mod read_error;
 pub mod reply;
@@ -21,6 +22,7 @@ pub use diagnostic::{CalledItem, Diagnostic, DiagnosticKind, Diagnostics, Texts}
 pub use edit::{Edit, ExpansionEntry};
 pub use hir_base::place::{BlockPlace, Place, PlaceElement};
 pub use items::{AssocItem, AssocItems, CalledItems, Items};
+pub use names::{BoundName, BoundNames};
 pub use read::line::read_command;
 pub use read_error::ReadError;
 pub use reply::{Places, Reply, Status};

@@ -4,6 +4,7 @@ ghost use Rattle.std.specs.Prelude.{◌≡◌};
 use crate::answer::Answer;
 use crate::diagnostic::Diagnostics;
 use crate::items::Items;
+use crate::names::BoundNames;
 use hir_base::ast_id::{AstKind, SyntaxId};
 use hir_base::ids::Crate;
 use hir_base::limit::Limit;
@@ -57,6 +58,7 @@ pub enum Reply {
     Status(Status),
     Diagnostics(Diagnostics),
     Items(Items),
+    Names(BoundNames),
     /// A page.
     Text(String),
     /// The line is no JSON.

@@ -4,4 +4,5 @@ pub mod answer;
 pub mod definition;
 pub mod diagnostic;
 pub mod items;
+pub mod names;
 pub mod reply;

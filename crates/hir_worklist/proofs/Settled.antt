@@ -47,7 +47,7 @@ module _ {K : Type 0} (cmp : K → K → Ordering) (total : IsTotalOrder cmp) wh
   still b c e f = λ i. e i && not (f i)
 
   -- what reads a slot that hasn't changed watches it still
-  kept : (q r : Queue) (old new : Watchers K) (slot : K) → Wakes q r (is_watching cmp old slot) → Forgets cmp old new slot → (p : ℕ) → IsIdle r p
+  pub kept : (q r : Queue) (old new : Watchers K) (slot : K) → Wakes q r (is_watching cmp old slot) → Forgets cmp old new slot → (p : ℕ) → IsIdle r p
       → (other : K) → is_watching cmp old other p ≡ true → is_watching cmp new other p ≡ true
   kept q r old new slot woken forgets p idle other watching =
       forgets other p ∙ still (is_watching cmp old other p) (is_at (cmp slot) other) watching (apart (is_at (cmp slot) other) refl)

@@ -2,6 +2,7 @@
 ghost use Rattle.std.specs.Prelude.{◌≡◌, ℕ, false, OnOk, OnErr};
 ghost use Rattle.hir_worklist.specs.Queue.{is_among};
 ghost use Rattle.hir_worklist.specs.Moves.{Wakes, WakesSome};
+ghost use Rattle.hir_worklist.specs.Waking.{IsSamePass, KeepsQueued, WakesEach};
 ghost use Rattle.hir_worklist.specs.Watching.{is_watching, Forgets, IsSame, Watches};
 
 use crate::worklist::Worklist;
@@ -58,6 +59,18 @@ impl<K: Ord + Drop> Watchers<K> {
         if let Some(positions) = self.positions.get(slot) {
             wake_each(positions.as_slice(), worklist)?;
             self.positions.remove(slot);
+        }
+        Ok(())
+    }
+
+    /// Wakes all that watch slots, one slot after another.
+    pub fn wake_each(&mut self, slots: &[K], worklist: &mut Worklist) -> Result<(), AllocError>
+        ensures woken { OnOk result (WakesEach K.cmp worklist.new self.new worklist.old self.old slots.now) }
+        ensures pass { OnOk result (IsSamePass worklist.old worklist.new) }
+        ensures queued { OnOk result (KeepsQueued worklist.old worklist.new) }
+    {
+        for slot in slots {
+            self.wake_all(slot, worklist)?;
         }
         Ok(())
     }

@@ -1,7 +1,8 @@
 //! Positions that are tried in passes.
-ghost use Rattle.std.specs.Prelude.{◌≡◌, ◌==◌, ◌<◌, ◌↔◌, [], IsTrue, IfSome, IfNone, OnOk, OnErr};
-ghost use Rattle.hir_worklist.specs.Queue.{count_of, is_unfinished};
+ghost use Rattle.std.specs.Prelude.{◌≡◌, ◌==◌, ◌<◌, ◌≤◌, ◌↔◌, ℕ, [], IsTrue, IfSome, IfNone, OnOk, OnErr};
+ghost use Rattle.hir_worklist.specs.Queue.{count_of, is_unfinished, IsIdle};
 ghost use Rattle.hir_worklist.specs.Moves.{closed, empty_queue, opened, Appends, Finishes, Takes, Wakes};
+ghost use Rattle.hir_worklist.specs.Waking.{IsLonger, IsSamePass, KeepsQueued};
 
 use std::alloc::{AllocError, Global};
 use std::collections::BTreeSet;
@@ -96,6 +97,17 @@ impl Worklist {
         }
     }
 
+    /// Appends things until there are so many.
+    pub fn append_to(&mut self, count: usize) -> Result<(), AllocError>
+        ensures longer { OnOk result (IsLonger self.old self.new) }
+        ensures count { OnOk result (count_of self.old ≤ count → count_of self.new ≡ count) }
+    {
+        'things: while self.len() < count {
+            self.push()?;
+        }
+        Ok(())
+    }
+
     /// Begins a pass over what was to be taken in the next one.
     pub fn open(&mut self)
         requires taken { self.old.current ≡ [] }
@@ -137,6 +149,18 @@ impl Worklist {
             self.current.insert(position)?;
         } else {
             self.later.insert(position)?;
+        }
+        Ok(())
+    }
+
+    /// Queues all that is idle.
+    pub fn wake_all(&mut self) -> Result<(), AllocError>
+        ensures none { OnOk result ((p : ℕ) → ¬ IsIdle self.new p) }
+        ensures pass { OnOk result (IsSamePass self.old self.new) }
+        ensures queued { OnOk result (KeepsQueued self.old self.new) }
+    {
+        for position in 0..self.len() {
+            self.wake(position)?;
         }
         Ok(())
     }

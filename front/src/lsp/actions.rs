@@ -1,4 +1,4 @@
-//! Code actions: an import that nothing names is taken away.
+//! Code actions: an import that nothing names is taken away; one is added for a name that nothing has there.
 
 use std::io::Write;
 use std::ops::Range;
@@ -17,7 +17,7 @@ use crate::token::{Position, Span};
 use crate::unit::joined;
 use crate::workspace::Key;
 
-const KIND: &str = "quickfix";
+pub(super) const KIND: &str = "quickfix";
 
 /// A name that a `use` brings.
 #[derive(Debug)]
@@ -64,6 +64,7 @@ impl<W: Write> Server<W> {
                 "edit": {"changes": {self.uri(&key): [edit]}},
             }));
         }
+        self.imports_to_add(&key, &text, asked, &mut actions)?;
         Ok(Ok(actions.into()))
     }
 

@@ -39,7 +39,7 @@ fn is_declaration(node: &Node) -> bool {
 }
 
 /// The sites of a text whose blocks these are. None where the text has no tokens.
-fn sites_of(text: &str, blocks: &[Span], wanted: impl Fn(&str, Span) -> bool + Sync) -> Vec<Site> {
+pub(super) fn sites_of(text: &str, blocks: &[Span], wanted: impl Fn(&str, Span) -> bool + Sync) -> Vec<Site> {
     on_a_thread(|| tokens_of(text).map(|it| sites(&it, blocks, &wanted)).unwrap_or_default())
 }
 
@@ -63,7 +63,7 @@ fn sources<'a>(space: &'a Workspace, krate: u32, key: &Key) -> Vec<Source<'a>> {
 }
 
 /// Where the blocks of a file stand that the program has.
-fn spans_of_blocks(space: &Workspace, krate: u32, key: &str) -> Vec<Span> {
+pub(super) fn spans_of_blocks(space: &Workspace, krate: u32, key: &str) -> Vec<Span> {
     space.blocks_of(krate, key).iter().map(|it| it.1.block.span).collect()
 }
 
@@ -104,7 +104,7 @@ fn names_one(site: &Site, reply: &Value, targets: &[Value]) -> bool {
 
 impl<W: Write> Server<W> {
     /// The file that a request speaks of, and the position in the text of which its items are.
-    fn asked(&mut self, params: &Value) -> Result<(Key, Position), Failure> {
+    pub(super) fn asked(&mut self, params: &Value) -> Result<(Key, Position), Failure> {
         let key = asked_file(params)?;
         let place = place_of(&params["position"]);
         let (line, character) =

@@ -106,30 +106,7 @@ impl<W: Write> Server<W> {
             let Some(key) = key_of_place(&it.place) else {
                 continue;
             };
-            let mut related = Vec::new();
-            for (text, place) in &it.related {
-                if let Some(location) = self.location(place) {
-                    self.touched.extend(key_of_place(place));
-                    related.push(json!({"location": location, "message": text}));
-                }
-            }
-            let mut text = it.message.clone();
-            for part in std::iter::once(&it.label).chain(&it.notes).filter(|it| !it.is_empty()) {
-                text.push('\n');
-                text.push_str(part);
-            }
-            let mut made = json!({
-                "range": self.range(&key, span_of(&it.place)),
-                "severity": ERROR,
-                "source": "nogsimat",
-                "message": text,
-            });
-            if let Some(code) = it.code {
-                made["code"] = code.into();
-            }
-            if !related.is_empty() {
-                made["relatedInformation"] = related.into();
-            }
+            let made = self.listed(&key, &it);
             let list = now.entry(key).or_default();
             if !list.contains(&made) {
                 list.push(made);
@@ -174,6 +151,35 @@ impl<W: Write> Server<W> {
             }
         }
         Ok(())
+    }
+
+    /// A diagnostic of a file as the editor takes it.
+    fn listed(&mut self, key: &Key, it: &Diagnostic) -> Value {
+        let mut related = Vec::new();
+        for (text, place) in &it.related {
+            if let Some(location) = self.location(place) {
+                self.touched.extend(key_of_place(place));
+                related.push(json!({"location": location, "message": text}));
+            }
+        }
+        let mut text = it.message.clone();
+        for part in std::iter::once(&it.label).chain(&it.notes).filter(|it| !it.is_empty()) {
+            text.push('\n');
+            text.push_str(part);
+        }
+        let mut made = json!({
+            "range": self.range(key, span_of(&it.place)),
+            "severity": ERROR,
+            "source": "nogsimat",
+            "message": text,
+        });
+        if let Some(code) = it.code {
+            made["code"] = code.into();
+        }
+        if !related.is_empty() {
+            made["relatedInformation"] = related.into();
+        }
+        made
     }
 
     pub(super) fn send_list(&mut self, uri: &str, list: &[Value]) -> Result<()> {

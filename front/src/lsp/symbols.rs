@@ -23,12 +23,12 @@ pub struct Symbol {
 
 const MODULE: u32 = 2;
 const METHOD: u32 = 6;
-const FIELD: u32 = 8;
+pub(super) const FIELD: u32 = 8;
 const ENUM: u32 = 10;
 const INTERFACE: u32 = 11;
 const FUNCTION: u32 = 12;
 const CONSTANT: u32 = 14;
-const OBJECT: u32 = 19;
+pub(super) const OBJECT: u32 = 19;
 const ENUM_MEMBER: u32 = 22;
 const STRUCT: u32 = 23;
 const TYPE_PARAMETER: u32 = 26;

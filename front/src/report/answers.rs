@@ -12,7 +12,7 @@ use crate::site::{is_local, modules_at, path_at, FoundPath};
 use crate::syntax::Item;
 use crate::token::{on_a_thread, tokens_of, Position, Span};
 use crate::unit::{place_json, steps_of, Detail, Step};
-use crate::workspace::{key_of, Workspace};
+use crate::workspace::{key_of, Located, Workspace};
 
 /// What a path names in one namespace.
 #[derive(Clone, Debug, Serialize)]
@@ -245,14 +245,24 @@ impl Workspace {
 
     /// The kind, the path and the place of a definition.
     pub fn described(&self, definition: &Value) -> (String, String, Option<Place>) {
+        let (what, path, located) = self.titled(definition);
+        let root = || {
+            let krate = definition["crate"].as_u64().filter(|_| definition["kind"] == "CrateRoot")?;
+            let key = key_of(&self.crates.all[krate as usize].root).ok()?;
+            Some(place_at(&key, Span::default()))
+        };
+        let place = located.map(|it| place_at(&it.file, it.span)).or_else(root);
+        (what, path, place)
+    }
+
+    /// The kind and the path of a definition, and the node that it is.
+    pub(crate) fn titled(&self, definition: &Value) -> (String, String, Option<Located>) {
         if let Some(it) = definition["builtin"].as_str() {
             return ("builtin type".to_owned(), it.to_owned(), None);
         }
         let krate = definition["crate"].as_u64().unwrap_or_default() as u32;
         if definition["kind"] == "CrateRoot" {
-            let it = &self.crates.all[krate as usize];
-            let place = key_of(&it.root).ok().map(|it| place_at(&it, Span::default()));
-            return ("crate".to_owned(), it.name.clone(), place);
+            return ("crate".to_owned(), self.crates.all[krate as usize].name.clone(), None);
         }
         let kind = definition["kind"].as_str().unwrap_or_default();
         if let ("BlockExpr", Some((krate, names))) = (kind, self.module_of_definition(definition)) {
@@ -269,12 +279,12 @@ impl Workspace {
             "MacroRules" | "MacroDef" => "macro",
             "ProcMacro" => "procedural macro",
             "Variant" => "variant",
-            it => return self.described_node(krate, &node, it.to_lowercase()),
+            it => return self.titled_node(krate, &node, it.to_lowercase()),
         };
-        self.described_node(krate, &node, what.to_owned())
+        self.titled_node(krate, &node, what.to_owned())
     }
 
-    pub(super) fn described_node(&self, krate: u32, node: &Value, what: String) -> (String, String, Option<Place>) {
+    fn titled_node(&self, krate: u32, node: &Value, what: String) -> (String, String, Option<Located>) {
         let Some(located) = self.locate(krate, node) else {
             return (what, format!("{}::?", self.crates.all[krate as usize].name), None);
         };
@@ -285,7 +295,7 @@ impl Workspace {
             (Detail::Derive(it), _) => it.clone(),
             _ => located.node.name.to_string(),
         });
-        (what, self.module_text(krate, &names), Some(place_at(&located.file, located.span)))
+        (what, self.module_text(krate, &names), Some(located))
     }
 
     pub(super) fn brought(&self, import: &Value) -> Option<(String, Place)> {

@@ -1,22 +1,22 @@
 //! Items behind a trait or a type: what `Trait::method` and `Type::CONST` name.
 //!
 //! Types aren't inferred: behind a type stand the items of its impls that are written for it by a path, those of no trait
-//! before those of traits, and last what such a trait itself has.
+//! before those of traits, and last what such a trait itself has, or one that is derived.
 
-use std::collections::HashMap;
+use std::collections::{HashMap, HashSet};
 
 use anyhow::Result;
 use serde_json::Value;
 
 use super::answers::Meaning;
 use super::{place_at, Place};
-use crate::question::{Context, Question};
+use crate::question::{question, Question};
 use crate::syntax::Visibility;
-use crate::unit::{place_json, steps_of, Detail, Step};
+use crate::unit::{steps_of, Detail, Step};
 use crate::workspace::{Associated, Impl, Workspace};
 
 /// So many aliases lead from one to the next.
-const MOST_ALIASES: usize = 16;
+pub(crate) const MOST_ALIASES: usize = 16;
 
 /// A trait, or an impl of a type, in which an item is.
 struct Holder {
@@ -26,11 +26,6 @@ struct Holder {
     within: Option<(String, Place)>,
     /// Who sees the items of a trait.
     visibility: Option<String>,
-}
-
-fn question(krate: u32, place: &[Step], path: &str) -> Question {
-    let (place, path) = (place.to_vec(), path.to_owned());
-    Question { krate, place, whole: path.clone(), path, context: Context::Plain }
 }
 
 impl Workspace {
@@ -67,18 +62,10 @@ impl Workspace {
     }
 
     /// Where an alias is declared, and the path of what it stands for.
-    fn alias(&self, krate: u32, definition: &Value) -> Option<(Vec<Step>, String)> {
-        let located = self.locate(krate, definition)?;
+    pub(crate) fn alias(&self, krate: u32, definition: &Value) -> Option<(Vec<Step>, String)> {
+        let (place, located) = self.place_and_node(krate, definition)?;
         let Detail::Alias(path) = &located.node.detail else {
             return None;
-        };
-        let source = &definition["in"][0];
-        let place = match source.as_array() {
-            None => steps_of(&located.module),
-            Some(_) => {
-                let inner: Vec<String> = located.node.modules.iter().map(|it| it.to_string()).collect();
-                [steps_from(source), steps_of(&inner)].concat()
-            }
         };
         Some((place, path.text.clone()))
     }
@@ -86,47 +73,33 @@ impl Workspace {
     /// The item of a trait that a path names.
     fn behind_trait(&mut self, path: &Question, holder: &Value, name: &str) -> Result<Vec<Meaning>> {
         let krate = holder["def"]["crate"].as_u64().unwrap_or_default() as u32;
-        let command = format!(
-            "{{\"do\":\"trait items\",\"at\":{},\"path\":{}}}",
-            place_json(path.krate, &path.place),
-            crate::unit::quoted(&path.path)
-        );
-        let listed = self.listed(krate, &command)?.unwrap_or_default();
-        let found = listed.into_iter().filter(|it| it.0 == name).filter_map(|it| self.associated(krate, &it.1));
-        let found: Vec<Associated> = found.collect();
+        let mut found = self.items_of_trait(path, krate)?;
+        found.retain(|it| *it.name == *name);
         let (path, visibility) = (self.described(&holder["def"]).1, self.declared_visibility(&holder["def"]));
         let holder = Holder { path, within: None, visibility: Some(visibility) };
         Ok(found.iter().map(|it| self.associated_meaning(krate, &[], it, &holder, name)).collect())
     }
 
     fn behind_type(&mut self, definition: &Value, name: &str) -> Result<Vec<Meaning>> {
-        let of_std = 0..self.crates.of_std as u32;
-        // A builtin type has impls of its own in the standard library.
-        let own: Vec<u32> = definition["crate"].as_u64().map_or(of_std.collect(), |it| vec![it as u32]);
+        let (own, all) = self.crates_with_impls(definition);
         let path = self.described(definition).1;
-        let type_name = path.rsplit("::").next().unwrap_or_default().to_owned();
-        let impls = self.impls_of(&own, definition, &|it| !it.head.is_of_trait && it.may_have_items(), name)?;
+        let mut impls = self.impls_of(&own, definition, false, Some(name))?;
+        impls.retain(Impl::may_have_items);
         let mut made = self.items_in(&impls, &path, name)?;
         if !made.is_empty() {
             return Ok(made);
         }
-        let mut all: Vec<u32> = (0..self.crates.all.len() as u32).collect();
-        all.sort_by_key(|it| (!own.contains(it), *it));
-        let is_of_trait = |it: &Impl| it.head.is_of_trait && it.is_of_name(&type_name);
-        let impls = self.impls_of(&all, definition, &is_of_trait, name)?;
+        let impls = self.impls_of(&all, definition, true, Some(name))?;
         made = self.items_in(&impls, &path, name)?;
         if !made.is_empty() {
             return Ok(made);
         }
-        // What the traits have that the impls leave to them.
-        for it in impls {
-            let Some(of_trait) = &it.head.of_trait else {
-                continue;
-            };
-            let path = question(it.krate, &it.place, &of_trait.text);
-            let reply = self.ask_paths(std::slice::from_ref(&path))?.pop().unwrap_or_default();
+        // What the traits have that the impls leave to them, or that derives stand for.
+        let paths = self.traits_of_impls(&impls, definition);
+        let replies = self.ask_paths(&paths)?;
+        for (path, reply) in paths.iter().zip(replies) {
             if reply["ok"]["types"]["def"]["kind"] == "Trait" && reply["ok"]["stop"].is_null() {
-                for it in self.behind_trait(&path, &reply["ok"]["types"], name)? {
+                for it in self.behind_trait(path, &reply["ok"]["types"], name)? {
                     if made.iter().all(|known| known.place != it.place) {
                         made.push(it);
                     }
@@ -136,15 +109,26 @@ impl Workspace {
         Ok(made)
     }
 
-    /// The impls of a type in these crates, as far as they are wanted.
-    fn impls_of(
+    /// The crates that may have impls of a type, those first in which impls of no trait may be: these alone, and all.
+    pub(crate) fn crates_with_impls(&self, definition: &Value) -> (Vec<u32>, Vec<u32>) {
+        let of_std = 0..self.crates.of_std as u32;
+        // A builtin type has impls of its own in the standard library.
+        let own: Vec<u32> = definition["crate"].as_u64().map_or(of_std.collect(), |it| vec![it as u32]);
+        let mut all: Vec<u32> = (0..self.crates.all.len() as u32).collect();
+        all.sort_by_key(|it| (!own.contains(it), *it));
+        (own, all)
+    }
+
+    /// The impls of a type in these crates, those of traits or the others, with their items of a name, or with all.
+    pub(crate) fn impls_of(
         &mut self,
         crates: &[u32],
         definition: &Value,
-        wanted: &dyn Fn(&Impl) -> bool,
-        name: &str,
+        is_of_trait: bool,
+        name: Option<&str>,
     ) -> Result<Vec<Impl>> {
-        let mut impls: Vec<Impl> = crates.iter().flat_map(|it| self.impls(*it, name)).filter(wanted).collect();
+        let path = self.titled(definition).1;
+        let mut impls = self.impls(crates, path.rsplit("::").next().unwrap_or_default(), is_of_trait, name);
         let mut numbers: HashMap<(u32, Vec<Step>, String), usize> = HashMap::new();
         let mut questions = Vec::new();
         let mut whose = Vec::new();
@@ -156,21 +140,54 @@ impl Workspace {
                 questions.len() - 1
             }));
         }
-        let replies = self.ask_paths(&questions)?;
-        let is_it = |it: &Value| it["ok"]["types"]["def"] == *definition && it["ok"]["stop"].is_null();
+        let mut is_its = Vec::new();
+        for it in self.types_of(&questions)? {
+            is_its.push(self.behind_aliases(it)?.is_some_and(|it| it == *definition));
+        }
         let mut whose = whose.into_iter();
-        impls.retain(|_| whose.next().is_some_and(|it| is_it(&replies[it])));
+        impls.retain(|_| whose.next().is_some_and(|it| is_its[it]));
         Ok(impls)
+    }
+
+    /// The types and traits that these paths name.
+    pub(crate) fn types_of(&mut self, paths: &[Question]) -> Result<Vec<Option<Value>>> {
+        let named = |mut it: Value| {
+            let is_whole = it["ok"]["stop"].is_null();
+            Some(it["ok"]["types"]["def"].take()).filter(|it| is_whole && !it.is_null())
+        };
+        Ok(self.ask_paths(paths)?.into_iter().map(named).collect())
+    }
+
+    /// What a type alias stands for in the end; another definition itself.
+    fn behind_aliases(&mut self, mut definition: Option<Value>) -> Result<Option<Value>> {
+        for _ in 0..MOST_ALIASES {
+            let Some(it) = definition.as_ref().filter(|it| it["kind"] == "TypeAlias") else {
+                break;
+            };
+            let krate = it["crate"].as_u64().unwrap_or_default() as u32;
+            let Some((place, target)) = self.alias(krate, it) else {
+                return Ok(None);
+            };
+            definition = self.types_of(&[question(krate, &place, &target)])?.pop().flatten();
+        }
+        Ok(definition)
+    }
+
+    /// The paths of the traits of which these impls of a type are, then those of its derives, each once.
+    pub(crate) fn traits_of_impls(&self, impls: &[Impl], definition: &Value) -> Vec<Question> {
+        let written = |it: &Impl| Some(question(it.krate, &it.place, &it.head.of_trait.as_ref()?.text));
+        let derived = definition["crate"].as_u64().map_or(Vec::new(), |it| self.derives_of(it as u32, definition));
+        let mut known = HashSet::new();
+        let mut paths: Vec<Question> = impls.iter().filter_map(written).chain(derived).collect();
+        paths.retain(|it| known.insert((it.krate, it.place.clone(), it.path.clone())));
+        paths
     }
 
     /// The items of a name in these impls of a type.
     fn items_in(&mut self, impls: &[Impl], type_path: &str, name: &str) -> Result<Vec<Meaning>> {
         let mut made: Vec<Meaning> = Vec::new();
         for it in impls {
-            let mut items = it.items.clone();
-            if it.has_calls {
-                items.extend(self.brought_into(it, name)?);
-            }
+            let items = self.items_of_impl(it, Some(name))?;
             if items.is_empty() {
                 continue;
             }
@@ -219,11 +236,7 @@ impl Workspace {
     }
 
     fn associated_meaning(&self, krate: u32, place: &[Step], it: &Associated, holder: &Holder, name: &str) -> Meaning {
-        let (namespace, what) = match it.kind {
-            "Fn" => ("value", "associated function"),
-            "TypeAlias" => ("type", "associated type"),
-            _ => ("value", "associated constant"),
-        };
+        let (namespace, what) = it.words();
         let own = || self.visibility_text(krate, place, &it.visibility);
         let visibility = holder.visibility.clone().unwrap_or_else(own);
         Meaning {
@@ -243,21 +256,4 @@ impl Impl {
     fn may_have_items(&self) -> bool {
         !self.items.is_empty() || self.has_calls
     }
-
-    /// Whether the path of its type ends with this name.
-    fn is_of_name(&self, name: &str) -> bool {
-        self.head.self_type.as_ref().is_some_and(|it| it.text.rsplit("::").next() == Some(name))
-    }
-}
-
-/// The steps of a place as the program writes it.
-fn steps_from(place: &Value) -> Vec<Step> {
-    let number = |it: &Value| it.as_u64().unwrap_or_default() as u16;
-    let steps = place.as_array().into_iter().flatten().skip(1);
-    steps
-        .map(|it| match it.as_str() {
-            Some(name) => Step::Module(name.to_owned()),
-            None => Step::Block((number(&it["block"][0]), number(&it["block"][1]))),
-        })
-        .collect()
 }

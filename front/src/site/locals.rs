@@ -13,10 +13,25 @@ pub(super) struct Locals {
     pub is_in_body: bool,
     /// Variables and parameters.
     pub values: HashSet<String>,
-    /// Generic parameters, and items within bodies.
-    pub types: HashSet<String>,
+    /// Generic parameters.
+    pub parameters: HashSet<String>,
+    /// Items within bodies.
+    pub items: HashSet<String>,
     /// Whether a body around has a glob import.
     pub has_glob: bool,
+}
+
+impl Locals {
+    /// Whether a path begins with a name that isn't a variable.
+    pub fn have_first(&self, name: &str) -> bool {
+        self.parameters.contains(name) || self.items.contains(name)
+    }
+
+    /// What an item in a body doesn't see of the body.
+    pub fn enter_item(&mut self) {
+        self.values.clear();
+        self.parameters.clear();
+    }
 }
 
 /// The `>` that closes the `<` at a place, or the list's end.
@@ -61,7 +76,7 @@ pub(super) fn generics(list: &[Token], number: usize, locals: &mut Locals) {
                 let is_const = list[it].is_word("const");
                 let is_first = list[it - 1].is("<") || list[it - 1].is(",") || list[it - 1].is_word("const");
                 if let (1, true, false, Some(name)) = (depth, is_first, is_const, list[it].word()) {
-                    locals.types.insert(plain(name).to_owned());
+                    locals.parameters.insert(plain(name).to_owned());
                 }
             }
             next = close + 1;
@@ -118,11 +133,11 @@ pub(super) fn block_items(list: &[Token], locals: &mut Locals) {
         let name = list.get(at + 1).and_then(Token::word);
         match (list[at].word(), name) {
             (Some("fn" | "struct" | "enum" | "trait" | "mod" | "type" | "const" | "static" | "union"), Some(name)) => {
-                locals.types.insert(plain(name).to_owned());
+                locals.items.insert(plain(name).to_owned());
             }
             (Some("macro_rules"), _) if is_call(1) => {
                 let name = list.get(at + 2).and_then(Token::word).unwrap_or_default();
-                locals.types.insert(plain(name).to_owned());
+                locals.items.insert(plain(name).to_owned());
             }
             (Some("use"), _) => {
                 let end = list[at..].iter().position(|it| it.is(";")).map_or(list.len(), |it| at + it);
@@ -145,7 +160,7 @@ fn names_in_use(tokens: &[Token], prefix: &str, locals: &mut Locals) {
             names_in_use(inner, before, locals);
         } else if let Some(name) = last.and_then(Token::word) {
             let name = if name == "self" { prefix } else { name };
-            locals.types.insert(plain(name).to_owned());
+            locals.items.insert(plain(name).to_owned());
         }
     }
 }

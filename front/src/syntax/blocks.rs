@@ -23,6 +23,14 @@ pub struct Block {
     pub given: Vec<Span>,
 }
 
+/// Where it stands doesn't count.
+impl std::hash::Hash for Block {
+    fn hash<H: std::hash::Hasher>(&self, state: &mut H) {
+        let Block { items, blocks, before, span: _, given: _ } = self;
+        (items, blocks, before).hash(state);
+    }
+}
+
 /// The outermost blocks with items in an item of these tokens, but for those of the items in it.
 pub(super) fn blocks_of(kind: &ItemKind, tokens: &[Token]) -> Vec<Arc<Block>> {
     let (head, braced) = match tokens {

@@ -153,17 +153,7 @@ impl Cursor<'_> {
                     }
                 }
             }
-            "extern" if follows(1) == "crate" => {
-                self.at += 2;
-                item.name = Some(match self.peek() {
-                    Some(Token { kind: Kind::Ident(it), span }) => Name { text: plain(it).into(), span: *span },
-                    _ => return self.error("a crate's name"),
-                });
-                self.at += 1;
-                let alias = self.alias()?;
-                item.kind = ItemKind::ExternCrate { alias };
-                self.pass_behind_semicolon();
-            }
+            "extern" if follows(1) == "crate" => self.extern_crate(item)?,
             "struct" => self.fields(item, false)?,
             "union" if self.ahead(1).is_some_and(|it| it.word().is_some()) => self.fields(item, true)?,
             "enum" => {
@@ -183,62 +173,80 @@ impl Cursor<'_> {
                 item.kind = ItemKind::TypeAlias(target_of_alias(&self.tokens[from..self.at]));
             }
             "macro_rules" if is_call && self.ahead(2).is_some_and(|it| it.word().is_some()) => {
-                self.at += 2;
-                let name = self.name()?;
-                let Some(Token { kind: Kind::Group(delimiter, body), .. }) = self.next() else {
-                    self.at -= 1;
-                    return self.error("the rules of the macro");
-                };
-                if *delimiter != Delimiter::Brace {
-                    self.takes(";");
-                }
-                let has_local_inner_macros = item
-                    .attributes
-                    .iter()
-                    .filter(|it| it.path.text == "macro_export")
-                    .filter_map(|it| it.input.first()?.group(Delimiter::Parenthesis))
-                    .any(|it| it.iter().any(|it| it.is_word("local_inner_macros")));
-                let hash =
-                    Hash::default().with(if has_local_inner_macros { "inner" } else { "rules" }).with_tokens(body);
-                let definition = MacroDefinition {
-                    name: name.text.clone(),
-                    is_rules: true,
-                    body: body.clone(),
-                    has_local_inner_macros,
-                    hash,
-                };
-                item.name = Some(name);
-                item.kind = ItemKind::Macro(Arc::new(definition));
+                self.macro_rules(item)?
             }
-            "macro" if self.ahead(1).is_some_and(|it| it.word().is_some()) => {
-                self.at += 1;
-                let name = self.name()?;
-                let body: Tokens = match self.next() {
-                    Some(Token { kind: Kind::Group(Delimiter::Brace, body), .. }) => body.clone(),
-                    Some(matcher @ Token { kind: Kind::Group(Delimiter::Parenthesis, _), span }) => {
-                        let Some(body @ Token { kind: Kind::Group(Delimiter::Brace, _), .. }) = self.next() else {
-                            return self.error("the body of the macro");
-                        };
-                        let arrow = Token { kind: Kind::Punct("=>"), span: *span };
-                        vec![matcher.clone(), arrow, body.clone()].into()
-                    }
-                    _ => return self.error("the rules of the macro"),
-                };
-                let hash = Hash::default().with("macro").with_tokens(&body);
-                let definition = MacroDefinition {
-                    name: name.text.clone(),
-                    is_rules: false,
-                    body,
-                    has_local_inner_macros: false,
-                    hash,
-                };
-                item.name = Some(name);
-                item.kind = ItemKind::Macro(Arc::new(definition));
-            }
+            "macro" if self.ahead(1).is_some_and(|it| it.word().is_some()) => self.macro_definition(item)?,
             _ if is_call && place != Where::Associated && word == "default" => return self.call(item),
             _ => return self.qualified(item),
         }
         Ok(true)
+    }
+
+    /// An `extern crate`.
+    fn extern_crate(&mut self, item: &mut Item) -> Result<(), SyntaxError> {
+        self.at += 2;
+        item.name = Some(match self.peek() {
+            Some(Token { kind: Kind::Ident(it), span }) => Name { text: plain(it).into(), span: *span },
+            _ => return self.error("a crate's name"),
+        });
+        self.at += 1;
+        let alias = self.alias()?;
+        item.kind = ItemKind::ExternCrate { alias };
+        self.pass_behind_semicolon();
+        Ok(())
+    }
+
+    /// A `macro_rules!`.
+    fn macro_rules(&mut self, item: &mut Item) -> Result<(), SyntaxError> {
+        self.at += 2;
+        let name = self.name()?;
+        let Some(Token { kind: Kind::Group(delimiter, body), .. }) = self.next() else {
+            self.at -= 1;
+            return self.error("the rules of the macro");
+        };
+        if *delimiter != Delimiter::Brace {
+            self.takes(";");
+        }
+        let has_local_inner_macros = item
+            .attributes
+            .iter()
+            .filter(|it| it.path.text == "macro_export")
+            .filter_map(|it| it.input.first()?.group(Delimiter::Parenthesis))
+            .any(|it| it.iter().any(|it| it.is_word("local_inner_macros")));
+        let hash = Hash::default().with(if has_local_inner_macros { "inner" } else { "rules" }).with_tokens(body);
+        let definition = MacroDefinition {
+            name: name.text.clone(),
+            is_rules: true,
+            body: body.clone(),
+            has_local_inner_macros,
+            hash,
+        };
+        item.name = Some(name);
+        item.kind = ItemKind::Macro(Arc::new(definition));
+        Ok(())
+    }
+
+    /// A `macro`.
+    fn macro_definition(&mut self, item: &mut Item) -> Result<(), SyntaxError> {
+        self.at += 1;
+        let name = self.name()?;
+        let body: Tokens = match self.next() {
+            Some(Token { kind: Kind::Group(Delimiter::Brace, body), .. }) => body.clone(),
+            Some(matcher @ Token { kind: Kind::Group(Delimiter::Parenthesis, _), span }) => {
+                let Some(body @ Token { kind: Kind::Group(Delimiter::Brace, _), .. }) = self.next() else {
+                    return self.error("the body of the macro");
+                };
+                let arrow = Token { kind: Kind::Punct("=>"), span: *span };
+                vec![matcher.clone(), arrow, body.clone()].into()
+            }
+            _ => return self.error("the rules of the macro"),
+        };
+        let hash = Hash::default().with("macro").with_tokens(&body);
+        let definition =
+            MacroDefinition { name: name.text.clone(), is_rules: false, body, has_local_inner_macros: false, hash };
+        item.name = Some(name);
+        item.kind = ItemKind::Macro(Arc::new(definition));
+        Ok(())
     }
 
     /// A function, a constant, a static, a trait, an impl or an extern block, behind their qualifiers; or a macro call.
@@ -265,44 +273,11 @@ impl Cursor<'_> {
                     return Ok(true);
                 }
                 "const" if next_word.is_some_and(|it| !is_qualifier(it)) && !is_const => {
-                    self.at += 1;
-                    self.takes_word("mut");
-                    item.name = if self.takes_word("_") { None } else { Some(self.name()?) };
-                    item.kind = ItemKind::Constant;
-                    self.pass_behind_semicolon();
-                    return Ok(true);
+                    return self.value(item, ItemKind::Constant).map(|()| true);
                 }
-                "static" => {
-                    self.at += 1;
-                    self.takes_word("mut");
-                    item.name = if self.takes_word("_") { None } else { Some(self.name()?) };
-                    item.kind = ItemKind::Static;
-                    self.pass_behind_semicolon();
-                    return Ok(true);
-                }
-                "trait" if next_word.is_some() => {
-                    self.at += 1;
-                    item.name = Some(self.name()?);
-                    self.pass_to(true, ";");
-                    let items = self.inside(Where::Associated, &mut item.attributes)?;
-                    if items.is_none() && !self.takes(";") {
-                        return self.error("the items of the trait");
-                    }
-                    item.kind = ItemKind::Trait(items.unwrap_or_default());
-                    return Ok(true);
-                }
-                "impl" => {
-                    self.at += 1;
-                    let head = self.at;
-                    self.pass_to(true, ";");
-                    let head = &self.tokens[head..self.at];
-                    item.text = Hash::default().with_tokens(head);
-                    let Some(items) = self.inside(Where::Associated, &mut item.attributes)? else {
-                        return self.error("the items of the impl");
-                    };
-                    item.kind = ItemKind::Impl { head: ImplHead::of(head), items };
-                    return Ok(true);
-                }
+                "static" => return self.value(item, ItemKind::Static).map(|()| true),
+                "trait" if next_word.is_some() => return self.trait_definition(item).map(|()| true),
+                "impl" => return self.impl_block(item).map(|()| true),
                 "const" => is_const = true,
                 "extern" => {
                     is_extern = true;
@@ -326,6 +301,41 @@ impl Cursor<'_> {
             }
             self.at += 1;
         }
+    }
+
+    /// A constant or a static.
+    fn value(&mut self, item: &mut Item, kind: ItemKind) -> Result<(), SyntaxError> {
+        self.at += 1;
+        self.takes_word("mut");
+        item.name = if self.takes_word("_") { None } else { Some(self.name()?) };
+        item.kind = kind;
+        self.pass_behind_semicolon();
+        Ok(())
+    }
+
+    fn trait_definition(&mut self, item: &mut Item) -> Result<(), SyntaxError> {
+        self.at += 1;
+        item.name = Some(self.name()?);
+        self.pass_to(true, ";");
+        let items = self.inside(Where::Associated, &mut item.attributes)?;
+        if items.is_none() && !self.takes(";") {
+            return self.error("the items of the trait");
+        }
+        item.kind = ItemKind::Trait(items.unwrap_or_default());
+        Ok(())
+    }
+
+    fn impl_block(&mut self, item: &mut Item) -> Result<(), SyntaxError> {
+        self.at += 1;
+        let head = self.at;
+        self.pass_to(true, ";");
+        let head = &self.tokens[head..self.at];
+        item.text = Hash::default().with_tokens(head);
+        let Some(items) = self.inside(Where::Associated, &mut item.attributes)? else {
+            return self.error("the items of the impl");
+        };
+        item.kind = ItemKind::Impl { head: ImplHead::of(head), items };
+        Ok(())
     }
 
     fn call(&mut self, item: &mut Item) -> Result<bool, SyntaxError> {

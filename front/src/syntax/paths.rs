@@ -1,10 +1,10 @@
-//! The paths of types: what an impl is of, and what an alias stands for.
+//! The paths of types: what an impl is of, what an alias stands for, and the traits of bounds.
 
 use super::{angle, path_of, plain, Path};
 use crate::token::{opened, Kind, Token};
 
 /// What an impl is of, as it is written.
-#[derive(Clone, Default, Debug)]
+#[derive(Clone, Default, Hash, Debug)]
 pub struct ImplHead {
     /// Whether it is of a trait.
     pub is_of_trait: bool,
@@ -16,7 +16,7 @@ pub struct ImplHead {
 
 impl ImplHead {
     /// Of the tokens between `impl` and its braces.
-    pub(super) fn of(tokens: &[Token]) -> ImplHead {
+    pub fn of(tokens: &[Token]) -> ImplHead {
         let tokens = opened(tokens);
         let (mut rest, mut parameters) = (&tokens[..], Vec::new());
         if rest.first().is_some_and(|it| it.is("<")) {
@@ -106,10 +106,55 @@ pub fn path_of_type(tokens: &[Token]) -> Option<Path> {
     path_of(&names)
 }
 
+/// What stands before, between and behind the tokens that separate, those within `<` and `>` left out.
+pub fn parts<'a>(tokens: &'a [Token], separates: &dyn Fn(&Token) -> bool) -> Vec<&'a [Token]> {
+    let (mut made, mut start) = (Vec::new(), 0);
+    for at in outermost(tokens).into_iter().filter(|it| separates(&tokens[*it])) {
+        made.push(&tokens[start..at]);
+        start = at + 1;
+    }
+    made.push(&tokens[start..]);
+    made
+}
+
+/// The traits of bounds as `A + ?Sized + 'a + for<'b> c::B<'b>`, without arguments; of what may be missing none.
+pub fn traits_of_bounds(tokens: &[Token]) -> Vec<Path> {
+    let of_part = |part: &&[Token]| {
+        let mut rest = match *part {
+            [word, rest @ ..] if word.is_word("const") => rest,
+            [mark, word, rest @ ..] if mark.is("~") && word.is_word("const") => rest,
+            rest => rest,
+        };
+        if rest.first().is_some_and(|it| it.is_word("for")) {
+            rest = rest.get(closing(&rest[1..]) + 2..)?;
+        }
+        path_of_type(rest)
+    };
+    parts(tokens, &|it| it.is("+")).iter().filter_map(of_part).collect()
+}
+
 #[cfg(test)]
 mod tests {
     use super::*;
     use crate::token::{on_a_thread, tokens_of};
+
+    #[test]
+    fn traits_of_what_is_bound() {
+        for (text, wanted) in [
+            ("A", "A"),
+            ("A<B + C> + 'a + ::b::C<T> + ?Sized + crate::D", "A ::b::C crate::D"),
+            ("for<'a> A<'a> + const B + ~const C", "A B C"),
+            ("Fn(u8) -> u8 + Send", "Send"),
+            ("for", ""),
+            ("for<'a", ""),
+            ("+", ""),
+            ("", ""),
+        ] {
+            let made = traits_of_bounds(&on_a_thread(|| tokens_of(text)).unwrap());
+            let made: Vec<&str> = made.iter().map(|it| &*it.text).collect();
+            assert_eq!(made.join(" "), wanted, "{text}");
+        }
+    }
 
     fn check(text: &str, wanted: (Option<&str>, Option<&str>)) {
         let head = ImplHead::of(&on_a_thread(|| tokens_of(text)).unwrap());

@@ -8,8 +8,8 @@ use crate::cfg::{string_of, Condition, Options};
 use crate::syntax::{attribute_in, comma_separated, path_of, plain, Attribute, Item};
 use crate::token::{opened, text_of, Delimiter, Kind, Token};
 
-/// The attributes that the compiler has by itself, stable or not, and that nothing is looked up for. Handed in are
-/// those of them alone that change what names mean.
+/// The attributes that the compiler has by itself, stable or not, and that nothing is looked up for, in the order of their
+/// bytes. Handed in are those of them alone that change what names mean.
 const BUILTIN: [&str; 119] = [
     "allow",
     "allow_internal_unsafe",
@@ -17,6 +17,8 @@ const BUILTIN: [&str; 119] = [
     "arm",
     "automatically_derived",
     "bench",
+    "cfg",
+    "cfg_attr",
     "cfi_encoding",
     "cmse_nonsecure_entry",
     "cold",
@@ -128,8 +130,6 @@ const BUILTIN: [&str; 119] = [
     "used",
     "warn",
     "windows_subsystem",
-    "cfg",
-    "cfg_attr",
 ];
 
 const TOOLS: [&str; 5] = ["clippy", "rustfmt", "diagnostic", "miri", "rust_analyzer"];
@@ -155,7 +155,7 @@ const KEPT: [&str; 14] = [
 /// Whether nothing is looked up for an attribute of this path.
 pub fn is_builtin(path: &str) -> bool {
     match path.split_once("::") {
-        None => path.starts_with("rustc_") || BUILTIN.contains(&path),
+        None => path.starts_with("rustc_") || BUILTIN.binary_search(&path).is_ok(),
         Some((tool, _)) => TOOLS.contains(&tool),
     }
 }
@@ -348,7 +348,7 @@ pub(super) fn write_attributes<'a>(
 }
 
 /// The kind of a builtin macro by the name that `rustc_builtin_macro` gives it, or its own.
-pub(super) fn expander_of(name: &str) -> &'static str {
+pub(crate) fn expander_of(name: &str) -> &'static str {
     match name {
         "Clone"
         | "Copy"
@@ -400,4 +400,12 @@ pub(super) fn builtin_name(item: &Item) -> Option<(String, Vec<String>)> {
         found.1 = parts.get(1).map_or(Vec::new(), |it| names_in_group(it));
     }
     Some(found)
+}
+
+#[cfg(test)]
+mod tests {
+    #[test]
+    fn builtin_attributes_are_in_order() {
+        assert!(super::BUILTIN.windows(2).all(|it| it[0] < it[1]));
+    }
 }

@@ -4,6 +4,8 @@ use std::collections::HashMap;
 use std::fmt::Write as _;
 use std::sync::Arc;
 
+use serde_json::Value;
+
 use super::{build_at, is_builtin, is_enabled, numbered, quoted, Built, Derives, Id, Replaced};
 use crate::cfg::Options;
 use crate::syntax::{Block, Call, Item, ItemKind, Unit};
@@ -32,6 +34,18 @@ pub fn place_json(krate: u32, steps: &[Step]) -> String {
     }
     text.push(']');
     text
+}
+
+/// The steps of a place as the program writes it.
+pub(crate) fn steps_from(place: &Value) -> Vec<Step> {
+    let number = |it: &Value| it.as_u64().unwrap_or_default() as u16;
+    let steps = place.as_array().into_iter().flatten().skip(1);
+    steps
+        .map(|it| match it.as_str() {
+            Some(name) => Step::Module(name.to_owned()),
+            None => Step::Block((number(&it["block"][0]), number(&it["block"][1]))),
+        })
+        .collect()
 }
 
 /// A block as it is handed in.

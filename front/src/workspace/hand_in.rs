@@ -222,31 +222,31 @@ impl Workspace {
 
     /// Sends the commands. A refused file is handed in as broken, and told; a refused block counts as one that isn't there.
     pub(super) fn hand_in(&mut self, lines: Vec<String>) -> Result<()> {
-        let mut sent = Vec::with_capacity(lines.len());
+        let (mut keys, mut sent) = (Vec::with_capacity(lines.len()), Vec::with_capacity(lines.len()));
         for line in lines {
             let key = line.strip_prefix("{\"do\":\"set file\",\"file\":").and_then(key_at_front);
             if line.len() > MOST_BYTES {
                 self.refuse_block(&line);
                 if let Some(key) = &key {
                     self.refuse(key, "its items take more than 16 MB as JSON; split the file");
-                    sent.push((Some(key.clone()), set_file(key, "\"broken\"")));
+                    sent.push(set_file(key, "\"broken\""));
+                    keys.push(Some(key.clone()));
                 }
                 continue;
             }
             if let Some(key) = &key {
                 self.refused.retain(|it| it.0 != *key);
             }
-            sent.push((key, line));
+            keys.push(key);
+            sent.push(line);
         }
-        let texts: Vec<String> = sent.iter().map(|it| it.1.clone()).collect();
-        let total = texts.len();
-        let mut replies = Vec::with_capacity(total);
-        for part in texts.chunks(200) {
+        let mut replies = Vec::with_capacity(sent.len());
+        for part in sent.chunks(200) {
             replies.extend(self.program.ask_all(part)?);
-            (self.progress)("handing in", replies.len(), total);
+            (self.progress)("handing in", replies.len(), sent.len());
         }
         let mut again = Vec::new();
-        for ((key, line), reply) in sent.iter().zip(replies) {
+        for ((key, line), reply) in keys.iter().zip(&sent).zip(replies) {
             let Some(error) = reply.get("error") else {
                 continue;
             };

@@ -1,10 +1,22 @@
 //! Where the nodes stand that the program names, and the blocks around positions.
 
-use serde_json::Value;
+use std::sync::Arc;
+
+use serde_json::{json, Value};
 
 use super::{Key, Located, Workspace};
-use crate::token::Position;
-use crate::unit::{place_json, steps_of, BuiltBlock, Detail, Step};
+use crate::token::{Position, Span};
+use crate::unit::{place_json, steps_from, steps_of, Built, BuiltBlock, Detail, Node, Step};
+
+/// What a file, a block or an expansion is made of.
+struct UnitOf {
+    built: Arc<Built>,
+    file: Key,
+    /// The module in which its items are.
+    module: Vec<String>,
+    /// Where the outermost call stands that brings it.
+    call: Option<Span>,
+}
 
 pub(super) fn id_of(item: &Value) -> Option<(u16, u16)> {
     Some((item["id"][0].as_u64()? as u16, item["id"][1].as_u64()? as u16))
@@ -13,6 +25,55 @@ pub(super) fn id_of(item: &Value) -> Option<(u16, u16)> {
 impl Workspace {
     /// Where a node stands that the program names by `id`, `in` and `kind`.
     pub fn locate(&self, krate: u32, item: &Value) -> Option<Located> {
+        let UnitOf { built, file, mut module, call } = self.unit_of(krate, item)?;
+        let node = built.find(item["kind"].as_str()?, id_of(item)?)?.clone();
+        module.extend(node.modules.iter().map(|it| it.to_string()));
+        let enum_name = node.of.filter(|_| node.kind == "Variant").map(|at| built.nodes[at].name.clone());
+        let is_expanded = call.is_some();
+        Some(Located { file, span: call.unwrap_or(node.span), node, module, enum_name, is_expanded })
+    }
+
+    /// The variants of an enum, each with its name and as the program names it.
+    pub(crate) fn variants_of(&self, krate: u32, definition: &Value) -> Option<Vec<(Arc<str>, Value)>> {
+        let UnitOf { built, .. } = self.unit_of(krate, definition)?;
+        let id = id_of(definition)?;
+        let at = built.nodes.iter().position(|it| it.kind == "Enum" && it.id == id)?;
+        let is_its = |it: &&Node| it.of == Some(at) && it.kind == "Variant" && !it.is_left_out;
+        let named = |it: &Node| {
+            let mut variant = definition.clone();
+            (variant["kind"], variant["id"]) = ("Variant".into(), json!([it.id.0, it.id.1]));
+            (it.name.clone(), variant)
+        };
+        Some(built.nodes[at..].iter().filter(is_its).map(named).collect())
+    }
+
+    /// The place of a module, also of one in a block, or of a block's root.
+    pub(crate) fn place_of_module(&self, definition: &Value) -> Option<(u32, Vec<Step>)> {
+        let krate = definition["crate"].as_u64()? as u32;
+        let source = &definition["in"][0];
+        match definition["kind"].as_str()? {
+            "CrateRoot" => return Some((krate, Vec::new())),
+            "BlockExpr" => return Some((krate, steps_from(source))),
+            "Module" => {}
+            _ => return None,
+        }
+        let (mut place, located) = self.place_and_node(krate, definition)?;
+        place.push(Step::Module(located.node.name.to_string()));
+        Some((krate, place))
+    }
+
+    /// The module or the block in which a node is declared, and the node.
+    pub(crate) fn place_and_node(&self, krate: u32, item: &Value) -> Option<(Vec<Step>, Located)> {
+        let (located, source) = (self.locate(krate, item)?, &item["in"][0]);
+        let place = match source.is_array() {
+            true => located.node.place_in(&steps_from(source)),
+            false => steps_of(&located.module),
+        };
+        Some((place, located))
+    }
+
+    /// The unit in which a node is that the program names.
+    fn unit_of(&self, krate: u32, item: &Value) -> Option<UnitOf> {
         let source = item["in"].as_array()?;
         let first = source.first()?;
         let block = first.is_array().then(|| self.block(&first.to_string()));
@@ -43,11 +104,7 @@ impl Workspace {
                 _ => return None,
             };
         }
-        let node = built.find(item["kind"].as_str()?, id_of(item)?)?.clone();
-        module.extend(node.modules.iter().map(|it| it.to_string()));
-        let enum_name = node.of.filter(|_| node.kind == "Variant").map(|at| built.nodes[at].name.clone());
-        let (file, is_expanded) = (key.clone(), span.is_some());
-        Some(Located { file, span: span.unwrap_or(node.span), node, module, enum_name, is_expanded })
+        Some(UnitOf { built, file: key.clone(), module, call: span })
     }
 
     /// The file and the block of a place, as JSON.

@@ -6,13 +6,25 @@ use std::sync::{Arc, PoisonError};
 
 use anyhow::Result;
 
-use super::files::{key_of, parse, parse_text};
+use super::files::{key_of, parse, parse_text, path_of_key};
 use super::hand_in::built_of;
 use super::left_out::left_out_of;
 use super::{Key, Parsed, Sent, Workspace};
+use crate::syntax::Unit;
+use crate::token::Hash;
 use crate::unit::{quoted, BuiltBlock};
 
 impl Workspace {
+    /// The files that were looked for without being read as modules: those that weren't there, and what `include!` names.
+    pub(crate) fn looked_for(&self) -> impl Iterator<Item = PathBuf> + '_ {
+        self.states.iter().flat_map(|it| it.missing.iter().chain(&it.included)).map(|it| path_of_key(it))
+    }
+
+    /// The files that were read: where each lies, the hash of its text, and its items where that has no error.
+    pub(crate) fn read_texts(&self) -> impl Iterator<Item = (&Path, Hash, Option<&Unit>)> {
+        self.parsed.values().map(|it| (&*it.path, it.text, Some(&*it.unit).filter(|_| it.error.is_none())))
+    }
+
     /// Whether a change of this file may change something.
     pub fn reads(&self, path: &Path) -> bool {
         let is_included = |key: &Key| self.states.iter().any(|it| it.included.contains(key));

@@ -66,6 +66,41 @@ pub(super) struct Walk<'a> {
 }
 
 impl Walk<'_> {
+    fn new(space: &mut Workspace, krate: u32, limit: usize) -> Walk<'_> {
+        Walk {
+            space,
+            krate,
+            limit,
+            scope: HashMap::new(),
+            log: Vec::new(),
+            defined: 0,
+            calls: Vec::new(),
+            chain: Vec::new(),
+            depth: 0,
+            is_elsewhere: false,
+            files: Vec::new(),
+            around: Vec::new(),
+            circular: Vec::new(),
+            missing: HashSet::new(),
+            pending: Vec::new(),
+            replaced: HashMap::new(),
+            units: HashMap::new(),
+            taken: HashMap::new(),
+            tokens: 0,
+            is_too_deep: false,
+            endless: Vec::new(),
+            without_end: HashSet::new(),
+            blocks: 0,
+            with_blocks: HashSet::new(),
+            expansions_with_blocks: HashMap::new(),
+            open: HashSet::new(),
+            included: HashSet::new(),
+            looked_up: HashSet::new(),
+            not_run: NotRun::new(),
+            in_block: false,
+        }
+    }
+
     pub(super) fn options(&self) -> &Options {
         &self.space.crates.all[self.krate as usize].options
     }
@@ -178,29 +213,7 @@ impl Walk<'_> {
                     }
                     self.define(definition.name.clone(), target);
                 }
-                ItemKind::Module(inner) => {
-                    let path = text_attribute(&item.attributes, "path", self.options());
-                    let name = item.name_text().to_owned();
-                    let mut inside = place.to_vec();
-                    if !self.in_block {
-                        inside.push(name.clone());
-                    }
-                    match inner {
-                        Some(items) => {
-                            let folder = folder.inline(&name, path.as_deref());
-                            self.module(item, |walk| walk.items(items, &folder, &inside, key), &[]);
-                        }
-                        None if self.in_block => {}
-                        None => {
-                            let found = self.find(folder.candidates(&name, path.as_deref()));
-                            let found = found.filter(|it| !self.is_circular(&it.0, key, item));
-                            if let Some((key, folder)) = found {
-                                let top = self.space.parsed[&key].unit.attributes.clone();
-                                self.module(item, |walk| walk.file(&key, &folder, &inside), &top);
-                            }
-                        }
-                    }
-                }
+                ItemKind::Module(inner) => self.items_of_module(item, inner.as_deref(), folder, place, key),
                 ItemKind::Call(call) => {
                     let is_expanded = self.call(call, folder, place, key);
                     if !is_expanded && has_bodies {
@@ -209,6 +222,31 @@ impl Walk<'_> {
                 }
                 ItemKind::ExternBlock(items) => self.items(items, folder, place, key),
                 _ => {}
+            }
+        }
+    }
+
+    /// The items of a module, inline or in the file that is found for it.
+    fn items_of_module(&mut self, module: &Item, inner: Option<&[Item]>, folder: &Folder, place: &[String], key: &Key) {
+        let path = text_attribute(&module.attributes, "path", self.options());
+        let name = module.name_text();
+        let mut inside = place.to_vec();
+        if !self.in_block {
+            inside.push(name.to_owned());
+        }
+        match inner {
+            Some(items) => {
+                let folder = folder.inline(name, path.as_deref());
+                self.module(module, |walk| walk.items(items, &folder, &inside, key), &[]);
+            }
+            None if self.in_block => {}
+            None => {
+                let found = self.find(folder.candidates(name, path.as_deref()));
+                let found = found.filter(|it| !self.is_circular(&it.0, key, module));
+                if let Some((key, folder)) = found {
+                    let top = self.space.parsed[&key].unit.attributes.clone();
+                    self.module(module, |walk| walk.file(&key, &folder, &inside), &top);
+                }
             }
         }
     }
@@ -270,23 +308,8 @@ impl Walk<'_> {
             return false;
         }
         let textual = self.scope.get(&*call.path.text).cloned();
-        let target = match &textual {
-            Some(it) => it.clone(),
-            None => {
-                let question = (place.to_vec(), call.path.text.clone());
-                self.looked_up.insert(question.clone());
-                let known = self.space.states[self.krate as usize].reached.get(&question).cloned();
-                let found = match known {
-                    Some(it) => it,
-                    // The program doesn't tell that a call of a block is absent.
-                    None if self.in_block => self.space.likely_or_asked(self.krate, question),
-                    None => self.space.likely(self.krate, question),
-                };
-                match found {
-                    Some(it) => it,
-                    None => return false,
-                }
-            }
+        let Some(target) = textual.clone().or_else(|| self.target_of_path(&call.path.text, place)) else {
+            return false;
         };
         let (first, blocks) = (self.pending.len(), self.blocks);
         let is_outermost = self.depth == 0;
@@ -334,24 +357,43 @@ impl Walk<'_> {
             self.expansions_with_blocks.entry(key.clone()).or_default().push(expansion.unit.clone());
         }
         if is_outermost && self.is_too_deep {
-            let name = &call.path.text;
-            let message = match self.tokens > MOST_TOKENS {
-                true => format!("`{name}!` doesn't end: it expands to more than {MOST_TOKENS} tokens; end it"),
-                false => format!(
-                    "recursion limit reached while expanding `{name}!`: end it, or raise `recursion_limit` above {}",
-                    self.limit
-                ),
-            };
-            self.endless.push(Endless { file: key.clone(), span: call.path.span, message });
-            let none = Arc::new(Expansion { is_endless: true, ..Expansion::of(Arc::default(), None, 0) });
-            for it in &mut self.pending[first..] {
-                it.2 = none.clone();
-                self.replaced.remove(&it.0);
-                self.without_end.insert(it.0);
-            }
-            self.tokens = 0;
+            self.note_endless(call, key, first);
         }
         expansion.source.is_some()
+    }
+
+    /// The macro that a path reaches which isn't in textual scope, as far as that is known.
+    fn target_of_path(&mut self, path: &str, place: &[String]) -> Option<Target> {
+        let question = (place.to_vec(), path.to_owned());
+        self.looked_up.insert(question.clone());
+        let known = self.space.states[self.krate as usize].reached.get(&question).cloned();
+        match known {
+            Some(it) => it,
+            // The program doesn't tell that a call of a block is absent.
+            None if self.in_block => self.space.likely_or_asked(self.krate, question),
+            None => self.space.likely(self.krate, question),
+        }
+    }
+
+    /// Notes that a call ends nowhere. It and the calls in its expansion, which are pending from `first` on, count as ones
+    /// without items.
+    fn note_endless(&mut self, call: &Call, key: &Key, first: usize) {
+        let name = &call.path.text;
+        let message = match self.tokens > MOST_TOKENS {
+            true => format!("`{name}!` doesn't end: it expands to more than {MOST_TOKENS} tokens; end it"),
+            false => format!(
+                "recursion limit reached while expanding `{name}!`: end it, or raise `recursion_limit` above {}",
+                self.limit
+            ),
+        };
+        self.endless.push(Endless { file: key.clone(), span: call.path.span, message });
+        let none = Arc::new(Expansion { is_endless: true, ..Expansion::of(Arc::default(), None, 0) });
+        for it in &mut self.pending[first..] {
+            it.2 = none.clone();
+            self.replaced.remove(&it.0);
+            self.without_end.insert(it.0);
+        }
+        self.tokens = 0;
     }
 }
 
@@ -374,46 +416,8 @@ impl Workspace {
     ) -> Result<()> {
         let root = self.crates.all[krate as usize].root.clone();
         let key = key_of(&root)?;
-        let options = &self.crates.all[krate as usize].options;
-        let limit = self
-            .parsed
-            .get(&key)
-            .and_then(|it| text_attribute(&it.unit.attributes, "recursion_limit", options))
-            .and_then(|it| it.parse().ok())
-            .unwrap_or(128)
-            .min(4096);
-        let mut walk = Walk {
-            space: self,
-            krate,
-            limit,
-            scope: HashMap::new(),
-            log: Vec::new(),
-            defined: 0,
-            calls: Vec::new(),
-            chain: Vec::new(),
-            depth: 0,
-            is_elsewhere: false,
-            files: Vec::new(),
-            around: Vec::new(),
-            circular: Vec::new(),
-            missing: HashSet::new(),
-            pending: Vec::new(),
-            replaced: HashMap::new(),
-            units: HashMap::new(),
-            taken: HashMap::new(),
-            tokens: 0,
-            is_too_deep: false,
-            endless: Vec::new(),
-            without_end: HashSet::new(),
-            blocks: 0,
-            with_blocks: HashSet::new(),
-            expansions_with_blocks: HashMap::new(),
-            open: HashSet::new(),
-            included: HashSet::new(),
-            looked_up: HashSet::new(),
-            not_run: NotRun::new(),
-            in_block: false,
-        };
+        let limit = self.recursion_limit(krate, &key);
+        let mut walk = Walk::new(self, krate, limit);
         walk.file(&key, &Folder::of(&root, true), &[]);
         let calls = std::mem::take(&mut walk.calls);
         walk.settle(calls);
@@ -439,17 +443,8 @@ impl Workspace {
             }
         }
         self.replaced.extend(replaced);
-        // What no call takes any more.
         self.cache.retain(|it, _| it.0 != krate || units.contains_key(&it.1));
-        let used: HashSet<&String> = taken.values().collect();
-        let front = format!("{{\"caller\":{krate},");
-        let is_left =
-            |key: &&String| key.starts_with(&front) && key.contains(",\"call\":\"bang\",") && !used.contains(key);
-        let left: Vec<String> = self.expansions.keys().filter(is_left).cloned().collect();
-        for key in left {
-            lines.push(format!("{{\"do\":\"remove expansion\",\"key\":{key}}}"));
-            self.remove_expansion(&key);
-        }
+        self.remove_untaken(krate, &taken, lines);
         for it in files.iter().filter_map(|it| self.parsed.get(&it.0)) {
             given = given.and(it.given);
         }
@@ -468,6 +463,27 @@ impl Workspace {
         kept.retain(|it, _| it.0 != "macro");
         kept.extend(not_run);
         Ok(())
+    }
+
+    /// How deep expansions of a crate may nest, by its root file; never deeper than 4,096.
+    fn recursion_limit(&self, krate: u32, root: &Key) -> usize {
+        let options = &self.crates.all[krate as usize].options;
+        let attributes = self.parsed.get(root).map_or(&[][..], |it| &it.unit.attributes);
+        let limit = text_attribute(attributes, "recursion_limit", options).and_then(|it| it.parse().ok());
+        limit.unwrap_or(128).min(4096)
+    }
+
+    /// Removes the expansions that no call of a crate takes any more.
+    fn remove_untaken(&mut self, krate: u32, taken: &HashMap<Hash, String>, lines: &mut Vec<String>) {
+        let used: HashSet<&String> = taken.values().collect();
+        let front = format!("{{\"caller\":{krate},");
+        let is_left =
+            |key: &&String| key.starts_with(&front) && key.contains(",\"call\":\"bang\",") && !used.contains(key);
+        let left: Vec<String> = self.expansions.keys().filter(is_left).cloned().collect();
+        for key in left {
+            lines.push(format!("{{\"do\":\"remove expansion\",\"key\":{key}}}"));
+            self.remove_expansion(&key);
+        }
     }
 
     /// Has a file count as one that can't be read, until something changes.

@@ -1,5 +1,4 @@
-//! What the tests share. None of them needs all of it.
-#![allow(dead_code)]
+//! What the tests share.
 
 pub mod client;
 
@@ -67,6 +66,11 @@ pub fn write_script(path: &Path, text: &str) {
     use std::os::unix::fs::PermissionsExt;
     std::fs::write(path, text).unwrap();
     std::fs::set_permissions(path, std::fs::Permissions::from_mode(0o755)).unwrap();
+}
+
+/// What a script calls a program by that keeps each line in a file before the program has it.
+pub fn logged(log: &str, program: &str) -> String {
+    format!("while IFS= read -r line; do printf '%s\\n' \"$line\" >> {log}; printf '%s\\n' \"$line\"; done | {program}")
 }
 
 /// Numbers that look random, the same each time.

@@ -1,13 +1,11 @@
 //! Which slots may have changed.
-ghost use Rattle.std.specs.Prelude.{◌≡◌, ◌≢◌, true, false, IfOk, IsSome, None};
+ghost use Rattle.std.specs.Prelude.{◌≡◌, IsSome, None};
 ghost use Rattle.hir_def_map_rules.specs.State.{variants_at};
-ghost use Rattle.hir_call_queue.specs.Changes.{everything, with_slots};
+ghost use Rattle.hir_import_rules.specs.Changed.{everything};
 
 use hir_base::ids::EnumId;
-use hir_call_queue::Changed;
 use hir_def_map::nameres::DefMap;
-use hir_def_map::nameres::path_resolution::slots::Slot;
-use std::alloc::AllocError;
+use hir_import_growth::Changed;
 
 /// All slots may have changed where an enum gets variants that has some.
 pub fn note_variants(changed: &mut Changed, map: &DefMap, id: EnumId)
@@ -17,37 +15,4 @@ pub fn note_variants(changed: &mut Changed, map: &DefMap, id: EnumId)
     if map.enum_variants(id).is_some() {
         changed.add_everything();
     }
-}
-
-/// What may have changed once steps were counted: anything, where any was.
-pub fn changed_by(changed: Changed, before: u32, count: u32) -> Changed
-    ensures still { count ≡ before → result ≡ changed }
-    ensures moves { count ≢ before → result ≡ everything }
-{
-    if count == before {
-        return changed;
-    }
-    let mut changed = changed;
-    changed.add_everything();
-    changed
-}
-
-/// What may have changed once imports were taken: the slots that they changed besides, where those are known.
-pub fn changed_by_imports(
-    changed: Changed,
-    apart: bool,
-    slots: &[Slot],
-    before: u32,
-    count: u32,
-) -> Result<Changed, AllocError>
-    ensures known { apart ≡ true → IfOk result (λ c. c ≡ with_slots slots.now changed) }
-    ensures still { apart ≡ false → count ≡ before → IfOk result (λ c. c ≡ changed) }
-    ensures moves { apart ≡ false → count ≢ before → IfOk result (λ c. c ≡ everything) }
-{
-    if !apart {
-        return Ok(changed_by(changed, before, count));
-    }
-    let mut changed = changed;
-    changed.add_each(slots)?;
-    Ok(changed)
 }

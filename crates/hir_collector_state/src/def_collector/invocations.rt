@@ -4,7 +4,7 @@
 ghost use Rattle.std.specs.Prelude.{◌≡◌, ◌<◌, None, length, replicate, IfOk, OnOk};
 ghost use Rattle.hir_collector_rules.specs.State.{core_in, with_map};
 ghost use Rattle.hir_collector_rules.specs.Invocations.{derive_met, impl_noted, invocation_of, of_derive, of_path, with_invocation, with_noted};
-ghost use Rattle.hir_collector_rules.specs.Waiting.{IsNoted};
+ghost use Rattle.hir_collector_state.specs.Waiting.{IsNoted};
 
 use crate::def_collector::DefCollector;
 use either::Either;

@@ -9,15 +9,15 @@ ghost use Rattle.hir_collector_rules.specs.Attributes.{exports_from};
 ghost use Rattle.hir_collector_rules.specs.Calls.{called_macro, is_inert_now, kept_of, macro_among, suited};
 ghost use Rattle.hir_collector_rules.specs.CallMoves.{IsAttributeWaiting};
 ghost use Rattle.hir_collector_rules.specs.Changes.{with_derived};
-ghost use Rattle.hir_collector_rules.specs.Waiting.{IsNoted, call_reads};
+ghost use Rattle.hir_collector_state.specs.Waiting.{IsNoted, call_reads};
 
 use crate::def_collector::DefCollector;
-use crate::helpers::is_helper;
 use hir_base::ast_id::AstId;
 use hir_base::ids::HasModule;
 use hir_base::macro_kind::{BuiltinDeriveImplId, MacroId, ProcMacroId};
 use hir_collector_rules::exported::ExportedFunction;
 use hir_collector_rules::macro_directive::{MacroDirective, MacroDirectiveKind};
+use hir_collector_start::helpers::is_helper;
 use hir_def_map::def_maps::DefMaps;
 use hir_def_map::nameres::DefMap;
 use hir_def_map::nameres::derive_helpers::DeriveHelper;

@@ -11,7 +11,7 @@ use Rattle.hir_glob_imports.specs.declared.edge.Target.{Target}
 use Rattle.hir_glob_imports.specs.declared.edge.Key.TheVariants.{Types, Values, Macros, Unnamed}
 use Rattle.hir_import_resolution.specs.declared.scopes.OpenScopes.{OpenScopes}
 use Rattle.hir_import_resolution.specs.Inner.TableLaws.{is_name_table}
-use Rattle.hir_import_resolution.specs.Names.{ScopesValue, bound_of, copied, copied_to, copied_where, followed, followed_to, followed_where, view_of}
+use Rattle.hir_import_rules.specs.Names.{ScopesValue, bound_of, copied, copied_to, copied_where, followed, followed_to, followed_where, view_of}
 use Rattle.hir_import_resolution.specs.Scopes.{open_table, value_of, with_value}
 
 pub copied_stays : (n : ScopesValue) (s : Slot) (of : Target) (vis : Visibility) (by : GlobId) → (copied n s of vis by).finished ≡ n.finished

@@ -1,5 +1,5 @@
 -- What is queued, and what is settled?
-use Rattle.std.specs.Prelude.{◌≡◌, ℕ, ◌<◌, ◌≤◌, Bool, true, false, List, [], ◌∷◌, ◌++◌, Option, None, Some, length, slice_get, cond}
+use Rattle.std.specs.Prelude.{◌≡◌, ℕ, ◌<◌, ◌≤◌, Bool, true, false, List, [], ◌++◌, Option, None, Some, length, slice_get, cond}
 use Rattle.std.specs.declared.cmp.Ordering.{Ordering}
 use Rattle.hir_def_map_rules.specs.Overlay.{Maps}
 use Rattle.hir_def_map_rules.specs.Reaches.{by_import}
@@ -9,19 +9,19 @@ use Rattle.hir_def_map.specs.declared.nameres.path_resolution.slots.Slot.{Slot a
 use Rattle.hir_def_map.specs.contracts.nameres.path_resolution.slots.SlotOrd.TheImpl as slot_order
 use Rattle.hir_def_map_laws.specs.SlotChanges.{ScopesChangeAmong}
 use Rattle.hir_glob_imports.specs.declared.step.TheConstants.{MAX_STEPS}
-use Rattle.hir_worklist.specs.Moves.{Wakes}
 use Rattle.hir_worklist.specs.Queue.{IsIdle, Queue, count_of, is_unfinished}
 use Rattle.hir_worklist.specs.Settling.{AreSettled, WatchesEach}
-use Rattle.hir_worklist.specs.Watching.{Forgets, is_watching}
+use Rattle.hir_worklist.specs.Waking as waking
+use Rattle.hir_worklist.specs.Waking.{IsSamePass}
 use Rattle.hir_worklist.specs.declared.watchers.Watchers.{Watchers}
-use Rattle.hir_import_resolution.specs.declared.directive.ImportDirective.{ImportDirective}
-use Rattle.hir_import_resolution.specs.declared.directive.ImportSource.{ImportSource}
-use Rattle.hir_import_resolution.specs.declared.directive.ImportSource.TheVariants as sources
+use Rattle.hir_import_rules.specs.declared.directive.ImportDirective.{ImportDirective}
+use Rattle.hir_import_rules.specs.declared.directive.ImportSource.{ImportSource}
+use Rattle.hir_import_rules.specs.declared.directive.ImportSource.TheVariants as sources
 use Rattle.hir_import_resolution.specs.declared.resolver.Resolver.{Resolver}
 use Rattle.hir_import_resolution.specs.Inner.State.{AreRecorded, IsApart, IsKeptIn, finished_by, state_by}
-use Rattle.hir_import_resolution.specs.Lasting.{IsFirm, Lasts}
-use Rattle.hir_import_resolution.specs.Rest.{IsSettled}
-use Rattle.hir_import_resolution.specs.State.{ImportState}
+use Rattle.hir_import_rules.specs.Lasting.{IsFirm, Lasts}
+use Rattle.hir_import_rules.specs.Rest.{IsSettled}
+use Rattle.hir_import_rules.specs.State.{ImportState}
 
 -- ---- what an import reads
 
@@ -58,31 +58,11 @@ AreIdleSettled lasting apart finished s tried q watchers = AreSettled slot_cmp (
 
 -- what watched a slot watches it still
 abbrev pub KeepsWatched : Watchers PathSlot → Watchers PathSlot → Type 0
-KeepsWatched old new = (slot : PathSlot) (p : ℕ) → is_watching slot_cmp old slot p ≡ true → is_watching slot_cmp new slot p ≡ true
+KeepsWatched = waking.KeepsWatched slot_cmp
 
 -- what watches each of these slots is queued, one slot after another, and watches it no more
-pub data WakesEach (r : Queue) (after : Watchers PathSlot) : Queue → Watchers PathSlot → List PathSlot → Type 0 where
-  none : WakesEach r after r after []
-  more : (q between : Queue) (watchers left : Watchers PathSlot) (slot : PathSlot) (slots : List PathSlot)
-      → Wakes q between (is_watching slot_cmp watchers slot) → Forgets slot_cmp watchers left slot → WakesEach r after between left slots
-      → WakesEach r after q watchers (slot ∷ slots)
-
--- things were appended, and are to be tried in the next pass
-pub record IsLonger (q r : Queue) : Type 0 where
-  -- what is idle was there, and was idle
-  pub idle : (p : ℕ) → IsIdle r p → IsIdle q p
-  -- where nothing was finished, nothing is
-  pub unfinished : ((p : ℕ) → p < count_of q → is_unfinished q p ≡ true) → (p : ℕ) → p < count_of r → is_unfinished r p ≡ true
-  pub current : r.current ≡ q.current
-  pub end : r.end ≡ q.end
-
--- a queue has the same things, and its pass is where it was
-pub record IsSamePass (q r : Queue) : Type 0 where
-  pub finished : r.finished ≡ q.finished
-  pub next : r.next ≡ q.next
-  pub end : r.end ≡ q.end
-  -- what is queued outside a pass waits for the next one
-  pub outside : q.current ≡ [] → q.end ≡ 0 → r.current ≡ []
+abbrev pub WakesEach : Queue → Watchers PathSlot → Queue → Watchers PathSlot → List PathSlot → Type 0
+WakesEach = waking.WakesEach slot_cmp
 
 -- of these slots what watches them is queued; where nothing is watched, all is queued
 pub record IsWoken (apart : Bool) (slots : List PathSlot) (q : Queue) (watchers : Watchers PathSlot) (r : Queue) (after : Watchers PathSlot) : Type 0 where

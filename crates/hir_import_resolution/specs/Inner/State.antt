@@ -13,22 +13,18 @@ use Rattle.hir_def_map_laws.specs.SlotChanges.{ScopesChangeAmong}
 use Rattle.hir_glob_imports.specs.Keys.{name_of}
 use Rattle.hir_glob_imports.specs.Waves.{AreOfKind, GlobsValue, IsKept, brought_of}
 use Rattle.hir_glob_imports.specs.declared.edge.Edge.{Edge}
-use Rattle.hir_glob_imports.specs.declared.step.GlobError.{GlobError}
 use Rattle.hir_glob_imports.specs.declared.edge.Slot.{Slot}
-use Rattle.hir_glob_imports.specs.declared.step.GlobError.TheVariants as glob_errors
 use Rattle.hir_import_resolution.specs.declared.import_queue.ImportQueue.{ImportQueue}
 use Rattle.hir_import_resolution.specs.declared.imports.Imports.{Imports}
-use Rattle.hir_import_resolution.specs.declared.resolve.ImportError.{ImportError}
-use Rattle.hir_import_resolution.specs.declared.resolve.ImportError.TheVariants as errors
 use Rattle.hir_import_resolution.specs.declared.resolver.Resolver.{Resolver}
 use Rattle.hir_import_resolution.specs.declared.resolver.steps.Taking.{Taking}
 use Rattle.hir_import_resolution.specs.declared.scopes.OpenScopes.{OpenScopes}
-use Rattle.hir_import_resolution.specs.Directives.{TakenValue, taken_after, taken_for}
-use Rattle.hir_import_resolution.specs.Lasting.{IsPlaced}
-use Rattle.hir_import_resolution.specs.Names.{trait_vis, view_of}
-use Rattle.hir_import_resolution.specs.Rest.{IsRecorded}
+use Rattle.hir_import_rules.specs.Directives.{TakenValue, taken_after, taken_for}
+use Rattle.hir_import_rules.specs.Lasting.{IsPlaced}
+use Rattle.hir_import_rules.specs.Names.{trait_vis, view_of}
+use Rattle.hir_import_rules.specs.Rest.{IsRecorded}
 use Rattle.hir_import_resolution.specs.Scopes.{value_of}
-use Rattle.hir_import_resolution.specs.State.{ImportState}
+use Rattle.hir_import_rules.specs.State.{ImportState}
 
 -- where imports stand
 abbrev pub state_in : Imports → ImportState
@@ -42,11 +38,6 @@ state_in i = record {
   brought = brought_of i.globs;
   count = i.count;
 }
-
--- why imports are given up where globs are
-abbrev pub refusal_of : GlobError → ImportError
-refusal_of glob_errors.TooMany = errors.TooMany
-refusal_of glob_errors.Memory = errors.Memory
 
 -- finished maps don't refer to a map that is built, and no path begins with a module of it where it is a block's
 pub record IsApart (finished : Maps) (own : MapId) (local : Local) : Type 0 where

@@ -1,21 +1,15 @@
 -- What is due of an import?
-use Rattle.std.specs.Prelude.{◌≡◌, ℕ, Bool, true, false, List, Option, None, Some, is_some, Contains, slice_get, cond}
+use Rattle.std.specs.Prelude.{◌≡◌, ℕ, Option, None, Some, Contains, slice_get, cond}
 use Rattle.std.specs.Option.{option_and_then}
 use Rattle.hir_def_map_rules.specs.Overlay.{Maps}
 use Rattle.hir_scope.specs.declared.imports.GlobId.{GlobId}
-use Rattle.hir_scope.specs.declared.per_ns.PerNs.{PerNs}
-use Rattle.hir_glob_imports.specs.Keys.{slot_at}
-use Rattle.hir_glob_imports.specs.View.{View}
-use Rattle.hir_glob_imports.specs.Waves.{IsExplicit}
 use Rattle.hir_glob_imports.specs.declared.edge.Edge.{Edge}
-use Rattle.hir_glob_imports.specs.declared.edge.Key.{Key}
 use Rattle.hir_glob_imports.specs.declared.edge.Target.{Target}
-use Rattle.hir_glob_imports.specs.declared.edge.Key.TheVariants.{Types, Values, Macros}
-use Rattle.hir_import_resolution.specs.declared.directive.ImportDirective.{ImportDirective}
+use Rattle.hir_import_rules.specs.declared.directive.ImportDirective.{ImportDirective}
 use Rattle.hir_import_resolution.specs.declared.resolver.steps.Taking.{Taking}
-use Rattle.hir_import_resolution.specs.Directives.{TakenValue, answer_to, edge_to, glob_of, goes_beyond, kept_trait, name_of, namespaces_of, offered_by}
-use Rattle.hir_import_resolution.specs.Directives.{reached_by, target_of, visibility_of}
-use Rattle.hir_import_resolution.specs.State.{ImportState}
+use Rattle.hir_import_rules.specs.Directives.{TakenValue, answer_to, edge_to, glob_of, goes_beyond, kept_trait, name_of, namespaces_of, offered_by}
+use Rattle.hir_import_rules.specs.Directives.{reached_by, target_of, visibility_of}
+use Rattle.hir_import_rules.specs.State.{ImportState}
 
 -- what is to be done to take an import
 abbrev pub taking_for : Maps → ImportState → ImportDirective → Taking
@@ -54,18 +48,3 @@ pub record IsLinking (finished : Maps) (s : ImportState) (i : ℕ) (edge : Edge)
 pub record IsLinkedAt (finished : Maps) (s : ImportState) (i : ℕ) : Type 0 where
   pub linked : (r : ImportDirective) (t : TakenValue) (by : GlobId) (target : Target) → slice_get s.imports i ≡ Some r → slice_get s.taken i ≡ Some t
       → glob_of r.source ≡ Some by → target_of finished s.local s.map r ≡ Some target → Contains t.targets target
-
--- ---- what a push changes
-
--- a view in which a slot is bound explicitly, and nothing else changes; or nothing changes
-pub record MayBind (home : ℕ) (key : Key) (binds : Bool) (old new : View) : Type 0 where
-  pub stays : binds ≡ false → new ≡ old
-  pub bound : binds ≡ true → IsExplicit (slot_at home key) old new
-
--- items were pushed to a name of a module: in each namespace in which there is one, something is bound explicitly, and nothing else changes
-pub record IsBound (home : ℕ) (name : List ℕ) (items : PerNs) (old new : View) : Type 0 where
-  pub with_types : View
-  pub with_values : View
-  pub types : MayBind home (Types name) (is_some items.types) old with_types
-  pub values : MayBind home (Values name) (is_some items.values) with_types with_values
-  pub macros : MayBind home (Macros name) (is_some items.macros) with_values new

@@ -24,13 +24,13 @@ use Rattle.hir_glob_imports.specs.declared.edge.Key.{Key}
 use Rattle.hir_glob_imports.specs.declared.edge.Target.{Target}
 use Rattle.hir_glob_imports.specs.declared.edge.Key.TheVariants.{Types, Values, Macros, Unnamed}
 use Rattle.hir_glob_imports.specs.declared.edge.Target.TheVariants as targets
-use Rattle.hir_import_resolution.specs.Names.{ScopesValue, bound_of, copied_to, copied_where, entries_of, followed_to, followed_where, redefined_at, revised}
-use Rattle.hir_import_resolution.specs.Names.{scope_table, traits_of, view_of, with_macro, with_trait, with_type, with_value}
-use Rattle.hir_import_resolution.specs.Inner.ViewLaws.{bound_inside, changed_here, changed_once, changes_in_slot, inside_own, inside_scope}
-use Rattle.hir_import_resolution.specs.Inner.ScopeLaws.{IsItem, Keeps, bound_scope, item, item_of, keeps-pushed_macro, keeps-pushed_type, keeps-pushed_value}
-use Rattle.hir_import_resolution.specs.Inner.ScopeLaws.{keeps-redefined_macro, keeps-redefined_type, keeps-redefined_value, keeps-revised, keeps-trait}
-use Rattle.hir_import_resolution.specs.Inner.ScopeLaws.{pushed_def, pushed_macro_here, pushed_type_here, pushed_value_here, redefined_macro_here}
-use Rattle.hir_import_resolution.specs.Inner.ScopeLaws.{redefined_type_here, redefined_value_here, revised_here, trait_def, trait_here, vacant_of}
+use Rattle.hir_import_rules.specs.Names.{ScopesValue, bound_of, copied_to, copied_where, entries_of, followed_to, followed_where, redefined_at, revised}
+use Rattle.hir_import_rules.specs.Names.{scope_table, traits_of, view_of, with_macro, with_trait, with_type, with_value}
+use Rattle.hir_import_growth.specs.ViewLaws.{bound_inside, changed_here, changed_once, changes_in_slot, inside_own, inside_scope}
+use Rattle.hir_import_rules.specs.ScopeLaws.{IsItem, Keeps, bound_scope, item, item_of, keeps-pushed_macro, keeps-pushed_type, keeps-pushed_value}
+use Rattle.hir_import_rules.specs.ScopeLaws.{keeps-redefined_macro, keeps-redefined_type, keeps-redefined_value, keeps-revised, keeps-trait}
+use Rattle.hir_import_rules.specs.ScopeLaws.{pushed_def, pushed_macro_here, pushed_type_here, pushed_value_here, redefined_macro_here}
+use Rattle.hir_import_rules.specs.ScopeLaws.{redefined_type_here, redefined_value_here, revised_here, trait_def, trait_here, vacant_of}
 
 there_below : {A : Type 0} (xs : List A) (k : ℕ) → k < length xs → (x : A) × (slice_get xs k ≡ Some x)
 there_below [] k low = absurd (omega arith)

@@ -5,8 +5,8 @@ ghost use Rattle.hir_scope.specs.declared.visibility.Visibility.{Visibility};
 ghost use Rattle.hir_def_map_rules.specs.State.{module_at};
 ghost use Rattle.hir_def_map_laws.specs.ReadLaw.{stops_bare};
 ghost use Rattle.hir_import_resolution.specs.Inner.State.{with_lasting};
-ghost use Rattle.hir_import_resolution.specs.Lasting.{HasVariants, IsPlaced};
-ghost use Rattle.hir_import_resolution.specs.Names.{trait_vis};
+ghost use Rattle.hir_import_rules.specs.Lasting.{HasVariants, IsPlaced};
+ghost use Rattle.hir_import_rules.specs.Names.{trait_vis};
 
 use crate::lasting::{has_variants, is_placed, is_trait_placed, stops_bare};
 use crate::resolver::Resolver;

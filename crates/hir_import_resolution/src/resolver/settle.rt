@@ -1,15 +1,16 @@
 //! Tries, until all imports rest.
 ghost use Rattle.std.specs.Prelude.{◌≡◌, ◌<◌, ◌≤◌, [], true, None, Some, OnOk};
-ghost use Rattle.hir_import_resolution.specs.Inner.Queue.{IsBegun, IsRunning, IsSamePass, IsTrying, Reports};
+ghost use Rattle.hir_import_resolution.specs.Inner.Queue.{IsBegun, IsRunning, IsTrying, Reports};
+ghost use Rattle.hir_worklist.specs.Waking.{IsSamePass};
 ghost use Rattle.hir_import_resolution.specs.Inner.State.{finished_by, state_by};
 ghost use Rattle.hir_import_resolution.specs.Inner.Steps.{IsLinking, taking_at};
-ghost use Rattle.hir_import_resolution.specs.Rest.{IsAtRest, IsSpent};
-ghost use Rattle.hir_import_resolution.specs.Rules.{Steps};
+ghost use Rattle.hir_import_rules.specs.Rest.{IsAtRest, IsSpent};
+ghost use Rattle.hir_import_rules.specs.Rules.{Steps};
 
-use crate::resolve::ImportError;
 use crate::resolver::Resolver;
 use crate::resolver::steps::Taking;
 use hir_glob_imports::{Edge, MAX_STEPS};
+use hir_import_rules::error::ImportError;
 
 impl Resolver<'_> {
     /// Takes names along globs, and queues what read a name that changed.

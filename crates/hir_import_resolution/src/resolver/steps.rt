@@ -1,25 +1,25 @@
 //! One step: an import that binds what it reaches, a glob that is recorded, and what goes along globs.
 ghost use Rattle.std.specs.Prelude.{◌≡◌, ◌<◌, ◌≤◌, [], IfNone, IfOk, IfSome, OnOk, Some, length, option_map, slice_get, slice_set};
-ghost use Rattle.hir_import_resolution.specs.declared.directive.ImportDirective.{ImportDirective};
-ghost use Rattle.hir_import_resolution.specs.Directives.{TakenValue, answer_to, path_answer, taken_after, taken_for, visibility_of};
+ghost use Rattle.hir_import_rules.specs.declared.directive.ImportDirective.{ImportDirective};
+ghost use Rattle.hir_import_rules.specs.Directives.{TakenValue, answer_to, path_answer, taken_after, taken_for, visibility_of};
 ghost use Rattle.hir_import_resolution.specs.Inner.State.{ArePlacedIn, AreRecorded, IsKeptIn, IsTraitPlaced, IsLinked, IsSpread, IsTaken, counted, finished_by, spread_from, state_by, with_globs};
 ghost use Rattle.hir_import_resolution.specs.Inner.Steps.{IsLinkedAt, IsLinking, taking_at};
-ghost use Rattle.hir_import_resolution.specs.Lasting.{HasVariants, IsPlaced, Lasts};
-ghost use Rattle.hir_import_resolution.specs.Rest.{IsSound, IsSpent};
-ghost use Rattle.hir_import_resolution.specs.Rules.{Step, Steps};
+ghost use Rattle.hir_import_rules.specs.Lasting.{HasVariants, IsPlaced, Lasts};
+ghost use Rattle.hir_import_rules.specs.Rest.{IsSound, IsSpent};
+ghost use Rattle.hir_import_rules.specs.Rules.{Step, Steps};
 
 use crate::answers::{
     answer, answer_of_crate, imported, kept, target_among, trait_among, visibility,
 };
-use crate::directive::{ImportDirective, ImportSource, is_one_name};
-use crate::namespaces::Namespaces;
-use crate::resolve::ImportError;
 use crate::resolver::Resolver;
-use crate::taken::Taken;
 use hir_base::ids::TraitId;
 use hir_base::name::Name;
 use hir_def_map::nameres::path_resolution::{ReachedFixedPoint, ResolvePathResult};
 use hir_glob_imports::{Edge, MAX_STEPS, Target};
+use hir_import_rules::directive::{ImportDirective, ImportSource, is_one_name};
+use hir_import_rules::error::ImportError;
+use hir_import_rules::namespaces::Namespaces;
+use hir_import_rules::taken::Taken;
 use hir_item_tree::shape::ImportKind;
 use hir_scope::per_ns::PerNs;
 use hir_scope::visibility::Visibility;

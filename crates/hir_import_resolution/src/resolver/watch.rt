@@ -1,18 +1,18 @@
 //! Which slots an import reads, and what is tried again when one changes.
-ghost use Rattle.std.specs.Prelude.{◌≡◌, ◌++◌, ℕ, [], true, IfOk, OnOk, length, option_copied};
+ghost use Rattle.std.specs.Prelude.{◌≡◌, ◌++◌, [], true, IfOk, OnOk, length, option_copied};
 ghost use Rattle.std.specs.List.{All};
-ghost use Rattle.hir_worklist.specs.Queue.{IsIdle};
 ghost use Rattle.hir_worklist.specs.Settling.{WatchesEach};
-ghost use Rattle.hir_import_resolution.specs.Inner.Queue.{IsSamePass, IsWoken, KeepsWatched, WakesEach, reads_at, slot_cmp};
+ghost use Rattle.hir_import_resolution.specs.Inner.Queue.{IsWoken, KeepsWatched, WakesEach, reads_at, slot_cmp};
+ghost use Rattle.hir_worklist.specs.Waking.{IsSamePass};
 ghost use Rattle.hir_import_resolution.specs.Inner.State.{finished_by, path_slots, slots_named, state_by};
-ghost use Rattle.hir_import_resolution.specs.Lasting.{IsThere};
+ghost use Rattle.hir_import_rules.specs.Lasting.{IsThere};
 
-use crate::directive::ImportSource;
 use crate::lasting::is_there;
 use crate::resolver::Resolver;
 use hir_base::name::Name;
 use hir_def_map::nameres::path_resolution::slots::{PathSlots, Slot};
 use hir_def_map::nameres::path_resolution::{BuiltinShadowMode, ResolveMode};
+use hir_import_rules::directive::ImportSource;
 use hir_worklist::{Watchers, Worklist};
 use std::alloc::AllocError;
 
@@ -73,17 +73,6 @@ fn wake_each(
     Ok(())
 }
 
-/// Queues all imports.
-pub(crate) fn wake_everything(worklist: &mut Worklist) -> Result<(), AllocError>
-    ensures queued { OnOk result ((p : ℕ) → ¬ IsIdle worklist.new p) }
-    ensures pass { OnOk result (IsSamePass worklist.old worklist.new) }
-{
-    for position in 0..worklist.len() {
-        worklist.wake(position)?;
-    }
-    Ok(())
-}
-
 impl Resolver<'_> {
     /// Has the import at the place watch each slot that its path reads now. Where one is of a module that isn't there, nothing
     /// lasts.
@@ -137,7 +126,7 @@ impl Resolver<'_> {
                 name,
             )
         } else {
-            wake_everything(&mut self.worklist)
+            self.worklist.wake_all()
         }
     }
 
@@ -156,7 +145,7 @@ impl Resolver<'_> {
                 self.changes.as_slice(),
             )?;
         } else {
-            wake_everything(&mut self.worklist)?;
+            self.worklist.wake_all()?;
         }
         self.changes.clear();
         Ok(())

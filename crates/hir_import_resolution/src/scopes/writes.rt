@@ -4,8 +4,8 @@ ghost use Rattle.hir_def_map.specs.DefMaps.{maps_of};
 ghost use Rattle.hir_def_map_rules.specs.Overlay.{overlay};
 ghost use Rattle.hir_def_map_rules.specs.State.{globs_after, module_at, numbered, pushed, with_scope};
 ghost use Rattle.hir_def_map.specs.WorldParts.{part_of};
-ghost use Rattle.hir_import_resolution.specs.Changes.{kept_vis};
-ghost use Rattle.hir_import_resolution.specs.Names.{trait_vis, with_trait};
+ghost use Rattle.hir_import_rules.specs.Changes.{kept_vis};
+ghost use Rattle.hir_import_rules.specs.Names.{trait_vis, with_trait};
 
 use crate::scopes::{OpenScopes, keep_trait_at, trait_vis};
 use hir_base::ids::{ModuleId, TraitId};

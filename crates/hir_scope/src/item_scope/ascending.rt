@@ -6,11 +6,7 @@ ghost use Rattle.std.specs.Ordering.{nat_cmp};
 ghost use Rattle.hir_scope.specs.Scope.Entries.{scope_names, import_order, imports_of_scope};
 ghost use Rattle.hir_scope.specs.Laws.{BindingsAscend};
 
-use crate::imports::ImportOrDef;
 use crate::item_scope::ItemScope;
-use crate::visibility::Visibility;
-use hir_scope_table::globs::keys_are_ordered;
-use hir_scope_table::table::Table;
 use std::collections::BTreeMap;
 
 // The keys of a map ascend.
@@ -20,23 +16,11 @@ fn keys_ascend<K: Ord, V>(entries: &BTreeMap<K, V>)
     let _ = entries.len();
 }
 
-// The names and the imports of a table ascend.
-fn table_ascends<Def, Import: Ord>(table: &Table<Def, Visibility, Import, ImportOrDef>)
-    ensures names { IsStrictlySortedBy (slice_cmp nat_cmp) (keys_of table.now.items) }
-    ensures imports { IsStrictlySortedBy Import.cmp (keys_of table.now.records) }
-{
-    keys_ascend(&table.items);
-    keys_ascend(&table.records);
-}
-
 impl ItemScope {
     pub(crate) fn names_ascend(&self)
         ensures names { IsStrictlySortedBy (slice_cmp nat_cmp) (scope_names self.now) }
     {
-        table_ascends(&self.types);
-        table_ascends(&self.values);
-        table_ascends(&self.macros);
-        keys_are_ordered(&self.unresolved);
+        self.names.is_kept();
     }
 
     pub(crate) fn bindings_ascend(&self)
@@ -44,16 +28,14 @@ impl ItemScope {
         ensures values { BindingsAscend self.now.values }
         ensures macros { BindingsAscend self.now.macros }
     {
-        table_ascends(&self.types);
-        table_ascends(&self.values);
-        table_ascends(&self.macros);
+        self.names.is_kept();
     }
 
     pub(crate) fn imports_ascend(&self)
         ensures imports { IsStrictlySortedBy import_order (imports_of_scope self.now) }
     {
-        table_ascends(&self.types);
-        table_ascends(&self.macros);
-        table_ascends(&self.values);
+        keys_ascend(&self.type_records);
+        keys_ascend(&self.macro_records);
+        keys_ascend(&self.value_records);
     }
 }

@@ -1,26 +1,15 @@
 //! Hiding what a procedural-macro crate doesn't export, after rust-analyzer's `censor_non_proc_macros`.
 ghost use Rattle.std.specs.Prelude.{◌≡◌};
-ghost use Rattle.hir_scope.specs.Scope.Updates.{censored, censored_vis, censored_macros, censored_scope};
+ghost use Rattle.hir_scope.specs.Scope.Updates.{censored, censored_item, censored_macro, censored_vis, censored_scope};
 
 use crate::imports::{ImportId, ImportOrExternCrate};
 use crate::item_scope::ItemScope;
-use crate::per_ns::{Item, MacrosItem};
+use crate::per_ns::{Item, MacrosItem, TypesItem, ValuesItem};
 use crate::visibility::Visibility;
 use hir_base::ids::{Crate, TraitId};
 use hir_base::macro_kind::MacroId;
-use hir_base::name::Name;
+use hir_scope_table::entry::Revise;
 use indexmap::IndexMap;
-use std::collections::BTreeMap;
-
-/// Restricts each item to the crate.
-fn censor<Def: Copy, Import: Copy>(items: &mut BTreeMap<Name, Item<Def, Import>>, krate: Crate)
-    ensures value { items.new.entries ≡ censored krate items.old.entries }
-{
-    items.retain(|_, item| {
-        item.vis = Visibility::PubCrate(krate);
-        true
-    });
-}
 
 /// Restricts each trait to the crate.
 fn censor_traits(traits: &mut IndexMap<TraitId, Item<(), ImportId>>, krate: Crate)
@@ -47,14 +36,42 @@ fn censored_vis(
     }
 }
 
-/// Restricts each macro to the crate, except procedural macros that it binds itself.
-fn censor_macros(macros: &mut BTreeMap<Name, MacrosItem>, krate: Crate)
-    ensures value { macros.new.entries ≡ censored_macros krate macros.old.entries }
-{
-    macros.retain(|_, item| {
-        item.vis = censored_vis(krate, item.def, item.import, item.vis);
-        true
-    });
+/// Restricts items to a crate, except procedural macros that a scope binds itself.
+#[derive(Clone, Copy)]
+struct Censor {
+    krate: Crate,
+}
+
+impl Revise<TypesItem, ValuesItem, MacrosItem> for Censor {
+    ghost type_of = { λ c. censored_item c.krate };
+
+    ghost value_of = { λ c. censored_item c.krate };
+
+    ghost macro_of = { λ c. censored_macro c.krate };
+
+    fn revise_type(&self, item: TypesItem) -> TypesItem {
+        Item {
+            def: item.def,
+            vis: Visibility::PubCrate(self.krate),
+            import: item.import,
+        }
+    }
+
+    fn revise_value(&self, item: ValuesItem) -> ValuesItem {
+        Item {
+            def: item.def,
+            vis: Visibility::PubCrate(self.krate),
+            import: item.import,
+        }
+    }
+
+    fn revise_macro(&self, item: MacrosItem) -> MacrosItem {
+        Item {
+            def: item.def,
+            vis: censored_vis(self.krate, item.def, item.import, item.vis),
+            import: item.import,
+        }
+    }
 }
 
 impl ItemScope {
@@ -62,9 +79,7 @@ impl ItemScope {
     pub fn censor_non_proc_macros(&mut self, krate: Crate)
         ensures value { self.new ≡ censored_scope krate self.old }
     {
-        censor(&mut self.types.items, krate);
-        censor(&mut self.values.items, krate);
-        censor_macros(&mut self.macros.items, krate);
+        self.names.revise(&Censor { krate });
         censor_traits(&mut self.unnamed_traits, krate);
     }
 }

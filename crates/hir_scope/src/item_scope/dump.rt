@@ -253,7 +253,7 @@ impl ItemScope {
     fn dump_legacy_name(&self, name: &Name, buf: &mut String) -> Result<(), AllocError>
         ensures ok { OnOk result (string_bytes buf.new ≡ string_bytes buf.old ++ legacy_line self.now name.now) }
     {
-        let macros = self.get_legacy_macro(name)?;
+        let macros: Vec<MacroId> = self.get_legacy_macro(name).collect(self.alloc)?;
         let macros = macros.as_slice();
         write!(buf, "{}", LegacyLine { name, macros })
     }

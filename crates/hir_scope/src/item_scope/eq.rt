@@ -1,12 +1,21 @@
 //! When two scopes are equal: table by table, and in each entry by entry, in order.
-ghost use Rattle.std.specs.Prelude.{◌≡◌};
+ghost use Rattle.std.specs.Prelude.{◌≡◌, nat_eq};
+ghost use Rattle.std.specs.Iterator.{YieldsFirstRef};
+ghost use Rattle.hir_scope.specs.Slots.{unresolved_in};
 ghost use Rattle.std.specs.Cmp.Lexicographic.{pointwise};
-ghost use Rattle.hir_scope.specs.Inner.Equality.{same_entry, same_derive, same_bindings, same_declarations, same_uses, same_imports, same_macros, same_scope};
+ghost use Rattle.hir_scope.specs.Inner.Equality.{same_entry, same_item, same_derive, same_bindings, same_declarations, same_uses, same_imports, same_macros, same_scope};
 
 use crate::item_scope::ItemScope;
+use crate::item_scope::iter::bindings::Bindings;
 use crate::item_scope::macro_calls::{DeriveAttribute, DeriveAttributes};
+use crate::per_ns::{Item, MacrosItem, TypesItem, ValuesItem};
+use hir_base::name::Name;
+use hir_scope_table::entry::Entry;
 use indexmap::IndexMap;
 use std::hash::Hash;
+
+/// An entry of a scope.
+type ScopeEntry = Entry<TypesItem, ValuesItem, MacrosItem>;
 
 impl PartialEq for DeriveAttribute {
     ghost use Rattle.std.specs.Cmp.{partial_equiv_from_equiv};
@@ -57,14 +66,82 @@ fn same_entries<K: Eq + Hash, V: PartialEq>(map: &IndexMap<K, V>, other: &IndexM
     map.iter().as_slice() == other.iter().as_slice()
 }
 
+/// Whether a name with its item is another.
+fn same_binding<Def: PartialEq, Import: PartialEq>(
+    name: &Name,
+    item: &Item<Def, Import>,
+    other_name: &Name,
+    other_item: &Item<Def, Import>,
+) -> bool
+    ensures value { result ≡ same_entry (pointwise nat_eq) (same_item Def.eq Import.eq) (name.now, item.now) (other_name.now, other_item.now) }
+{
+    name == other_name && item == other_item
+}
+
+/// Whether two walks give the same names with the same items.
+fn same_walk<Def: PartialEq, Import: PartialEq>(
+    walk: Bindings<'_, Def, Import>,
+    other: Bindings<'_, Def, Import>,
+) -> bool
+    ensures value { result ≡ pointwise (same_entry (pointwise nat_eq) (same_item Def.eq Import.eq)) walk.entry other.entry }
+{
+    let mut left = walk;
+    let mut others = other;
+    'walk: while let Some((name, item)) = left.next() {
+        let Some((other_name, other_item)) = others.next() else {
+            return false;
+        };
+        if !same_binding(name, item, other_name, other_item) {
+            return false;
+        }
+    }
+    others.next().is_none()
+}
+
+/// The next name that is unresolved.
+fn next_unresolved<'a>(left: &mut &'a [ScopeEntry]) -> Option<&'a Name>
+    ensures first { YieldsFirstRef (λ es. unresolved_in es.now) left.old result left.new }
+{
+    'next: while let [entry, others @ ..] = *left {
+        *left = others;
+        if entry.is_unresolved() {
+            return Some(entry.name());
+        }
+    }
+    None
+}
+
+/// Whether the same names are unresolved.
+fn same_unresolved(entries: &[ScopeEntry], other: &[ScopeEntry]) -> bool
+    ensures value { result ≡ pointwise (pointwise nat_eq) (unresolved_in entries.now) (unresolved_in other.now) }
+{
+    let mut left = entries;
+    let mut others = other;
+    'walk: while let Some(name) = next_unresolved(&mut left) {
+        let Some(other_name) = next_unresolved(&mut others) else {
+            return false;
+        };
+        if name != other_name {
+            return false;
+        }
+    }
+    next_unresolved(&mut others).is_none()
+}
+
 impl ItemScope {
+    fn has_same_unresolved(&self, other: &ItemScope) -> bool
+        ensures value { result ≡ pointwise (pointwise nat_eq) self.now.unresolved other.now.unresolved }
+    {
+        same_unresolved(self.names.as_slice(), other.names.as_slice())
+    }
+
     fn has_same_bindings(&self, other: &ItemScope) -> bool
         ensures value { result ≡ same_bindings self.now other.now }
     {
-        self.types.items == other.types.items
-            && self.values.items == other.values.items
-            && self.macros.items == other.macros.items
-            && self.unresolved == other.unresolved
+        same_walk(self.types(), other.types())
+            && same_walk(self.values(), other.values())
+            && same_walk(self.macros(), other.macros())
+            && self.has_same_unresolved(other)
     }
 
     fn has_same_declarations(&self, other: &ItemScope) -> bool
@@ -87,9 +164,9 @@ impl ItemScope {
     fn has_same_imports(&self, other: &ItemScope) -> bool
         ensures value { result ≡ same_imports self.now other.now }
     {
-        self.types.records == other.types.records
-            && self.values.records == other.values.records
-            && self.macros.records == other.macros.records
+        self.type_records == other.type_records
+            && self.value_records == other.value_records
+            && self.macro_records == other.macro_records
             && same_entries(&self.unnamed_traits, &other.unnamed_traits)
     }
 

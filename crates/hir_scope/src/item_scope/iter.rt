@@ -6,5 +6,4 @@ pub mod entries;
 pub mod impls;
 pub mod imports;
 pub mod modules_and_traits;
-mod names;
 pub mod tables;

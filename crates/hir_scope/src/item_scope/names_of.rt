@@ -3,14 +3,11 @@ ghost use Rattle.std.specs.Prelude.{◌≡◌, List, ℕ};
 ghost use Rattle.std.specs.Option.{option_map};
 ghost use Rattle.hir_scope.specs.Scope.Reads.{names_with, names_of_item, first_in, lent_name, AsksInOrder};
 
-use crate::imports::ImportOrDef;
 use crate::item_in_ns::ItemInNs;
 use crate::item_scope::ItemScope;
-use crate::per_ns::Item;
+use crate::item_scope::iter::bindings::Bindings;
 use crate::visibility::Visibility;
 use hir_base::name::Name;
-use hir_scope_table::table::Table;
-use std::collections::btree_map;
 
 impl ItemScope {
     /// The first name, by name, under which an item is bound; its visibility, and whether it has no import.
@@ -18,9 +15,9 @@ impl ItemScope {
         ensures value { option_map lent_name result ≡ first_in (names_of_item self.now item) }
     {
         match item {
-            ItemInNs::Types(id) => first_name_of(self.types.items.iter(), id),
-            ItemInNs::Values(id) => first_name_of(self.values.items.iter(), id),
-            ItemInNs::Macros(id) => first_name_of(self.macros.items.iter(), id),
+            ItemInNs::Types(id) => first_name_of(self.types(), id),
+            ItemInNs::Values(id) => first_name_of(self.values(), id),
+            ItemInNs::Macros(id) => first_name_of(self.macros(), id),
         }
     }
 
@@ -35,15 +32,15 @@ impl ItemScope {
         ensures value { AsksInOrder F.step cb (names_of_item self.now item) result }
     {
         match item {
-            ItemInNs::Types(id) => ask_names(entries_of(&self.types), id, cb),
-            ItemInNs::Values(id) => ask_names(entries_of(&self.values), id, cb),
-            ItemInNs::Macros(id) => ask_names(entries_of(&self.macros), id, cb),
+            ItemInNs::Types(id) => ask_names(self.types(), id, cb),
+            ItemInNs::Values(id) => ask_names(self.values(), id, cb),
+            ItemInNs::Macros(id) => ask_names(self.macros(), id, cb),
         }
     }
 }
 
 fn first_name_of<'a, Def: Copy + PartialEq, Import: Copy>(
-    entries: btree_map::Iter<'a, Name, Item<Def, Import>>,
+    entries: Bindings<'a, Def, Import>,
     def: Def,
 ) -> Option<(&'a Name, Visibility, bool)>
     ensures value { option_map lent_name result ≡ first_in (names_with Def.eq def entries.entry) }
@@ -57,21 +54,13 @@ fn first_name_of<'a, Def: Copy + PartialEq, Import: Copy>(
     None
 }
 
-fn entries_of<Def, Import: Ord>(
-    table: &Table<Def, Visibility, Import, ImportOrDef>,
-) -> btree_map::Iter<'_, Name, Item<Def, Import>>
-    ensures rest { result ≡ table.now.items }
-{
-    table.items.iter()
-}
-
 fn ask_names<
     'a,
     Def: Copy + PartialEq,
     Import: Copy,
     T,
     F: FnMut(&Name, Visibility, bool) -> Option<T> + Drop,
->(entries: btree_map::Iter<'a, Name, Item<Def, Import>>, def: Def, mut cb: F) -> Option<T>
+>(entries: Bindings<'a, Def, Import>, def: Def, mut cb: F) -> Option<T>
     requires { F.IsAlwaysCallable cb }
     ensures value { AsksInOrder F.step cb (names_with Def.eq def entries.entry) result }
 {

@@ -14,6 +14,7 @@ use hir_base::ids::{ModuleDefId, ModuleId};
 use hir_base::macro_kind::MacroId;
 use hir_base::name::Name;
 use hir_scope_table::item::{Candidate, Push};
+use hir_scope_table::records::{pushed_item, reserve, roll_back, taken, write};
 use std::alloc::AllocError;
 
 /// What a push brings to a name, by namespace.
@@ -180,7 +181,7 @@ impl ItemScope {
         ensures changed { IfOk result (λ changed. changed ≡ not (is_unresolved self.old name)) }
         ensures err { OnErr result (self.new ≡ self.old) }
     {
-        Ok(self.unresolved.insert(name)?)
+        self.names.mark(name)
     }
 
     /// What a push brings to each namespace, where that changes what the name stands for there.
@@ -193,17 +194,19 @@ impl ItemScope {
     ) -> Candidates
         ensures value { result ≡ taken_candidates self.now globs.now at.now def import }
     {
+        let bound = self.get(&at.1);
         let types = type_candidate(def.types, import);
         let values = value_candidate(def.values, import);
         let macros = macro_candidate(def.macros, import);
         Candidates {
-            types: self.types.candidate(&globs.types, at, types),
-            values: self.values.candidate(&globs.values, at, values),
-            macros: self.macros.candidate(&globs.macros, at, macros),
+            types: taken(&globs.types, at, bound.types, types),
+            values: taken(&globs.values, at, bound.values, values),
+            macros: taken(&globs.macros, at, bound.macros, macros),
         }
     }
 
     /// Binds the candidates, or leaves everything as it is.
+    #[tactic(auto, using(crate::proofs::EntryNames::item_entry_named))]
     fn bind(
         &mut self,
         globs: &mut PerNsGlobImports,
@@ -220,26 +223,95 @@ impl ItemScope {
             values,
             macros,
         } = candidates;
-        let for_types = self.types.reserve(&mut globs.types, at, types)?;
-        let for_values = match self.values.reserve(&mut globs.values, at, values) {
+        let for_types = reserve(&mut self.type_records, &mut globs.types, at, types)?;
+        let for_values = match reserve(&mut self.value_records, &mut globs.values, at, values) {
             Ok(reserved) => reserved,
             Err(refused) => {
-                self.types.roll_back(&mut globs.types, at, types, for_types);
+                roll_back(
+                    &mut self.type_records,
+                    &mut globs.types,
+                    at,
+                    types,
+                    for_types,
+                );
                 return Err(refused);
             }
         };
-        let for_macros = match self.macros.reserve(&mut globs.macros, at, macros) {
+        let for_macros = match reserve(&mut self.macro_records, &mut globs.macros, at, macros) {
             Ok(reserved) => reserved,
             Err(refused) => {
-                self.values
-                    .roll_back(&mut globs.values, at, values, for_values);
-                self.types.roll_back(&mut globs.types, at, types, for_types);
+                roll_back(
+                    &mut self.value_records,
+                    &mut globs.values,
+                    at,
+                    values,
+                    for_values,
+                );
+                roll_back(
+                    &mut self.type_records,
+                    &mut globs.types,
+                    at,
+                    types,
+                    for_types,
+                );
                 return Err(refused);
             }
         };
-        self.types.write(&mut globs.types, at, types, for_types);
-        self.values.write(&mut globs.values, at, values, for_values);
-        self.macros.write(&mut globs.macros, at, macros, for_macros);
-        Ok(())
+        let written = self.names.write(
+            &at.1,
+            pushed_item(types),
+            pushed_item(values),
+            pushed_item(macros),
+        );
+        match written {
+            Ok(()) => {
+                write(
+                    &mut self.type_records,
+                    &mut globs.types,
+                    at,
+                    types,
+                    for_types,
+                );
+                write(
+                    &mut self.value_records,
+                    &mut globs.values,
+                    at,
+                    values,
+                    for_values,
+                );
+                write(
+                    &mut self.macro_records,
+                    &mut globs.macros,
+                    at,
+                    macros,
+                    for_macros,
+                );
+                Ok(())
+            }
+            Err(refused) => {
+                roll_back(
+                    &mut self.macro_records,
+                    &mut globs.macros,
+                    at,
+                    macros,
+                    for_macros,
+                );
+                roll_back(
+                    &mut self.value_records,
+                    &mut globs.values,
+                    at,
+                    values,
+                    for_values,
+                );
+                roll_back(
+                    &mut self.type_records,
+                    &mut globs.types,
+                    at,
+                    types,
+                    for_types,
+                );
+                Err(refused)
+            }
+        }
     }
 }

@@ -1,5 +1,5 @@
 //! What a scope holds, list by list and name by name.
-ghost use Rattle.std.specs.Prelude.{◌≡◌, IfOk};
+ghost use Rattle.std.specs.Prelude.{◌≡◌};
 ghost use Rattle.hir_scope.specs.Entries.{item_at};
 ghost use Rattle.hir_scope.specs.Scope.Reads.{type_at, macro_at, legacy_at, last_legacy_at, at_node, derive_attribute, derive_call, unnamed_vis};
 
@@ -11,8 +11,7 @@ use hir_base::ast_id::{AstId, AttrId, MacroCallId};
 use hir_base::ids::{ConstId, ExternBlockId, ExternCrateId, ModuleDefId, TraitId, UseId};
 use hir_base::macro_kind::{BuiltinDeriveImplId, MacroId};
 use hir_base::name::Name;
-use hir_textual_scope::textual_scope::TextualScope;
-use std::alloc::AllocError;
+use hir_textual_scope::textual_scope::{MacrosOf, TextualScope};
 
 impl ItemScope {
     /// The definitions that are declared here.
@@ -53,8 +52,8 @@ impl ItemScope {
     }
 
     /// The macros of a name in textual scope, the last one last.
-    pub fn get_legacy_macro(&self, name: &Name) -> Result<Vec<MacroId>, AllocError>
-        ensures ok { IfOk result (λ macros. macros.items ≡ legacy_at self.now name.now) }
+    pub fn get_legacy_macro<'a>(&'a self, name: &'a Name) -> MacrosOf<'a>
+        ensures value { result ≡ legacy_at self.now name.now }
     {
         self.legacy_macros.macros_of(name)
     }
@@ -77,28 +76,37 @@ impl ItemScope {
     pub fn type_item(&self, name: &Name) -> Option<TypesItem>
         ensures value { result ≡ item_at self.now.types name.now }
     {
-        self.types.get(name)
+        match self.names.get(name) {
+            Some(entry) => entry.types().copied(),
+            None => None,
+        }
     }
 
     /// What a name stands for in values.
     pub fn value_item(&self, name: &Name) -> Option<ValuesItem>
         ensures value { result ≡ item_at self.now.values name.now }
     {
-        self.values.get(name)
+        match self.names.get(name) {
+            Some(entry) => entry.values().copied(),
+            None => None,
+        }
     }
 
     /// What a name stands for in macros.
     pub fn macro_item(&self, name: &Name) -> Option<MacrosItem>
         ensures value { result ≡ item_at self.now.macros name.now }
     {
-        self.macros.get(name)
+        match self.names.get(name) {
+            Some(entry) => entry.macros().copied(),
+            None => None,
+        }
     }
 
     /// The type of a name.
     pub fn type_(&self, name: &Name) -> Option<(ModuleDefId, Visibility)>
         ensures value { result ≡ type_at self.now name.now }
     {
-        match self.types.get(name) {
+        match self.type_item(name) {
             Some(item) => Some((item.def, item.vis)),
             None => None,
         }
@@ -108,7 +116,7 @@ impl ItemScope {
     pub fn makro(&self, name: &Name) -> Option<MacroId>
         ensures value { result ≡ macro_at self.now name.now }
     {
-        match self.macros.get(name) {
+        match self.macro_item(name) {
             Some(item) => Some(item.def),
             None => None,
         }

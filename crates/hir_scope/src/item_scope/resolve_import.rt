@@ -34,15 +34,15 @@ impl ItemScope {
         match namespace {
             Namespace::Types => {
                 let key = ImportOrExternCrate::Import(import);
-                self.types.record(&key)
+                self.type_records.get(&key).copied()
             }
             Namespace::Values => {
                 let key = ImportOrGlob::Import(import);
-                self.values.record(&key)
+                self.value_records.get(&key).copied()
             }
             Namespace::Macros => {
                 let key = ImportOrExternCrate::Import(import);
-                self.macros.record(&key)
+                self.macro_records.get(&key).copied()
             }
         }
     }

@@ -5,31 +5,61 @@ ghost use Rattle.hir_scope.specs.Entries.{item_at};
 ghost use Rattle.hir_scope.specs.Scope.Updates.{with_visibility, with_definition, is_definition, without_definition};
 
 use crate::item_scope::ItemScope;
+use crate::per_ns::Item;
 use crate::visibility::Visibility;
 use hir_base::ids::ModuleDefId;
 use hir_base::macro_kind::MacroId;
 use hir_base::name::Name;
+
+/// An item with another visibility.
+fn with_visibility<Def: Copy, Import: Copy>(
+    item: Item<Def, Import>,
+    vis: Visibility,
+) -> Item<Def, Import>
+    ensures value { result ≡ with_item_visibility vis item }
+{
+    Item {
+        def: item.def,
+        vis,
+        import: item.import,
+    }
+}
+
+/// An item with another definition and another visibility.
+fn with_definition<Def: Copy, Import: Copy>(
+    item: Item<Def, Import>,
+    def: Def,
+    vis: Visibility,
+) -> Item<Def, Import>
+    ensures value { result ≡ with_item_definition def vis item }
+{
+    Item {
+        def,
+        vis,
+        import: item.import,
+    }
+}
 
 impl ItemScope {
     /// Whether the name stands for a type.
     pub fn has_type(&self, name: &Name) -> bool
         ensures value { result ≡ is_some (item_at self.now.types name.now) }
     {
-        self.types.contains(name)
+        self.type_item(name).is_some()
     }
 
     /// Whether the name stands for a value.
     pub fn has_value(&self, name: &Name) -> bool
         ensures value { result ≡ is_some (item_at self.now.values name.now) }
     {
-        self.values.contains(name)
+        self.value_item(name).is_some()
     }
 
     /// Whether the name stands for a macro.
     pub fn has_macro(&self, name: &Name) -> bool
         ensures value { result ≡ is_some (item_at self.now.macros name.now) }
     {
-        self.macros.contains(name)
+        self.macro_item(name).is_some()
     }
 
     /// Changes who may see the type that the name stands for.
@@ -39,7 +69,9 @@ impl ItemScope {
         ensures bound { item_at self.new.types name.now ≡ option_map (with_item_visibility vis) (item_at self.old.types name.now) }
         ensures others { (other : List ℕ) → other ≢ name.now → item_at self.new.types other ≡ item_at self.old.types other }
     {
-        self.types.update_visibility(name, vis);
+        if let Some(item) = self.type_item(name) {
+            self.names.set_type(name, with_visibility(item, vis));
+        }
     }
 
     /// Changes the type that the name stands for, and who may see it.
@@ -49,7 +81,9 @@ impl ItemScope {
         ensures bound { item_at self.new.types name.now ≡ option_map (with_item_definition def vis) (item_at self.old.types name.now) }
         ensures others { (other : List ℕ) → other ≢ name.now → item_at self.new.types other ≡ item_at self.old.types other }
     {
-        self.types.update_definition(name, def, vis);
+        if let Some(item) = self.type_item(name) {
+            self.names.set_type(name, with_definition(item, def, vis));
+        }
     }
 
     /// Changes who may see the value that the name stands for.
@@ -59,7 +93,9 @@ impl ItemScope {
         ensures bound { item_at self.new.values name.now ≡ option_map (with_item_visibility vis) (item_at self.old.values name.now) }
         ensures others { (other : List ℕ) → other ≢ name.now → item_at self.new.values other ≡ item_at self.old.values other }
     {
-        self.values.update_visibility(name, vis);
+        if let Some(item) = self.value_item(name) {
+            self.names.set_value(name, with_visibility(item, vis));
+        }
     }
 
     /// Changes the value that the name stands for, and who may see it.
@@ -69,7 +105,9 @@ impl ItemScope {
         ensures bound { item_at self.new.values name.now ≡ option_map (with_item_definition def vis) (item_at self.old.values name.now) }
         ensures others { (other : List ℕ) → other ≢ name.now → item_at self.new.values other ≡ item_at self.old.values other }
     {
-        self.values.update_definition(name, def, vis);
+        if let Some(item) = self.value_item(name) {
+            self.names.set_value(name, with_definition(item, def, vis));
+        }
     }
 
     /// Changes who may see the macro that the name stands for.
@@ -79,7 +117,9 @@ impl ItemScope {
         ensures bound { item_at self.new.macros name.now ≡ option_map (with_item_visibility vis) (item_at self.old.macros name.now) }
         ensures others { (other : List ℕ) → other ≢ name.now → item_at self.new.macros other ≡ item_at self.old.macros other }
     {
-        self.macros.update_visibility(name, vis);
+        if let Some(item) = self.macro_item(name) {
+            self.names.set_macro(name, with_visibility(item, vis));
+        }
     }
 
     /// Changes the macro that the name stands for, and who may see it.
@@ -89,7 +129,9 @@ impl ItemScope {
         ensures bound { item_at self.new.macros name.now ≡ option_map (with_item_definition def vis) (item_at self.old.macros name.now) }
         ensures others { (other : List ℕ) → other ≢ name.now → item_at self.new.macros other ≡ item_at self.old.macros other }
     {
-        self.macros.update_definition(name, def, vis);
+        if let Some(item) = self.macro_item(name) {
+            self.names.set_macro(name, with_definition(item, def, vis));
+        }
     }
 
     /// Removes the value that the name stands for, if it is this definition.
@@ -98,6 +140,11 @@ impl ItemScope {
         ensures removed { item_at self.new.values name.now ≡ cond (is_definition (⟦<ModuleDefId as PartialEq>⟧.eq) def (item_at self.old.values name.now)) None (item_at self.old.values name.now) }
         ensures others { (other : List ℕ) → other ≢ name.now → item_at self.new.values other ≡ item_at self.old.values other }
     {
-        self.values.remove(name, def);
+        self.bindings_ascend();
+        if let Some(item) = self.value_item(name) {
+            if item.def == def {
+                self.names.remove_value(name);
+            }
+        }
     }
 }

@@ -132,16 +132,24 @@ fn resolutions(alloc: Global, scope: &ItemScope) -> Result<String, AllocError> {
     Ok(text)
 }
 
+/// Asserts a text; of all tests, so that the comparison is proved once.
+fn is_text(rt: &impl Abort, found: &str, expected: &str) {
+    assert_eq!(rt; found, expected);
+}
+
 /// Names come by their bytes, and those without one behind them.
-#[test]
-fn names_in_order(rt: HostRuntime) -> Result<(), Fail> {
-    let scope = filled(rt.alloc())?;
-    let text = entries(rt.alloc(), &scope)?;
-    assert_eq!(rt; text.as_str(), "R t; S tv; T t; a v; m t; mac m; none ; ");
-    let text = resolutions(rt.alloc(), &scope)?;
-    assert_eq!(rt;
+fn names_in_order(rt: &impl Abort, alloc: Global, scope: &ItemScope) -> Result<(), AllocError> {
+    let text = entries(alloc, scope)?;
+    is_text(
+        rt,
         text.as_str(),
-        "R t; S tv; T t; a v; m t; mac m; none ; _ t; "
+        "R t; S tv; T t; a v; m t; mac m; none ; ",
+    );
+    let text = resolutions(alloc, scope)?;
+    is_text(
+        rt,
+        text.as_str(),
+        "R t; S tv; T t; a v; m t; mac m; none ; _ t; ",
     );
     Ok(())
 }
@@ -168,11 +176,13 @@ fn names_by_namespace(alloc: Global, scope: &ItemScope) -> Result<String, AllocE
     Ok(text)
 }
 
-#[test]
-fn names_of_each_namespace(rt: HostRuntime) -> Result<(), Fail> {
-    let scope = filled(rt.alloc())?;
-    let text = names_by_namespace(rt.alloc(), &scope)?;
-    assert_eq!(rt; text.as_str(), "R S T m | S a | mac ");
+fn names_of_each_namespace(
+    rt: &impl Abort,
+    alloc: Global,
+    scope: &ItemScope,
+) -> Result<(), AllocError> {
+    let text = names_by_namespace(alloc, scope)?;
+    is_text(rt, text.as_str(), "R S T m | S a | mac ");
     Ok(())
 }
 
@@ -187,67 +197,66 @@ fn imports(alloc: Global, scope: &ItemScope) -> Result<String, AllocError> {
 }
 
 /// Imports are sorted.
-#[test]
-fn imports_in_order(rt: HostRuntime) -> Result<(), Fail> {
-    let scope = filled(rt.alloc())?;
-    let text = imports(rt.alloc(), &scope)?;
-    assert_eq!(rt; text.as_str(), "5 6 7 ");
+fn imports_in_order(rt: &impl Abort, alloc: Global, scope: &ItemScope) -> Result<(), AllocError> {
+    let text = imports(alloc, scope)?;
+    is_text(rt, text.as_str(), "5 6 7 ");
     Ok(())
 }
 
 /// Traits that are bound come before those without a name.
-#[test]
-fn modules_and_traits(rt: HostRuntime) -> Result<(), Fail> {
-    let scope = filled(rt.alloc())?;
+fn modules_and_traits(rt: &impl Abort, scope: &ItemScope) {
     let mut modules = scope.modules_in_scope();
-    assert_eq!(rt; modules.next(), Some((module(1), IN_CRATE)));
+    assert!(rt; modules.next() == Some((module(1), IN_CRATE)));
     assert!(rt; modules.next().is_none());
     let mut traits = scope.traits();
-    assert_eq!(rt; traits.next(), Some(trait_of(2)));
-    assert_eq!(rt; traits.next(), Some(trait_of(9)));
+    assert!(rt; traits.next() == Some(trait_of(2)));
+    assert!(rt; traits.next() == Some(trait_of(9)));
     assert!(rt; traits.next().is_none());
-    assert_eq!(rt; scope.unnamed_trait_vis(trait_of(9)), Some(PUBLIC));
+    assert!(rt; scope.unnamed_trait_vis(trait_of(9)) == Some(PUBLIC));
     assert!(rt; scope.unnamed_trait_vis(trait_of(2)).is_none());
-    Ok(())
-}
-
-/// A trait that is imported without a name once more takes the visibility.
-#[test]
-fn unnamed_trait_again(rt: HostRuntime) -> Result<(), Fail> {
-    let mut scope = filled(rt.alloc())?;
-    scope.push_unnamed_trait(trait_of(9), IN_CRATE, Some(import(0, 1)))?;
-    assert_eq!(rt; scope.unnamed_trait_vis(trait_of(9)), Some(IN_CRATE));
-    let mut traits = scope.unnamed_traits();
-    assert!(rt; traits.next().is_some());
-    assert!(rt; traits.next().is_none());
-    Ok(())
 }
 
 /// What a name stands for in one namespace.
-#[test]
-fn items_of_names(rt: HostRuntime) -> Result<(), Fail> {
-    let alloc = rt.alloc();
-    let scope = filled(alloc)?;
-    let name = Name::new(alloc, "S")?;
-    assert_eq!(rt; scope.type_(&name), Some((structure(1), PUBLIC)));
-    assert!(rt; scope.makro(&name).is_none());
-    assert!(rt; scope.type_item(&name) == scope.get(&name).types);
-    assert!(rt; scope.value_item(&name) == scope.get(&name).values);
-    let name = Name::new(alloc, "mac")?;
-    assert!(rt; scope.type_(&name).is_none());
-    assert_eq!(rt; scope.makro(&name), Some(makro()));
-    assert!(rt; scope.macro_item(&name) == scope.get(&name).macros);
+fn items_of_a_struct(rt: &impl Abort, scope: &ItemScope, name: &Name) {
+    assert!(rt; scope.type_(name) == Some((structure(1), PUBLIC)));
+    assert!(rt; scope.makro(name).is_none());
+    assert!(rt; scope.type_item(name) == scope.get(name).types);
+    assert!(rt; scope.value_item(name) == scope.get(name).values);
+}
+
+fn items_of_a_macro(rt: &impl Abort, scope: &ItemScope, name: &Name) {
+    assert!(rt; scope.type_(name).is_none());
+    assert!(rt; scope.makro(name) == Some(makro()));
+    assert!(rt; scope.macro_item(name) == scope.get(name).macros);
+}
+
+/// A value that an import brought has that import.
+fn import_of_a_value(rt: &impl Abort, scope: &ItemScope, name: &Name) {
+    let by = Some(ImportOrGlob::Import(import(0, 6)));
+    assert!(rt; scope.get(name) == PerNs::values(function(3), PUBLIC, by));
+}
+
+fn items_of_names(rt: &impl Abort, alloc: Global, scope: &ItemScope) -> Result<(), Fail> {
+    items_of_a_struct(rt, scope, &Name::new(alloc, "S")?);
+    items_of_a_macro(rt, scope, &Name::new(alloc, "mac")?);
+    import_of_a_value(rt, scope, &Name::new(alloc, "a")?);
     Ok(())
 }
 
+/// Whether an item is public and imported under this name.
+fn is_imported_as(scope: &ItemScope, item: ItemInNs, expected: &str) -> bool {
+    match scope.name_of(item) {
+        Some((name, vis, is_declared)) => {
+            name.as_str() == expected && vis == PUBLIC && !is_declared
+        }
+        None => false,
+    }
+}
+
 /// Of the names of an item the first counts, and a caller may ask for another.
-#[test]
-fn names_of_items(rt: HostRuntime) -> Result<(), Fail> {
-    let scope = filled(rt.alloc())?;
+fn names_of_items(rt: &impl Abort, scope: &ItemScope) {
     let item = ItemInNs::Types(structure(1));
-    let (name, vis, is_declared) = scope.name_of(item).ok_or("a name")?;
-    assert_eq!(rt; name.as_str(), "R");
-    assert_eq!(rt; (vis, is_declared), (PUBLIC, false));
+    assert!(rt; is_imported_as(scope, item, "R"));
     let found = scope.names_of(item, |name, _, is_declared| {
         if is_declared {
             Some(name.as_str().len())
@@ -255,8 +264,38 @@ fn names_of_items(rt: HostRuntime) -> Result<(), Fail> {
             None
         }
     });
-    assert_eq!(rt; found, Some(1));
+    assert!(rt; found == Some(1));
     assert!(rt; scope.name_of(ItemInNs::Values(function(8))).is_none());
+}
+
+fn walks(rt: &impl Abort, alloc: Global, scope: &ItemScope) -> Result<(), AllocError> {
+    names_in_order(rt, alloc, scope)?;
+    names_of_each_namespace(rt, alloc, scope)?;
+    imports_in_order(rt, alloc, scope)
+}
+
+fn walks_and_look_ups(rt: &impl Abort, alloc: Global, scope: &ItemScope) -> Result<(), Fail> {
+    modules_and_traits(rt, scope);
+    names_of_items(rt, scope);
+    walks(rt, alloc, scope)?;
+    items_of_names(rt, alloc, scope)
+}
+
+/// What one scope gives, walk after walk.
+#[test]
+fn reads(rt: HostRuntime) -> Result<(), Fail> {
+    let alloc = rt.alloc();
+    let scope = filled(alloc)?;
+    walks_and_look_ups(&rt, alloc, &scope)
+}
+
+/// A trait that is imported without a name once more takes the visibility.
+fn unnamed_trait_again(rt: &impl Abort, scope: &mut ItemScope) -> Result<(), Fail> {
+    scope.push_unnamed_trait(trait_of(9), IN_CRATE, Some(import(0, 1)))?;
+    assert!(rt; scope.unnamed_trait_vis(trait_of(9)) == Some(IN_CRATE));
+    let mut traits = scope.unnamed_traits();
+    assert!(rt; traits.next().is_some());
+    assert!(rt; traits.next().is_none());
     Ok(())
 }
 
@@ -286,41 +325,36 @@ fn replace(scope: &mut ItemScope, name: &Name) {
     }
 }
 
-#[test]
-fn updates_of_types_and_values(rt: HostRuntime) -> Result<(), Fail> {
-    let alloc = rt.alloc();
-    let mut scope = filled(alloc)?;
-    let name = Name::new(alloc, "S")?;
-    narrow(&mut scope, &name);
+fn types_and_values(rt: &impl Abort, scope: &mut ItemScope, name: &Name) {
+    narrow(scope, name);
     let id = structure(1);
-    assert!(rt; scope.get(&name) == PerNs::both(id, id, IN_CRATE, None));
-    replace(&mut scope, &name);
-    assert!(rt; scope.get(&name) == PerNs::both(structure(20), function(21), PUBLIC, None));
+    assert!(rt; scope.get(name) == PerNs::both(id, id, IN_CRATE, None));
+    replace(scope, name);
+    assert!(rt; scope.get(name) == PerNs::both(structure(20), function(21), PUBLIC, None));
+}
+
+fn updates_of_types_and_values(
+    rt: &impl Abort,
+    alloc: Global,
+    scope: &mut ItemScope,
+) -> Result<(), Fail> {
+    types_and_values(rt, scope, &Name::new(alloc, "S")?);
     let other = Name::new(alloc, "R")?;
-    assert_eq!(rt; scope.type_(&other), Some((id, PUBLIC)));
+    assert!(rt; scope.type_(&other) == Some((structure(1), PUBLIC)));
     Ok(())
 }
 
-#[test]
-fn updates_of_macros(rt: HostRuntime) -> Result<(), Fail> {
-    let alloc = rt.alloc();
-    let mut scope = filled(alloc)?;
+fn updates_of_macros(rt: &impl Abort, alloc: Global, scope: &mut ItemScope) -> Result<(), Fail> {
     let name = Name::new(alloc, "mac")?;
-    narrow(&mut scope, &name);
+    narrow(scope, &name);
     assert!(rt; scope.get(&name) == PerNs::macros(makro(), IN_CRATE, None));
-    replace(&mut scope, &name);
-    assert_eq!(rt;
-        scope.makro(&name),
-        Some(macro_of(22, MacroCallStyles::ATTR))
-    );
+    replace(scope, &name);
+    assert!(rt; scope.makro(&name) == Some(macro_of(22, MacroCallStyles::ATTR)));
     Ok(())
 }
 
 /// A value goes if it is the one that is meant.
-#[test]
-fn removed_values(rt: HostRuntime) -> Result<(), Fail> {
-    let alloc = rt.alloc();
-    let mut scope = filled(alloc)?;
+fn removed_values(rt: &impl Abort, alloc: Global, scope: &mut ItemScope) -> Result<(), Fail> {
     let name = Name::new(alloc, "S")?;
     scope.remove_from_value_ns(&name, function(3));
     assert!(rt; scope.has_value(&name));
@@ -339,34 +373,76 @@ fn seen(alloc: Global, scope: &ItemScope, name: &str) -> Result<Option<Visibilit
     }
 }
 
-/// Others see of a procedural macro's crate the procedural macros that it binds itself.
-#[test]
-fn censored_root(rt: HostRuntime) -> Result<(), Fail> {
-    let alloc = rt.alloc();
-    let mut scope = filled(alloc)?;
-    bind(
-        alloc,
-        &mut scope,
-        "p",
-        PerNs::macros(proc_macro(1), PUBLIC, None),
-        None,
-    )?;
-    bind(
-        alloc,
-        &mut scope,
-        "q",
-        PerNs::macros(proc_macro(2), PUBLIC, None),
-        Some(9),
-    )?;
-    scope.censor_non_proc_macros(Crate(0));
-    let name = Name::new(alloc, "S")?;
-    let id = structure(1);
-    assert!(rt; scope.get(&name) == PerNs::both(id, id, IN_CRATE, None));
-    assert_eq!(rt; scope.unnamed_trait_vis(trait_of(9)), Some(IN_CRATE));
-    assert_eq!(rt; seen(alloc, &scope, "mac")?, Some(IN_CRATE));
-    assert_eq!(rt; seen(alloc, &scope, "p")?, Some(PUBLIC));
-    assert_eq!(rt; seen(alloc, &scope, "q")?, Some(IN_CRATE));
+fn is_seen(
+    rt: &impl Abort,
+    alloc: Global,
+    scope: &ItemScope,
+    name: &str,
+    vis: Visibility,
+) -> Result<(), Fail> {
+    assert!(rt; seen(alloc, scope, name)? == Some(vis), "{name}");
     Ok(())
+}
+
+fn bind_proc_macros(alloc: Global, scope: &mut ItemScope) -> Result<(), Fail> {
+    let items = PerNs::macros(proc_macro(1), PUBLIC, None);
+    bind(alloc, scope, "p", items, None)?;
+    let items = PerNs::macros(proc_macro(2), PUBLIC, None);
+    bind(alloc, scope, "q", items, Some(9))
+}
+
+/// Others see of a procedural macro's crate the procedural macros that it binds itself.
+fn censored_root(rt: &impl Abort, alloc: Global, scope: &mut ItemScope) -> Result<(), Fail> {
+    bind_proc_macros(alloc, scope)?;
+    scope.censor_non_proc_macros(Crate(0));
+    let id = structure(1);
+    let items = scope.get(&Name::new(alloc, "S")?);
+    assert!(rt; items == PerNs::both(id, id, IN_CRATE, None));
+    assert!(rt; scope.unnamed_trait_vis(trait_of(9)) == Some(IN_CRATE));
+    is_seen(rt, alloc, scope, "mac", IN_CRATE)?;
+    is_seen(rt, alloc, scope, "p", PUBLIC)?;
+    is_seen(rt, alloc, scope, "q", IN_CRATE)
+}
+
+/// What is done to a scope that is filled.
+#[derive(Clone, Copy)]
+enum Change {
+    UnnamedTrait,
+    TypesAndValues,
+    Macros,
+    Removal,
+    Censor,
+}
+
+fn change_scope(
+    rt: &impl Abort,
+    alloc: Global,
+    scope: &mut ItemScope,
+    change: Change,
+) -> Result<(), Fail> {
+    match change {
+        Change::UnnamedTrait => unnamed_trait_again(rt, scope),
+        Change::TypesAndValues => updates_of_types_and_values(rt, alloc, scope),
+        Change::Macros => updates_of_macros(rt, alloc, scope),
+        Change::Removal => removed_values(rt, alloc, scope),
+        Change::Censor => censored_root(rt, alloc, scope),
+    }
+}
+
+fn changed(rt: &impl Abort, alloc: Global, change: Change) -> Result<(), Fail> {
+    let mut scope = filled(alloc)?;
+    change_scope(rt, alloc, &mut scope, change)
+}
+
+/// Each in a scope of its own.
+#[test]
+fn changes(rt: HostRuntime) -> Result<(), Fail> {
+    let alloc = rt.alloc();
+    changed(&rt, alloc, Change::UnnamedTrait)?;
+    changed(&rt, alloc, Change::TypesAndValues)?;
+    changed(&rt, alloc, Change::Macros)?;
+    changed(&rt, alloc, Change::Removal)?;
+    changed(&rt, alloc, Change::Censor)
 }
 
 fn an_impl(number: u16) -> ImplId {
@@ -376,20 +452,18 @@ fn an_impl(number: u16) -> ImplId {
 }
 
 /// Impls of traits, and others, in the order in which they were noted.
-#[test]
-fn impls(rt: HostRuntime) -> Result<(), Fail> {
-    let mut scope = empty_scope(rt.alloc())?;
+fn impls(rt: &impl Abort, scope: &mut ItemScope) -> Result<(), Fail> {
     scope.define_impl(an_impl(1), true)?;
     scope.define_impl(an_impl(2), false)?;
     let mut all = scope.impls();
-    assert_eq!(rt; all.next(), Some(an_impl(1)));
-    assert_eq!(rt; all.next(), Some(an_impl(2)));
+    assert!(rt; all.next() == Some(an_impl(1)));
+    assert!(rt; all.next() == Some(an_impl(2)));
     assert!(rt; all.next().is_none());
     let mut of_traits = scope.trait_impls();
-    assert_eq!(rt; of_traits.next(), Some(an_impl(1)));
+    assert!(rt; of_traits.next() == Some(an_impl(1)));
     assert!(rt; of_traits.next().is_none());
     let mut inherent = scope.inherent_impls();
-    assert_eq!(rt; inherent.next(), Some(an_impl(2)));
+    assert!(rt; inherent.next() == Some(an_impl(2)));
     assert!(rt; inherent.next().is_none());
     Ok(())
 }
@@ -406,22 +480,17 @@ fn unnamed_const(number: u16) -> ConstId {
 }
 
 /// What a module lists.
-#[test]
-fn lists(rt: HostRuntime) -> Result<(), Fail> {
-    let mut scope = empty_scope(rt.alloc())?;
+fn lists(rt: &impl Abort, scope: &mut ItemScope) -> Result<(), Fail> {
     scope.declare(structure(1))?;
     scope.declare(function(2))?;
-    assert_eq!(rt;
-        scope.declarations(),
-        [structure(1), function(2)].as_slice()
-    );
+    assert!(rt; scope.declarations() == [structure(1), function(2)].as_slice());
     let loc = use_item(0, 3).loc;
     scope.define_extern_block(ExternBlockId { loc })?;
-    assert_eq!(rt; scope.extern_blocks(), [ExternBlockId { loc }].as_slice());
+    assert!(rt; scope.extern_blocks() == [ExternBlockId { loc }].as_slice());
     scope.define_unnamed_const(unnamed_const(4))?;
-    assert_eq!(rt; scope.unnamed_consts(), [unnamed_const(4)].as_slice());
+    assert!(rt; scope.unnamed_consts() == [unnamed_const(4)].as_slice());
     scope.define_use(UseId { loc })?;
-    assert_eq!(rt; scope.use_decls(), [UseId { loc }].as_slice());
+    assert!(rt; scope.use_decls() == [UseId { loc }].as_slice());
     Ok(())
 }
 
@@ -440,33 +509,42 @@ fn textual_names(alloc: Global, scope: &ItemScope) -> Result<String, AllocError>
     Ok(text)
 }
 
-/// Of the macros of a name in textual scope the last one is meant.
-#[test]
-fn macros_in_textual_scope(rt: HostRuntime) -> Result<(), Fail> {
-    let alloc = rt.alloc();
-    let mut scope = empty_scope(alloc)?;
-    define(alloc, &mut scope, "a", 1)?;
-    define(alloc, &mut scope, "a", 3)?;
-    define(alloc, &mut scope, "b", 2)?;
-    let text = textual_names(alloc, &scope)?;
-    assert_eq!(rt; text.as_str(), "a a b ");
+/// Of the macros of a name the last one is meant.
+fn last_macro(rt: &impl Abort, alloc: Global, scope: &ItemScope) -> Result<(), Fail> {
     let name = Name::new(alloc, "a")?;
     let first = macro_of(1, MacroCallStyles::FN_LIKE);
     let last = macro_of(3, MacroCallStyles::FN_LIKE);
-    let found = scope.get_legacy_macro(&name)?;
-    assert_eq!(rt; found.as_slice(), [first, last].as_slice());
-    assert_eq!(rt; scope.last_legacy_macro(&name), Some(last));
+    let found: Vec<MacroId> = scope.get_legacy_macro(&name).collect(alloc)?;
+    assert!(rt; found.as_slice() == [first, last].as_slice());
+    assert!(rt; scope.last_legacy_macro(&name) == Some(last));
     assert!(rt; scope.makro(&name).is_none());
     Ok(())
 }
 
-/// A value that an import brought has that import.
+/// Macros in textual scope are walked as they were defined.
+fn macros_in_textual_scope(
+    rt: &impl Abort,
+    alloc: Global,
+    scope: &mut ItemScope,
+) -> Result<(), Fail> {
+    define(alloc, scope, "a", 1)?;
+    define(alloc, scope, "b", 2)?;
+    define(alloc, scope, "a", 3)?;
+    let text = textual_names(alloc, scope)?;
+    is_text(rt, text.as_str(), "a b a ");
+    last_macro(rt, alloc, scope)
+}
+
+fn notes(rt: &impl Abort, alloc: Global, scope: &mut ItemScope) -> Result<(), Fail> {
+    impls(rt, scope)?;
+    lists(rt, scope)?;
+    macros_in_textual_scope(rt, alloc, scope)
+}
+
+/// What a scope lists that was empty.
 #[test]
-fn imports_of_values(rt: HostRuntime) -> Result<(), Fail> {
+fn lists_of_a_scope(rt: HostRuntime) -> Result<(), Fail> {
     let alloc = rt.alloc();
-    let scope = filled(alloc)?;
-    let name = Name::new(alloc, "a")?;
-    let by = Some(ImportOrGlob::Import(import(0, 6)));
-    assert!(rt; scope.get(&name) == PerNs::values(function(3), PUBLIC, by));
-    Ok(())
+    let mut scope = empty_scope(alloc)?;
+    notes(&rt, alloc, &mut scope)
 }

@@ -1,7 +1,7 @@
 //! Chains of import records.
 ghost use Rattle.std.specs.Prelude.{slice_get};
 
-use super::{a_type, are_items, import, module, push, structure};
+use super::{a_type, import, module, push, structure};
 use hir_base::ids::ModuleId;
 use hir_scope::glob_imports::PerNsGlobImports;
 use hir_scope::imports::ImportOrExternCrate;
@@ -78,20 +78,18 @@ fn chain(alloc: Global, records: u32) -> Result<Numbered, Fail> {
     Ok(Numbered { scopes })
 }
 
-fn follow_first(rt: &impl Abort, modules: &Numbered, reached: PerNs) -> Result<(), Fail> {
-    let first = modules.scope(module(0)).ok_or("no module")?;
-    are_items(
-        rt,
-        first.fully_resolve_import(modules, import(0, 0)),
-        reached,
-    );
-    Ok(())
+fn followed(modules: &Numbered) -> Option<PerNs> {
+    match modules.scope(module(0)) {
+        Some(first) => Some(first.fully_resolve_import(modules, import(0, 0))),
+        None => None,
+    }
 }
 
 /// Asserts what the first of so many records leads to.
 fn follow(rt: &impl Abort, alloc: Global, records: u32, reached: PerNs) -> Result<(), Fail> {
     let modules = chain(alloc, records)?;
-    follow_first(rt, &modules, reached)
+    assert!(rt; followed(&modules) == Some(reached));
+    Ok(())
 }
 
 /// A chain of records is followed to its end, unless it is too long.

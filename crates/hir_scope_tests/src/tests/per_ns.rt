@@ -48,7 +48,7 @@ fn has_namespaces(
         items.values.is_some(),
         items.macros.is_some(),
     );
-    assert_eq!(rt; found, namespaces);
+    assert!(rt; found == namespaces);
 }
 
 /// Of all definitions a struct and a variant alone may be in two.
@@ -61,8 +61,8 @@ fn namespaces_of_definitions(rt: HostRuntime) {
         ModuleDefId::TraitId(trait_of(1)),
         ModuleDefId::BuiltinType(BuiltinType::Char),
     ];
-    for def in in_types {
-        has_namespaces(&rt, def, Some(PUBLIC), (true, false, false));
+    for def in &in_types {
+        has_namespaces(&rt, *def, Some(PUBLIC), (true, false, false));
     }
     has_namespaces(&rt, function(1), Some(PUBLIC), (false, true, false));
     has_namespaces(
@@ -71,9 +71,9 @@ fn namespaces_of_definitions(rt: HostRuntime) {
         None,
         (false, false, true),
     );
-    for def in [structure(1), variant()] {
-        has_namespaces(&rt, def, None, (true, false, false));
-        has_namespaces(&rt, def, Some(IN_CRATE), (true, true, false));
+    for def in &[structure(1), variant()] {
+        has_namespaces(&rt, *def, None, (true, false, false));
+        has_namespaces(&rt, *def, Some(IN_CRATE), (true, true, false));
     }
 }
 
@@ -107,9 +107,9 @@ fn full() -> PerNs {
 /// Each namespace by itself.
 #[test]
 fn items_by_namespace(rt: HostRuntime) {
-    assert_eq!(rt; full().take_types(), Some(structure(1)));
-    assert_eq!(rt; full().take_values(), Some(function(2)));
-    assert_eq!(rt; full().take_macros(), Some(makro()));
+    assert!(rt; full().take_types() == Some(structure(1)));
+    assert!(rt; full().take_values() == Some(function(2)));
+    assert!(rt; full().take_macros() == Some(makro()));
     assert!(rt; full().take_types_full() == full().types);
     assert!(rt; full().take_values_full() == full().values);
     assert!(rt; full().take_macros_full() == full().macros);
@@ -162,15 +162,15 @@ fn items_one_after_another(rt: HostRuntime) {
     let values = PerNs::values(function(2), PUBLIC, Some(by));
     let types = PerNs::types(structure(1), PUBLIC, None);
     let mut items = types.or(values).or(full()).iter_items();
-    assert_eq!(rt; items.next(), Some((ItemInNs::Types(structure(1)), None)));
-    assert_eq!(rt;
-        items.next(),
-        Some((
-            ItemInNs::Values(function(2)),
-            Some(ImportOrExternCrate::Import(import(0, 1)))
-        ))
+    assert!(rt; items.next() == Some((ItemInNs::Types(structure(1)), None)));
+    assert!(rt;
+        items.next()
+            == Some((
+                ItemInNs::Values(function(2)),
+                Some(ImportOrExternCrate::Import(import(0, 1)))
+            ))
     );
-    assert_eq!(rt; items.next(), Some((ItemInNs::Macros(makro()), None)));
+    assert!(rt; items.next() == Some((ItemInNs::Macros(makro()), None)));
     assert!(rt; items.next().is_none());
 }
 
@@ -178,19 +178,13 @@ fn items_one_after_another(rt: HostRuntime) {
 #[test]
 fn items_of_namespaces(rt: HostRuntime) {
     let item = ItemInNs::Types(ModuleDefId::AdtId(adt(1)));
-    assert_eq!(rt; item.as_module_def_id(), Some(structure(1)));
-    assert_eq!(rt;
-        (item.module(), item.krate()),
-        (Some(module(0)), Some(Crate(0)))
-    );
+    assert!(rt; item.as_module_def_id() == Some(structure(1)));
+    assert!(rt; (item.module(), item.krate()) == (Some(module(0)), Some(Crate(0))));
     let value = ItemInNs::Values(function(2));
-    assert_eq!(rt; value.as_module_def_id(), Some(function(2)));
+    assert!(rt; value.as_module_def_id() == Some(function(2)));
     let item = ItemInNs::Macros(makro());
     assert!(rt; item.as_module_def_id().is_none());
-    assert_eq!(rt;
-        (item.module(), item.krate()),
-        (Some(module(0)), Some(Crate(0)))
-    );
+    assert!(rt; (item.module(), item.krate()) == (Some(module(0)), Some(Crate(0))));
     let builtin = ItemInNs::Types(ModuleDefId::BuiltinType(BuiltinType::Char));
     assert!(rt; builtin.module().is_none() && builtin.krate().is_none());
 }
@@ -206,24 +200,18 @@ fn glob() -> GlobId {
 #[test]
 fn what_brought_an_item(rt: HostRuntime) {
     let by = ImportOrExternCrate::Import(import(0, 1));
-    assert_eq!(rt;
-        by.import_or_glob(),
-        Some(ImportOrGlob::Import(import(0, 1)))
-    );
-    assert_eq!(rt; (by.import(), by.glob()), (Some(import(0, 1)), None));
-    assert_eq!(rt; by.use_(), Some(use_item(0, 1)));
+    assert!(rt; by.import_or_glob() == Some(ImportOrGlob::Import(import(0, 1))));
+    assert!(rt; (by.import(), by.glob()) == (Some(import(0, 1)), None));
+    assert!(rt; by.use_() == Some(use_item(0, 1)));
     let by = ImportOrExternCrate::Glob(glob());
-    assert_eq!(rt; by.import_or_glob(), Some(ImportOrGlob::Glob(glob())));
-    assert_eq!(rt; (by.import(), by.glob()), (None, Some(glob())));
-    assert_eq!(rt; by.use_(), Some(use_item(0, 2)));
+    assert!(rt; by.import_or_glob() == Some(ImportOrGlob::Glob(glob())));
+    assert!(rt; (by.import(), by.glob()) == (None, Some(glob())));
+    assert!(rt; by.use_() == Some(use_item(0, 2)));
     let by = ImportOrExternCrate::ExternCrate(extern_crate(3));
     assert!(rt; by.import_or_glob().is_none());
-    assert_eq!(rt; (by.import(), by.glob()), (None, None));
+    assert!(rt; (by.import(), by.glob()) == (None, None));
     assert!(rt; by.use_().is_none());
-    assert_eq!(rt;
-        ImportOrGlob::Import(import(0, 1)).into_import(),
-        Some(import(0, 1))
-    );
+    assert!(rt; ImportOrGlob::Import(import(0, 1)).into_import() == Some(import(0, 1)));
     assert!(rt; ImportOrGlob::Glob(glob()).into_import().is_none());
 }
 
@@ -232,19 +220,13 @@ fn what_brought_an_item(rt: HostRuntime) {
 fn what_an_import_reached(rt: HostRuntime) {
     let of_value = ImportOrGlob::Glob(glob());
     let of_item = ImportOrExternCrate::Glob(glob());
-    assert_eq!(rt; ImportOrExternCrate::from(of_value), of_item);
-    assert_eq!(rt; ImportOrDef::from(of_value), ImportOrDef::Glob(glob()));
-    assert_eq!(rt; ImportOrDef::from(of_item), ImportOrDef::Glob(glob()));
+    assert!(rt; ImportOrExternCrate::from(of_value) == of_item);
+    assert!(rt; ImportOrDef::from(of_value) == ImportOrDef::Glob(glob()));
+    assert!(rt; ImportOrDef::from(of_item) == ImportOrDef::Glob(glob()));
     let of_value = ImportOrGlob::Import(import(0, 1));
     let of_item = ImportOrExternCrate::Import(import(0, 1));
-    assert_eq!(rt; ImportOrExternCrate::from(of_value), of_item);
-    assert_eq!(rt;
-        ImportOrDef::from(of_value),
-        ImportOrDef::Import(import(0, 1))
-    );
+    assert!(rt; ImportOrExternCrate::from(of_value) == of_item);
+    assert!(rt; ImportOrDef::from(of_value) == ImportOrDef::Import(import(0, 1)));
     let declared = ImportOrExternCrate::ExternCrate(extern_crate(3));
-    assert_eq!(rt;
-        ImportOrDef::from(declared),
-        ImportOrDef::ExternCrate(extern_crate(3))
-    );
+    assert!(rt; ImportOrDef::from(declared) == ImportOrDef::ExternCrate(extern_crate(3)));
 }

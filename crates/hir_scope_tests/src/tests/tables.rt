@@ -4,6 +4,7 @@ use either::Either;
 use hir_base::ast_id::{AstId, AstKind, AttrId, MacroCallId};
 use hir_base::macro_kind::{BuiltinDeriveImplId, MacroCallStyles};
 use hir_scope::item_scope::ItemScope;
+use hir_scope::item_scope::macro_calls::DeriveAttribute;
 use std::alloc::{AllocError, Global};
 use std::fmt::Write;
 use std::process::Abort;
@@ -30,26 +31,14 @@ fn derived(number: u16) -> BuiltinDeriveImplId {
 
 fn note_impl(rt: &impl Abort, scope: &mut ItemScope) -> Result<(), Fail> {
     scope.define_builtin_derive_impl(derived(1))?;
-    assert_eq!(rt; scope.builtin_derive_impls(), [derived(1)].as_slice());
+    assert!(rt; scope.builtin_derive_impls() == [derived(1)].as_slice());
     Ok(())
-}
-
-#[test]
-fn impls_of_builtin_derives(rt: HostRuntime) -> Result<(), Fail> {
-    let mut scope = empty_scope(rt.alloc())?;
-    note_impl(&rt, &mut scope)
 }
 
 fn note_crate(rt: &impl Abort, scope: &mut ItemScope) -> Result<(), Fail> {
     scope.define_extern_crate_decl(extern_crate(1))?;
-    assert_eq!(rt; scope.extern_crate_decls(), [extern_crate(1)].as_slice());
+    assert!(rt; scope.extern_crate_decls() == [extern_crate(1)].as_slice());
     Ok(())
-}
-
-#[test]
-fn extern_crates(rt: HostRuntime) -> Result<(), Fail> {
-    let mut scope = empty_scope(rt.alloc())?;
-    note_crate(&rt, &mut scope)
 }
 
 /// Notes calls of an attribute and of a macro, and asserts each.
@@ -57,17 +46,11 @@ fn note_calls(rt: &impl Abort, scope: &mut ItemScope) -> Result<(), Fail> {
     scope.add_attr_macro_invoc(item(1), MacroCallId(1))?;
     scope.add_macro_invoc(item(2), MacroCallId(2))?;
     let mut attributes = scope.attr_macro_invocs();
-    assert_eq!(rt; attributes.next(), Some((&item(1), &MacroCallId(1))));
+    assert!(rt; attributes.next() == Some((&item(1), &MacroCallId(1))));
     assert!(rt; attributes.next().is_none());
-    assert_eq!(rt; scope.macro_invoc(item(2)), Some(MacroCallId(2)));
+    assert!(rt; scope.macro_invoc(item(2)) == Some(MacroCallId(2)));
     assert!(rt; scope.macro_invoc(item(1)).is_none());
     Ok(())
-}
-
-#[test]
-fn calls(rt: HostRuntime) -> Result<(), Fail> {
-    let mut scope = empty_scope(rt.alloc())?;
-    note_calls(&rt, &mut scope)
 }
 
 /// Notes an attribute of two paths, and what the second became.
@@ -81,29 +64,44 @@ fn note_derive(rt: &impl Abort, alloc: Global, scope: &mut ItemScope) -> Result<
 }
 
 /// Asserts what the attribute and its paths became.
-fn has_derive(rt: &impl Abort, scope: &ItemScope) -> Result<(), Fail> {
-    let (of, attributes) = scope.derive_macro_invocs().next().ok_or("no item")?;
-    assert_eq!(rt; *of, item(1));
-    let attribute = attributes.as_slice().first().ok_or("no attribute")?;
-    assert_eq!(rt; attribute.attr_call_id(), MacroCallId(1));
-    assert_eq!(rt;
-        attribute.derive_call_ids(),
-        [None, Some(Either::Left(MacroCallId(2)))].as_slice()
-    );
-    assert_eq!(rt;
-        scope.derive_macro_invoc(item(1), AttrId(1)),
-        Some(MacroCallId(1))
-    );
+fn is_derive(attribute: &DeriveAttribute) -> bool {
+    let calls = [None, Some(Either::Left(MacroCallId(2)))];
+    attribute.attr_call_id() == MacroCallId(1) && attribute.derive_call_ids() == calls.as_slice()
+}
+
+/// The first attribute of the first item that has one, where it is this item.
+fn first_derive(scope: &ItemScope, of: AstId) -> Option<&DeriveAttribute> {
+    match scope.derive_macro_invocs().next() {
+        Some((first, attributes)) if *first == of => attributes.as_slice().first(),
+        _ => None,
+    }
+}
+
+fn has_derive(rt: &impl Abort, scope: &ItemScope) {
+    let is_first = match first_derive(scope, item(1)) {
+        Some(attribute) => is_derive(attribute),
+        None => false,
+    };
+    assert!(rt; is_first);
+    assert!(rt; scope.derive_macro_invoc(item(1), AttrId(1)) == Some(MacroCallId(1)));
     assert!(rt; scope.derive_macro_invoc(item(1), AttrId(2)).is_none());
+}
+
+fn note_each(rt: &impl Abort, alloc: Global, scope: &mut ItemScope) -> Result<(), Fail> {
+    note_impl(rt, scope)?;
+    note_crate(rt, scope)?;
+    note_calls(rt, scope)?;
+    note_derive(rt, alloc, scope)?;
+    has_derive(rt, scope);
     Ok(())
 }
 
+/// Impls of builtin derives, extern crates, calls and attributes of derives.
 #[test]
-fn derive_attributes(rt: HostRuntime) -> Result<(), Fail> {
+fn each_table(rt: HostRuntime) -> Result<(), Fail> {
     let alloc = rt.alloc();
     let mut scope = empty_scope(alloc)?;
-    note_derive(&rt, alloc, &mut scope)?;
-    has_derive(&rt, &scope)
+    note_each(&rt, alloc, &mut scope)
 }
 
 /// A path of a `derive` that is a builtin one's, and one that a call stands for.
@@ -130,16 +128,23 @@ fn numbers_of_calls(alloc: Global, scope: &ItemScope) -> Result<String, AllocErr
     Ok(text)
 }
 
-fn has_calls(rt: &impl Abort, alloc: Global, scope: &ItemScope) -> Result<(), Fail> {
+fn has_calls(rt: &impl Abort, alloc: Global, scope: &ItemScope) -> Result<(), AllocError> {
     let text = numbers_of_calls(alloc, scope)?;
     assert_eq!(rt; text.as_str(), "2 1 3 ");
     let mut calls = scope.iter_macro_invoc();
-    assert_eq!(rt; calls.next(), Some((&item(2), &MacroCallId(2))));
+    assert!(rt; calls.next() == Some((&item(2), &MacroCallId(2))));
     assert!(rt; calls.next().is_none());
-    let (_, attributes) = scope.derive_macro_invocs().next().ok_or("an item")?;
-    let attribute = attributes.as_slice().first().ok_or("an attribute")?;
-    assert_eq!(rt; attribute.attr_id(), AttrId(4));
+    let has_attribute = match first_derive(scope, item(1)) {
+        Some(attribute) => attribute.attr_id() == AttrId(4),
+        None => false,
+    };
+    assert!(rt; has_attribute);
     Ok(())
+}
+
+fn note_and_have_calls(rt: &impl Abort, alloc: Global, scope: &mut ItemScope) -> Result<(), Fail> {
+    note_paths(alloc, scope)?;
+    Ok(has_calls(rt, alloc, scope)?)
 }
 
 /// Calls come before those of attributes, and these before what derives became; a builtin derive is no call.
@@ -147,6 +152,5 @@ fn has_calls(rt: &impl Abort, alloc: Global, scope: &ItemScope) -> Result<(), Fa
 fn all_calls(rt: HostRuntime) -> Result<(), Fail> {
     let alloc = rt.alloc();
     let mut scope = empty_scope(alloc)?;
-    note_paths(alloc, &mut scope)?;
-    has_calls(&rt, alloc, &scope)
+    note_and_have_calls(&rt, alloc, &mut scope)
 }

@@ -97,28 +97,23 @@ const IN_MAP_OF_BLOCK: [Row; 10] = [
     (b'9', b"01--9----9", b"99--9----9"),
 ];
 
+/// Asserts what is said of two digits, or of a digit in a column.
+fn holds(rt: &impl Abort, one: u8, two: u8, is: bool) {
+    assert!(rt; is, "{} {}", one as char, two as char);
+}
+
 /// Asserts the greater and the lesser of two visibilities, by digits.
 fn compare_two(rt: &impl Abort, one: u8, two: u8, greater: u8, lesser: u8, map: MapId) {
     let vis = visibility(one).expect(rt, "a digit");
     let other = visibility(two).expect(rt, "a digit");
-    assert_eq!(rt;
-        vis.max(&SmallTree, other, map),
-        visibility(greater),
-        "{} {}",
-        one as char,
-        two as char
-    );
-    assert_eq!(rt;
-        vis.min(&SmallTree, other, map),
-        visibility(lesser),
-        "{} {}",
-        one as char,
-        two as char
-    );
+    let max = vis.max(&SmallTree, other, map);
+    holds(rt, one, two, max == visibility(greater));
+    let min = vis.min(&SmallTree, other, map);
+    holds(rt, one, two, min == visibility(lesser));
 }
 
-fn compare_with_each(rt: &impl Abort, row: Row, map: MapId) {
-    let (one, greater, lesser) = row;
+fn compare_with_each(rt: &impl Abort, row: &Row, map: MapId) {
+    let (one, greater, lesser) = *row;
     for at in 0..10 {
         compare_two(rt, one, b"0123456789"[at], greater[at], lesser[at], map);
     }
@@ -131,11 +126,11 @@ fn siblings_share_no_visibility(rt: HostRuntime) {
 
 #[test]
 fn any_two(rt: HostRuntime) {
-    for row in IN_MAP_OF_CRATE {
+    for row in &IN_MAP_OF_CRATE {
         compare_with_each(&rt, row, MAP);
     }
     let block = in_block(0);
-    for row in IN_MAP_OF_BLOCK {
+    for row in &IN_MAP_OF_BLOCK {
         compare_with_each(&rt, row, block.map);
     }
 }
@@ -169,33 +164,36 @@ fn see_from_each(rt: &impl Abort, digit: u8, seen: &[u8; 8]) {
     let vis = visibility(digit).expect(rt, "a digit");
     for at in 0..8 {
         let is_visible = vis.is_visible_from(&SmallTree, asking(at));
-        assert_eq!(rt; is_visible, seen[at] == b'+', "{} {at}", digit as char);
+        let wanted = seen[at] == b'+';
+        holds(rt, digit, b"01234567"[at], is_visible == wanted);
     }
 }
 
 #[test]
 fn any_seen_from_any(rt: HostRuntime) {
-    for (digit, seen) in SEEN {
+    for &(digit, seen) in &SEEN {
         see_from_each(&rt, digit, seen);
     }
 }
 
 /// Only what is public may be seen from other crates; a map that is being built is asked like any tree.
+fn see_from_other_crates(rt: &impl Abort, digit: u8, seen: &[u8; 8]) {
+    let vis = visibility(digit).expect(rt, "a digit");
+    let is_public = digit == b'0';
+    holds(rt, digit, b'-', vis.is_public() == is_public);
+    let is_visible = vis.is_visible_from_other_crate();
+    holds(rt, digit, b'-', is_visible == is_public);
+    for at in 0..8 {
+        let is_visible = vis.is_visible_from_def_map(&SmallTree, asking(at));
+        let wanted = seen[at] == b'+';
+        holds(rt, digit, b"01234567"[at], is_visible == wanted);
+    }
+}
+
 #[test]
 fn seen_from_other_crates(rt: HostRuntime) {
-    for (digit, seen) in SEEN {
-        let vis = visibility(digit).expect(&rt, "a digit");
-        assert_eq!(rt; vis.is_public(), digit == b'0', "{}", digit as char);
-        assert_eq!(rt;
-            vis.is_visible_from_other_crate(),
-            digit == b'0',
-            "{}",
-            digit as char
-        );
-        for at in 0..8 {
-            let is_visible = vis.is_visible_from_def_map(&SmallTree, asking(at));
-            assert_eq!(rt; is_visible, seen[at] == b'+', "{} {at}", digit as char);
-        }
+    for &(digit, seen) in &SEEN {
+        see_from_other_crates(&rt, digit, seen);
     }
 }
 
@@ -209,7 +207,7 @@ fn written_visibilities(rt: HostRuntime) {
         },
         &RawVisibility::PubCrate,
     );
-    assert_eq!(rt; crate_alone, IN_CRATE);
+    assert!(rt; crate_alone == IN_CRATE);
     let unresolved = Visibility::resolve(|_: &RawVisibility| None, &RawVisibility::PubCrate);
-    assert_eq!(rt; unresolved, PUBLIC);
+    assert!(rt; unresolved == PUBLIC);
 }

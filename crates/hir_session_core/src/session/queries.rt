@@ -1,5 +1,5 @@
 //! What a session is asked.
-ghost use Rattle.std.specs.Prelude.{◌≡◌, ◌⊎◌, IfOk, IfErr, Ok, Err, option_map, string_bytes};
+ghost use Rattle.std.specs.Prelude.{◌≡◌, ◌++◌, ◌⊎◌, IfOk, IfErr, OnOk, Ok, Err, option_map, string_bytes};
 ghost use Rattle.std.specs.Option.{option_and_then};
 ghost use Rattle.hir_base.specs.Refusal.{Gives};
 ghost use Rattle.hir_item_tree.specs.Source.{source_view};
@@ -7,7 +7,7 @@ ghost use Rattle.hir_session_state.specs.Files.{file_at};
 ghost use Rattle.hir_session_state.specs.SessionState.{kept_of, module_of, standing_of};
 ghost use Rattle.hir_session_answers.specs.Diagnostics.{diagnostics_of};
 ghost use Rattle.hir_session_answers.specs.DiagnosticsStand.{DiagnosticsStand};
-ghost use Rattle.hir_session_state.specs.Refusals.{IsDiagnosticsMemory, IsQueryMemory, IsTreeTextMemory};
+ghost use Rattle.hir_session_state.specs.Refusals.{IsDiagnosticsMemory, IsModulesMemory, IsQueryMemory, IsTreeTextMemory};
 ghost use Rattle.hir_session_answers.specs.Status.{status_of};
 ghost use Rattle.hir_wire.specs.declared.reply.Status.TheVariants as status;
 ghost use Rattle.hir_session_state.specs.Crates.{id_of};
@@ -16,6 +16,9 @@ ghost use Rattle.hir_session_answers.specs.Walking.{standing_value};
 ghost use Rattle.hir_session_answers.specs.AnswersStand.{AnswersStand};
 ghost use Rattle.hir_session_answers.specs.Dumps.{dump_at, dump_kept};
 ghost use Rattle.hir_session_answers.specs.TreeText.{tree_text_of};
+ghost use Rattle.hir_session_answers.specs.Modules.{file_modules_of, modules_in, modules_of};
+ghost use Rattle.hir_session_answers.specs.Names.{names_kept, names_of};
+ghost use Rattle.hir_session_answers.specs.NamesStand.{NamesStand};
 
 use super::Session;
 use hir_base::file_path::FilePath;
@@ -28,16 +31,19 @@ use hir_def_map::world::part::WorldPart;
 use hir_item_tree::source::Source;
 use hir_session_answers::answers::answer_at;
 use hir_session_answers::diagnostics::diagnostics_at;
+use hir_session_answers::modules::list_modules;
+use hir_session_answers::names::names_at;
 use hir_session_answers::standing::{PlaceStanding, standing_at};
 use hir_session_sources::crate_info::CrateInfo;
 use hir_session_sources::files::Files;
-use hir_session_state::error::{DiagnosticsError, QueryError, TreeTextError};
+use hir_session_state::error::{DiagnosticsError, ModulesError, QueryError, TreeTextError};
 use hir_tables::SourcePlace;
 use hir_wire::answer::Answer;
 use hir_wire::command::{MacroStyle, Shadow};
 use hir_wire::diagnostic::Diagnostics;
-use hir_wire::reply::Status;
-use std::alloc::Global;
+use hir_wire::names::BoundNames;
+use hir_wire::reply::{Places, Status};
+use std::alloc::{AllocError, Global};
 
 impl Session {
     /// The map that is kept of a place.
@@ -167,6 +173,84 @@ impl Session {
             Status::Stale => Err(QueryError::StalePlace),
             Status::Unknown => Err(QueryError::UnknownPlace),
         }
+    }
+
+    /// What the names of a module stand for over what is kept.
+    fn names_kept(&self, alloc: Global, place: &Place) -> Result<BoundNames, QueryError>
+        ensures told { Gives IsQueryMemory result (names_kept self.now place.now) }
+        ensures stand { status.Current ≡ status_of self.now place.now → IfOk result (λ told. NamesStand self.now place.now told) }
+    {
+        let Some(at) = self.standing(place).module() else {
+            return Err(QueryError::UnknownPlace);
+        };
+        let Some(found) = self.kept.get(at.map) else {
+            return Err(QueryError::UnknownPlace);
+        };
+        let Some(transitive) = self.inputs.crates().transitive_dependencies(at.map.krate) else {
+            return Err(QueryError::UnknownPlace);
+        };
+        let Some(scope) = found.map.scope(at.index) else {
+            return Err(QueryError::UnknownPlace);
+        };
+        let read = WorldPart::among(self.kept.world(), transitive, found.holders);
+        let maps = DefMaps::new(read, found.map);
+        let told = names_at(alloc, &self.tables, &maps, scope)?;
+        Ok(BoundNames::new(told))
+    }
+
+    /// What each name stands for of the module that a place names, in the order of names, and then the traits that are imported
+    /// there without a name.
+    pub fn names(&self, alloc: Global, place: &Place) -> Result<BoundNames, QueryError>
+        ensures told { Gives IsQueryMemory result (names_of self.now place.now) }
+        ensures stand { IfOk result (λ told. NamesStand self.now place.now told) }
+    {
+        match self.status(place) {
+            Status::Current => self.names_kept(alloc, place),
+            Status::Stale => Err(QueryError::StalePlace),
+            Status::Unknown => Err(QueryError::UnknownPlace),
+        }
+    }
+
+    /// The places of the modules of a crate, in the order in which they were found.
+    pub fn modules(&self, alloc: Global, krate: Crate) -> Result<Places, ModulesError>
+        ensures listed { Gives IsModulesMemory result (modules_of self.now krate) }
+    {
+        if krate.0 as usize >= self.inputs.crates().len() {
+            return Err(ModulesError::UnknownCrate);
+        }
+        let Some(map) = self.def_map(krate) else {
+            return Err(ModulesError::StalePlace);
+        };
+        let mut places = Vec::new(alloc);
+        list_modules(alloc, &self.tables, None, map, &mut places)?;
+        Ok(Places::new(places))
+    }
+
+    /// Lists the modules of a crate that a file is, unless the crate is stale.
+    fn list_file_modules(
+        &self,
+        alloc: Global,
+        krate: Crate,
+        file: &FilePath,
+        places: &mut Vec<Place>,
+    ) -> Result<(), AllocError>
+        ensures ok { OnOk result (places.new.items ≡ places.old.items ++ modules_in self.now.tables file.now (kept_of self.now (id_of krate.0))) }
+    {
+        match self.def_map(krate) {
+            Some(map) => list_modules(alloc, &self.tables, Some(file), map, places),
+            None => Ok(()),
+        }
+    }
+
+    /// The places of the modules that have a file to themselves, in each crate that is current.
+    pub fn file_modules(&self, alloc: Global, file: &FilePath) -> Result<Places, AllocError>
+        ensures listed { IfOk result (λ places. places ≡ file_modules_of self.now file.now) }
+    {
+        let mut places = Vec::new(alloc);
+        for k in 0..self.inputs.crates().len() as u32 {
+            self.list_file_modules(alloc, Crate(k), file, &mut places)?;
+        }
+        Ok(Places::new(places))
     }
 
     /// The scopes of the map that is kept for a place.

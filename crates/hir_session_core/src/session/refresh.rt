@@ -26,7 +26,7 @@ use hir_base::place::{BlockPlace, Place};
 use hir_collector_rules::collected::Collected;
 use hir_collector_rules::start::CollectError;
 use hir_session_answers::definition_files::definition_file_at;
-use hir_session_invalidation::sources::HeldBlock;
+use hir_session_invalidation::sources::{CollectDefs, HeldBlock};
 use hir_session_sources::source_trees::copied_place;
 use hir_session_state::error::RefreshError;
 use std::alloc::{AllocError, Global};
@@ -95,7 +95,7 @@ impl Session {
     }
 
     /// What a run gives for a crate, beside the maps of those before it.
-    fn found_at(&mut self, alloc: Global, k: u32) -> Result<Collected, RefreshError>
+    fn found_at<C: CollectDefs>(&mut self, alloc: Global, k: u32) -> Result<Collected, RefreshError>
         requires within { k < length self.old.crates }
         requires first { (j : ℕ) → j < k → is_marked self.old (id_of j) ≡ false }
         ensures grown { Grows self.old self.new }
@@ -104,7 +104,7 @@ impl Session {
     {
         match self
             .inputs
-            .resolve(alloc, &mut self.tables, self.kept.world(), k)
+            .resolve::<C>(alloc, &mut self.tables, self.kept.world(), k)
         {
             Ok(found) => Ok(found),
             Err(error) => Err(refresh_error(error)),
@@ -112,7 +112,7 @@ impl Session {
     }
 
     /// Resolves the first marked crate.
-    fn resolve_at(&mut self, alloc: Global, k: u32) -> Result<(), RefreshError>
+    fn resolve_at<C: CollectDefs>(&mut self, alloc: Global, k: u32) -> Result<(), RefreshError>
         requires within { k < length self.old.crates }
         requires first { (j : ℕ) → j < k → is_marked self.old (id_of j) ≡ false }
         requires marked { is_marked self.old (id_of k) ≡ true }
@@ -121,13 +121,13 @@ impl Session {
         ensures many { result ≡ Err RefreshError.TooMany → IsStuckAt self.new (root_place k) }
         ensures err { OnErr result (Grows self.old self.new) }
     {
-        let found = self.found_at(alloc, k)?;
+        let found = self.found_at::<C>(alloc, k)?;
         self.keep_found(MapId::of_crate(Crate(k)), found)?;
         Ok(())
     }
 
     /// Resolves the marked crates, in order, and lists them.
-    fn refresh_crates(&mut self, alloc: Global) -> Result<Vec<Place>, RefreshError>
+    fn refresh_crates<C: CollectDefs>(&mut self, alloc: Global) -> Result<Vec<Place>, RefreshError>
         ensures so_far { IfOk result (λ done. HasResolved self.old done.items self.new) }
         ensures current { OnOk result (AreCratesCurrent self.new) }
         ensures err { OnErr result (RefreshesPartly self.old self.new) }
@@ -137,7 +137,7 @@ impl Session {
         for k in 0..self.inputs.crates().len() as u32 {
             if self.is_marked_at(k) {
                 note(alloc, &mut done, k)?;
-                self.resolve_at(alloc, k)?;
+                self.resolve_at::<C>(alloc, k)?;
             }
         }
         Ok(done)
@@ -166,7 +166,11 @@ impl Session {
     }
 
     /// What a run gives for a block, beside the maps of its crate and of the module that holds it.
-    fn found_in(&mut self, alloc: Global, at: HeldBlock) -> Result<Collected, RefreshError>
+    fn found_in<C: CollectDefs>(
+        &mut self,
+        alloc: Global,
+        at: HeldBlock,
+    ) -> Result<Collected, RefreshError>
         requires place { IsPlace self.old (block_map at.krate at.block) }
         requires marked { is_marked self.old (block_map at.krate at.block) ≡ true }
         requires begun { beginning_of self.old (block_map at.krate at.block)
@@ -181,7 +185,7 @@ impl Session {
     {
         match self
             .inputs
-            .resolve_block(alloc, &mut self.tables, self.kept.world(), at)
+            .resolve_block::<C>(alloc, &mut self.tables, self.kept.world(), at)
         {
             Ok(found) => Ok(found),
             Err(error) => Err(refresh_error(error)),
@@ -189,7 +193,11 @@ impl Session {
     }
 
     /// Resolves a block that has a number, in the module that holds it.
-    fn resolve_in(&mut self, alloc: Global, at: HeldBlock) -> Result<(), RefreshError>
+    fn resolve_in<C: CollectDefs>(
+        &mut self,
+        alloc: Global,
+        at: HeldBlock,
+    ) -> Result<(), RefreshError>
         requires place { IsPlace self.old (block_map at.krate at.block) }
         requires marked { is_marked self.old (block_map at.krate at.block) ≡ true }
         requires begun { beginning_of self.old (block_map at.krate at.block)
@@ -202,7 +210,7 @@ impl Session {
             (begins_in_block at.krate at.block at.holder at.file at.id) }
         ensures err { OnErr result (Grows self.old self.new) }
     {
-        let found = self.found_in(alloc, at)?;
+        let found = self.found_in::<C>(alloc, at)?;
         let id = MapId {
             krate: at.krate,
             block: Some(at.block),
@@ -212,7 +220,7 @@ impl Session {
     }
 
     /// Gives a block that is due its number, and resolves it in the module that holds it.
-    fn resolve_block(
+    fn resolve_block<C: CollectDefs>(
         &mut self,
         alloc: Global,
         block: BlockPlace,
@@ -230,7 +238,7 @@ impl Session {
         let id = block.id;
         let number = self.number_of(block)?;
         let file = self.file_of(holder);
-        self.resolve_in(
+        self.resolve_in::<C>(
             alloc,
             HeldBlock {
                 krate,
@@ -288,7 +296,7 @@ impl Session {
     }
 
     /// Resolves the block whose root a place names, if it is due, and lists it.
-    fn refresh_block(
+    fn refresh_block<C: CollectDefs>(
         &mut self,
         alloc: Global,
         root: &Place,
@@ -305,7 +313,7 @@ impl Session {
                 let block = copied_place(due.place)?;
                 let holder = due.holder;
                 note_place(done, root)?;
-                self.resolve_block(alloc, block, holder)
+                self.resolve_block::<C>(alloc, block, holder)
             }
             None => Ok(()),
         }
@@ -313,7 +321,7 @@ impl Session {
 
     /// Resolves, of these blocks, those that are marked and set and whose holding place is there, an outer one before those
     /// within it, and lists them. Resolving one makes only deeper ones due.
-    fn refresh_each(
+    fn refresh_each<C: CollectDefs>(
         &mut self,
         alloc: Global,
         pending: &BTreeSet<PendingBlock>,
@@ -331,13 +339,17 @@ impl Session {
         ensures many { result ≡ Err RefreshError.TooMany → HasOverlongRun self.new }
     {
         for block in pending {
-            self.refresh_block(alloc, &block.place, done)?;
+            self.refresh_block::<C>(alloc, &block.place, done)?;
         }
         Ok(())
     }
 
     /// Resolves the blocks that are due, and lists them.
-    fn refresh_blocks(&mut self, alloc: Global, done: &mut Vec<Place>) -> Result<(), RefreshError>
+    fn refresh_blocks<C: CollectDefs>(
+        &mut self,
+        alloc: Global,
+        done: &mut Vec<Place>,
+    ) -> Result<(), RefreshError>
         requires crates { AreCratesCurrent self.old }
         ensures so_far { OnOk result ((from : SessionState) → HasResolved from done.old.items self.old
             → HasResolved from done.new.items self.new) }
@@ -347,22 +359,22 @@ impl Session {
         ensures many { result ≡ Err RefreshError.TooMany → HasOverlongRun self.new }
     {
         let pending = self.take_pending(alloc)?;
-        self.refresh_each(alloc, &pending, done)?;
+        self.refresh_each::<C>(alloc, &pending, done)?;
         let left = self.still_pending(alloc, pending)?;
         self.await_blocks(left);
         Ok(())
     }
 
-    /// Resolves what is marked, in order, and lists it.
-    pub fn refresh(&mut self, alloc: Global) -> Result<Vec<Place>, RefreshError>
+    /// Resolves what is marked, in order, by a collector, and lists it.
+    pub fn refresh_by<C: CollectDefs>(&mut self, alloc: Global) -> Result<Vec<Place>, RefreshError>
         ensures refreshes { IfOk result (λ done. Refreshes self.old done.items self.new) }
         ensures none_stale { OnOk result ((k : ℕ) → k < length self.new.crates → is_marked self.new (id_of k) ≡ false) }
         ensures nowhere_stale { OnOk result ((place : PlaceValue) → status_of self.new place ≢ status.Stale) }
         ensures err { OnErr result (RefreshesPartly self.old self.new) }
         ensures many { result ≡ Err RefreshError.TooMany → HasOverlongRun self.new }
     {
-        let mut done = self.refresh_crates(alloc)?;
-        self.refresh_blocks(alloc, &mut done)?;
+        let mut done = self.refresh_crates::<C>(alloc)?;
+        self.refresh_blocks::<C>(alloc, &mut done)?;
         Ok(done)
     }
 }

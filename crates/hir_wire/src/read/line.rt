@@ -1,14 +1,16 @@
 //! From a line to a command.
 ghost use Rattle.std.specs.Prelude.{◌≡◌, ◌≢◌, MatchResult, codes};
 ghost use Rattle.serde_json.specs.View.{view, members_view};
-ghost use Rattle.hir_wire.specs.CommandValue.{command_view};
-ghost use Rattle.hir_wire.specs.Reading.{Reads, required, word_as};
-ghost use Rattle.hir_wire.specs.Commands.{verb_of_word, set_file_in, set_expansion_in, set_block_in, resolve_in, trait_items_in, impl_items_in, tree_in, fields_of, command_with, command_of, data_of, reading_of};
+ghost use Rattle.hir_wire.specs.CommandValue.{command_view, crate_modules, file_modules};
+ghost use Rattle.hir_wire.specs.Paths.{crate_of, file_of};
+ghost use Rattle.hir_wire.specs.Reading.{Reads, made, required, word_as};
+ghost use Rattle.hir_wire.specs.Commands.{verb_of_word, set_file_in, set_expansion_in, set_block_in, resolve_in, trait_items_in, impl_items_in, modules_in, tree_in, fields_of, command_with, command_of, data_of, reading_of};
 
 use crate::command::{Command, MacroStyle, Shadow};
 use crate::edit::Edit;
 use crate::json::combinators::{both, required};
 use crate::json::floats::holds_float;
+use crate::json::from_json::has_member;
 use crate::json::words::{Word, optional_word, required_word};
 use crate::read::expansion::read_entry;
 use crate::read_error::ReadError;
@@ -32,6 +34,8 @@ pub enum Verb {
     Dump,
     Status,
     Diagnostics,
+    Names,
+    Modules,
     Tree,
 }
 
@@ -56,6 +60,8 @@ impl Word for Verb {
             "dump" => Some(Verb::Dump),
             "status" => Some(Verb::Status),
             "diagnostics" => Some(Verb::Diagnostics),
+            "names" => Some(Verb::Names),
+            "modules" => Some(Verb::Modules),
             "tree" => Some(Verb::Tree),
             _ => None,
         }
@@ -247,6 +253,49 @@ fn read_diagnostics(alloc: Global, members: &Map<String, Value>) -> Result<Comma
     }
 }
 
+fn read_names(alloc: Global, members: &Map<String, Value>) -> Result<Command, ReadError>
+    ensures value { Reads command_view
+        (fields_of Verb.Names (members_view members.now.entries)) result }
+{
+    match required(alloc, members, "at") {
+        Ok(at) => Ok(Command::Names { at }),
+        Err(error) => Err(error),
+    }
+}
+
+fn read_crate_modules(alloc: Global, members: &Map<String, Value>) -> Result<Command, ReadError>
+    ensures value { Reads command_view
+        (made crate_modules (required crate_of (codes "crate") (members_view members.now.entries))) result }
+{
+    match required(alloc, members, "crate") {
+        Ok(krate) => Ok(Command::CrateModules { krate }),
+        Err(error) => Err(error),
+    }
+}
+
+fn read_file_modules(alloc: Global, members: &Map<String, Value>) -> Result<Command, ReadError>
+    ensures value { Reads command_view
+        (made file_modules (required file_of (codes "file") (members_view members.now.entries))) result }
+{
+    let file = required(alloc, members, "file");
+    match file {
+        Ok(file) => Ok(Command::FileModules { file }),
+        Err(error) => Err(error),
+    }
+}
+
+/// The modules are asked for by a crate or by a file, and not by both.
+#[tactic(auto, unfolding(crate::specs::Commands::modules_in))]
+fn read_modules(alloc: Global, members: &Map<String, Value>) -> Result<Command, ReadError>
+    ensures value { Reads command_view (modules_in (members_view members.now.entries)) result }
+{
+    match (has_member(members, "crate"), has_member(members, "file")) {
+        (true, false) => read_crate_modules(alloc, members),
+        (false, true) => read_file_modules(alloc, members),
+        _ => Err(ReadError::Command),
+    }
+}
+
 #[tactic(auto, unfolding(crate::specs::Commands::tree_in))]
 fn read_tree(alloc: Global, members: &Map<String, Value>) -> Result<Command, ReadError>
     ensures value { Reads command_view (tree_in (members_view members.now.entries)) result }
@@ -283,6 +332,8 @@ fn read_verb_fields(
         Verb::Dump => read_dump(alloc, members),
         Verb::Status => read_status(alloc, members),
         Verb::Diagnostics => read_diagnostics(alloc, members),
+        Verb::Names => read_names(alloc, members),
+        Verb::Modules => read_modules(alloc, members),
         Verb::Tree => read_tree(alloc, members),
     }
 }

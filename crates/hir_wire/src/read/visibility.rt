@@ -43,7 +43,7 @@ fn read_vis_in(alloc: Global, members: &Map<String, Value>) -> Result<RawVisibil
 }
 
 impl FromJson for RawVisibility {
-    ghost use Rattle.hir_item_tree.specs.declared.raw_visibility.RawVisibility.{RawVisibility};
+    ghost use Rattle.hir_raw_visibility.specs.declared.raw_visibility.RawVisibility.{RawVisibility};
     ghost use Rattle.hir_wire.specs.Visibility.{vis_of};
 
     ghost Seen = { RawVisibility };

@@ -68,7 +68,8 @@ fn item_value(alloc: Global, item: &AnswerItem) -> Result<Value, AllocError>
     json!(in alloc; {"def": def, "import": import, "vis": vis})
 }
 
-fn item_or_null(alloc: Global, item: &Option<AnswerItem>) -> Result<Value, AllocError>
+/// What a name stands for in one namespace, null for nothing.
+pub fn item_or_null(alloc: Global, item: &Option<AnswerItem>) -> Result<Value, AllocError>
     ensures value { IfOk result (λ v. view v ≡ or_null item_data item.now) }
 {
     match item {

@@ -10,6 +10,7 @@ use crate::write::answer::answer_value;
 use crate::write::definition::{id_value, kind_word, place_value};
 use crate::write::diagnostic::diagnostics_list;
 use crate::write::items::items_value;
+use crate::write::names::names_list;
 use hir_base::ast_id::{AstKind, SyntaxId};
 use hir_base::ids::Crate;
 use hir_base::limit::Limit;
@@ -96,6 +97,7 @@ fn reply_value(alloc: Global, reply: &Reply) -> Result<Value, AllocError>
             success(alloc, Value::Array(values))
         }
         Reply::Items(items) => success(alloc, items_value(alloc, items)?),
+        Reply::Names(names) => success(alloc, Value::Array(names_list(alloc, names.as_slice())?)),
         Reply::Text(text) => success(alloc, Value::try_from_str(alloc, text.as_str())?),
         Reply::Json => refusal(alloc, "json"),
         Reply::Command => refusal(alloc, "command"),

@@ -3,7 +3,7 @@ use Rattle.std.specs.List.{All}
 use Rattle.hir_def_map.specs.declared.nameres.path_resolution.slots.Slot.{Slot}
 use Rattle.hir_worklist.specs.Settling.{WatchesEach}
 use Rattle.hir_import_resolution.specs.Inner.Queue.{KeepsWatched, slot_cmp}
-use Rattle.hir_call_queue.specs.Changes.{IsThere}
+use Rattle.hir_import_rules.specs.Changed.{IsThere}
 use Rattle.hir_call_queue.proofs.queue.watch_each.Given as goal
 
 -- those that aren't left are there and watched

@@ -1,7 +1,7 @@
 use Rattle.std.proofs.Common.{◌≡◌, drop, map}
 use Rattle.hir_def_map.specs.WorldParts.{part_of}
 use Rattle.hir_collector_rules.specs.Items.{meet_of}
-use Rattle.hir_import_resolution.specs.Visibilities.{visibility_in}
+use Rattle.hir_import_rules.specs.Visibilities.{visibility_in}
 use Rattle.hir_collector_rules.specs.State.{core_in}
 use Rattle.hir_collector_items.proofs.declare.meet.Given as goal
 

@@ -18,8 +18,8 @@ use Rattle.hir_collector_rules.specs.State.{at_rest, core_in}
 use Rattle.hir_collector_rules.specs.Steps.{Steps, none}
 use Rattle.hir_collector_rules.specs.UnknownSources.{LeadsToUnknownSource, of_file, of_macro}
 use Rattle.hir_collector_rules.specs.Workspace.{Workspace, transitive_dependencies_in}
-use Rattle.hir_def_collector.specs.Outside.{begins_outside}
-use Rattle.hir_def_collector.proofs.Begun.{none_there, some_there}
+use Rattle.hir_collector_imports.specs.Outside.{begins_outside}
+use Rattle.hir_collector_begin.proofs.Begun.{none_there, some_there}
 use Rattle.hir_collector_rules.proofs.Changes.{id-Steps}
 use Rattle.hir_collector_rules.proofs.Derived.{begun, depends_on, ends_from}
 use Rattle.hir_collector_rules.proofs.Moves.{spent_after, unknown_after}

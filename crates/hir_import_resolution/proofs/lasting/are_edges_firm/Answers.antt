@@ -2,7 +2,7 @@
 use Rattle.std.proofs.Common.{◌≡◌, Some, below_more, slice_get, rules, arith}
 use Rattle.std.proofs.lemmas.Option.{slice_get_within}
 use Rattle.hir_glob_imports.specs.declared.edge.Edge.{Edge}
-use Rattle.hir_import_resolution.specs.Lasting.{HasVariants, IsPlaced}
+use Rattle.hir_import_rules.specs.Lasting.{HasVariants, IsPlaced}
 use Rattle.hir_import_resolution.proofs.Lists.{got_here}
 use Rattle.hir_import_resolution.proofs.lasting.are_edges_firm.Goals as goal
 

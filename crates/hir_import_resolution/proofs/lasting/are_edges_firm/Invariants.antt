@@ -1,6 +1,6 @@
 use Rattle.std.proofs.Common.{◌≡◌, ℕ, ◌<◌, Some, slice_get}
 use Rattle.hir_glob_imports.specs.declared.edge.Edge.{Edge}
-use Rattle.hir_import_resolution.specs.Lasting.{HasVariants, IsPlaced}
+use Rattle.hir_import_rules.specs.Lasting.{HasVariants, IsPlaced}
 use Rattle.hir_import_resolution.proofs.lasting.are_edges_firm.Given as goal
 
 -- the edges before this one are firm

@@ -3,7 +3,7 @@ use Rattle.std.proofs.Common.{◌≡◌, inl, subst, sym, rules, Some, List, [],
 use Rattle.std.specs.Prelude.{Contains}
 use Rattle.hir_base.specs.declared.ids.TraitId.{TraitId}
 use Rattle.hir_def_map_rules.specs.State.{module_at}
-use Rattle.hir_import_resolution.specs.Names.{trait_vis}
+use Rattle.hir_import_rules.specs.Names.{trait_vis}
 use Rattle.hir_import_resolution.proofs.KeyLists.{listed_in}
 use Rattle.hir_import_resolution.proofs.Lists.{in_either, none_left, on_right, popped}
 use Rattle.hir_import_resolution.proofs.lasting.has_traits_placed.Goals as goal

@@ -3,8 +3,8 @@ use Rattle.std.specs.Prelude.{Contains}
 use Rattle.hir_base.specs.declared.ids.TraitId.{TraitId}
 use Rattle.hir_def_map_rules.specs.State.{module_at}
 use Rattle.hir_scope.specs.declared.visibility.Visibility.{Visibility}
-use Rattle.hir_import_resolution.specs.Lasting.{IsPlaced}
-use Rattle.hir_import_resolution.specs.Names.{trait_vis}
+use Rattle.hir_import_rules.specs.Lasting.{IsPlaced}
+use Rattle.hir_import_rules.specs.Names.{trait_vis}
 use Rattle.hir_import_resolution.proofs.lasting.has_traits_placed.Given as goal
 
 -- each trait is left, or can be seen from modules that are there

@@ -5,8 +5,8 @@ use Rattle.hir_def_map_rules.specs.State.{module_at}
 use Rattle.hir_glob_imports.proofs.OfKind.{brought_listed}
 use Rattle.hir_glob_imports.specs.declared.edge.Bound.{Bound}
 use Rattle.hir_glob_imports.specs.declared.edge.Slot.{Slot}
-use Rattle.hir_import_resolution.specs.Inner.ViewLaws.{bound_inside}
-use Rattle.hir_import_resolution.specs.Lasting.{IsPlaced}
+use Rattle.hir_import_growth.specs.ViewLaws.{bound_inside}
+use Rattle.hir_import_rules.specs.Lasting.{IsPlaced}
 use Rattle.hir_import_resolution.proofs.Lists.{in_either, none_left, on_right, popped}
 use Rattle.hir_import_resolution.proofs.lasting.is_brought_placed.Goals as goal
 

@@ -5,8 +5,8 @@ use Rattle.hir_glob_imports.specs.Waves.{brought_of}
 use Rattle.hir_glob_imports.specs.declared.edge.Bound.{Bound}
 use Rattle.hir_glob_imports.specs.declared.edge.Brought.{Brought}
 use Rattle.hir_glob_imports.specs.declared.edge.Slot.{Slot}
-use Rattle.hir_import_resolution.specs.Inner.ViewLaws.{bound_inside}
-use Rattle.hir_import_resolution.specs.Lasting.{IsPlaced}
+use Rattle.hir_import_growth.specs.ViewLaws.{bound_inside}
+use Rattle.hir_import_rules.specs.Lasting.{IsPlaced}
 use Rattle.hir_import_resolution.proofs.lasting.is_brought_placed.Given as goal
 
 -- each slot to which something was brought is left, or what stands there can be seen from modules that are there

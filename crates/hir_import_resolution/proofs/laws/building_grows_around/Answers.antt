@@ -1,4 +1,4 @@
-use Rattle.hir_import_resolution.proofs.GrowingAround.{enums_around, lists_around, macro_uses_around, modules_around, scopes_around}
+use Rattle.hir_import_growth.proofs.GrowingAround.{enums_around, lists_around, macro_uses_around, modules_around, scopes_around}
 use Rattle.hir_import_resolution.proofs.laws.building_grows_around.Goals as goal
 
 pub returns : goal.returns

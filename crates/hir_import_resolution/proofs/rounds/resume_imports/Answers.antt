@@ -6,7 +6,7 @@ use Rattle.hir_def_map.specs.WorldParts.{part_of}
 use Rattle.hir_def_map.specs.declared.nameres.path_resolution.slots.Slot.{Slot as PathSlot}
 use Rattle.hir_import_resolution.specs.Inner.State.{finished_by, state_by, state_in}
 use Rattle.hir_import_resolution.specs.Rounds.{is_apart}
-use Rattle.hir_import_resolution.specs.State.{ImportState}
+use Rattle.hir_import_rules.specs.State.{ImportState}
 use Rattle.hir_import_resolution.proofs.Counting.{steps_local}
 use Rattle.hir_import_resolution.proofs.Restarting.{sound_after}
 use Rattle.hir_import_resolution.proofs.Starting.{changes_through, rests_through, spent_through, steps_through, up_to_date_after}

@@ -8,7 +8,7 @@ use Rattle.hir_import_resolution.specs.Types.{ImportQueue}
 use Rattle.hir_import_resolution.specs.Inner.State.{finished_by, state_by, state_in}
 use Rattle.hir_import_resolution.proofs.Restarting.{reopened, sound_after, sound_through}
 use Rattle.hir_import_resolution.specs.Rounds.{is_apart}
-use Rattle.hir_import_resolution.specs.State.{ImportState}
+use Rattle.hir_import_rules.specs.State.{ImportState}
 use Rattle.hir_import_resolution.proofs.Counting.{steps_local}
 use Rattle.hir_import_resolution.proofs.Starting.{begun_kept, changes_through, rests_through, spent_through, steps_through, up_to_date_after}
 use Rattle.hir_import_resolution.proofs.rounds.settle_reopened.Goals as goal

@@ -2,8 +2,8 @@
 use Rattle.std.proofs.Common.{◌∙◌, ap, arith}
 use Rattle.hir_scope.specs.Scope.{ScopeValue}
 use Rattle.hir_def_map_rules.specs.State.{with_scope}
-use Rattle.hir_import_resolution.specs.Names.{redefined}
-use Rattle.hir_import_resolution.proofs.Lent.{scope_left, scope_past}
+use Rattle.hir_import_rules.specs.Names.{redefined}
+use Rattle.hir_import_rules.proofs.Lent.{scope_left, scope_past}
 use Rattle.hir_import_resolution.proofs.scopes.redefine_at.Goals as goal
 
 pub returns-then-at-module_count : goal.returns-then-at-module_count

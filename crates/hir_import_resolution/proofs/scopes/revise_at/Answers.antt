@@ -3,8 +3,8 @@ use Rattle.std.proofs.Common.{◌≡◌, arith}
 use Rattle.hir_scope.specs.Scope.{ScopeValue}
 use Rattle.hir_scope.proofs.Pushes.{on_ok}
 use Rattle.hir_def_map_rules.specs.State.{with_scope}
-use Rattle.hir_import_resolution.specs.Names.{revised}
-use Rattle.hir_import_resolution.proofs.Lent.{scope_left, scope_past}
+use Rattle.hir_import_rules.specs.Names.{revised}
+use Rattle.hir_import_rules.proofs.Lent.{scope_left, scope_past}
 use Rattle.hir_import_resolution.proofs.scopes.revise_at.Goals as goal
 
 pub returns-then-at-module_count : goal.returns-then-at-module_count

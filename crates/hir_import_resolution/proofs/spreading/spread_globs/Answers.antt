@@ -3,7 +3,7 @@ use Rattle.std.proofs.Common.{◌≤◌, ◌∙◌, ap, rules, subst, sym}
 use Rattle.hir_def_map.specs.WorldParts.{part_of}
 use Rattle.hir_glob_imports.specs.declared.step.TheConstants.{MAX_STEPS}
 use Rattle.hir_import_resolution.specs.Inner.State.{finished_by, state_by, state_in}
-use Rattle.hir_import_resolution.specs.State.{ImportState}
+use Rattle.hir_import_rules.specs.State.{ImportState}
 use Rattle.hir_import_resolution.proofs.Restarting.{closed_after, recorded_in, reopened, sound_after, sound_through}
 use Rattle.hir_import_resolution.proofs.Starting.{spent_through, steps_through}
 use Rattle.hir_import_resolution.proofs.spreading.spread_globs.Goals as goal

@@ -20,15 +20,15 @@ use Rattle.hir_collector_rules.specs.Workspace.{Workspace}
 use Rattle.hir_collector_rules.specs.Calls.{IsMeantAt}
 use Rattle.hir_collector_rules.specs.Keys.{Environment, environment}
 use Rattle.hir_collector_rules.specs.Moves.{HandlesAndSpreads, OnceGrown, Passes, PassesTooFar, Walks, WalksTooFar}
-use Rattle.hir_mod_collector.specs.Walking.{GoesInside, IsOfFile, IsWithin, tasks_of}
+use Rattle.hir_mod_resolution.specs.Walking.{GoesInside, IsOfFile, IsWithin, tasks_of}
 use Rattle.hir_collector_rules.specs.State.{Task, Visit, core_in, visits, visits_over}
 use Rattle.hir_collector_rules.specs.Steps.{behind, closing, none, visit}
 use Rattle.hir_collector_rules.specs.TreeReads.{head_of, visits_at, visits_behind, above}
-use Rattle.hir_mod_collector.specs.Types.{Inside}
+use Rattle.hir_mod_resolution.specs.declared.modules.Inside.{Inside}
 use Rattle.hir_collector_rules.proofs.Numbers.{tables_stay}
-use Rattle.hir_mod_collector.proofs.Finding.{falls_inside, falls_to_file, falls_to_item}
+use Rattle.hir_mod_resolution.proofs.Finding.{falls_inside, falls_to_file, falls_to_item}
 use Rattle.hir_collector_rules.proofs.ModuleFiles.{site_kept}
-use Rattle.hir_mod_collector.proofs.Outline.{meant_inside}
+use Rattle.hir_mod_resolution.proofs.Outline.{meant_inside}
 use Rattle.hir_mod_collector.proofs.Walked.{All-below, All-same_numbers, Walks-all, Walks-append, Walks-through, Walks-waits, WalksTo-next, WalksTo-none}
 use Rattle.hir_mod_collector.proofs.Walked.{WalksTooFar-behind, WalksTooFar-first, WalksTooFar-here, WalksTooFar-next, WalksTooFar-passed, WalksTooFar-passing}
 use Rattle.hir_mod_collector.proofs.Walked.{WalksTooFar-through, above_each, above_least, at_each, at_index, dropped_at, enabled_one, far_at, holds_of_one}

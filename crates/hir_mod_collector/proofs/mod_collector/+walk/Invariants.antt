@@ -5,7 +5,7 @@ use Rattle.hir_def_map.specs.WorldParts.{part_of}
 use Rattle.hir_collector_rules.specs.Calls.{AreCallsPlaced}
 use Rattle.hir_collector_rules.specs.Moves.{OnceGrown}
 use Rattle.hir_collector_rules.specs.TreeReads.{above}
-use Rattle.hir_collector_rules.specs.Waiting.{IsNotedBeside}
+use Rattle.hir_collector_state.specs.Waiting.{IsNotedBeside}
 use Rattle.hir_mod_collector.proofs.Walked.{WalksTo}
 use Rattle.hir_mod_collector.proofs.mod_collector.+walk.Given as goal
 use Rattle.hir_collector_rules.specs.State.{core_in}

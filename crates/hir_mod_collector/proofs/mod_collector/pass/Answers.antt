@@ -11,11 +11,11 @@ use Rattle.hir_item_tree.specs.declared.attrs.Attr.{Attr}
 use Rattle.hir_base.specs.declared.ast_id.AstKind.{AstKind}
 use Rattle.hir_collector_rules.specs.ItemIds.{node_of}
 use Rattle.hir_collector_rules.specs.Moves.{Passes, PassesTooFar}
-use Rattle.hir_mod_collector.specs.Walking.{IsVisited}
+use Rattle.hir_attr_resolution.specs.Visiting.{IsVisited}
 use Rattle.hir_collector_rules.specs.State.{core_in}
 use Rattle.hir_collector_rules.specs.Steps.{visit}
 use Rattle.hir_collector_rules.specs.TreeReads.{head_of}
-use Rattle.hir_mod_collector.specs.Types.{Visited}
+use Rattle.hir_attr_resolution.specs.declared.attributes.Visited.{Visited}
 use Rattle.hir_mod_collector.proofs.Walked.{holds_at_one, visited_one}
 use Rattle.hir_mod_collector.proofs.mod_collector.pass.Goals as goal
 

@@ -1,11 +1,9 @@
 -- The item is handled, and what it binds goes along globs.
-use Rattle.std.proofs.Common.{◌≡◌, rules, ℕ, length, sym, subst}
+use Rattle.std.proofs.Common.{rules, ℕ, sym, subst}
 use Rattle.hir_item_tree.specs.Kinds.{kind_content}
 use Rattle.hir_item_tree.specs.Rows.{held_numbers}
-use Rattle.hir_def_map.specs.WorldParts.{part_of}
 use Rattle.hir_collector_rules.specs.Keys.{environment}
-use Rattle.hir_mod_collector.specs.Walking.{GoesInside}
-use Rattle.hir_collector_rules.specs.State.{core_in}
+use Rattle.hir_mod_resolution.specs.Walking.{GoesInside}
 use Rattle.hir_collector_rules.proofs.Moves.{Steps-first, Steps-one, spent_after}
 use Rattle.hir_collector_state.proofs.Noted.{beside_follow, noted_beside}
 use Rattle.hir_mod_collector.proofs.mod_collector.visit_item.Goals as goal

@@ -6,17 +6,17 @@ ghost use Rattle.hir_scope.specs.PerNs.{Item};
 
 use crate::imports::{ImportOrExternCrate, ImportOrGlob};
 use crate::item_scope::ItemScope;
-use crate::per_ns::Item;
+use crate::per_ns::{Item, MacrosItem, TypesItem, ValuesItem};
 use hir_base::ids::ModuleDefId;
 use hir_base::macro_kind::MacroId;
 use hir_base::name::Name;
-use std::collections::btree_map;
+use hir_scope_table::slot_walk::SlotWalk;
 use std::marker::Model;
 
 /// Names with what they stand for in one namespace; see `ItemScope::types`, `values` and `macros`.
 #[derive(Drop)]
 pub struct Bindings<'a, Def, Import> {
-    left: btree_map::Iter<'a, Name, Item<Def, Import>>,
+    left: SlotWalk<'a, Item<Def, Import>, TypesItem, ValuesItem, MacrosItem>,
 }
 
 impl<'a, Def, Import> Model for Bindings<'a, Def, Import> {
@@ -25,7 +25,9 @@ impl<'a, Def, Import> Model for Bindings<'a, Def, Import> {
 
     ghost Value = { List (List ℕ × Item Def Import) };
 
-    ghost view = { λ walk. walk.left };
+    ghost use Rattle.hir_scope.specs.SlotWalk.{walk_left};
+
+    ghost view = { λ walk. walk_left walk.left };
 }
 
 impl ItemScope {
@@ -34,7 +36,7 @@ impl ItemScope {
         ensures value { result ≡ self.now.types }
     {
         Bindings {
-            left: self.types.items.iter(),
+            left: SlotWalk::Types(self.names.as_slice()),
         }
     }
 
@@ -43,7 +45,7 @@ impl ItemScope {
         ensures value { result ≡ self.now.values }
     {
         Bindings {
-            left: self.values.items.iter(),
+            left: SlotWalk::Values(self.names.as_slice()),
         }
     }
 
@@ -52,7 +54,7 @@ impl ItemScope {
         ensures value { result ≡ self.now.macros }
     {
         Bindings {
-            left: self.macros.items.iter(),
+            left: SlotWalk::Macros(self.names.as_slice()),
         }
     }
 }
@@ -65,6 +67,6 @@ impl<'a, Def, Import> Iterator for Bindings<'a, Def, Import> {
     ghost remaining = { item_count (λ (left : List _). left) };
 
     fn next(&mut self) -> Option<(&'a Name, &'a Item<Def, Import>)> {
-        self.left.next()
+        self.left.advance()
     }
 }

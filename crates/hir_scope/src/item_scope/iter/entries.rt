@@ -4,31 +4,31 @@ ghost use Rattle.std.specs.Option.{option_copied};
 ghost use Rattle.std.specs.Iterator.{YieldsFirstBy, item_count};
 ghost use Rattle.hir_base.specs.declared.name.Name.{Name};
 ghost use Rattle.hir_scope.specs.declared.per_ns.PerNs.{PerNs};
+ghost use Rattle.hir_scope.specs.Inner.Entries.{items_of};
 ghost use Rattle.hir_scope.specs.Scope.Entries.{entries_of, resolutions_in, import_as_item, unnamed_binding};
 
 use crate::imports::{ImportId, ImportOrExternCrate};
 use crate::item_scope::ItemScope;
-use crate::item_scope::iter::names::ScopeNames;
-use crate::per_ns::{Item, PerNs};
+use crate::per_ns::{Item, MacrosItem, PerNs, TypesItem, ValuesItem};
 use hir_base::ids::{ModuleDefId, TraitId};
 use hir_base::name::Name;
+use hir_scope_table::entry::Entry;
 use std::marker::Model;
 
 /// Names with what they stand for; see `ItemScope::entries`.
 #[derive(Drop)]
 pub struct Entries<'a> {
-    scope: &'a ItemScope,
-    names: ScopeNames<'a>,
+    left: &'a [Entry<TypesItem, ValuesItem, MacrosItem>],
 }
 
 impl<'a> Model for Entries<'a> {
     ghost use Rattle.std.specs.Prelude.{ℕ, List};
     ghost use Rattle.hir_scope.specs.declared.per_ns.PerNs.{PerNs};
-    ghost use Rattle.hir_scope.specs.Scope.Entries.{with_bindings};
+    ghost use Rattle.hir_scope.specs.Inner.Entries.{bindings_of};
 
     ghost Value = { List (List ℕ × PerNs) };
 
-    ghost view = { λ walk. with_bindings walk.scope.now walk.names };
+    ghost view = { λ walk. bindings_of walk.left.now };
 }
 
 /// Names with what they stand for, and then traits without a name; see `ItemScope::resolutions`.
@@ -53,9 +53,9 @@ impl ItemScope {
     pub fn entries(&self) -> Entries<'_>
         ensures value { result ≡ entries_of self.now }
     {
+        self.names.is_kept();
         Entries {
-            scope: self,
-            names: self.names(),
+            left: self.names.as_slice(),
         }
     }
 
@@ -70,6 +70,17 @@ impl ItemScope {
     }
 }
 
+/// What the name of an entry stands for.
+fn items_of(entry: &Entry<TypesItem, ValuesItem, MacrosItem>) -> PerNs
+    ensures value { result ≡ items_of entry.now.1 }
+{
+    PerNs {
+        types: entry.types().copied(),
+        values: entry.values().copied(),
+        macros: entry.macros().copied(),
+    }
+}
+
 impl<'a> Iterator for Entries<'a> {
     type Item = (&'a Name, PerNs);
 
@@ -78,8 +89,9 @@ impl<'a> Iterator for Entries<'a> {
     ghost remaining = { item_count (λ (left : List _). left) };
 
     fn next(&mut self) -> Option<(&'a Name, PerNs)> {
-        let name = self.names.advance()?;
-        Some((name, self.scope.get(name)))
+        let (entry, others) = self.left.split_first()?;
+        self.left = others;
+        Some((entry.name(), items_of(entry)))
     }
 }
 

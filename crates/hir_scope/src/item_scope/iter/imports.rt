@@ -72,13 +72,13 @@ impl ItemScope {
         ensures value { result ≡ imports_of_scope self.now }
     {
         let types = ItemImports {
-            left: self.types.records.keys(),
+            left: self.type_records.keys(),
         };
         let macros = ItemImports {
-            left: self.macros.records.keys(),
+            left: self.macro_records.keys(),
         };
         let values = ValueImports {
-            left: self.values.records.keys(),
+            left: self.value_records.keys(),
         };
         Imports {
             imports: MergeSorted::new(MergeSorted::new(types, macros), values),

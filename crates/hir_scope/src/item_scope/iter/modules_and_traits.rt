@@ -5,51 +5,52 @@ ghost use Rattle.std.specs.BTreeMap.{values};
 ghost use Rattle.std.specs.Map.{values_of};
 ghost use Rattle.hir_scope.specs.Scope.Reads.{modules_among, traits_among, calls_among, calls_of_attributes, calls_of_items};
 
-use crate::imports::ImportId;
+use crate::imports::{ImportId, ImportOrExternCrate};
 use crate::item_scope::ItemScope;
+use crate::item_scope::iter::bindings::Bindings;
 use crate::item_scope::macro_calls::{DeriveAttribute, DeriveAttributes};
-use crate::per_ns::{Item, TypesItem};
+use crate::per_ns::Item;
 use crate::visibility::Visibility;
 use either::Either;
 use hir_base::ast_id::{AstId, MacroCallId};
 use hir_base::ids::{ModuleDefId, ModuleId, TraitId};
 use hir_base::macro_kind::BuiltinDeriveImplId;
-use hir_base::name::Name;
-use std::collections::btree_map;
 use std::marker::Model;
 
 /// The modules of a scope by name; see `ItemScope::modules_in_scope`.
 #[derive(Drop)]
 pub struct ModulesInScope<'a> {
-    left: btree_map::Values<'a, Name, TypesItem>,
+    left: Bindings<'a, ModuleDefId, ImportOrExternCrate>,
 }
 
 impl<'a> Model for ModulesInScope<'a> {
     ghost use Rattle.std.specs.Prelude.{List};
     ghost use Rattle.hir_base.specs.declared.ids.ModuleId.{ModuleId};
     ghost use Rattle.hir_scope.specs.declared.visibility.Visibility.{Visibility};
+    ghost use Rattle.std.specs.Map.{values_of};
     ghost use Rattle.hir_scope.specs.Scope.Reads.{modules_among};
 
     ghost Value = { List (ModuleId × Visibility) };
 
-    ghost view = { λ walk. modules_among walk.left };
+    ghost view = { λ walk. modules_among (values_of walk.left) };
 }
 
 /// The traits of a scope; see `ItemScope::traits`.
 #[derive(Drop)]
 pub struct Traits<'a> {
-    bound: btree_map::Values<'a, Name, TypesItem>,
+    bound: Bindings<'a, ModuleDefId, ImportOrExternCrate>,
     unnamed: indexmap::map::Keys<'a, TraitId, Item<(), ImportId>>,
 }
 
 impl<'a> Model for Traits<'a> {
     ghost use Rattle.std.specs.Prelude.{List, ◌++◌};
     ghost use Rattle.hir_base.specs.declared.ids.TraitId.{TraitId};
+    ghost use Rattle.std.specs.Map.{values_of};
     ghost use Rattle.hir_scope.specs.Scope.Reads.{traits_among};
 
     ghost Value = { List TraitId };
 
-    ghost view = { λ walk. traits_among walk.bound ++ walk.unnamed };
+    ghost view = { λ walk. traits_among (values_of walk.bound) ++ walk.unnamed };
 }
 
 impl ItemScope {
@@ -57,9 +58,7 @@ impl ItemScope {
     pub fn modules_in_scope(&self) -> ModulesInScope<'_>
         ensures value { result ≡ modules_among (values_of self.now.types) }
     {
-        ModulesInScope {
-            left: self.types.items.values(),
-        }
+        ModulesInScope { left: self.types() }
     }
 
     /// The traits that are bound by name, and then those that are imported without a name.
@@ -67,7 +66,7 @@ impl ItemScope {
         ensures value { result ≡ traits_among (values_of self.now.types) ++ map (λ entry. entry.0) self.now.unnamed_traits }
     {
         Traits {
-            bound: self.types.items.values(),
+            bound: self.types(),
             unnamed: self.unnamed_traits.keys(),
         }
     }
@@ -88,7 +87,7 @@ impl<'a> Iterator for ModulesInScope<'a> {
     ghost remaining = { item_count (λ (left : List _). left) };
 
     fn next(&mut self) -> Option<(ModuleId, Visibility)> {
-        'next: while let Some(item) = self.left.next() {
+        'next: while let Some((_, item)) = self.left.next() {
             if let ModuleDefId::ModuleId(id) = item.def {
                 return Some((id, item.vis));
             }
@@ -105,7 +104,7 @@ impl<'a> Iterator for Traits<'a> {
     ghost remaining = { item_count (λ (left : List _). left) };
 
     fn next(&mut self) -> Option<TraitId> {
-        'next: while let Some(item) = self.bound.next() {
+        'next: while let Some((_, item)) = self.bound.next() {
             if let ModuleDefId::TraitId(id) = item.def {
                 return Some(id);
             }

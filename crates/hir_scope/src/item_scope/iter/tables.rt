@@ -57,7 +57,7 @@ impl DeriveAttributes {
 }
 
 impl ItemScope {
-    /// The macros in textual scope, by name, and those of one name in the order of their definition.
+    /// The macros in textual scope, in the order of their definition.
     pub fn legacy_macros(&self) -> TextualMacros<'_>
         ensures value { result ≡ self.now.legacy_macros }
     {

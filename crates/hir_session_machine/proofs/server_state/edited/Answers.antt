@@ -6,9 +6,13 @@ use Rattle.hir_session_machine.specs.Machine.{edit_reply}
 use Rattle.hir_session_machine.specs.Machine.Moves.{applies, refuses}
 use Rattle.hir_session_machine.specs.Machine.AnswersCommand.{calls, finds_no_memory}
 use Rattle.hir_session_machine.proofs.server_state.edited.Goals as goal
+use mathlib.Core.Bool.{true≢false}
 
 pub returns-in-Ok-clause-step : goal.returns-in-Ok-clause-step
 returns-in-Ok-clause-step c = calls _ _ refl (applies _ refl c.in-Ok.ensures.answer c.in-Ok.ensures.ok refl) refl
+
+pub returns-in-Ok-clause-or_memory : goal.returns-in-Ok-clause-or_memory
+returns-in-Ok-clause-or_memory c h = absurd (true≢false h)
 
 pub returns-in-Err-clause-step : goal.returns-in-Err-clause-step
 returns-in-Err-clause-step c = elim c.in-Err.ensures.answer [

@@ -9,18 +9,18 @@ use Rattle.hir_session_machine.specs.Machine.AnswersCommand.{calls}
 use Rattle.hir_session_machine.proofs.server_state.refreshed.Goals as goal
 
 pub returns-in-Ok-clause-step : goal.returns-in-Ok-clause-step
-returns-in-Ok-clause-step c =
+returns-in-Ok-clause-step g c =
     calls _ _ refl (refreshes c.in-Ok.places.items refl c.in-Ok.ensures.refreshes (ap (λ (ps : List PlaceValue). reply.Places ps) c.new.ensures.value)) refl
 
 pub returns-in-Ok-clause-or_memory : goal.returns-in-Ok-clause-or_memory
-returns-in-Ok-clause-or_memory c h = calls _ _ refl (refreshes_partly Memory refl
+returns-in-Ok-clause-or_memory g c h = calls _ _ refl (refreshes_partly Memory refl
     (record { done = c.in-Ok.places.items; resolves = c.in-Ok.ensures.refreshes.resolves })
     (λ other. absurd (let wrong : ⊥ = cc in wrong)) refl) refl
 
 pub returns-in-Err-clause-step : goal.returns-in-Err-clause-step
-returns-in-Err-clause-step c = calls _ _ refl (refreshes_partly _ refl c.in-Err.ensures.err
+returns-in-Err-clause-step g c = calls _ _ refl (refreshes_partly _ refl c.in-Err.ensures.err
     (λ many. c.in-Err.ensures.many (ap (λ (e : RefreshError). Err e) many)) c.refresh_error_reply.ensures.value) refl
 
 pub returns-in-Err-clause-or_memory : goal.returns-in-Err-clause-or_memory
-returns-in-Err-clause-or_memory c h = calls _ _ refl (refreshes_partly Memory refl c.in-Err.ensures.err
+returns-in-Err-clause-or_memory g c h = calls _ _ refl (refreshes_partly Memory refl c.in-Err.ensures.err
     (λ other. absurd (let wrong : ⊥ = cc in wrong)) refl) refl

@@ -1,6 +1,5 @@
 use Rattle.std.proofs.Common.{◌≡◌, ◌∷◌, ◌++◌, length-append, arith, sym, ap, subst, ◌∙◌, length}
-use Rattle.hir_textual_scope.specs.Node.{macros_under}
-use Rattle.hir_textual_scope.specs.Macros.{IsInOrder}
+use Rattle.hir_textual_scope.specs.Node.{IsInOrder, macros_under}
 use Rattle.hir_textual_scope.proofs.NameOrder.{IsInOrder-left, IsInOrder-right}
 use Rattle.hir_textual_scope.proofs.NamedMacros.{last_on_left, last_on_right, last_from_middle}
 use Rattle.hir_textual_scope.proofs.node.+last_of.Goals as goal

@@ -2,7 +2,7 @@
 use Rattle.std.proofs.Common.{refl, subst}
 use Rattle.hir_collector_state.specs.contracts.def_collector.DefCollector.{the_view}
 use Rattle.hir_collector_rules.specs.State.{Run}
-use Rattle.hir_collector_rules.specs.Waiting.{IsNoted}
+use Rattle.hir_collector_state.specs.Waiting.{IsNoted}
 use Rattle.hir_collector_state.proofs.Noted.{noted_variants}
 use Rattle.hir_collector_state.proofs.def_collector.DefCollector.add_enum.Goals as goal
 

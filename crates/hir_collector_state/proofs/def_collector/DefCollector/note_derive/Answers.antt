@@ -4,7 +4,7 @@ use Rattle.hir_scope.specs.Scope.{DeriveCall}
 use Rattle.hir_collector_state.specs.contracts.def_collector.DefCollector.{the_view}
 use Rattle.hir_collector_rules.specs.Invocations.{derive_met, of_derive, with_noted}
 use Rattle.hir_collector_rules.specs.State.{Run}
-use Rattle.hir_collector_rules.specs.Waiting.{IsNoted}
+use Rattle.hir_collector_state.specs.Waiting.{IsNoted}
 use Rattle.hir_collector_state.proofs.Noted.{noted_invocation}
 use Rattle.hir_collector_state.proofs.def_collector.DefCollector.note_derive.Goals as goal
 

@@ -7,7 +7,7 @@ use Rattle.hir_collector_state.specs.contracts.def_collector.DefCollector.{the_v
 use Rattle.hir_collector_rules.specs.ItemIds.{module_id}
 use Rattle.hir_collector_rules.specs.Moves.{begun}
 use Rattle.hir_collector_rules.specs.State.{Run, core_in}
-use Rattle.hir_collector_rules.specs.Waiting.{IsNoted}
+use Rattle.hir_collector_state.specs.Waiting.{IsNoted}
 use Rattle.hir_collector_state.proofs.Noted.{noted_module}
 use Rattle.hir_collector_state.proofs.def_collector.DefCollector.open.Goals as goal
 

@@ -3,7 +3,7 @@ use Rattle.std.proofs.Common.{OnOk, refl, subst}
 use Rattle.std.proofs.lemmas.Result.{on_ok_weaker}
 use Rattle.hir_collector_state.specs.contracts.def_collector.DefCollector.{the_view}
 use Rattle.hir_collector_rules.specs.State.{Run}
-use Rattle.hir_collector_rules.specs.Waiting.{IsNoted}
+use Rattle.hir_collector_state.specs.Waiting.{IsNoted}
 use Rattle.hir_collector_state.proofs.Noted.{noted_follow, noted_same}
 use Rattle.hir_collector_state.proofs.def_collector.DefCollector.rest.Goals as goal
 

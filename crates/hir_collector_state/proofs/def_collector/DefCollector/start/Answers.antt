@@ -1,7 +1,7 @@
 -- No glob was recorded, and nothing was come upon.
 use Rattle.std.proofs.Common.{◌≡◌, ◌∷◌, refl, ap}
 use Rattle.hir_glob_imports.specs.Waves.{brought_of}
-use Rattle.hir_import_resolution.specs.State.{nothing_brought}
+use Rattle.hir_import_rules.specs.State.{nothing_brought}
 use Rattle.hir_def_map.specs.WorldParts.{part_of}
 use Rattle.hir_collector_rules.specs.Start.{held_keys, root_key, root_map, with_own_prelude}
 use Rattle.hir_collector_rules.specs.State.{core_in}

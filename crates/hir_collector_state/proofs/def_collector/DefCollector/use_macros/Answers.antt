@@ -9,7 +9,7 @@ use Rattle.hir_collector_rules.specs.TreeReads.{head_of}
 use Rattle.hir_collector_state.proofs.MacroUses.{none_brought}
 use Rattle.hir_collector_state.specs.contracts.def_collector.DefCollector.{the_view}
 use Rattle.hir_collector_rules.specs.State.{Core, Run, core_in, with_map}
-use Rattle.hir_collector_rules.specs.Waiting.{IsNoted}
+use Rattle.hir_collector_state.specs.Waiting.{IsNoted}
 use Rattle.hir_collector_state.proofs.Noted.{noted_everything}
 use Rattle.hir_collector_state.proofs.def_collector.DefCollector.use_macros.Goals as goal
 

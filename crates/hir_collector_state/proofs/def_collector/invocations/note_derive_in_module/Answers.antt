@@ -3,7 +3,7 @@ use Rattle.std.proofs.Common.{◌≡◌}
 use Rattle.hir_scope.proofs.Pushes.{on_ok}
 use Rattle.hir_scope.specs.Scope.{ScopeValue}
 use Rattle.hir_def_map_rules.specs.State.{with_scope}
-use Rattle.hir_import_resolution.proofs.Lent.{scope_left}
+use Rattle.hir_import_rules.proofs.Lent.{scope_left}
 use Rattle.hir_collector_rules.specs.Invocations.{Invocation, of_derive, with_invocation, with_noted}
 use Rattle.hir_collector_state.proofs.def_collector.invocations.note_derive_in_module.Goals as goal
 

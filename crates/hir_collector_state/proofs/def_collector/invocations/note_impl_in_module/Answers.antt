@@ -2,7 +2,7 @@
 use Rattle.std.proofs.Common.{◌∙◌, ap}
 use Rattle.hir_scope.specs.Scope.{ScopeValue}
 use Rattle.hir_def_map_rules.specs.State.{with_scope}
-use Rattle.hir_import_resolution.proofs.Lent.{scope_left}
+use Rattle.hir_import_rules.proofs.Lent.{scope_left}
 use Rattle.hir_collector_rules.specs.Invocations.{impl_noted, with_invocation}
 use Rattle.hir_collector_state.proofs.def_collector.invocations.note_impl_in_module.Goals as goal
 

@@ -2,7 +2,7 @@
 use Rattle.std.proofs.Common.{◌∙◌, ap, length}
 use Rattle.hir_def_map_rules.proofs.Grown.{length-changed}
 use Rattle.hir_def_map_rules.proofs.Modules.{OnOk-map}
-use Rattle.hir_import_resolution.specs.Names.{view_of}
+use Rattle.hir_import_rules.specs.Names.{view_of}
 use Rattle.hir_import_resolution.specs.Scopes.{value_of}
 use Rattle.hir_import_resolution.proofs.Bound.{on_both, pushed_is, pushed_state, pushed_views}
 use Rattle.hir_import_resolution.proofs.Placed.{placed_bound}

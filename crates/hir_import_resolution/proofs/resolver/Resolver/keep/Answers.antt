@@ -2,7 +2,7 @@
 use Rattle.std.proofs.Common.{◌∙◌, ap, length}
 use Rattle.hir_def_map_rules.proofs.Grown.{length-changed}
 use Rattle.hir_def_map_rules.proofs.Modules.{OnOk-map}
-use Rattle.hir_import_resolution.specs.Names.{view_of}
+use Rattle.hir_import_rules.specs.Names.{view_of}
 use Rattle.hir_import_resolution.specs.Scopes.{value_of}
 use Rattle.hir_import_resolution.proofs.Bound.{kept_state, kept_views, on_both}
 use Rattle.hir_import_resolution.proofs.Placed.{placed_kept}

@@ -1,7 +1,7 @@
 -- A glob is recorded in one step.
 use Rattle.std.proofs.Common.{◌≡◌, subst, Some, rules}
 use Rattle.std.specs.Prelude.{slice_get, slice_set}
-use Rattle.hir_import_resolution.specs.Directives.{TakenValue, taken_for}
+use Rattle.hir_import_rules.specs.Directives.{TakenValue, taken_for}
 use Rattle.hir_import_resolution.specs.Inner.State.{finished_by, state_by}
 use Rattle.hir_import_resolution.specs.Types.{Resolver}
 use Rattle.hir_import_resolution.proofs.Due.{linking_spent}

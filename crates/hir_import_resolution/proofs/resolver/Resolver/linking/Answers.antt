@@ -2,8 +2,8 @@
 use Rattle.std.proofs.Common.{◌≡◌, ◌∙◌, ap, sym, subst, rules, List}
 use Rattle.std.specs.Prelude.{Contains, slice_get}
 use Rattle.hir_def_map_rules.proofs.Modules.{slice_get-read}
-use Rattle.hir_import_resolution.specs.Directives.{TakenValue}
-use Rattle.hir_import_resolution.specs.Types.{ImportDirective}
+use Rattle.hir_import_rules.specs.Directives.{TakenValue}
+use Rattle.hir_import_rules.specs.declared.directive.ImportDirective.{ImportDirective}
 use mathlib.Core.Bool.{true≢false}
 use Rattle.hir_import_resolution.proofs.Settled.{only_one}
 use Rattle.hir_import_resolution.proofs.resolver.Resolver.linking.Goals as goal

@@ -1,7 +1,7 @@
 -- One after another is taken and tried.
 use Rattle.std.proofs.Common.{◌∙◌, ap, refl, rules}
 use Rattle.hir_worklist.specs.Queue.{Queue}
-use Rattle.hir_import_resolution.specs.Rules.{none}
+use Rattle.hir_import_rules.specs.Rules.{none}
 use Rattle.hir_import_resolution.proofs.Passes.{closed_running, nothing_later, opened_running, spent_on, steps_on, taken_running}
 use Rattle.hir_import_resolution.proofs.Running.{reports_from, reports_join, reports_nothing, reports_queued}
 use Rattle.hir_import_resolution.proofs.resolver.Resolver.pass.Goals as goal

@@ -1,7 +1,7 @@
 use Rattle.std.proofs.Common.{◌≡◌, ◌-◌, [], true, None}
 use Rattle.hir_import_resolution.specs.Inner.Queue.{IsRunning, Reports}
 use Rattle.hir_import_resolution.specs.Inner.State.{finished_by, state_by}
-use Rattle.hir_import_resolution.specs.Rules.{Steps}
+use Rattle.hir_import_rules.specs.Rules.{Steps}
 use Rattle.hir_import_resolution.proofs.resolver.Resolver.pass.Given as goal
 
 -- where no step was taken, nothing waits for the next pass

@@ -1,7 +1,7 @@
 -- One pass after another, until nothing is queued.
 use Rattle.std.proofs.Common.{◌∙◌, refl, rules}
 use Rattle.hir_glob_imports.specs.declared.step.TheConstants.{MAX_STEPS}
-use Rattle.hir_import_resolution.specs.Rules.{none}
+use Rattle.hir_import_rules.specs.Rules.{none}
 use Rattle.hir_import_resolution.proofs.Counting.{steps_count}
 use Rattle.hir_import_resolution.proofs.Passes.{at_rest, fewer, rest_on, spent_on, steps_on}
 use Rattle.hir_import_resolution.proofs.Running.{reports_join, reports_nothing}

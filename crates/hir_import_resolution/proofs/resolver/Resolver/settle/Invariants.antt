@@ -2,7 +2,7 @@ use Rattle.std.proofs.Common.{◌≡◌, ◌+◌, ◌-◌, [], true, None}
 use Rattle.hir_glob_imports.specs.declared.step.TheConstants.{MAX_STEPS}
 use Rattle.hir_import_resolution.specs.Inner.Queue.{IsRunning, Reports}
 use Rattle.hir_import_resolution.specs.Inner.State.{finished_by, state_by}
-use Rattle.hir_import_resolution.specs.Rules.{Steps}
+use Rattle.hir_import_rules.specs.Rules.{Steps}
 use Rattle.hir_import_resolution.proofs.Passes.{some_of}
 use Rattle.hir_import_resolution.proofs.resolver.Resolver.settle.Given as goal
 

@@ -2,7 +2,7 @@
 use Rattle.std.proofs.Common.{◌≡◌, ◌∙◌, sym, refl}
 use Rattle.std.proofs.lemmas.Result.{err_from_is_err_and}
 use Rattle.hir_glob_imports.specs.declared.step.GlobError.TheVariants as glob_errors
-use Rattle.hir_import_resolution.specs.declared.resolve.ImportError.TheVariants as errors
+use Rattle.hir_import_rules.specs.declared.error.ImportError.TheVariants as errors
 use Rattle.hir_import_resolution.specs.Types.{Resolver}
 use Rattle.hir_import_resolution.proofs.Spread.{refused_many, spread_is, spread_lasts, spread_recorded, spread_spent, spread_steps}
 use Rattle.hir_import_resolution.proofs.resolver.Resolver.spread.Goals as goal

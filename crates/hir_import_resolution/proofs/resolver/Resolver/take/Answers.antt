@@ -2,7 +2,7 @@
 use Rattle.std.proofs.Common.{◌≡◌, ◌≤◌, ◌∙◌, ap, sym, subst, ℕ, Some, rules}
 use Rattle.std.specs.Prelude.{slice_get, slice_set}
 use Rattle.hir_glob_imports.specs.declared.step.TheConstants.{MAX_STEPS}
-use Rattle.hir_import_resolution.specs.Directives.{TakenValue, taken_after}
+use Rattle.hir_import_rules.specs.Directives.{TakenValue, taken_after}
 use Rattle.hir_import_resolution.specs.Inner.State.{finished_by, state_by}
 use Rattle.hir_import_resolution.specs.Types.{Resolver}
 use Rattle.hir_import_resolution.proofs.Due.{taking_spent}

@@ -6,11 +6,11 @@ use Rattle.hir_def_map.specs.WorldParts.{part_of}
 use Rattle.hir_def_map.specs.declared.nameres.path_resolution.slots.Slot.{Slot as PathSlot}
 use Rattle.hir_worklist.specs.Queue.{Queue}
 use Rattle.hir_import_resolution.specs.Types.{OpenScopes, Resolver}
-use Rattle.hir_import_resolution.specs.Inner.Queue.{IsSamePass}
+use Rattle.hir_worklist.specs.Waking.{IsSamePass}
 use Rattle.hir_import_resolution.specs.Inner.State.{finished_by, state_by}
 use Rattle.hir_import_resolution.specs.Inner.Steps.{IsLinking, taking_at}
-use Rattle.hir_import_resolution.specs.Lasting.{HasVariants, IsPlaced}
-use Rattle.hir_import_resolution.specs.Rest.{IsSpent}
+use Rattle.hir_import_rules.specs.Lasting.{HasVariants, IsPlaced}
+use Rattle.hir_import_rules.specs.Rest.{IsSpent}
 use Rattle.hir_import_resolution.proofs.Running.{begun_linked, count_taken, importer_there, reports_join, reports_nothing, spent_taken, step_noted, steps_taken}
 use Rattle.hir_import_resolution.proofs.Running.{trying_lowered}
 use Rattle.hir_import_resolution.proofs.resolver.Resolver.take_glob.Goals as goal

@@ -3,11 +3,12 @@ use Rattle.std.proofs.Common.{◌∙◌, ◌++◌, List, Option, ℕ, ap, option
 use Rattle.hir_def_map.specs.WorldParts.{part_of}
 use Rattle.hir_worklist.specs.Queue.{Queue}
 use Rattle.hir_import_resolution.specs.Types.{Resolver}
-use Rattle.hir_import_resolution.specs.Inner.Queue.{IsSamePass, IsWoken}
+use Rattle.hir_import_resolution.specs.Inner.Queue.{IsWoken}
+use Rattle.hir_worklist.specs.Waking.{IsSamePass}
 use Rattle.hir_import_resolution.specs.Inner.State.{ChangesSlots, finished_by, slots_named, state_by}
 use Rattle.hir_import_resolution.proofs.Placed.{lasts_changed}
 use Rattle.hir_import_resolution.proofs.Running.{begun_taken, count_taken, noted_woken, reports_join, reports_slots, spent_taken, steps_taken, woken_before}
-use Rattle.hir_import_resolution.proofs.Waking.{pass_join}
+use Rattle.hir_worklist.proofs.Passes.{pass_join}
 use Rattle.hir_import_resolution.proofs.resolver.Resolver.take_import.Goals as goal
 
 pub wave-requires : goal.wave-requires

@@ -3,8 +3,8 @@ use Rattle.std.proofs.Common.{◌≡◌, ◌∙◌, None, ap, subst, sym}
 use Rattle.hir_import_resolution.specs.Types.{Resolver}
 use Rattle.hir_import_resolution.specs.Inner.State.{finished_by, state_by}
 use Rattle.hir_import_resolution.specs.Inner.Steps.{taking_at}
-use Rattle.hir_import_resolution.specs.Rules.{Steps, none}
-use Rattle.hir_import_resolution.specs.State.{ImportState}
+use Rattle.hir_import_rules.specs.Rules.{Steps, none}
+use Rattle.hir_import_rules.specs.State.{ImportState}
 use Rattle.hir_import_resolution.proofs.Running.{reports_nothing, tried_running, trying_nothing, trying_watched}
 use Rattle.hir_import_resolution.proofs.resolver.Resolver.try_import.Goals as goal
 

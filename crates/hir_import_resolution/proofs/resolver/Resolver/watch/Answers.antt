@@ -4,7 +4,7 @@ use Rattle.hir_def_map_rules.specs.Reaches.{by_import}
 use Rattle.hir_def_map.specs.declared.nameres.path_resolution.slots.Slot.{Slot}
 use Rattle.hir_worklist.specs.Settling.{WatchesEach}
 use Rattle.hir_import_resolution.specs.Inner.Queue.{reads_at, slot_cmp}
-use Rattle.hir_import_resolution.specs.Lasting.{IsThere}
+use Rattle.hir_import_rules.specs.Lasting.{IsThere}
 use Rattle.hir_import_resolution.specs.Inner.State.{finished_by, state_by}
 use Rattle.hir_import_resolution.proofs.PathReads.{found_at, reads_use, slots_same}
 use Rattle.hir_import_resolution.proofs.resolver.Resolver.watch.Goals as goal

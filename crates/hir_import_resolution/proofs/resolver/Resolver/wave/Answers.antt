@@ -2,7 +2,7 @@
 use Rattle.std.proofs.Common.{◌∙◌, ap, subst, sym}
 use Rattle.hir_worklist.specs.Queue.{Queue}
 use Rattle.hir_import_resolution.specs.Types.{Resolver}
-use Rattle.hir_import_resolution.specs.Inner.Queue.{IsSamePass}
+use Rattle.hir_worklist.specs.Waking.{IsSamePass}
 use Rattle.hir_import_resolution.specs.Inner.State.{path_slots}
 use Rattle.hir_import_resolution.proofs.Running.{reports_slots, running_waved}
 use Rattle.hir_import_resolution.proofs.resolver.Resolver.wave.Goals as goal

@@ -2,7 +2,8 @@ use Rattle.std.proofs.Common.{◌≡◌, ◌++◌, drop}
 use Rattle.hir_def_map.specs.declared.nameres.path_resolution.slots.Slot.{Slot}
 use Rattle.hir_worklist.specs.Queue.{Queue}
 use Rattle.hir_worklist.specs.declared.watchers.Watchers.{Watchers}
-use Rattle.hir_import_resolution.specs.Inner.Queue.{IsSamePass, WakesEach}
+use Rattle.hir_import_resolution.specs.Inner.Queue.{WakesEach}
+use Rattle.hir_worklist.specs.Waking.{IsSamePass}
 use Rattle.hir_import_resolution.specs.Inner.State.{path_slots}
 use Rattle.hir_import_resolution.proofs.resolver.watch.wake_each.Given as goal
 

@@ -1,5 +1,6 @@
 use Rattle.std.proofs.Common.{ap, option_copied, rules}
-use Rattle.hir_import_resolution.proofs.Waking.{pass_woken, wakes_named, wakes_none}
+use Rattle.hir_import_resolution.proofs.Waking.{wakes_named, wakes_none}
+use Rattle.hir_worklist.proofs.Passes.{pass_woken}
 use Rattle.hir_import_resolution.proofs.resolver.watch.wake_named.Goals as goal
 
 pub returns-in_default-clause-woken : goal.returns-in_default-clause-woken

@@ -3,7 +3,7 @@ use Rattle.std.specs.List.{All}
 use Rattle.hir_def_map.specs.declared.nameres.path_resolution.slots.Slot.{Slot}
 use Rattle.hir_worklist.specs.Settling.{WatchesEach}
 use Rattle.hir_import_resolution.specs.Inner.Queue.{KeepsWatched, slot_cmp}
-use Rattle.hir_import_resolution.specs.Lasting.{IsThere}
+use Rattle.hir_import_rules.specs.Lasting.{IsThere}
 use Rattle.hir_import_resolution.proofs.resolver.watch.watch_each.Given as goal
 
 -- those that aren't left are watched

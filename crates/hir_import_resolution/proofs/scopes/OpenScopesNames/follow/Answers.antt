@@ -7,7 +7,7 @@ use Rattle.hir_glob_imports.specs.declared.edge.Key.{Key}
 use Rattle.hir_glob_imports.specs.declared.edge.Slot.{Slot}
 use Rattle.hir_glob_imports.specs.declared.edge.Target.{Target}
 use Rattle.hir_glob_imports.specs.declared.edge.Key.TheVariants.{Macros, Types, Values}
-use Rattle.hir_import_resolution.specs.Names.{bound_of, followed, followed_to, followed_where, redefined, redefined_at}
+use Rattle.hir_import_rules.specs.Names.{bound_of, followed, followed_to, followed_where, redefined, redefined_at}
 use Rattle.hir_import_resolution.specs.Scopes.{value_of, with_value}
 use Rattle.hir_import_resolution.specs.Types.{OpenScopes}
 use Rattle.hir_import_resolution.proofs.scopes.OpenScopesNames.follow.Goals as goal

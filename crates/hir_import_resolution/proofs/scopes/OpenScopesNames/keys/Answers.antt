@@ -9,7 +9,7 @@ use Rattle.std.specs.declared.vec.Vec.{Vec}
 use Rattle.hir_glob_imports.specs.declared.edge.Key.{Key}
 use Rattle.hir_glob_imports.specs.declared.edge.Target.{Target}
 use Rattle.hir_import_resolution.specs.KeyLists.{keys_of}
-use Rattle.hir_import_resolution.specs.Names.{ScopesValue, bound_of}
+use Rattle.hir_import_rules.specs.Names.{ScopesValue, bound_of}
 use Rattle.hir_import_resolution.specs.Scopes.{value_of}
 use Rattle.hir_import_resolution.proofs.KeyLists.{each_is_listed}
 use Rattle.hir_import_resolution.proofs.scopes.OpenScopesNames.keys.Goals as goal

@@ -11,6 +11,6 @@ returns c = record {
   imports = rw (← c.self.view_is)
       (merge_ascends import_order total _ _
       (merge_ascends import_order total _ _
-      (imports_among_ascend _ c.table_ascends.ensures.imports) (imports_among_ascend _ c.table_ascends-2.ensures.imports))
-      (value_imports_among_ascend _ c.table_ascends-3.ensures.imports));
+      (imports_among_ascend _ c.keys_ascend.ensures.ascends) (imports_among_ascend _ c.keys_ascend-2.ensures.ascends))
+      (value_imports_among_ascend _ c.keys_ascend-3.ensures.ascends));
 }

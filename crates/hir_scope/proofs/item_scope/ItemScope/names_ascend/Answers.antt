@@ -1,14 +1,15 @@
+use Rattle.std.proofs.Common.{refl, subst, sym}
 use Rattle.std.specs.Cmp.Lexicographic.{slice_cmp}
+use Rattle.std.specs.List.Sorted.{IsStrictlySortedBy}
 use Rattle.std.specs.Ordering.{nat_cmp}
-use Rattle.std.proofs.lemmas.Cmp.{nat_list_cmp_total}
-use Rattle.hir_scope_table.proofs.Ascending.{merge_ascends}
+use Rattle.hir_scope_table.proofs.Names.{names_of_entries}
 use Rattle.hir_scope.proofs.item_scope.ItemScope.names_ascend.Goals as goal
 
--- the names of four tables, merged
+-- the names of the entries
 pub returns : goal.returns
-returns c = record {
-  names = rw (← c.self.view_is)
-      (merge_ascends (slice_cmp nat_cmp) nat_list_cmp_total _ _
-      (merge_ascends (slice_cmp nat_cmp) nat_list_cmp_total _ _ c.table_ascends.ensures.names c.table_ascends-2.ensures.names)
-      (merge_ascends (slice_cmp nat_cmp) nat_list_cmp_total _ _ c.table_ascends-3.ensures.names c.keys_are_ordered.ensures.ordered));
-}
+returns c =
+    let es = c.self.inside.names in
+    record {
+      names = rw (← c.self.view_is) (subst (IsStrictlySortedBy (slice_cmp nat_cmp))
+          (sym (names_of_entries es (record { ascends = c.is_kept.ensures.ascends; says = c.is_kept.ensures.says }))) c.is_kept.ensures.ascends);
+    }

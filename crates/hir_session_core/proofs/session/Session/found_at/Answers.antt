@@ -20,7 +20,7 @@ use Rattle.hir_session_core.proofs.session.Session.found_at.Goals as goal
 use Rattle.hir_session_core.proofs.session.Session.found_at.Goals.{in-Ok, in-Err}
 
 pub invariant_of-self : goal.invariant_of-self
-invariant_of-self c = (
+invariant_of-self g c = (
   rw c.resolve.ensures.same (grown_sound looks_stand asked_keys_have_meaning answers_stand _ _ c.resolve.ensures.kept c.resolve.ensures.placed
       c.self.invariant.0),
   noted_grown _ _ _ c.self.invariant.1 _ c.resolve.ensures.kept (kept_meant asked_keys_have_meaning _ c.self.invariant.0),
@@ -29,12 +29,12 @@ invariant_of-self c = (
 )
 
 pub returns-clause-grown : goal.returns-clause-grown
-returns-clause-grown c =
+returns-clause-grown g c =
     rw c.resolve.ensures.same (grown_of looks_stand asked_keys_have_meaning answers_stand _ _ c.resolve.ensures.kept c.resolve.ensures.placed _ c.self.view_is
     c.self.invariant.0)
 
 pub refresh_error-requires : goal.refresh_error-requires
-refresh_error-requires c = record {
+refresh_error-requires g c = record {
   known = λ unknown.
       crate_known _ c.self.invariant.0 _ c.resolve.ensures.kept c.args.k (subst (λ (s : SessionState). c.args.k < length s.crates) (sym c.self.view_is)
       c.requires.within)
@@ -45,7 +45,7 @@ refresh_error-requires c = record {
 }
 
 pub returns-clause-found : goal.returns-clause-found
-returns-clause-found c = elim c.match-resolve.branch [
+returns-clause-found g c = elim c.match-resolve.branch [
   | in-Ok w ↦ rw w.result-is (rw c.resolve.ensures.same
       (found_of looks_stand asked_keys_have_meaning answers_stand _ _ c.resolve.ensures.kept c.resolve.ensures.placed _ c.self.view_is c.self.invariant.0
       runs_name
@@ -55,7 +55,7 @@ returns-clause-found c = elim c.match-resolve.branch [
 ]
 
 pub returns-clause-many : goal.returns-clause-many
-returns-clause-many c = elim c.match-resolve.branch [
+returns-clause-many g c = elim c.match-resolve.branch [
   | in-Ok w ↦ λ many. no_error (sym w.result-is ∙ many)
   | in-Err w ↦ λ many.
       let told : w.refresh_error.result ≡ refresh_error.TooMany = one_error (sym w.result-is ∙ many) in

@@ -18,7 +18,7 @@ use Rattle.hir_session_core.proofs.session.Session.found_in.Goals as goal
 use Rattle.hir_session_core.proofs.session.Session.found_in.Goals.{in-Ok, in-Err}
 
 pub invariant_of-self : goal.invariant_of-self
-invariant_of-self c = (
+invariant_of-self g c = (
   rw c.resolve_block.ensures.same (grown_sound looks_stand asked_keys_have_meaning answers_stand _ _ c.resolve_block.ensures.kept c.resolve_block.ensures.placed
       c.self.invariant.0),
   noted_grown _ _ _ c.self.invariant.1 _ c.resolve_block.ensures.kept (kept_meant asked_keys_have_meaning _ c.self.invariant.0),
@@ -28,12 +28,12 @@ invariant_of-self c = (
 )
 
 pub returns-clause-grown : goal.returns-clause-grown
-returns-clause-grown c =
+returns-clause-grown g c =
     rw c.resolve_block.ensures.same (grown_of looks_stand asked_keys_have_meaning answers_stand _ _ c.resolve_block.ensures.kept c.resolve_block.ensures.placed
     _ c.self.view_is c.self.invariant.0)
 
 pub refresh_error-requires : goal.refresh_error-requires
-refresh_error-requires c = record {
+refresh_error-requires g c = record {
   known = λ unknown.
       known_held _ _ c.self.view_is c.args.at.krate c.args.at.block c.args.at.holder c.args.at.file c.args.at.id c.requires.place c.requires.marked
       c.requires.begun c.requires.numbered
@@ -42,7 +42,7 @@ refresh_error-requires c = record {
 }
 
 pub returns-clause-found : goal.returns-clause-found
-returns-clause-found c = elim c.match-resolve_block.branch [
+returns-clause-found g c = elim c.match-resolve_block.branch [
   | in-Ok w ↦ rw w.result-is (rw c.resolve_block.ensures.same
       (found_held _ _ c.self.view_is c.args.at.krate c.args.at.block c.args.at.holder c.args.at.file c.args.at.id c.requires.place c.requires.marked
       c.requires.begun c.requires.numbered
@@ -53,13 +53,13 @@ returns-clause-found c = elim c.match-resolve_block.branch [
 ]
 
 pub returns-clause-holder : goal.returns-clause-holder
-returns-clause-holder c = elim c.match-resolve_block.branch [
+returns-clause-holder g c = elim c.match-resolve_block.branch [
   | in-Ok w ↦ rw w.result-is (holder_found _ _ _ _ _ w.in-Ok.ensures.resolved)
   | in-Err w ↦ rw w.result-is tt
 ]
 
 pub returns-clause-many : goal.returns-clause-many
-returns-clause-many c = elim c.match-resolve_block.branch [
+returns-clause-many g c = elim c.match-resolve_block.branch [
   | in-Ok w ↦ λ many. no_error (sym w.result-is ∙ many)
   | in-Err w ↦ λ many.
       let told : w.refresh_error.result ≡ refresh_error.TooMany = one_error (sym w.result-is ∙ many) in

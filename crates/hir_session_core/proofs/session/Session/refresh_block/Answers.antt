@@ -12,22 +12,23 @@ use Rattle.hir_session_core.proofs.Due.{grows_not}
 use Rattle.hir_session_core.proofs.session.Session.refresh_block.Goals as goal
 
 pub resolve_block-requires-clause-crates : goal.resolve_block-requires-clause-crates
-resolve_block-requires-clause-crates c = c.requires.crates
+resolve_block-requires-clause-crates g c = c.requires.crates
 
 pub resolve_block-requires-clause-due : goal.resolve_block-requires-clause-due
-resolve_block-requires-clause-due c = subst (λ (b : BlockPlace). IsDueBlock c.args.self.now b) (sym c.in_ok-block-in-Some.ensures.value) c.in-Some.ensures.due
+resolve_block-requires-clause-due g c = subst (λ (b : BlockPlace). IsDueBlock c.args.self.now b) (sym c.in_ok-block-in-Some.ensures.value) c.in-Some.ensures.due
 
 pub resolve_block-requires-clause-held : goal.resolve_block-requires-clause-held
-resolve_block-requires-clause-held c = ap (λ (b : BlockPlace). module_of c.args.self.now b.holder) c.in_ok-block-in-Some.ensures.value ∙ c.in-Some.ensures.held
+resolve_block-requires-clause-held g c =
+    ap (λ (b : BlockPlace). module_of c.args.self.now b.holder) c.in_ok-block-in-Some.ensures.value ∙ c.in-Some.ensures.held
 
 pub returns-in_ok-note_place-in-Some-clause-ok : goal.returns-in_ok-note_place-in-Some-clause-ok
-returns-in_ok-note_place-in-Some-clause-ok c = where_ok c.resolve_block.result c.resolve_block.ensures.ok (λ is.
+returns-in_ok-note_place-in-Some-clause-ok g c = where_ok c.resolve_block.result c.resolve_block.ensures.ok (λ is.
     resolved c.in_ok-block-in-Some.block (ap place_of_block c.in_ok-block-in-Some.ensures.value ∙ c.in-Some.ensures.place)
     (subst (λ (b : BlockPlace). IsDueBlock c.args.self.now b) (sym c.in_ok-block-in-Some.ensures.value) c.in-Some.ensures.due)
     is c.resolve_block.ensures.sound c.in_ok-note_place-in-Some.ensures.ok)
 
 pub returns-in_ok-note_place-in-Some-clause-many : goal.returns-in_ok-note_place-in-Some-clause-many
-returns-in_ok-note_place-in-Some-clause-many c = λ many.
+returns-in_ok-note_place-in-Some-clause-many g c = λ many.
     let root = ap place_of_block c.in_ok-block-in-Some.ensures.value ∙ c.in-Some.ensures.place in (
       c.in_ok-block-in-Some.block,
       root,
@@ -36,10 +37,10 @@ returns-in_ok-note_place-in-Some-clause-many c = λ many.
     )
 
 pub returns-in_err-block-in-Some-clause-err : goal.returns-in_err-block-in-Some-clause-err
-returns-in_err-block-in-Some-clause-err c = on_err _ (grows_not _ c.due_at.ensures.sound)
+returns-in_err-block-in-Some-clause-err g c = on_err _ (grows_not _ c.due_at.ensures.sound)
 
 pub returns-in_err-note_place-in-Some-clause-err : goal.returns-in_err-note_place-in-Some-clause-err
-returns-in_err-note_place-in-Some-clause-err c = on_err _ (grows_not _ c.due_at.ensures.sound)
+returns-in_err-note_place-in-Some-clause-err g c = on_err _ (grows_not _ c.due_at.ensures.sound)
 
 pub returns-in-None-clause-ok : goal.returns-in-None-clause-ok
-returns-in-None-clause-ok c = left (c.in-None.ensures.none refl) refl refl
+returns-in-None-clause-ok g c = left (c.in-None.ensures.none refl) refl refl

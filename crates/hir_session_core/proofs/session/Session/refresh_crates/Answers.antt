@@ -9,20 +9,20 @@ use Rattle.hir_session_core.proofs.session.Session.refresh_crates.Goals as goal
 use Rattle.hir_session_core.proofs.session.Session.refresh_crates.Goals.{then-is_marked_at+in_ok-note+in_ok-resolve_at, else-is_marked_at}
 
 pub loop-k-init : goal.loop-k-init
-loop-k-init c = rw c.new-done.ensures.items (subst (λ (s : SessionState). IsRefreshing s s [] 0) c.self.view_is (refreshing-start _ c.self.invariant.0))
+loop-k-init g c = rw c.new-done.ensures.items (subst (λ (s : SessionState). IsRefreshing s s [] 0) c.self.view_is (refreshing-start _ c.self.invariant.0))
 
 pub returns-clause-so_far : goal.returns-clause-so_far
-returns-clause-so_far c = c.loop-k.invariant.so_far
+returns-clause-so_far g c = c.loop-k.invariant.so_far
 
 pub returns-clause-current : goal.returns-clause-current
-returns-clause-current c = λ k within.
+returns-clause-current g c = λ k within.
     let count = ap (λ (xs : List CrateValue). length xs) c.loop-k.invariant.so_far.crates in
     let all : length c.crates.result.now ≡ length c.args.self.now.crates = ap (λ (xs : List CrateValue). length xs)
     (c.crates.ensures.value ∙ ap (λ (s : SessionState). s.crates) c.self.view_is) in
     c.loop-k.invariant.below k (omega arith)
 
 pub returns-in_err-note-clause-err : goal.returns-in_err-note-clause-err
-returns-in_err-note-clause-err c =
+returns-in_err-note-clause-err g c =
     let partly : RefreshesPartly c.args.self.now c.loop-k.self = record {
       done = _;
       resolves = resolves_grown c.loop-k.invariant.so_far (grows_not _ c.loop-k.invariant.so_far.sound);
@@ -30,7 +30,7 @@ returns-in_err-note-clause-err c =
     on_err _ partly
 
 pub returns-in_err-resolve_at-clause-many : goal.returns-in_err-resolve_at-clause-many
-returns-in_err-resolve_at-clause-many c = λ many.
+returns-in_err-resolve_at-clause-many g c = λ many.
     let count = ap (λ (xs : List CrateValue). length xs) c.loop-k.invariant.so_far.crates in
     let all : length c.crates.result.now ≡ length c.args.self.now.crates = ap (λ (xs : List CrateValue). length xs)
     (c.crates.ensures.value ∙ ap (λ (s : SessionState). s.crates) c.self.view_is) in
@@ -39,7 +39,7 @@ returns-in_err-resolve_at-clause-many c = λ many.
     (c.resolve_at.ensures.many (passed_on _ _ _ _ c.in_err-resolve_at.was c.from_residual-in_err-resolve_at.ensures.1 many))
 
 pub returns-in_err-resolve_at-clause-err : goal.returns-in_err-resolve_at-clause-err
-returns-in_err-resolve_at-clause-err c =
+returns-in_err-resolve_at-clause-err g c =
     let partly : RefreshesPartly c.args.self.now c.resolve_at.new.self = record {
       done = _;
       resolves = resolves_grown c.loop-k.invariant.so_far c.in_err-resolve_at.ensures.err;
@@ -47,7 +47,7 @@ returns-in_err-resolve_at-clause-err c =
     on_err _ partly
 
 pub loop-k-preserved : goal.loop-k-preserved
-loop-k-preserved c =
+loop-k-preserved g c =
     let count = ap (λ (xs : List CrateValue). length xs) c.loop-k.invariant.so_far.crates in
     let all : length c.crates.result.now ≡ length c.args.self.now.crates = ap (λ (xs : List CrateValue). length xs)
     (c.crates.ensures.value ∙ ap (λ (s : SessionState). s.crates) c.self.view_is) in

@@ -13,27 +13,27 @@ use Rattle.hir_session_core.proofs.Sound.{followed_crates}
 use Rattle.hir_session_core.proofs.session.Session.resolve_at.Goals as goal
 
 pub keep_found-requires-clause-place : goal.keep_found-requires-clause-place
-keep_found-requires-clause-place c = subst (λ (x : MapId). IsPlace c.found_at.new.self x) (sym c.of_crate.ensures.value)
+keep_found-requires-clause-place g c = subst (λ (x : MapId). IsPlace c.found_at.new.self x) (sym c.of_crate.ensures.value)
     (of_crate refl (subst (λ (cs : List CrateValue). c.args.k < length cs) (sym c.in_ok-found.ensures.grown.crates) c.requires.within))
 
 pub keep_found-requires-clause-marked : goal.keep_found-requires-clause-marked
-keep_found-requires-clause-marked c = subst (λ (x : MapId). is_marked c.found_at.new.self x ≡ true) (sym c.of_crate.ensures.value)
+keep_found-requires-clause-marked g c = subst (λ (x : MapId). is_marked c.found_at.new.self x ≡ true) (sym c.of_crate.ensures.value)
     (grown_mark _ _ c.in_ok-found.ensures.grown (id_of c.args.k) ∙ c.requires.marked)
 
 pub keep_found-requires-clause-found : goal.keep_found-requires-clause-found
-keep_found-requires-clause-found c =
+keep_found-requires-clause-found g c =
     subst (λ (x : MapId). IsResolutionOf c.found_at.new.self x (held_in c.found_at.new.self (collected_view c.in_ok-found.found)))
     (sym c.of_crate.ensures.value) c.in_ok-found.ensures.found
 
 pub keep_found-requires-clause-behind : goal.keep_found-requires-clause-behind
-keep_found-requires-clause-behind c =
+keep_found-requires-clause-behind g c =
     subst (λ (x : MapId). AreFollowedCurrent c.found_at.new.self x c.in_ok-found.found.map.holder) (sym c.of_crate.ensures.value)
     (followed_crates c.found_at.new.self c.in_ok-found.ensures.grown.sound c.args.k (λ j low. grown_mark _ _ c.in_ok-found.ensures.grown (id_of j) ∙
     c.requires.first j low)
     c.in_ok-found.found.map.holder)
 
 pub returns-clause-ok : goal.returns-clause-ok
-returns-clause-ok c =
+returns-clause-ok g c =
     let found = held_in c.found_at.new.self (collected_view c.in_ok-found.found) in (
       found,
       subst (λ (x : MapId). Resolved c.args.self.now x found c.keep_found.new.self) c.of_crate.ensures.value
@@ -42,7 +42,7 @@ returns-clause-ok c =
     )
 
 pub returns-clause-sound : goal.returns-clause-sound
-returns-clause-sound c = c.keep_found.ensures.sound
+returns-clause-sound g c = c.keep_found.ensures.sound
 
 pub returns-in_err-found-clause-many : goal.returns-in_err-found-clause-many
-returns-in_err-found-clause-many c = λ many. c.found_at.ensures.many (passed_on _ _ _ _ c.in_err-found.was c.from_residual.ensures.1 many)
+returns-in_err-found-clause-many g c = λ many. c.found_at.ensures.many (passed_on _ _ _ _ c.in_err-found.was c.from_residual.ensures.1 many)

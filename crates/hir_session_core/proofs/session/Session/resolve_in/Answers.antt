@@ -8,25 +8,25 @@ use Rattle.hir_session_core.proofs.Growth.{grown_followed, grown_mark, grown_pla
 use Rattle.hir_session_core.proofs.session.Session.resolve_in.Goals as goal
 
 pub keep_found-requires-clause-place : goal.keep_found-requires-clause-place
-keep_found-requires-clause-place c = grown_place _ _ c.in_ok-found.ensures.grown (block_map c.args.at.krate c.args.at.block) c.requires.place
+keep_found-requires-clause-place g c = grown_place _ _ c.in_ok-found.ensures.grown (block_map c.args.at.krate c.args.at.block) c.requires.place
 
 pub keep_found-requires-clause-marked : goal.keep_found-requires-clause-marked
-keep_found-requires-clause-marked c = grown_mark _ _ c.in_ok-found.ensures.grown (block_map c.args.at.krate c.args.at.block) ∙ c.requires.marked
+keep_found-requires-clause-marked g c = grown_mark _ _ c.in_ok-found.ensures.grown (block_map c.args.at.krate c.args.at.block) ∙ c.requires.marked
 
 pub keep_found-requires-clause-found : goal.keep_found-requires-clause-found
-keep_found-requires-clause-found c = c.in_ok-found.ensures.found
+keep_found-requires-clause-found g c = c.in_ok-found.ensures.found
 
 pub keep_found-requires-clause-behind : goal.keep_found-requires-clause-behind
-keep_found-requires-clause-behind c =
+keep_found-requires-clause-behind g c =
     subst (λ (h : Option ModuleId). AreFollowedCurrent c.found_in.new.self (block_map c.args.at.krate c.args.at.block) h) (sym c.in_ok-found.ensures.holder)
     (grown_followed c.args.self.now c.found_in.new.self c.in_ok-found.ensures.grown (block_map c.args.at.krate c.args.at.block) (Some c.args.at.holder)
     c.requires.behind)
 
 pub returns-clause-ok : goal.returns-clause-ok
-returns-clause-ok c = (_, resolved_later _ _ _ _ _ c.in_ok-found.ensures.grown c.in_ok-keep_found.ensures.ok)
+returns-clause-ok g c = (_, resolved_later _ _ _ _ _ c.in_ok-found.ensures.grown c.in_ok-keep_found.ensures.ok)
 
 pub returns-clause-sound : goal.returns-clause-sound
-returns-clause-sound c = c.keep_found.ensures.sound
+returns-clause-sound g c = c.keep_found.ensures.sound
 
 pub returns-in_err-found-clause-many : goal.returns-in_err-found-clause-many
-returns-in_err-found-clause-many c = λ many. c.found_in.ensures.many (passed_on _ _ _ _ c.in_err-found.was c.from_residual.ensures.1 many)
+returns-in_err-found-clause-many g c = λ many. c.found_in.ensures.many (passed_on _ _ _ _ c.in_err-found.was c.from_residual.ensures.1 many)

@@ -9,11 +9,11 @@ use Rattle.hir_session_state.specs.Inputs.{InputsValue, workspace_by}
 use Rattle.hir_session_invalidation.proofs.inputs.Inputs.resolve.Goals as goal
 
 pub returns-clause-many : goal.returns-clause-many
-returns-clause-many c = subst (λ (i : InputsValue). c.collect-found.result ≡ Err collect_error.TooMany
+returns-clause-many g c = subst (λ (i : InputsValue). c.collect-found.result ≡ Err collect_error.TooMany
     → IsOverlong c.collect-found.new.tables (workspace_by i) (finished_in c.args.world.now.maps) (beginning_in i.crates c.args.k))
     c.self.view_is c.collect-found.ensures.many
 
 pub returns-clause-unknown : goal.returns-clause-unknown
-returns-clause-unknown c = subst (λ (i : InputsValue). c.collect-found.result ≡ Err collect_error.UnknownSource
+returns-clause-unknown g c = subst (λ (i : InputsValue). c.collect-found.result ≡ Err collect_error.UnknownSource
     → MeetsUnknownSource c.collect-found.new.tables (workspace_by i) (finished_in c.args.world.now.maps) (beginning_in i.crates c.args.k))
     c.self.view_is c.collect-found.ensures.unknown

@@ -1,0 +1,300 @@
+//! What macro calls, derives and attributes expand to: all that an expansion depends on is asked for, and then the expansion.
+ghost use Rattle.std.specs.Prelude.{◌≡◌, ◌<◌, true, false, [], IfOk, None, OnOk, Some, option_map, unwrap_or};
+ghost use Rattle.hir_item_tree.specs.SyntaxIds.{node_id};
+ghost use Rattle.hir_tables.specs.SourcePlaces.{expansion_value};
+ghost use Rattle.hir_tables.specs.Tables.{KeepsTables};
+ghost use Rattle.hir_def_map.specs.WorldParts.{part_of};
+ghost use Rattle.hir_collector_rules.specs.CallMoves.{SeesCall};
+ghost use Rattle.hir_collector_rules.specs.Calls.{AreCallsPlaced, Expanding, IsMeantCall, call_site, called_text, error_of, expansion_of_call, text_readings};
+ghost use Rattle.hir_collector_rules.specs.declared.macro_directive.MacroDirective.{MacroDirective};
+ghost use Rattle.hir_collector_rules.specs.ItemIds.{module_id};
+ghost use Rattle.hir_collector_rules.specs.Keys.{IsMeant, input_at, macro_key, macro_tree, source_in, text_at, text_of};
+ghost use Rattle.hir_collector_rules.specs.Moves.{Makes, OnceGrown};
+ghost use Rattle.hir_collector_rules.specs.NumberedOut.{LacksExpansion};
+ghost use Rattle.hir_collector_rules.specs.State.{core_in};
+ghost use Rattle.hir_collector_rules.specs.Steps.{failing, keys_read, with_keys};
+ghost use Rattle.hir_collector_rules.specs.Workspace.{entry_look};
+ghost use Rattle.hir_collector_state.specs.Waiting.{IsNoted};
+
+use hir_base::ast_id::{AstId, AstKind, HirFileId, MacroCallId};
+use hir_base::ids::{Crate, HasModule};
+use hir_base::macro_kind::{CallStyle, ExpansionKey, MacroCallLoc, MacroId, MacroLoc, MacroText};
+use hir_base::text::Text;
+use hir_collector_rules::macro_directive::MacroDirective;
+use hir_collector_rules::site::Site;
+use hir_collector_rules::source_database::{ExpansionLook, Key, SourceDatabase};
+use hir_collector_rules::start::StepError;
+use hir_collector_start::sources::source_at;
+use hir_collector_state::def_collector::DefCollector;
+use hir_def_map::nameres::diagnostics::DefDiagnostic;
+use hir_def_map::world::part::WorldPart;
+use hir_item_tree::check::NodeId;
+use hir_item_tree::source_tree::SourceTree;
+use hir_item_tree::tree_id::{TreeId, TreeKey};
+use hir_tables::Tables;
+use std::alloc::{AllocError, Global};
+use std::rc::Rc;
+
+/// The same text, if there is one.
+fn copied(alloc: Global, text: Option<&str>) -> Result<Option<Text>, AllocError>
+    ensures value { IfOk result (λ copy. copy ≡ option_map (λ t. t.now) text.entry) }
+{
+    match text {
+        Some(text) => Ok(Some(Text::from_str(alloc, text)?)),
+        None => Ok(None),
+    }
+}
+
+/// Whether the source that writes a macro has a number; a procedural macro is in no source.
+pub fn is_meant(locations: &Tables, makro: MacroId) -> bool
+    ensures meant { result ≡ true → IsMeant locations.now makro }
+    ensures unknown { result ≡ false → ¬ IsMeant locations.now makro }
+{
+    match makro {
+        MacroId::Macro2Id(id) => locations.source_of(tree_of(id.loc)).is_some(),
+        MacroId::MacroRulesId(id) => locations.source_of(tree_of(id.loc)).is_some(),
+        MacroId::ProcMacroId(_) => true,
+    }
+}
+
+/// The tree that writes a macro.
+fn tree_of(loc: MacroLoc) -> TreeId
+    ensures value { result ≡ macro_tree loc }
+{
+    TreeId {
+        file: loc.file_id,
+        block: loc.block,
+    }
+}
+
+/// The text of the macro that a node defines.
+fn text_in<D: SourceDatabase>(
+    alloc: Global,
+    db: &mut D,
+    locations: &Tables,
+    loc: MacroLoc,
+    kind: AstKind,
+) -> Result<Option<Text>, AllocError>
+    ensures value { IfOk result (λ text. text
+        ≡ text_of (source_in locations.now (D.workspace db.old) (macro_key loc)) (node_id kind loc.id)) }
+    ensures same { D.workspace db.new ≡ D.workspace db.old }
+{
+    let key = TreeKey {
+        krate: loc.container.map.krate,
+        id: tree_of(loc),
+    };
+    let source = source_at(alloc, db, locations, key)?;
+    copied(alloc, source.text(NodeId { kind, id: loc.id }))
+}
+
+/// The text of a macro, where a source writes it.
+fn text_at<D: SourceDatabase>(
+    alloc: Global,
+    db: &mut D,
+    locations: &Tables,
+    makro: MacroId,
+) -> Result<Option<Text>, AllocError>
+    ensures value { IfOk result (λ text. text ≡ text_at locations.now (D.workspace db.old) makro) }
+    ensures same { D.workspace db.new ≡ D.workspace db.old }
+{
+    match makro {
+        MacroId::Macro2Id(id) => text_in(alloc, db, locations, id.loc, AstKind::MacroDef),
+        MacroId::MacroRulesId(id) => text_in(alloc, db, locations, id.loc, AstKind::MacroRules),
+        MacroId::ProcMacroId(_) => Ok(None),
+    }
+}
+
+/// The input of a call, where it isn't empty.
+fn input_at<D: SourceDatabase>(
+    alloc: Global,
+    db: &mut D,
+    locations: &Tables,
+    krate: Crate,
+    ast: AstId,
+) -> Result<Option<Text>, AllocError>
+    ensures value { IfOk result (λ input. input ≡ input_at locations.now (D.workspace db.old) krate ast) }
+    ensures same { D.workspace db.new ≡ D.workspace db.old }
+{
+    let key = TreeKey {
+        krate,
+        id: TreeId {
+            file: ast.file_id,
+            block: ast.block,
+        },
+    };
+    let source = source_at(alloc, db, locations, key)?;
+    copied(
+        alloc,
+        source.input(NodeId {
+            kind: ast.kind,
+            id: ast.id,
+        }),
+    )
+}
+
+/// A text, or an empty one.
+fn or_empty(alloc: Global, text: Option<Text>) -> Result<Text, AllocError>
+    ensures value { IfOk result (λ t. t ≡ unwrap_or text []) }
+{
+    match text {
+        Some(text) => Ok(text),
+        None => Text::from_str(alloc, ""),
+    }
+}
+
+/// The text of a macro, of a procedural one the name under which it is exported.
+fn called_text<D: SourceDatabase>(
+    run: &DefCollector,
+    db: &mut D,
+    world: WorldPart<'_>,
+    locations: &Tables,
+    makro: MacroId,
+) -> Result<Option<Text>, AllocError>
+    ensures value { IfOk result (λ text. text ≡ called_text (part_of world.entry) (core_in run.now).map makro (text_at locations.now (D.workspace db.old) makro)) }
+    ensures same { D.workspace db.new ≡ D.workspace db.old }
+{
+    match makro {
+        MacroId::Macro2Id(_) | MacroId::MacroRulesId(_) => {
+            text_at(run.allocator(), db, locations, makro)
+        }
+        MacroId::ProcMacroId(_) => match run.kept_of(world, makro) {
+            Some(what) => Ok(Some(Text::from_str(run.allocator(), what.name.as_str())?)),
+            None => Ok(None),
+        },
+    }
+}
+
+/// The key of a call's expansion.
+fn expansion_key(
+    alloc: Global,
+    caller: Crate,
+    style: CallStyle,
+    makro: MacroId,
+    text: Option<Text>,
+    input: Option<Text>,
+) -> Result<ExpansionKey, AllocError>
+    ensures value { IfOk result (λ key. expansion_value key ≡ expansion_of_call caller style makro text input) }
+{
+    Ok(ExpansionKey {
+        caller,
+        called: MacroText {
+            krate: makro.module().map.krate,
+            text: or_empty(alloc, text)?,
+        },
+        call: style,
+        input: or_empty(alloc, input)?,
+        reached: Vec::new(alloc),
+    })
+}
+
+/// The error that a call is told with: that of its expansion, or that there is none.
+fn error_of(alloc: Global, look: ExpansionLook<'_>) -> Result<Option<Text>, AllocError>
+    ensures value { IfOk result (λ error. error ≡ error_of (entry_look look.entry)) }
+{
+    if !look.present {
+        return Ok(Some(Text::from_str(alloc, "absent")?));
+    }
+    match look.error {
+        Some(error) => Ok(Some(error.clone()?)),
+        None => Ok(None),
+    }
+}
+
+/// What a call expands to.
+#[derive(Drop)]
+pub struct Expansion {
+    pub id: MacroCallId,
+    /// Why it didn't expand, or not well.
+    pub error: Option<Text>,
+    pub source: Rc<SourceTree>,
+}
+
+/// Notes the text of a macro as asked for, where a source writes it.
+fn ask_text(run: &mut DefCollector, makro: MacroId) -> Result<(), AllocError>
+    ensures ok { OnOk result ((text : _) → core_in run.new ≡ record (core_in run.old) { asked = with_keys (core_in run.old).asked (keys_read (text_readings makro text)) }) }
+    ensures noted { OnOk result (IsNoted run.old run.new) }
+{
+    match makro {
+        MacroId::Macro2Id(_) | MacroId::MacroRulesId(_) => run.ask(Key::Text(makro)),
+        MacroId::ProcMacroId(_) => Ok(()),
+    }
+}
+
+/// Asks for all that the expansion of a call depends on, and for the expansion.
+pub fn look_at_call<D: SourceDatabase>(
+    run: &mut DefCollector,
+    db: &mut D,
+    world: WorldPart<'_>,
+    locations: &mut Tables,
+    call: &MacroDirective,
+    makro: MacroId,
+) -> Result<Expansion, StepError>
+    requires meant { IsMeantCall locations.old call.now }
+    requires known { IsMeant locations.old makro }
+    ensures kept { KeepsTables locations.old locations.new }
+    ensures same { D.workspace db.new ≡ D.workspace db.old }
+    ensures placed { AreCallsPlaced locations.old → AreCallsPlaced locations.new }
+    ensures ok { IfOk result (λ e. (x : Expanding) × SeesCall locations.new (D.workspace db.old) (part_of world.entry) call.now makro (core_in run.old) (core_in run.new) x e.source.value
+        × (e.id ≡ x.id) × (e.error ≡ error_of x.there)) }
+    ensures noted { OnOk result (IsNoted run.old run.new) }
+    ensures many { result ≡ Err StepError.TooMany → OnceGrown locations.new (D.workspace db.old) (λ env. LacksExpansion env (part_of world.entry) (core_in run.old).map call.now makro) }
+{
+    let alloc = run.allocator();
+    let krate = run.map().id().krate;
+    let text = called_text(run, db, world, locations, makro)?;
+    let input = input_at(alloc, db, locations, krate, call.ast_id)?;
+    let key = expansion_key(alloc, krate, call.call_style(), makro, text, input)?;
+    let error = error_of(alloc, db.expansion(&key))?;
+    let entry = locations.intern_entry(key)?;
+    let id = locations.intern_call(MacroCallLoc {
+        kind: call.call_kind(),
+        entry,
+    })?;
+    let tree = TreeKey {
+        krate,
+        id: TreeId {
+            file: HirFileId::Macro(id),
+            block: None,
+        },
+    };
+    let source = source_at(alloc, db, locations, tree)?;
+    ask_text(run, makro)?;
+    run.ask(Key::Input(krate, call.ast_id))?;
+    run.ask(Key::Expansion(entry))?;
+    run.ask(Key::Tree(tree))?;
+    Ok(Expansion { id, error, source })
+}
+
+/// Where the items are written to which a call expands.
+pub fn call_site(call: &MacroDirective, id: MacroCallId) -> Result<Site, AllocError>
+    requires below { call.now.site.level < 4294967295 }
+    ensures value { IfOk result (λ site. site ≡ call_site call.now id) }
+{
+    Ok(Site {
+        home: call.site.home,
+        tree: TreeId {
+            file: HirFileId::Macro(id),
+            block: None,
+        },
+        file: call.site.file,
+        extern_block: call.site.extern_block,
+        dir: call.site.dir.clone()?,
+        level: call.site.level + 1,
+    })
+}
+
+/// Reports a call that didn't expand, or not well.
+pub fn report_failed(
+    run: &mut DefCollector,
+    call: &MacroDirective,
+    error: Option<Text>,
+) -> Result<(), AllocError>
+    ensures ok { OnOk result (Makes (failing (module_id (core_in run.old).map call.now.site.home) call.now error) (core_in run.old) (core_in run.new)) }
+    ensures noted { OnOk result (IsNoted run.old run.new) }
+{
+    let Some(error) = error else {
+        return Ok(());
+    };
+    let at = run.module_id(call.site.home);
+    run.tell(DefDiagnostic::macro_error(at, call.ast_id, call.path().clone()?, error))
+}

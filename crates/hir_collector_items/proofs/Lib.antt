@@ -1,5 +1,0 @@
-pub mod Progress
-pub mod Digits
-pub mod Closing
-pub mod CallSteps
-pub mod Helping

@@ -1,0 +1,45 @@
+use Rattle.std.proofs.Common.{◌≡◌, refl, rules}
+use Rattle.hir_base.specs.declared.macro_kind.MacroId.TheVariants as macros
+use Rattle.hir_collector_rules.specs.TreeReads.{head_of}
+use Rattle.hir_collector_state.proofs.Made.{count_kept, defined_macro}
+use Rattle.hir_collector_state.proofs.Noted.{noted_follow}
+use Rattle.hir_collector_macros.proofs.macros.define_macro.Goals as goal
+use Rattle.hir_collector_rules.specs.State.{core_in}
+
+pub returns-in_err-tick-clause-many : goal.returns-in_err-tick-clause-many
+returns-in_err-tick-clause-many c =
+    let kept : (core_in c.report.new.run).count ≡ (core_in c.bind.new.run).count = count_kept _ _ _ c.in_ok-report.ensures.ok in
+    λ many. search (
+      rules,
+      many,
+      kept,
+      c.in_err-tick.ensures.many,
+      c.from_residual-in_err-tick.ensures,
+      c.in_ok-bind.ensures.ok,
+      c.in_ok-describe.ensures.ok,
+      c.in_ok-define_macro.ensures.ok,
+    )
+
+pub returns-clause-ok : goal.returns-clause-ok
+returns-clause-ok c = λ env. record {
+  step = λ done passed rest.
+      defined_macro (core_in c.args.run.now) (core_in c.bind.new.run) (core_in c.report.new.run) (core_in c.tick.new.self) c.args.site.now (head_of c.args.head)
+      c.args.item.name.now c.args.item.expander c.args.item.helpers.now
+      done passed rest (macros.Macro2Id (record { loc = c.macro_loc-loc.result })) c.macro_node-node.result c.macro_loc-loc.result.container c.requires.enabled
+      (rw (c.macro_loc-loc.ensures.value) refl) (rw (c.macro_node-node.ensures.value) refl) (rw (c.macro_loc-loc.ensures.value) refl)
+      (rw (
+        c.in_ok-bind.ensures.ok,
+        c.in_ok-describe.ensures.ok,
+        c.in_ok-define_macro.ensures.ok,
+        c.macros.ensures.value,
+        c.visibility-vis.ensures.value,
+        c.in_ok-clone.ensures.value,
+      ) refl)
+      c.in_ok-report.ensures.ok c.in_ok-tick.ensures.ok;
+}
+
+pub returns-clause-noted : goal.returns-clause-noted
+returns-clause-noted c =
+    noted_follow c.in_ok-define_macro.ensures.noted
+    (noted_follow c.in_ok-describe.ensures.noted
+    (noted_follow c.in_ok-bind.ensures.noted (noted_follow c.in_ok-report.ensures.noted c.in_ok-tick.ensures.noted)))

@@ -1,0 +1,4 @@
+pub mod Digits
+pub mod Rootless
+pub mod CallPlaces
+pub mod Untaken

@@ -1,3 +1,0 @@
--- ---- words of private code
-pub mod Turns
-pub mod Outside

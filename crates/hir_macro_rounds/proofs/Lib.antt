@@ -1,0 +1,5 @@
+pub mod Resuming
+pub mod Waiting
+pub mod Queued
+pub mod GivingUp
+pub mod Turning

@@ -1,0 +1,211 @@
+-- What waits is expanded in one step, and then its items are handled.
+use Rattle.std.proofs.Common.{rules, ◌≡◌, ◌∙◌, ◌<◌, length, ap, subst, sym}
+use Rattle.std.proofs.lemmas.List.Elements.{All-map}
+use Rattle.std.specs.List.{All}
+use Rattle.hir_item_tree.specs.ItemTree.{Tree}
+use Rattle.hir_item_tree.specs.KeptForest.{all_items}
+use Rattle.hir_item_tree.specs.Rows.{items_at, numbers_of}
+use Rattle.hir_item_tree.specs.SourceTree.{SourceTreeValue}
+use Rattle.hir_item_tree.specs.declared.rows.ModItemId.{ModItemId}
+use Rattle.hir_tables.proofs.Growth.{KeepsTables-trans}
+use Rattle.hir_def_map.specs.WorldParts.{part_of}
+use Rattle.hir_collector_rules.specs.Moves.{OnceGrown, Walks, WalksTooFar}
+use Rattle.hir_collector_rules.specs.State.{Core, core_in}
+use Rattle.hir_collector_rules.specs.TreeReads.{visits_at}
+use Rattle.hir_collector_derives.proofs.CallSteps.{expanded_and_walked, expanded_too_far, handled_at_last, past_reported, site_inside, site_meant}
+use Rattle.hir_collector_derives.proofs.CallSteps.{spent_by_numbers}
+use Rattle.hir_collector_state.proofs.Noted.{beside_follow, noted_beside, noted_follow}
+use Rattle.hir_macro_rounds.proofs.calls.expand_known.Goals as goal
+
+pub look_at_call-requires : goal.look_at_call-requires
+look_at_call-requires g c = record { meant = c.requires.ready.meant c.args.i c.args.call.now c.requires.called.due.waiting.call; known = c.requires.known }
+
+-- the module of the call is there
+pub note_call-requires : goal.note_call-requires
+note_call-requires g c =
+    let seen = c.in_ok-id.ensures.ok in
+    let home = c.args.call.now.site.home in
+    record {
+      in_range = subst (λ (e : Core). home < length e.map.modules) (sym c.end_call.ensures.value)
+          (subst (λ (a : Core). home < length a.map.modules) (sym seen.1.asked)
+          (c.requires.ready.calls c.args.i c.args.call.now c.requires.called.due.waiting.call));
+    }
+
+pub returns-in_err-id-clause-many : goal.returns-in_err-id-clause-many
+returns-in_err-id-clause-many g c = λ h.
+    spent_by_numbers c.look_at_call.new.locations (g.D.SourceDatabase.workspace c.args.db.now) (part_of c.args.world) (core_in c.args.run.now) c.args.i
+    c.args.call.now c.args.makro c.requires.called
+    c.requires.shallow (c.in_err-id.ensures.many (search rules))
+
+pub returns-in_err-tick-clause-many : goal.returns-in_err-tick-clause-many
+returns-in_err-tick-clause-many g c = λ h.
+    let tables = c.look_at_call.new.locations in
+    let w = g.D.SourceDatabase.workspace c.args.db.now in
+    let part = part_of c.args.world in
+    let old = core_in c.args.run.now in
+    let asked = core_in c.look_at_call.new.run in
+    let ended = core_in c.end_call.new.self in
+    let noted = core_in c.note_call.new.self in
+    let brought = core_in c.bring_helpers.new.run in
+    let reported = core_in c.report_failed.new.run in
+    let seen = c.in_ok-id.ensures.ok in
+    let source : SourceTreeValue = c.in_ok-id.field-0.source.value in
+    past_reported tables w part old asked c.args.i c.args.call.now c.args.makro seen.0 source seen.1 c.requires.called c.requires.shallow ended noted brought
+    reported c.in_ok-id.field-0.id c.in_ok-id.field-0.error c.end_call.ensures.value seen.2 seen.3 c.in_ok-note_call.ensures.ok c.in_ok-bring_helpers.ensures.ok
+    c.in_ok-report_failed.ensures.ok
+    (c.in_err-tick.ensures.many (search rules))
+
+-- ---- the items of its expansion
+
+pub walk_all-requires-clause-in_range : goal.walk_all-requires-clause-in_range
+walk_all-requires-clause-in_range g c =
+    let tables = c.look_at_call.new.locations in
+    let w = g.D.SourceDatabase.workspace c.args.db.now in
+    let part = part_of c.args.world in
+    let old = core_in c.args.run.now in
+    let asked = core_in c.look_at_call.new.run in
+    let ended = core_in c.end_call.new.self in
+    let noted = core_in c.note_call.new.self in
+    let brought = core_in c.bring_helpers.new.run in
+    let reported = core_in c.report_failed.new.run in
+    let seen = c.in_ok-id.ensures.ok in
+    let source : SourceTreeValue = c.in_ok-id.field-0.source.value in
+    let new = core_in c.tick.new.self in
+    let ids = c.top_level_items-ids.result.now in
+    let all : items_at (all_items source.tree.items) (numbers_of ids) ≡ source.tree.items =
+    subst (λ (t : Tree). items_at (all_items t.items) (numbers_of ids) ≡ t.items) (c.tree.ensures.value ∙ ap (λ (s : SourceTreeValue). s.tree) c.deref.ensures)
+    c.top_level_items-ids.ensures.value in
+    site_inside tables w part old asked c.args.i c.args.call.now c.args.makro seen.0 source seen.1 c.requires.called c.requires.shallow ended noted brought
+    reported c.in_ok-id.field-0.id c.in_ok-id.field-0.error c.end_call.ensures.value seen.2 seen.3 c.in_ok-note_call.ensures.ok c.in_ok-bring_helpers.ensures.ok
+    c.in_ok-report_failed.ensures.ok
+    new c.in_ok-tick.ensures.ok c.in_ok-site.site ids c.in_ok-site.ensures.value all
+    (c.requires.ready.calls c.args.i c.args.call.now c.requires.called.due.waiting.call)
+
+pub walk_all-requires-clause-meant : goal.walk_all-requires-clause-meant
+walk_all-requires-clause-meant g c =
+    let tables = c.look_at_call.new.locations in
+    let w = g.D.SourceDatabase.workspace c.args.db.now in
+    let part = part_of c.args.world in
+    let old = core_in c.args.run.now in
+    let asked = core_in c.look_at_call.new.run in
+    let ended = core_in c.end_call.new.self in
+    let noted = core_in c.note_call.new.self in
+    let brought = core_in c.bring_helpers.new.run in
+    let reported = core_in c.report_failed.new.run in
+    let seen = c.in_ok-id.ensures.ok in
+    let source : SourceTreeValue = c.in_ok-id.field-0.source.value in
+    let new = core_in c.tick.new.self in
+    let ids = c.top_level_items-ids.result.now in
+    let all : items_at (all_items source.tree.items) (numbers_of ids) ≡ source.tree.items =
+    subst (λ (t : Tree). items_at (all_items t.items) (numbers_of ids) ≡ t.items) (c.tree.ensures.value ∙ ap (λ (s : SourceTreeValue). s.tree) c.deref.ensures)
+    c.top_level_items-ids.ensures.value in
+    site_meant tables w part old asked c.args.i c.args.call.now c.args.makro seen.0 source seen.1 c.requires.called c.requires.shallow ended noted brought
+    reported c.in_ok-id.field-0.id c.in_ok-id.field-0.error c.end_call.ensures.value seen.2 seen.3 c.in_ok-note_call.ensures.ok c.in_ok-bring_helpers.ensures.ok
+    c.in_ok-report_failed.ensures.ok
+    new c.in_ok-tick.ensures.ok c.in_ok-site.site ids c.in_ok-site.ensures.value all
+
+pub walk_all-requires-clause-there : goal.walk_all-requires-clause-there
+walk_all-requires-clause-there g c =
+    let source : SourceTreeValue = c.in_ok-id.field-0.source.value in
+    let ids = c.top_level_items-ids.result.now in
+    All-map (λ n. n < length (all_items source.tree.items)) (λ (id : ModItemId). id.0) ids
+    (subst (λ (t : Tree). All (λ (id : ModItemId). id.0 < length (all_items t.items)) ids) (c.tree.ensures.value ∙ ap (λ (s : SourceTreeValue). s.tree)
+    c.deref.ensures) c.top_level_items-ids.ensures.there)
+
+pub returns-in_err-walk_all-clause-kept : goal.returns-in_err-walk_all-clause-kept
+returns-in_err-walk_all-clause-kept g c =
+    KeepsTables-trans c.args.locations.now c.look_at_call.new.locations c.walk_all.new.locations c.in_ok-id.ensures.kept c.in_err-walk_all.ensures.kept
+
+pub returns-in_err-walk_all-clause-many : goal.returns-in_err-walk_all-clause-many
+returns-in_err-walk_all-clause-many g c = λ h.
+    let tables = c.look_at_call.new.locations in
+    let w = g.D.SourceDatabase.workspace c.args.db.now in
+    let part = part_of c.args.world in
+    let old = core_in c.args.run.now in
+    let asked = core_in c.look_at_call.new.run in
+    let ended = core_in c.end_call.new.self in
+    let noted = core_in c.note_call.new.self in
+    let brought = core_in c.bring_helpers.new.run in
+    let reported = core_in c.report_failed.new.run in
+    let seen = c.in_ok-id.ensures.ok in
+    let source : SourceTreeValue = c.in_ok-id.field-0.source.value in
+    let new = core_in c.tick.new.self in
+    let ids = c.top_level_items-ids.result.now in
+    let all : items_at (all_items source.tree.items) (numbers_of ids) ≡ source.tree.items =
+    subst (λ (t : Tree). items_at (all_items t.items) (numbers_of ids) ≡ t.items) (c.tree.ensures.value ∙ ap (λ (s : SourceTreeValue). s.tree) c.deref.ensures)
+    c.top_level_items-ids.ensures.value in
+    let later = c.walk_all.new.locations in
+    let v = g.D.SourceDatabase.workspace c.look_at_call.new.db in
+    let far : OnceGrown later v (λ env. WalksTooFar env part new (visits_at source.tree c.in_ok-site.site (numbers_of ids))) = c.in_err-walk_all.ensures.many
+    (search rules) in
+    expanded_too_far tables w part old asked c.args.i c.args.call.now c.args.makro seen.0 source seen.1 c.requires.called c.requires.shallow ended noted brought
+    reported c.in_ok-id.field-0.id c.in_ok-id.field-0.error c.end_call.ensures.value seen.2 seen.3 c.in_ok-note_call.ensures.ok c.in_ok-bring_helpers.ensures.ok
+    c.in_ok-report_failed.ensures.ok
+    new c.in_ok-tick.ensures.ok c.in_ok-site.site ids c.in_ok-site.ensures.value all
+    later c.in_err-walk_all.ensures.kept v c.in_ok-id.ensures.same far
+
+pub returns-clause-kept : goal.returns-clause-kept
+returns-clause-kept g c =
+    KeepsTables-trans c.args.locations.now c.look_at_call.new.locations c.walk_all.new.locations c.in_ok-id.ensures.kept c.in_ok-walk_all.ensures.kept
+
+pub returns-clause-ok : goal.returns-clause-ok
+returns-clause-ok g c =
+    let tables = c.look_at_call.new.locations in
+    let w = g.D.SourceDatabase.workspace c.args.db.now in
+    let part = part_of c.args.world in
+    let old = core_in c.args.run.now in
+    let asked = core_in c.look_at_call.new.run in
+    let ended = core_in c.end_call.new.self in
+    let noted = core_in c.note_call.new.self in
+    let brought = core_in c.bring_helpers.new.run in
+    let reported = core_in c.report_failed.new.run in
+    let seen = c.in_ok-id.ensures.ok in
+    let source : SourceTreeValue = c.in_ok-id.field-0.source.value in
+    let new = core_in c.tick.new.self in
+    let ids = c.top_level_items-ids.result.now in
+    let all : items_at (all_items source.tree.items) (numbers_of ids) ≡ source.tree.items =
+    subst (λ (t : Tree). items_at (all_items t.items) (numbers_of ids) ≡ t.items) (c.tree.ensures.value ∙ ap (λ (s : SourceTreeValue). s.tree) c.deref.ensures)
+    c.top_level_items-ids.ensures.value in
+    let later = c.walk_all.new.locations in
+    let v = g.D.SourceDatabase.workspace c.look_at_call.new.db in
+    let last = core_in c.walk_all.new.run in
+    let walks : OnceGrown later v (λ env. Walks env part new last (visits_at source.tree c.in_ok-site.site (numbers_of ids))) = c.in_ok-walk_all.ensures.ok in
+    expanded_and_walked tables w part old asked c.args.i c.args.call.now c.args.makro seen.0 source seen.1 c.requires.called c.requires.shallow ended noted
+    brought reported c.in_ok-id.field-0.id c.in_ok-id.field-0.error c.end_call.ensures.value seen.2 seen.3 c.in_ok-note_call.ensures.ok
+    c.in_ok-bring_helpers.ensures.ok c.in_ok-report_failed.ensures.ok
+    new c.in_ok-tick.ensures.ok c.in_ok-site.site ids c.in_ok-site.ensures.value all
+    later c.in_ok-walk_all.ensures.kept v c.in_ok-id.ensures.same last walks
+
+pub returns-clause-handled : goal.returns-clause-handled
+returns-clause-handled g c =
+    let tables = c.look_at_call.new.locations in
+    let w = g.D.SourceDatabase.workspace c.args.db.now in
+    let part = part_of c.args.world in
+    let old = core_in c.args.run.now in
+    let asked = core_in c.look_at_call.new.run in
+    let ended = core_in c.end_call.new.self in
+    let noted = core_in c.note_call.new.self in
+    let brought = core_in c.bring_helpers.new.run in
+    let reported = core_in c.report_failed.new.run in
+    let seen = c.in_ok-id.ensures.ok in
+    let source : SourceTreeValue = c.in_ok-id.field-0.source.value in
+    let new = core_in c.tick.new.self in
+    let ids = c.top_level_items-ids.result.now in
+    let all : items_at (all_items source.tree.items) (numbers_of ids) ≡ source.tree.items =
+    subst (λ (t : Tree). items_at (all_items t.items) (numbers_of ids) ≡ t.items) (c.tree.ensures.value ∙ ap (λ (s : SourceTreeValue). s.tree) c.deref.ensures)
+    c.top_level_items-ids.ensures.value in
+    let later = c.walk_all.new.locations in
+    let v = g.D.SourceDatabase.workspace c.look_at_call.new.db in
+    let last = core_in c.walk_all.new.run in
+    let walks : OnceGrown later v (λ env. Walks env part new last (visits_at source.tree c.in_ok-site.site (numbers_of ids))) = c.in_ok-walk_all.ensures.ok in
+    handled_at_last tables w part old asked c.args.i c.args.call.now c.args.makro seen.0 source seen.1 c.requires.called c.requires.shallow ended noted brought
+    reported c.in_ok-id.field-0.id c.in_ok-id.field-0.error c.end_call.ensures.value seen.2 seen.3 c.in_ok-note_call.ensures.ok c.in_ok-bring_helpers.ensures.ok
+    c.in_ok-report_failed.ensures.ok
+    new c.in_ok-tick.ensures.ok c.in_ok-site.site ids c.in_ok-site.ensures.value all
+    later c.in_ok-walk_all.ensures.kept v c.in_ok-id.ensures.same last walks
+
+pub returns-clause-noted : goal.returns-clause-noted
+returns-clause-noted g c =
+    beside_follow (noted_beside (noted_follow c.in_ok-id.ensures.noted (noted_follow c.end_call.ensures.noted (noted_follow c.in_ok-note_call.ensures.noted
+    (noted_follow c.in_ok-bring_helpers.ensures.noted (noted_follow c.in_ok-report_failed.ensures.noted c.in_ok-tick.ensures.noted))))))
+    c.in_ok-walk_all.ensures.noted

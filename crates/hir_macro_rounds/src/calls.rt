@@ -1,0 +1,562 @@
+//! Macro calls, derives and attributes: what each expands to, and rounds in which they are tried.
+ghost use Rattle.std.specs.Prelude.{◌≡◌, ◌<◌, ◌≤◌, ℕ, cond, true, false, IfOk, None, OnOk, Some, length, slice_get};
+ghost use Rattle.hir_tables.specs.Tables.{KeepsTables};
+ghost use Rattle.hir_def_map_rules.specs.State.{IsInOrder};
+ghost use Rattle.hir_def_map.specs.WorldParts.{part_of};
+ghost use Rattle.hir_import_rules.specs.Rest.{IsAtRest, IsSound};
+ghost use Rattle.hir_import_growth.specs.Growth.{GlobsLast};
+ghost use Rattle.hir_import_resolution.specs.Rounds.{IsResumable, is_apart as are_apart, is_lasting};
+ghost use Rattle.hir_import_rules.specs.declared.directive.ImportDirective.{ImportDirective};
+ghost use Rattle.hir_worklist.specs.Queue.{count_of};
+ghost use Rattle.hir_import_rules.specs.Changed.{ChangedValue, joined, nothing};
+ghost use Rattle.hir_call_queue.specs.Waking.{GoesOn, IsWoken, is_apart, worklist_of};
+ghost use Rattle.hir_collector_rules.specs.CallMoves.{ComesToRest, IsReady, NoneWaitsBefore, TriesCall, TriesCalls};
+ghost use Rattle.hir_macro_rounds.specs.Turns.{CountsOn, IsDueOf, StaysBehind, TakesTurn};
+ghost use Rattle.hir_collector_rules.specs.Calls.{AreCallsPlaced, LeadsNowhere, call_site, waiting_item};
+ghost use Rattle.hir_collector_rules.specs.declared.macro_directive.MacroDirective.{MacroDirective};
+ghost use Rattle.hir_collector_rules.specs.declared.macro_directive.WaitingItem.{WaitingItem};
+ghost use Rattle.hir_collector_rules.specs.Derivation.{IsSpent};
+ghost use Rattle.hir_collector_rules.specs.Keys.{Environment, IsMeant, environment};
+ghost use Rattle.hir_collector_rules.specs.Moves.{OnceGrown};
+ghost use Rattle.hir_collector_rules.specs.UnknownSources.{LeadsToUnknownSource, ReachesUnknownSource};
+ghost use Rattle.hir_collector_rules.specs.State.{Run, at_rest, core_in, import_state};
+ghost use Rattle.hir_collector_rules.specs.Steps.{CallsMacro, IsDue, Steps};
+ghost use Rattle.hir_collector_imports.specs.Waiting.{IsBehind, IsBetweenPasses, IsGathered, IsStale, IsUpToDate, KeepsApart, LiesApart, item_of};
+ghost use Rattle.hir_collector_state.specs.Waiting.{IsNotedBeside, NotesSlots};
+
+use crate::resume::{give_up, skip};
+use either::Either;
+use hir_base::ast_id::AstId;
+use hir_base::macro_kind::MacroId;
+use hir_call_expansion::expansion::{Expansion, call_site, is_meant, look_at_call, report_failed};
+use hir_call_queue::{CallQueue, Changed};
+use hir_collector_derives::derives::{
+    bring_helpers, builtin_impl, derive_builtin, drop_call, drop_reached,
+};
+use hir_collector_imports::settling;
+use hir_collector_rules::macro_directive::{Fate, MacroDirective};
+use hir_collector_rules::source_database::SourceDatabase;
+use hir_collector_rules::start::{CollectError, STEP_LIMIT, StepError};
+use hir_collector_state::def_collector::DefCollector;
+use hir_def_map::world::part::WorldPart;
+use hir_import_resolution::ImportQueue;
+use hir_mod_collector::mod_collector::walk_all;
+use hir_tables::Tables;
+use std::alloc::AllocError;
+
+/// How many rounds may make progress. One more ends a run.
+pub const ROUND_LIMIT: u32 = 8192;
+
+/// Expands what waits at the place, which reaches a macro whose source has a number: notes the call in its module, and handles
+/// the items of its expansion, with all that is in them.
+fn expand_known<D: SourceDatabase>(
+    run: &mut DefCollector,
+    db: &mut D,
+    world: WorldPart<'_>,
+    locations: &mut Tables,
+    i: usize,
+    call: &MacroDirective,
+    makro: MacroId,
+) -> Result<(), StepError>
+    requires ready { IsReady locations.old (part_of world) (core_in run.old) }
+    requires called { CallsMacro (part_of world) (at_rest (core_in run.old)) i call.now makro }
+    requires shallow { call.now.site.level < (core_in run.old).map.crate_data.recursion_limit }
+    requires below { call.now.site.level < 4294967295 }
+    requires known { IsMeant locations.old makro }
+    ensures kept { KeepsTables locations.old locations.new }
+    ensures same { D.workspace db.new ≡ D.workspace db.old }
+    ensures placed { AreCallsPlaced locations.old → AreCallsPlaced locations.new }
+    ensures ok { OnOk result (OnceGrown locations.new (D.workspace db.old) (λ env. Steps env (part_of world.entry) (at_rest (core_in run.old)) (at_rest (core_in run.new)))) }
+    ensures noted { OnOk result (IsNotedBeside (part_of world.entry) run.old run.new) }
+    ensures handled { OnOk result (slice_get (core_in run.new).fates i ≡ Some Fate.Handled) }
+    ensures many { result ≡ Err StepError.TooMany → OnceGrown locations.new (D.workspace db.old) (λ env. IsSpent env (part_of world.entry) (at_rest (core_in run.old))) }
+{
+    let Expansion { id, error, source } = look_at_call(run, db, world, locations, call, makro)?;
+    let site = call_site(call, id)?;
+    run.end_call(i, Fate::Handled);
+    run.note_call(call, id)?;
+    bring_helpers(run, world, call, makro, Some(Either::Left(id)))?;
+    report_failed(run, call, error)?;
+    run.tick()?;
+    let ids = source.tree().top_level_items();
+    walk_all(run, db, world, locations, &source, &site, ids)?;
+    Ok(())
+}
+
+/// Expands what waits at the place, which reaches a macro, unless the source that writes the macro has no number.
+fn expand<D: SourceDatabase>(
+    run: &mut DefCollector,
+    db: &mut D,
+    world: WorldPart<'_>,
+    locations: &mut Tables,
+    i: usize,
+    call: &MacroDirective,
+    makro: MacroId,
+) -> Result<(), CollectError>
+    requires ready { IsReady locations.old (part_of world) (core_in run.old) }
+    requires called { CallsMacro (part_of world) (at_rest (core_in run.old)) i call.now makro }
+    requires shallow { call.now.site.level < (core_in run.old).map.crate_data.recursion_limit }
+    requires below { call.now.site.level < 4294967295 }
+    ensures kept { KeepsTables locations.old locations.new }
+    ensures same { D.workspace db.new ≡ D.workspace db.old }
+    ensures placed { AreCallsPlaced locations.old → AreCallsPlaced locations.new }
+    ensures ok { OnOk result (OnceGrown locations.new (D.workspace db.old) (λ env. Steps env (part_of world.entry) (at_rest (core_in run.old)) (at_rest (core_in run.new)))) }
+    ensures noted { OnOk result (IsNotedBeside (part_of world.entry) run.old run.new) }
+    ensures handled { OnOk result (slice_get (core_in run.new).fates i ≡ Some Fate.Handled) }
+    ensures many { result ≡ Err CollectError.TooMany → OnceGrown locations.new (D.workspace db.old) (λ env. IsSpent env (part_of world.entry) (at_rest (core_in run.old))) }
+    ensures unknown { result ≡ Err CollectError.UnknownSource → ReachesUnknownSource locations.new (part_of world.entry) (at_rest (core_in run.old)) }
+{
+    if !is_meant(locations, makro) {
+        return Err(CollectError::UnknownSource);
+    }
+    expand_known(run, db, world, locations, i, call, makro)?;
+    Ok(())
+}
+
+/// What is to be done about what waits.
+#[derive(Clone, Copy)]
+enum Due {
+    Nothing,
+    /// It is a call, and deeper than calls may be.
+    TooDeep,
+    /// It is an attribute for which nothing is looked up.
+    Skips,
+    /// It is a path of a derive, and reaches a builtin macro.
+    Derives(MacroId),
+    /// It reaches a macro, is no call, and is deeper than calls may be.
+    Drops(MacroId),
+    /// It reaches a macro.
+    Reaches(MacroId),
+}
+
+/// What is to be done about what reaches a builtin macro that has no expansion.
+fn due_of_builtin(call: &MacroDirective, makro: MacroId) -> Due
+    ensures derives { waiting_item call.now ≡ None → result ≡ Due.Derives makro }
+    ensures skips { (k : WaitingItem) → waiting_item call.now ≡ Some k → result ≡ Due.Skips }
+{
+    if call.waiting_item().is_some() {
+        Due::Skips
+    } else {
+        Due::Derives(makro)
+    }
+}
+
+/// What is to be done about what waits.
+fn due_of(run: &DefCollector, world: WorldPart<'_>, call: &MacroDirective) -> Due
+    ensures value { IsDueOf (part_of world.entry) (core_in run.now) call.now result }
+    ensures below { (makro : MacroId) → result ≡ Due.Reaches makro → call.now.site.level < 4294967295 }
+{
+    if call.is_call() && run.is_too_deep(call) {
+        return Due::TooDeep;
+    }
+    if run.is_inert_now(call) {
+        return Due::Skips;
+    }
+    let Some(makro) = run.called_macro(world, call) else {
+        return Due::Nothing;
+    };
+    if !call.has_expansion(makro) {
+        return due_of_builtin(call, makro);
+    }
+    if run.is_too_deep(call) {
+        return Due::Drops(makro);
+    }
+    Due::Reaches(makro)
+}
+
+/// Does what is to be done about what waits at the place.
+fn do_due<D: SourceDatabase>(
+    run: &mut DefCollector,
+    db: &mut D,
+    world: WorldPart<'_>,
+    locations: &mut Tables,
+    i: usize,
+    call: &MacroDirective,
+    due: Due,
+) -> Result<bool, CollectError>
+    requires ready { IsReady locations.old (part_of world) (core_in run.old) }
+    requires waits { IsDue (at_rest (core_in run.old)) i call.now }
+    requires due { IsDueOf (part_of world) (core_in run.old) call.now due }
+    requires below { (makro : MacroId) → due ≡ Due.Reaches makro → call.now.site.level < 4294967295 }
+    ensures kept { KeepsTables locations.old locations.new }
+    ensures same { D.workspace db.new ≡ D.workspace db.old }
+    ensures placed { AreCallsPlaced locations.old → AreCallsPlaced locations.new }
+    ensures ok { OnOk result (OnceGrown locations.new (D.workspace db.old) (λ env. Steps env (part_of world.entry) (at_rest (core_in run.old)) (at_rest (core_in run.new)))) }
+    ensures tried { IfOk result (λ done. TriesCall (part_of world.entry) (core_in run.old) (core_in run.new) i done) }
+    ensures noted { OnOk result (IsNotedBeside (part_of world.entry) run.old run.new) }
+    ensures many { result ≡ Err CollectError.TooMany → OnceGrown locations.new (D.workspace db.old) (λ env. IsSpent env (part_of world.entry) (at_rest (core_in run.old))) }
+    ensures unknown { result ≡ Err CollectError.UnknownSource → LeadsToUnknownSource (environment locations.new (D.workspace db.old)) (part_of world.entry) (at_rest (core_in run.old)) }
+{
+    match due {
+        Due::Nothing => return Ok(false),
+        Due::TooDeep => drop_call(run, i)?,
+        Due::Skips => {
+            let Some(item) = call.waiting_item() else {
+                return Ok(false);
+            };
+            skip(run, db, world, locations, i, call, item)?;
+        }
+        Due::Derives(makro) => {
+            let Some(imp) = builtin_impl(call, makro) else {
+                return Ok(false);
+            };
+            derive_builtin(run, world, i, call, makro, imp)?;
+        }
+        Due::Drops(makro) => drop_reached(run, world, i, call, makro)?,
+        Due::Reaches(makro) => expand(run, db, world, locations, i, call, makro)?,
+    }
+    Ok(true)
+}
+
+/// Tries what waits at the place, if something does: whether it was handled.
+fn try_call<D: SourceDatabase>(
+    run: &mut DefCollector,
+    db: &mut D,
+    world: WorldPart<'_>,
+    locations: &mut Tables,
+    i: usize,
+) -> Result<bool, CollectError>
+    requires ready { IsReady locations.old (part_of world) (core_in run.old) }
+    requires settled { i < (core_in run.old).settled }
+    ensures kept { KeepsTables locations.old locations.new }
+    ensures same { D.workspace db.new ≡ D.workspace db.old }
+    ensures placed { AreCallsPlaced locations.old → AreCallsPlaced locations.new }
+    ensures ok { OnOk result (OnceGrown locations.new (D.workspace db.old) (λ env. Steps env (part_of world.entry) (at_rest (core_in run.old)) (at_rest (core_in run.new)))) }
+    ensures noted { OnOk result (IsNotedBeside (part_of world.entry) run.old run.new) }
+    ensures tried { IfOk result (λ done. TriesCall (part_of world.entry) (core_in run.old) (core_in run.new) i done) }
+    ensures many { result ≡ Err CollectError.TooMany → OnceGrown locations.new (D.workspace db.old) (λ env. IsSpent env (part_of world.entry) (at_rest (core_in run.old))) }
+    ensures unknown { result ≡ Err CollectError.UnknownSource → LeadsToUnknownSource (environment locations.new (D.workspace db.old)) (part_of world.entry) (at_rest (core_in run.old)) }
+{
+    let Some(call) = run.waiting(i) else {
+        return Ok(false);
+    };
+    let due = due_of(run, world, call);
+    if let Due::Nothing = due {
+        return Ok(false);
+    }
+    let call = call.clone()?;
+    do_due(run, db, world, locations, i, &call, due)
+}
+
+/// The item that an attribute stands on, where that is what waits.
+fn item_of(call: &MacroDirective) -> Option<AstId>
+    ensures value { result ≡ item_of call.now }
+{
+    match call.waiting_item() {
+        Some(_) => Some(call.ast_id),
+        None => None,
+    }
+}
+
+/// Has the call at the place, if it waits, watch the slots that its path reads, an attribute besides the item that it stands
+/// on.
+fn watch(
+    run: &DefCollector,
+    world: WorldPart<'_>,
+    queue: &mut CallQueue,
+    i: usize,
+) -> Result<(), AllocError>
+    requires apart { LiesApart (part_of world) queue.old (core_in run.now) }
+    requires low { (d : MacroDirective) → slice_get (core_in run.now).calls i ≡ Some d → d.site.home < length (core_in run.now).map.modules }
+    requires in_order { IsInOrder (core_in run.now).map }
+    requires up_to_date { IsUpToDate (part_of world) queue.old (core_in run.now) (Some i) }
+    requires nowhere { LeadsNowhere (part_of world) (at_rest (core_in run.now)) i }
+    ensures up_to_date { OnOk result (IsUpToDate (part_of world.entry) queue.new (core_in run.now) None) }
+    ensures stays { OnOk result (GoesOn queue.old queue.new) }
+{
+    let Some(call) = run.waiting(i) else {
+        return Ok(());
+    };
+    let slots = run.call_slots(world, call);
+    queue.watch(i, slots, run.map().module_count(), item_of(call))?;
+    Ok(())
+}
+
+/// Queues the calls that have read what has changed, which is forgotten then.
+fn wake(run: &mut DefCollector, queue: &mut CallQueue) -> Result<(), AllocError>
+    ensures woken { OnOk result (IsWoken run.old.changed queue.old queue.new) }
+    ensures same { core_in run.new ≡ core_in run.old }
+    ensures globs { run.new.globs ≡ run.old.globs }
+    ensures none { OnOk result (run.new.changed ≡ nothing) }
+{
+    queue.wake(run.changed())?;
+    run.forget_changes();
+    Ok(())
+}
+
+/// Tries the call at the place, which was taken off the queue: whether it was handled. Where it was, what has read what
+/// has changed by that is queued, and what has changed is gathered in `grown`; where it wasn't, it watches what it has read.
+fn try_queued<D: SourceDatabase>(
+    run: &mut DefCollector,
+    db: &mut D,
+    world: WorldPart<'_>,
+    locations: &mut Tables,
+    queue: &mut CallQueue,
+    grown: &mut Changed,
+    i: usize,
+) -> Result<bool, CollectError>
+    requires ready { IsReady locations.old (part_of world) (core_in run.old) }
+    requires settled { i < (core_in run.old).settled }
+    requires apart { LiesApart (part_of world) queue.old (core_in run.old) }
+    requires up_to_date { IsUpToDate (part_of world) queue.old (core_in run.old) (Some i) }
+    ensures kept { KeepsTables locations.old locations.new }
+    ensures same { D.workspace db.new ≡ D.workspace db.old }
+    ensures placed { AreCallsPlaced locations.old → AreCallsPlaced locations.new }
+    ensures ok { OnOk result (OnceGrown locations.new (D.workspace db.old) (λ env. Steps env (part_of world.entry) (at_rest (core_in run.old)) (at_rest (core_in run.new)))) }
+    ensures tried { IfOk result (λ done. TriesCall (part_of world.entry) (core_in run.old) (core_in run.new) i done) }
+    ensures up_to_date { OnOk result (IsUpToDate (part_of world.entry) queue.new (core_in run.new) None) }
+    ensures stays { OnOk result (GoesOn queue.old queue.new) }
+    ensures gathered { OnOk result (IsGathered (part_of world.entry) grown.old run.old grown.new run.new) }
+    ensures many { result ≡ Err CollectError.TooMany → OnceGrown locations.new (D.workspace db.old) (λ env. IsSpent env (part_of world.entry) (at_rest (core_in run.old))) }
+    ensures unknown { result ≡ Err CollectError.UnknownSource → LeadsToUnknownSource (environment locations.new (D.workspace db.old)) (part_of world.entry) (at_rest (core_in run.old)) }
+{
+    let done = try_call(run, db, world, locations, i)?;
+    if !done {
+        watch(run, world, queue, i)?;
+        return Ok(false);
+    }
+    grown.append(run.changed())?;
+    wake(run, queue)?;
+    Ok(true)
+}
+
+/// Whether one of two holds.
+fn either(first: bool, second: bool) -> bool
+    ensures value { result ≡ cond first true second }
+{
+    first || second
+}
+
+/// Tries each call that is queued, one after another: whether one was handled. A call sees what those before it have
+/// expanded to; those that are come upon meanwhile wait for the next round. A call that isn't queued would be tried in
+/// vain. What has changed is gathered in `grown`.
+fn try_calls<D: SourceDatabase>(
+    run: &mut DefCollector,
+    db: &mut D,
+    world: WorldPart<'_>,
+    locations: &mut Tables,
+    queue: &mut CallQueue,
+    grown: &mut Changed,
+) -> Result<bool, CollectError>
+    requires ready { IsReady locations.old (part_of world) (core_in run.old) }
+    requires settled { (core_in run.old).settled ≡ length (core_in run.old).calls }
+    requires apart { LiesApart (part_of world) queue.old (core_in run.old) }
+    requires up_to_date { IsUpToDate (part_of world) queue.old (core_in run.old) None }
+    requires between { IsBetweenPasses queue.old }
+    requires all { count_of (worklist_of queue.old) ≡ length (core_in run.old).calls }
+    ensures kept { KeepsTables locations.old locations.new }
+    ensures same { D.workspace db.new ≡ D.workspace db.old }
+    ensures placed { AreCallsPlaced locations.old → AreCallsPlaced locations.new }
+    ensures ok { OnOk result (OnceGrown locations.new (D.workspace db.old) (λ env. Steps env (part_of world.entry) (at_rest (core_in run.old)) (at_rest (core_in run.new)))) }
+    ensures tried { IfOk result (λ progress. OnceGrown locations.new (D.workspace db.old) (λ env. TriesCalls env (part_of world.entry) (core_in run.old) (core_in run.new) progress)) }
+    ensures up_to_date { OnOk result (IsUpToDate (part_of world.entry) queue.new (core_in run.new) None) }
+    ensures between { OnOk result (IsBetweenPasses queue.new) }
+    ensures queue { OnOk result (is_apart queue.new ≡ is_apart queue.old) }
+    ensures gathered { OnOk result (IsGathered (part_of world.entry) grown.old run.old grown.new run.new) }
+    ensures many { result ≡ Err CollectError.TooMany → OnceGrown locations.new (D.workspace db.old) (λ env. IsSpent env (part_of world.entry) (at_rest (core_in run.old))) }
+    ensures unknown { result ≡ Err CollectError.UnknownSource → LeadsToUnknownSource (environment locations.new (D.workspace db.old)) (part_of world.entry) (at_rest (core_in run.old)) }
+{
+    let mut progress = false;
+    queue.open();
+    'tries: while let Some(i) = queue.take() {
+        let done = try_queued(run, db, world, locations, queue, grown, i)?;
+        progress = either(done, progress);
+    }
+    Ok(progress)
+}
+
+/// Takes imports until no more comes of them: of those that rested only such as have read one of the slots that have changed
+/// since, `grown`, unless all slots count as changed. Then those calls may be expanded that there are.
+fn settle(
+    run: DefCollector,
+    world: WorldPart<'_>,
+    apart: bool,
+    imports: ImportQueue,
+    grown: &Changed,
+) -> Result<(DefCollector, ImportQueue), StepError>
+    requires apart { apart ≡ true → KeepsApart (part_of world) (core_in run) }
+    requires imports { (i : ℕ) (r : ImportDirective) → slice_get (core_in run).reached i ≡ Some r → r.home < length (core_in run).map.modules }
+    requires in_order { IsInOrder (core_in run).map }
+    requires sound { IsSound (part_of world) (import_state (at_rest (core_in run))) }
+    requires queue { is_lasting imports ≡ true → are_apart imports ≡ apart }
+    requires resumable { is_lasting imports ≡ true → grown.now.all ≡ false → IsResumable (part_of world) imports (import_state (at_rest (core_in run))) grown.now.slots }
+    requires globs { is_lasting imports ≡ true → grown.now.all ≡ false → GlobsLast (part_of world) (import_state (at_rest (core_in run))) run.globs }
+    ensures ok { IfOk result (λ r. (env : Environment) → Steps env (part_of world.entry) (at_rest (core_in run)) (at_rest (core_in r.0))) }
+    ensures rests { IfOk result (λ r. IsAtRest (part_of world.entry) (import_state (at_rest (core_in r.0)))) }
+    ensures settled { IfOk result (λ r. (core_in r.0).settled ≡ length (core_in r.0).calls) }
+    ensures counts { IfOk result (λ r. (core_in run).count ≤ (core_in r.0).count) }
+    ensures noted { IfOk result (λ r. NotesSlots run r.0) }
+    ensures queue { IfOk result (λ r. are_apart r.1 ≡ apart) }
+    // nothing has changed since, and it doesn't matter what is noted
+    ensures behind { IfOk result (λ r. length (core_in r.0).taken ≡ length (core_in r.0).reached → (changed : ChangedValue) (now : Run) → core_in now ≡ core_in r.0 → IsBehind (part_of world.entry) r.1 changed now) }
+    ensures many { result ≡ Err StepError.TooMany → (env : Environment) → IsSpent env (part_of world.entry) (at_rest (core_in run)) }
+{
+    let (mut run, imports) = settling::settle(run, world, apart, imports, grown)?;
+    run.rest()?;
+    Ok((run, imports))
+}
+
+/// Queues the calls that have read what has changed, and those that came besides.
+fn requeue(
+    run: &mut DefCollector,
+    world: WorldPart<'_>,
+    queue: &mut CallQueue,
+) -> Result<(), AllocError>
+    requires apart { LiesApart (part_of world) queue.old (core_in run.old) }
+    requires stale { IsStale (part_of world) queue.old run.old }
+    requires between { IsBetweenPasses queue.old }
+    requires settled { (core_in run.old).settled ≡ length (core_in run.old).calls }
+    ensures same { core_in run.new ≡ core_in run.old }
+    ensures up_to_date { OnOk result (IsUpToDate (part_of world.entry) queue.new (core_in run.new) None) }
+    ensures between { OnOk result (IsBetweenPasses queue.new) }
+    ensures all { OnOk result (count_of (worklist_of queue.new) ≡ length (core_in run.new).calls) }
+    ensures queue { OnOk result (is_apart queue.new ≡ is_apart queue.old) }
+{
+    wake(run, queue)?;
+    queue.append(run.settled())?;
+    Ok(())
+}
+
+/// What a turn came to.
+#[derive(Clone, Copy)]
+enum Turn {
+    /// Something that waited was handled.
+    Round,
+    /// Nothing that waits reached anything, and the first attribute that waits was given up, at the place before this.
+    GaveUp(usize),
+    /// Nothing that waits reached anything, and no attribute waits.
+    Rests,
+}
+
+/// Tries what waits, where imports rest; where nothing is handled, gives up the first attribute that waits. What has changed
+/// by that is gathered in `grown`, or noted.
+fn take_waiting<D: SourceDatabase>(
+    run: &mut DefCollector,
+    db: &mut D,
+    world: WorldPart<'_>,
+    locations: &mut Tables,
+    queue: &mut CallQueue,
+    grown: &mut Changed,
+    first: usize,
+) -> Result<Turn, CollectError>
+    requires apart { LiesApart (part_of world) queue.old (core_in run.old) }
+    requires stale { IsStale (part_of world) queue.old run.old }
+    requires between { IsBetweenPasses queue.old }
+    requires settled { (core_in run.old).settled ≡ length (core_in run.old).calls }
+    requires rests { IsAtRest (part_of world) (import_state (at_rest (core_in run.old))) }
+    requires ready { IsReady locations.old (part_of world) (core_in run.old) }
+    requires first { NoneWaitsBefore (core_in run.old) first }
+    ensures kept { KeepsTables locations.old locations.new }
+    ensures same { D.workspace db.new ≡ D.workspace db.old }
+    ensures placed { AreCallsPlaced locations.old → AreCallsPlaced locations.new }
+    ensures ok { OnOk result (OnceGrown locations.new (D.workspace db.old) (λ env. Steps env (part_of world.entry) (at_rest (core_in run.old)) (at_rest (core_in run.new)))) }
+    ensures queue { OnOk result (is_apart queue.new ≡ is_apart queue.old) }
+    ensures stale { OnOk result (IsStale (part_of world.entry) queue.new run.new) }
+    ensures between { OnOk result (IsBetweenPasses queue.new) }
+    ensures behind { OnOk result (StaysBehind (part_of world.entry) (core_in run.old) grown.new run.new) }
+    ensures counts { IfOk result (λ turn. CountsOn (core_in run.old) (core_in run.new) turn) }
+    ensures turned { IfOk result (λ turn. OnceGrown locations.new (D.workspace db.old) (λ env. TakesTurn env (part_of world.entry) (core_in run.old) (core_in run.new) first turn)) }
+    ensures many { result ≡ Err CollectError.TooMany → OnceGrown locations.new (D.workspace db.old) (λ env. IsSpent env (part_of world.entry) (at_rest (core_in run.old))) }
+    ensures unknown { result ≡ Err CollectError.UnknownSource → LeadsToUnknownSource (environment locations.new (D.workspace db.old)) (part_of world.entry) (at_rest (core_in run.old)) }
+{
+    requeue(run, world, queue)?;
+    if try_calls(run, db, world, locations, queue, grown)? {
+        return Ok(Turn::Round);
+    }
+    let given = give_up(run, db, world, locations, first)?;
+    match given {
+        Some(next) => Ok(Turn::GaveUp(next)),
+        None => Ok(Turn::Rests),
+    }
+}
+
+/// Takes imports until no more comes of them, and tries what waits; where nothing is handled, gives up the first
+/// attribute that waits. What has changed since imports rested last is gathered in `grown`.
+fn take_turn<D: SourceDatabase>(
+    run: DefCollector,
+    db: &mut D,
+    world: WorldPart<'_>,
+    locations: &mut Tables,
+    queue: &mut CallQueue,
+    imports: ImportQueue,
+    grown: &mut Changed,
+    apart: bool,
+    first: usize,
+) -> Result<(DefCollector, ImportQueue, Turn), CollectError>
+    requires apart { apart ≡ true → KeepsApart (part_of world) (core_in run) }
+    requires queue { is_apart queue.old ≡ apart }
+    requires stale { IsStale (part_of world) queue.old run }
+    requires between { IsBetweenPasses queue.old }
+    requires imports { is_lasting imports ≡ true → are_apart imports ≡ apart }
+    requires behind { IsBehind (part_of world) imports (joined grown.old run.changed) run }
+    requires ready { IsReady locations.old (part_of world) (core_in run) }
+    requires first { NoneWaitsBefore (core_in run) first }
+    ensures kept { KeepsTables locations.old locations.new }
+    ensures same { D.workspace db.new ≡ D.workspace db.old }
+    ensures placed { AreCallsPlaced locations.old → AreCallsPlaced locations.new }
+    ensures ok { IfOk result (λ r. OnceGrown locations.new (D.workspace db.old) (λ env. Steps env (part_of world.entry) (at_rest (core_in run)) (at_rest (core_in r.0)))) }
+    ensures queue { OnOk result (is_apart queue.new ≡ is_apart queue.old) }
+    ensures stale { IfOk result (λ r. IsStale (part_of world.entry) queue.new r.0) }
+    ensures between { OnOk result (IsBetweenPasses queue.new) }
+    ensures imports { IfOk result (λ r. are_apart r.1 ≡ apart) }
+    ensures behind { IfOk result (λ r. IsBehind (part_of world.entry) r.1 (joined grown.new r.0.changed) r.0) }
+    ensures counts { IfOk result (λ r. CountsOn (core_in run) (core_in r.0) r.2) }
+    ensures turned { IfOk result (λ r. OnceGrown locations.new (D.workspace db.old) (λ env. TakesTurn env (part_of world.entry) (core_in run) (core_in r.0) first r.2)) }
+    ensures many { result ≡ Err CollectError.TooMany → OnceGrown locations.new (D.workspace db.old) (λ env. IsSpent env (part_of world.entry) (at_rest (core_in run))) }
+    ensures unknown { result ≡ Err CollectError.UnknownSource → LeadsToUnknownSource (environment locations.new (D.workspace db.old)) (part_of world.entry) (at_rest (core_in run)) }
+{
+    grown.append(run.changed())?;
+    let (mut run, imports) = settle(run, world, apart, imports, grown)?;
+    grown.clear();
+    let turn = take_waiting(&mut run, db, world, locations, queue, grown, first)?;
+    Ok((run, imports, turn))
+}
+
+/// Takes imports, expands calls, derives and attributes, round by round, until no more comes of them, and whether rounds
+/// were cut off.
+///
+/// A round tries each call, path of a derive and attribute that waits once imports rest, those aside that would be tried in
+/// vain. Imports that rested are taken up again where they have read something that has changed since. Where nothing that
+/// waits reaches anything, the first attribute that waits is given up, which isn't counted as a round. More rounds than
+/// `ROUND_LIMIT` end the run, with imports and calls that would go on; names go along globs all the same.
+pub fn resolve_rounds<D: SourceDatabase>(
+    run: DefCollector,
+    db: &mut D,
+    world: WorldPart<'_>,
+    locations: &mut Tables,
+    apart: bool,
+) -> Result<(DefCollector, bool), CollectError>
+    requires apart { apart ≡ true → KeepsApart (part_of world) (core_in run) }
+    requires ready { IsReady locations.old (part_of world) (core_in run) }
+    ensures kept { KeepsTables locations.old locations.new }
+    ensures same { D.workspace db.new ≡ D.workspace db.old }
+    ensures placed { AreCallsPlaced locations.old → AreCallsPlaced locations.new }
+    ensures ok { IfOk result (λ r. OnceGrown locations.new (D.workspace db.old) (λ env. Steps env (part_of world.entry) (at_rest (core_in run)) (at_rest (core_in r.0)))) }
+    ensures rests { IfOk result (λ r. OnceGrown locations.new (D.workspace db.old) (λ env. ComesToRest env (part_of world.entry) (core_in run) (core_in r.0) r.1)) }
+    ensures many { result ≡ Err CollectError.TooMany → OnceGrown locations.new (D.workspace db.old) (λ env. IsSpent env (part_of world.entry) (at_rest (core_in run))) }
+    ensures unknown { result ≡ Err CollectError.UnknownSource → LeadsToUnknownSource (environment locations.new (D.workspace db.old)) (part_of world.entry) (at_rest (core_in run)) }
+{
+    let mut run = run;
+    let alloc = run.allocator();
+    let mut queue = CallQueue::new(alloc, apart);
+    let mut imports = ImportQueue::none(alloc);
+    let mut grown = Changed::everything(alloc);
+    let mut rounds: u32 = 0;
+    let mut first: usize = 0;
+    'rounds: while rounds <= ROUND_LIMIT {
+        let (next, rested, turn) = take_turn(
+            run, db, world, locations, &mut queue, imports, &mut grown, apart, first,
+        )?;
+        run = next;
+        imports = rested;
+        let is_counted = run.count() <= STEP_LIMIT;
+        prove!(is_counted);
+        match turn {
+            Turn::Round => rounds += 1,
+            Turn::GaveUp(behind) => first = behind,
+            Turn::Rests => return Ok((run, false)),
+        }
+    }
+    let run = settling::spread(run, world)?;
+    Ok((run, true))
+}

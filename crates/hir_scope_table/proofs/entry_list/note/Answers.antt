@@ -1,0 +1,28 @@
+use Rattle.std.proofs.Common.{◌∙◌, ap, not, sym, refl}
+use Rattle.std.specs.List.{insert}
+use Rattle.hir_scope_table.specs.Inner.Kept.{marked}
+use Rattle.hir_scope_table.proofs.Edits.{entered_by_place, filled_by_place, new_by_place, told_by_place}
+use Rattle.hir_scope_table.proofs.entry_list.note.Goals as goal
+
+pub returns-then-place-clause-ok : goal.returns-then-place-clause-ok
+returns-then-place-clause-ok g c =
+    filled_by_place c.args.entries.now.items c.requires.kept c.args.name c.place_of-place.result.at c.place_of-place.result.found
+    c.place_of-place.ensures.belongs
+    c.if-place.true marked c.mark_at.new.entries.items c.mark_at.ensures.value
+
+pub returns-then-place-clause-changed : goal.returns-then-place-clause-changed
+returns-then-place-clause-changed g c =
+    told_by_place c.args.entries.now.items c.requires.kept c.args.name c.place_of-place.result.at c.place_of-place.result.found c.place_of-place.ensures.belongs
+    (λ s. not s.unresolved) c.mark_at.result c.if-place.true c.mark_at.ensures.changed
+
+pub returns-in_ok-insert_at-clause-ok : goal.returns-in_ok-insert_at-clause-ok
+returns-in_ok-insert_at-clause-ok g c =
+    entered_by_place c.args.entries.now.items c.requires.kept c.args.name c.place_of-place.result.at c.place_of-place.result.found
+    c.place_of-place.ensures.belongs
+    c.if-place.false marked c.insert_at.new.entries.items
+    (c.in_ok-insert_at.ensures.ok ∙ ap (insert c.args.entries.now.items c.place_of-place.result.at) c.in_ok-entry.ensures.ok)
+
+pub returns-in_ok-insert_at-clause-changed : goal.returns-in_ok-insert_at-clause-changed
+returns-in_ok-insert_at-clause-changed g c =
+    sym (ap (λ s. not s.unresolved) (new_by_place c.args.entries.now.items c.requires.kept c.args.name c.place_of-place.result.at c.place_of-place.result.found
+    c.place_of-place.ensures.belongs c.if-place.false))

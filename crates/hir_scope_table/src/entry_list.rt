@@ -1,0 +1,427 @@
+//! The names of a scope with what they stand for: one list of entries in the order of names.
+ghost use Rattle.std.specs.Prelude.{◌≡◌, ◌<◌, ◌≤◌, [], ℕ, List, Option, Some, None, is_some, ◌||◌, not, true, false, cond, length, slice_get, slice_set, IfOk, IfSome, OnOk, OnErr, map, option_map};
+ghost use Rattle.std.specs.BTreeMap.{is_at, insert_entry};
+ghost use Rattle.std.specs.BTreeSet.{insert_key};
+ghost use Rattle.std.specs.List.{list_any, insert, remove};
+ghost use Rattle.std.specs.List.Sorted.{IsStrictlySortedBy};
+ghost use Rattle.std.specs.Map.{keys_of, set_value, remove_entry};
+ghost use Rattle.std.specs.Ordering.{nat_cmp};
+ghost use Rattle.std.specs.Cmp.Lexicographic.{slice_cmp};
+ghost use Rattle.hir_scope_table.specs.Entries.{any_value, item_at, with_some_entry};
+ghost use Rattle.hir_scope_table.specs.Probe.{binary_digits, position_of};
+ghost use Rattle.hir_scope_table.specs.Slots.{Slots, NamedSlots, is_vacant, named, slot_found, entry_found, types_in, values_in, macros_in, unresolved_in};
+ghost use Rattle.hir_scope_table.specs.Inner.Kept.{unboxed, over, marked, no_slots, revised_entry, slots_at, with_type, with_value, with_macro, edited, without_value, without_value_of};
+ghost use Rattle.hir_scope_table.specs.Inner.Place.{BelongsAt, IsKept};
+
+use crate::entry::{Entry, Filling, Revise};
+use crate::probe::{Probe, place_of};
+use hir_base::name::Name;
+use std::alloc::{AllocError, Global};
+use std::marker::Model;
+
+/// Names with what they stand for in each namespace, and the names that are unresolved.
+///
+/// The entries stand in the order of their names, each name once, and each entry says something of its name. A look-up
+/// halves the list, and one place moves what stands behind it, which is one pointer for each name.
+#[derive(Drop)]
+pub struct EntryList<T, V, M> {
+    entries: Vec<Entry<T, V, M>>,
+    alloc: Global,
+}
+
+impl<T, V, M> Model for EntryList<T, V, M> {
+    ghost use Rattle.hir_scope_table.specs.Slots.{NamedSlots};
+
+    ghost Value = { NamedSlots T V M };
+
+    ghost use Rattle.hir_scope_table.specs.Inner.Place.{BelongsAt, IsKept};
+
+    ghost view = { λ l. l.entries.items };
+
+    ghost invariant = { λ l. IsKept l.entries.items };
+}
+
+impl<T, V, M> EntryList<T, V, M> {
+    /// No names.
+    pub fn new(alloc: Global) -> EntryList<T, V, M>
+        ensures value { result ≡ [] }
+    {
+        EntryList {
+            entries: Vec::new(alloc),
+            alloc,
+        }
+    }
+
+    /// The entries, in the order of names.
+    pub fn as_slice(&self) -> &[Entry<T, V, M>]
+        ensures value { result.now ≡ self.now }
+    {
+        self.entries.as_slice()
+    }
+
+    // The names ascend, and each entry says something of its name.
+    pub fn is_kept(&self)
+        ensures ascends { IsStrictlySortedBy (slice_cmp nat_cmp) (keys_of self.now) }
+        ensures says { any_value is_vacant self.now ≡ false }
+    {
+        let _ = &self.entries;
+    }
+
+    /// The position of a name, if it has an entry, and how many names it was compared with.
+    pub fn find(&self, name: &Name) -> (Option<usize>, Probe)
+        ensures position { result.0 ≡ position_of (slice_cmp nat_cmp) (keys_of self.now) name.now }
+        ensures count { result.1 ≤ binary_digits (length self.now) }
+    {
+        let place = place_of(&self.entries, name);
+        let probe = place.probe;
+        let at = position(&self.entries, name, place.at, place.found);
+        (at, probe)
+    }
+
+    /// The entry of a name, if it has one.
+    pub fn get(&self, name: &Name) -> Option<&Entry<T, V, M>>
+        ensures types { slot_found (λ s. s.types) result ≡ item_at (types_in self.now) name.now }
+        ensures values { slot_found (λ s. s.values) result ≡ item_at (values_in self.now) name.now }
+        ensures macros { slot_found (λ s. s.macros) result ≡ item_at (macros_in self.now) name.now }
+    {
+        entry_of(&self.entries, name)
+    }
+}
+
+/// The position of a name that belongs at a place.
+fn position<T, V, M>(
+    entries: &Vec<Entry<T, V, M>>,
+    name: &Name,
+    at: usize,
+    found: bool,
+) -> Option<usize>
+    requires kept { IsKept entries.now.items }
+    requires belongs { BelongsAt (slice_cmp nat_cmp name.now) entries.now.items at found }
+    ensures value { result ≡ position_of (slice_cmp nat_cmp) (keys_of entries.now.items) name.now }
+{
+    if found { Some(at) } else { None }
+}
+
+/// The entry of a name, if it has one.
+fn entry_of<'a, T, V, M>(
+    entries: &'a Vec<Entry<T, V, M>>,
+    name: &Name,
+) -> Option<&'a Entry<T, V, M>>
+    requires kept { IsKept entries.now.items }
+    ensures value { entry_found result ≡ item_at entries.now.items name.now }
+{
+    let place = place_of(entries, name);
+    if place.found {
+        Some(&entries[place.at])
+    } else {
+        None
+    }
+}
+
+/// Whether there is an item in some namespace.
+fn is_something<T: Copy, V: Copy, M: Copy>(
+    types: Option<T>,
+    values: Option<V>,
+    macros: Option<M>,
+) -> bool
+    ensures value { result ≡ (is_some types || (is_some values || is_some macros)) }
+{
+    types.is_some() || (values.is_some() || macros.is_some())
+}
+
+fn fill_at<T: Copy, V: Copy, M: Copy>(
+    entries: &mut Vec<Entry<T, V, M>>,
+    at: usize,
+    filling: Filling<T, V, M>,
+)
+    requires there { at < length entries.old.items }
+    ensures value { (e : List ℕ × Slots T V M) → slice_get entries.old.items at ≡ Some e
+        → entries.new.items ≡ slice_set entries.old.items at (e.0, over (unboxed filling.types) (unboxed filling.values) (unboxed filling.macros) e.1) }
+{
+    let entry = &mut entries[at];
+    entry.fill(filling);
+}
+
+fn mark_at<T: Copy, V: Copy, M: Copy>(entries: &mut Vec<Entry<T, V, M>>, at: usize) -> bool
+    requires there { at < length entries.old.items }
+    ensures value { (e : List ℕ × Slots T V M) → slice_get entries.old.items at ≡ Some e
+        → entries.new.items ≡ slice_set entries.old.items at (e.0, marked e.1) }
+    ensures changed { (e : List ℕ × Slots T V M) → slice_get entries.old.items at ≡ Some e → result ≡ not e.1.unresolved }
+{
+    let entry = &mut entries[at];
+    entry.mark()
+}
+
+fn insert_at<T: Copy, V: Copy, M: Copy>(
+    entries: &mut Vec<Entry<T, V, M>>,
+    at: usize,
+    entry: Entry<T, V, M>,
+) -> Result<(), AllocError>
+    requires within { at ≤ length entries.old.items }
+    ensures ok { OnOk result (entries.new.items ≡ insert entries.old.items at entry) }
+    ensures err { OnErr result (entries.new.items ≡ entries.old.items) }
+{
+    entries.insert(at, entry)?;
+    Ok(())
+}
+
+fn filled_entry<T: Copy, V: Copy, M: Copy>(
+    alloc: Global,
+    name: &Name,
+    filling: Filling<T, V, M>,
+) -> Result<Entry<T, V, M>, AllocError>
+    ensures ok { IfOk result (λ e. e ≡ (name.now, over (unboxed filling.types) (unboxed filling.values) (unboxed filling.macros) no_slots)) }
+{
+    Entry::new(alloc, name.clone()?, filling)
+}
+
+fn marked_entry<T: Copy, V: Copy, M: Copy>(
+    alloc: Global,
+    name: Name,
+) -> Result<Entry<T, V, M>, AllocError>
+    ensures ok { IfOk result (λ e. e ≡ (name, marked no_slots)) }
+{
+    let mut entry = Entry::new(alloc, name, Filling::none())?;
+    let _ = entry.mark();
+    Ok(entry)
+}
+
+/// Puts what is given into the slots of a name, which gets an entry if it has none.
+fn fill<T: Copy, V: Copy, M: Copy>(
+    alloc: Global,
+    entries: &mut Vec<Entry<T, V, M>>,
+    name: &Name,
+    filling: Filling<T, V, M>,
+) -> Result<(), AllocError>
+    requires kept { IsKept entries.old.items }
+    ensures ok { OnOk result (entries.new.items ≡ insert_entry (slice_cmp nat_cmp) entries.old.items name.now
+        (over (unboxed filling.types) (unboxed filling.values) (unboxed filling.macros) (slots_at entries.old.items name.now))) }
+    ensures err { OnErr result (entries.new.items ≡ entries.old.items) }
+{
+    let place = place_of(entries, name);
+    if place.found {
+        fill_at(entries, place.at, filling);
+        Ok(())
+    } else {
+        let entry = filled_entry(alloc, name, filling)?;
+        insert_at(entries, place.at, entry)
+    }
+}
+
+/// Notes that a name is unresolved, which gets an entry if it has none; says whether it wasn't.
+fn note<T: Copy, V: Copy, M: Copy>(
+    alloc: Global,
+    entries: &mut Vec<Entry<T, V, M>>,
+    name: Name,
+) -> Result<bool, AllocError>
+    requires kept { IsKept entries.old.items }
+    ensures ok { OnOk result (entries.new.items ≡ insert_entry (slice_cmp nat_cmp) entries.old.items name
+        (marked (slots_at entries.old.items name))) }
+    ensures changed { IfOk result (λ new. new ≡ not (slots_at entries.old.items name).unresolved) }
+    ensures err { OnErr result (entries.new.items ≡ entries.old.items) }
+{
+    let place = place_of(entries, &name);
+    if place.found {
+        Ok(mark_at(entries, place.at))
+    } else {
+        let entry = marked_entry(alloc, name)?;
+        insert_at(entries, place.at, entry)?;
+        Ok(true)
+    }
+}
+
+fn set_type_at<T: Copy, V: Copy, M: Copy>(entries: &mut Vec<Entry<T, V, M>>, at: usize, item: T)
+    requires there { at < length entries.old.items }
+    ensures value { (e : List ℕ × Slots T V M) → slice_get entries.old.items at ≡ Some e
+        → entries.new.items ≡ slice_set entries.old.items at (e.0, with_type item e.1) }
+{
+    let entry = &mut entries[at];
+    entry.set_type(item);
+}
+
+fn set_type_of<T: Copy, V: Copy, M: Copy>(entries: &mut Vec<Entry<T, V, M>>, name: &Name, item: T)
+    requires kept { IsKept entries.old.items }
+    ensures value { entries.new.items ≡ edited (with_type item) entries.old.items name.now (item_at entries.old.items name.now) }
+{
+    let place = place_of(entries, name);
+    if place.found {
+        set_type_at(entries, place.at, item);
+    }
+}
+
+fn set_value_at<T: Copy, V: Copy, M: Copy>(entries: &mut Vec<Entry<T, V, M>>, at: usize, item: V)
+    requires there { at < length entries.old.items }
+    ensures value { (e : List ℕ × Slots T V M) → slice_get entries.old.items at ≡ Some e
+        → entries.new.items ≡ slice_set entries.old.items at (e.0, with_value item e.1) }
+{
+    let entry = &mut entries[at];
+    entry.set_value(item);
+}
+
+fn set_value_of<T: Copy, V: Copy, M: Copy>(entries: &mut Vec<Entry<T, V, M>>, name: &Name, item: V)
+    requires kept { IsKept entries.old.items }
+    ensures value { entries.new.items ≡ edited (with_value item) entries.old.items name.now (item_at entries.old.items name.now) }
+{
+    let place = place_of(entries, name);
+    if place.found {
+        set_value_at(entries, place.at, item);
+    }
+}
+
+fn set_macro_at<T: Copy, V: Copy, M: Copy>(entries: &mut Vec<Entry<T, V, M>>, at: usize, item: M)
+    requires there { at < length entries.old.items }
+    ensures value { (e : List ℕ × Slots T V M) → slice_get entries.old.items at ≡ Some e
+        → entries.new.items ≡ slice_set entries.old.items at (e.0, with_macro item e.1) }
+{
+    let entry = &mut entries[at];
+    entry.set_macro(item);
+}
+
+fn set_macro_of<T: Copy, V: Copy, M: Copy>(entries: &mut Vec<Entry<T, V, M>>, name: &Name, item: M)
+    requires kept { IsKept entries.old.items }
+    ensures value { entries.new.items ≡ edited (with_macro item) entries.old.items name.now (item_at entries.old.items name.now) }
+{
+    let place = place_of(entries, name);
+    if place.found {
+        set_macro_at(entries, place.at, item);
+    }
+}
+
+fn remove_value_of<T: Copy, V: Copy, M: Copy>(entries: &mut Vec<Entry<T, V, M>>, name: &Name)
+    requires kept { IsKept entries.old.items }
+    ensures value { entries.new.items ≡ without_value_of entries.old.items name.now (item_at entries.old.items name.now) }
+{
+    let place = place_of(entries, name);
+    if place.found {
+        clear_value(entries, place.at);
+    }
+}
+
+impl<T: Copy, V: Copy, M: Copy> EntryList<T, V, M> {
+    /// Puts items into the slots of a name, in place of what stands there.
+    pub fn write(
+        &mut self,
+        name: &Name,
+        types: Option<T>,
+        values: Option<V>,
+        macros: Option<M>,
+    ) -> Result<(), AllocError>
+        ensures types { OnOk result (types_in self.new ≡ with_some_entry (slice_cmp nat_cmp) (types_in self.old) (named name.now types)) }
+        ensures values { OnOk result (values_in self.new ≡ with_some_entry (slice_cmp nat_cmp) (values_in self.old) (named name.now values)) }
+        ensures macros { OnOk result (macros_in self.new ≡ with_some_entry (slice_cmp nat_cmp) (macros_in self.old) (named name.now macros)) }
+        ensures unresolved { OnOk result (unresolved_in self.new ≡ unresolved_in self.old) }
+        ensures err { OnErr result (self.new ≡ self.old) }
+    {
+        if !is_something(types, values, macros) {
+            return Ok(());
+        }
+        let filling = Filling::new(self.alloc, types, values, macros)?;
+        fill(self.alloc, &mut self.entries, name, filling)?;
+        Ok(())
+    }
+
+    /// Notes that a name is unresolved, and says whether it wasn't.
+    pub fn mark(&mut self, name: Name) -> Result<bool, AllocError>
+        ensures types { types_in self.new ≡ types_in self.old }
+        ensures values { values_in self.new ≡ values_in self.old }
+        ensures macros { macros_in self.new ≡ macros_in self.old }
+        ensures ok { OnOk result (unresolved_in self.new ≡ cond (list_any (is_at (slice_cmp nat_cmp name)) (unresolved_in self.old))
+            (unresolved_in self.old) (insert_key (slice_cmp nat_cmp) (unresolved_in self.old) name)) }
+        ensures changed { IfOk result (λ new. new ≡ not (list_any (is_at (slice_cmp nat_cmp name)) (unresolved_in self.old))) }
+        ensures err { OnErr result (self.new ≡ self.old) }
+    {
+        let new = note(self.alloc, &mut self.entries, name)?;
+        Ok(new)
+    }
+
+    /// Writes what a name stands for in types, where it stands for something.
+    pub fn set_type(&mut self, name: &Name, item: T)
+        ensures types { types_in self.new ≡ set_value (is_at (slice_cmp nat_cmp name.now)) (types_in self.old) item }
+        ensures values { values_in self.new ≡ values_in self.old }
+        ensures macros { macros_in self.new ≡ macros_in self.old }
+        ensures unresolved { unresolved_in self.new ≡ unresolved_in self.old }
+    {
+        set_type_of(&mut self.entries, name, item);
+    }
+
+    /// The same in values.
+    pub fn set_value(&mut self, name: &Name, item: V)
+        ensures types { types_in self.new ≡ types_in self.old }
+        ensures values { values_in self.new ≡ set_value (is_at (slice_cmp nat_cmp name.now)) (values_in self.old) item }
+        ensures macros { macros_in self.new ≡ macros_in self.old }
+        ensures unresolved { unresolved_in self.new ≡ unresolved_in self.old }
+    {
+        set_value_of(&mut self.entries, name, item);
+    }
+
+    /// The same in macros.
+    pub fn set_macro(&mut self, name: &Name, item: M)
+        ensures types { types_in self.new ≡ types_in self.old }
+        ensures values { values_in self.new ≡ values_in self.old }
+        ensures macros { macros_in self.new ≡ set_value (is_at (slice_cmp nat_cmp name.now)) (macros_in self.old) item }
+        ensures unresolved { unresolved_in self.new ≡ unresolved_in self.old }
+    {
+        set_macro_of(&mut self.entries, name, item);
+    }
+
+    /// Takes out what a name stands for in values. An entry that says nothing of its name then goes.
+    pub fn remove_value(&mut self, name: &Name)
+        ensures types { types_in self.new ≡ types_in self.old }
+        ensures values { values_in self.new ≡ remove_entry (is_at (slice_cmp nat_cmp name.now)) (values_in self.old) }
+        ensures macros { macros_in self.new ≡ macros_in self.old }
+        ensures unresolved { unresolved_in self.new ≡ unresolved_in self.old }
+    {
+        remove_value_of(&mut self.entries, name);
+    }
+
+    /// Writes what each name stands for anew.
+    pub fn revise<R: Revise<T, V, M>>(&mut self, by: &R)
+        ensures types { types_in self.new ≡ map (λ e. (e.0, R.type_of by.now e.1)) (types_in self.old) }
+        ensures values { values_in self.new ≡ map (λ e. (e.0, R.value_of by.now e.1)) (values_in self.old) }
+        ensures macros { macros_in self.new ≡ map (λ e. (e.0, R.macro_of by.now e.1)) (macros_in self.old) }
+        ensures unresolved { unresolved_in self.new ≡ unresolved_in self.old }
+    {
+        revise_entries(&mut self.entries, by);
+    }
+}
+
+/// Writes an entry anew.
+fn revise_at<T: Copy, V: Copy, M: Copy, R: Revise<T, V, M>>(
+    entries: &mut Vec<Entry<T, V, M>>,
+    at: usize,
+    by: &R,
+)
+    requires there { at < length entries.old.items }
+    ensures value { (e : List ℕ × Slots T V M) → slice_get entries.old.items at ≡ Some e
+        → entries.new.items ≡ slice_set entries.old.items at (revised_entry (R.type_of by.now) (R.value_of by.now) (R.macro_of by.now) e) }
+{
+    let entry = &mut entries[at];
+    entry.revise(by);
+}
+
+/// Writes each entry anew.
+fn revise_entries<T: Copy, V: Copy, M: Copy, R: Revise<T, V, M>>(
+    entries: &mut Vec<Entry<T, V, M>>,
+    by: &R,
+)
+    ensures value { entries.new.items ≡ map (revised_entry (R.type_of by.now) (R.value_of by.now) (R.macro_of by.now)) entries.old.items }
+{
+    for i in 0..entries.len() {
+        revise_at(entries, i, by);
+    }
+}
+
+/// Takes out the value of an entry, and the entry if it says nothing of its name then.
+fn clear_value<T: Copy, V: Copy, M: Copy>(entries: &mut Vec<Entry<T, V, M>>, at: usize)
+    requires there { at < length entries.old.items }
+    ensures stays { (e : List ℕ × Slots T V M) → slice_get entries.old.items at ≡ Some e → is_vacant (without_value e.1) ≡ false
+        → entries.new.items ≡ slice_set entries.old.items at (e.0, without_value e.1) }
+    ensures goes { (e : List ℕ × Slots T V M) → slice_get entries.old.items at ≡ Some e → is_vacant (without_value e.1) ≡ true
+        → entries.new.items ≡ remove entries.old.items at }
+{
+    let entry = &mut entries[at];
+    entry.remove_value();
+    if entries[at].is_vacant() {
+        entries.remove(at);
+    }
+}

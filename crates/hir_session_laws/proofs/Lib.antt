@@ -1,0 +1,3 @@
+pub mod EditLaws
+pub mod SparedCrates
+pub mod Numbering

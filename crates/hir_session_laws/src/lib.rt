@@ -1,0 +1,4 @@
+//! What holds of all that a session does.
+#![tactic(auto)]
+
+pub mod laws;

@@ -1,0 +1,15 @@
+//! All tests in one program, so that they are linked once and run beside each other.
+
+mod blocks;
+mod commands;
+mod common;
+mod completion;
+mod damage;
+mod derives;
+mod edits;
+mod ids;
+mod kept;
+mod lsp;
+mod lsp_edits;
+mod paths;
+mod symbols;

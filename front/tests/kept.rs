@@ -1,0 +1,201 @@
+//! What Cargo and rustc answered is kept beside what Cargo builds, as long as nothing changes on which it stands.
+#![cfg(unix)]
+
+use std::path::Path;
+use std::process::Command;
+
+use crate::common::{package, write_script};
+
+/// Scripts that note what is asked of Cargo and of rustc. What Cargo itself asks of rustc isn't.
+fn write_tools(folder: &Path) {
+    let cargo = std::env::var("CARGO").unwrap_or("cargo".to_owned());
+    for (name, real) in [("cargo", &*cargo), ("rustc", "rustc")] {
+        let note = format!("case $1 in metadata|--print) echo {name} >> {}/log ;; esac", folder.display());
+        write_script(&folder.join(name), &format!("#!/bin/sh\n{note}\nexec {real} \"$@\"\n"));
+    }
+}
+
+/// What `check` prints, and what it started.
+fn check(folder: &Path, words: &[&str]) -> (String, String) {
+    let log = folder.join("tools/log");
+    std::fs::write(&log, "").unwrap();
+    let made = Command::new(env!("CARGO_BIN_EXE_cargo-nogsimat"))
+        .args(["nogsimat", "check", "--no-std", "--json"])
+        .args(words)
+        .current_dir(folder)
+        .env_remove("CARGO_TARGET_DIR")
+        .env("CARGO", folder.join("tools/cargo"))
+        .env("RUSTC", folder.join("tools/rustc"))
+        .output()
+        .unwrap();
+    let told = String::from_utf8_lossy(&made.stdout).lines().filter(|it| it.contains("\"message\"")).collect();
+    let mut started: Vec<String> = std::fs::read_to_string(&log).unwrap().lines().map(str::to_owned).collect();
+    started.sort();
+    started.dedup();
+    (told, started.join(" "))
+}
+
+/// As if all that Cargo reads had been written long ago.
+fn settle(folder: &Path) {
+    for name in ["Cargo.toml", "Cargo.lock", "tools/cargo", "tools/rustc"] {
+        let made = Command::new("touch").args(["-d", "2020-01-01"]).arg(folder.join(name)).status().unwrap();
+        assert!(made.success());
+    }
+}
+
+#[test]
+fn answers_of_tools_are_kept() {
+    let package = package(&[("src/lib.rs", "use self::nothing;\n"), ("tools/log", "")]);
+    let folder = package.path();
+    write_tools(&folder.join("tools"));
+    let (told, started) = check(folder, &[]);
+    assert!(told.contains("nothing"), "{told}");
+    assert_eq!(started, "cargo rustc");
+    let again = |words: &[&str], wanted: &str| {
+        let (made, started) = check(folder, words);
+        assert_eq!((&*made, &*started), (&*told, wanted));
+    };
+    // Nothing was built there.
+    settle(folder);
+    again(&[], "cargo rustc");
+    std::fs::create_dir(folder.join("target")).unwrap();
+    std::fs::write(folder.join("target/CACHEDIR.TAG"), "").unwrap();
+    again(&[], "cargo rustc");
+    again(&[], "");
+    // A text is none of Cargo's, nor is what an editor keeps beside it.
+    std::fs::write(folder.join("src/lib.rs"), "use self::nothing;\n").unwrap();
+    std::fs::write(folder.join("src/.lib.rs.swp"), "").unwrap();
+    again(&[], "");
+    // Other options; a new target; another manifest, which is settled later; another tool.
+    again(&["--all-features"], "cargo");
+    again(&["--all-features"], "");
+    std::fs::create_dir(folder.join("src/bin")).unwrap();
+    std::fs::write(folder.join("src/bin/more.rs"), "fn main() {}\n").unwrap();
+    again(&[], "cargo");
+    again(&[], "");
+    let manifest = std::fs::read_to_string(folder.join("Cargo.toml")).unwrap();
+    std::fs::write(folder.join("Cargo.toml"), manifest + "[features]\nmore = []\n").unwrap();
+    again(&[], "cargo");
+    again(&[], "cargo");
+    settle(folder);
+    again(&[], "cargo");
+    again(&[], "");
+    write_tools(&folder.join("tools"));
+    again(&[], "cargo rustc");
+    // They are again what they were.
+    settle(folder);
+    again(&[], "");
+    // What is kept is damaged.
+    for it in std::fs::read_dir(folder.join("target/nogsimat")).unwrap() {
+        std::fs::write(it.unwrap().path(), "{").unwrap();
+    }
+    again(&[], "cargo rustc");
+    again(&[], "");
+}
+
+/// What `check` told is told again while the items of all files are the same, or their texts where lines of them are told.
+#[test]
+fn what_was_told_is_kept() {
+    let root = "mod a;\npub use a::f;\nmacro_rules! m { () => { pub struct M; } }\nm!();\nfn g() { 1; }\n";
+    let package = package(&[
+        ("src/lib.rs", root),
+        ("src/a.rs", "pub fn f() {}\n"),
+        ("src/more.inc", "pub struct More;\n"),
+        ("tools/log", ""),
+        ("target/CACHEDIR.TAG", ""),
+    ]);
+    let folder = package.path();
+    write_tools(&folder.join("tools"));
+    let script = folder.join("tools/program");
+    let real = crate::common::client::program();
+    let note = format!("echo program >> {}", folder.join("tools/log").display());
+    write_script(&script, &format!("#!/bin/sh\n{note}\nexec {}\n", real.display()));
+    let touch = |name: &str| {
+        let made = Command::new("touch").args(["-d", "2020-01-01"]).arg(folder.join(name)).status().unwrap();
+        assert!(made.success());
+    };
+    let words = ["--program", script.to_str().unwrap()];
+    let run = |words: &[&str]| {
+        let (told, started) = check(folder, words);
+        (told, started.contains("program"))
+    };
+    // The first two answers of Cargo aren't settled.
+    check(folder, &words);
+    settle(folder);
+    touch("tools/program");
+    touch("src/more.inc");
+    let write = |name: &str, text: &str| std::fs::write(folder.join(name), text).unwrap();
+    let steps = |steps: &[(&str, &str, bool)]| {
+        for (name, text, starts) in steps {
+            if !text.is_empty() {
+                write(name, text);
+            }
+            assert_eq!(run(&words), (String::new(), *starts), "{name}: {text}");
+            assert_eq!(run(&words), (String::new(), false), "{name}: {text}");
+        }
+    };
+    let edited = |from: &str, to: &str| root.replace(from, to);
+    steps(&[
+        ("", "", true),
+        ("src/lib.rs", root, false),
+        // A body, a comment, a line; a signature, which is none of what is handed in.
+        ("src/lib.rs", &edited("1;", "let x = [1, 2]; f(x.len());"), false),
+        ("src/lib.rs", &edited("mod a;", "// A module.\n\n/// It.\nmod a;"), false),
+        ("src/a.rs", "pub fn f() { let x = 1; }\n", false),
+        // Items: one more, another macro, what one is called with, an item in a body, what has another condition.
+        ("src/a.rs", "pub fn f() {}\npub fn g() {}\n", true),
+        ("src/lib.rs", &edited("struct M", "struct N"), true),
+        ("src/lib.rs", &edited("m!()", "m! {}"), true),
+        ("src/lib.rs", &edited("1;", "use a::f as h; h();"), true),
+        ("src/lib.rs", &edited("1;", "use  a::f  as h; h(); h();"), false),
+        ("src/lib.rs", &edited("pub use", "#[cfg(all())] pub use"), true),
+        ("src/lib.rs", &edited("m!();", "include!(\"more.inc\");"), true),
+    ]);
+    // What is included; it is settled later.
+    write("src/more.inc", "pub struct Other;\n");
+    assert!(run(&words).1);
+    touch("src/more.inc");
+    assert!(run(&words).1);
+    assert!(!run(&words).1);
+    // Where something is told the texts count.
+    write("src/lib.rs", &edited("a::f", "a::none"));
+    let (told, starts) = run(&words);
+    assert!(told.contains("none") && told.contains("\"line\":2,") && starts, "{told}");
+    assert_eq!(run(&words), (told.clone(), false));
+    write("src/lib.rs", &edited("a::f", "a::none"));
+    assert_eq!(run(&words), (told.clone(), false));
+    write("src/lib.rs", &format!("\n{}", edited("a::f", "a::none")));
+    let (told, starts) = run(&words);
+    assert!(told.contains("\"line\":3,") && starts, "{told}");
+    // A file that comes, and one that is gone.
+    write("src/lib.rs", &edited("mod a;", "mod a; mod b;"));
+    assert!(run(&words).0.contains("`b`"));
+    assert!(!run(&words).1);
+    write("src/b.rs", "");
+    assert_eq!(run(&words), (String::new(), true));
+    std::fs::remove_file(folder.join("src/a.rs")).unwrap();
+    std::fs::create_dir(folder.join("src/a")).unwrap();
+    assert!(run(&words).0.contains("`a`"));
+    write("src/a/mod.rs", "pub fn f() {}\n");
+    assert_eq!(run(&words), (String::new(), true));
+    write("src/a.rs", "pub fn f() {}\n");
+    assert!(run(&words).1);
+    // What doesn't parse.
+    write("src/b.rs", "fn {");
+    assert!(run(&words).0.contains("\"syntax\""));
+    write("src/b.rs", "");
+    assert_eq!(run(&words), (String::new(), true));
+    // Other options; another program, which is settled later.
+    assert!(run(&[&words[..], &["--cfg", "x"]].concat()).1);
+    assert!(!run(&words).1);
+    write_script(&script, &format!("#!/bin/sh\n{note}\nexec {} \n", real.display()));
+    assert!(run(&words).1);
+    touch("tools/program");
+    assert!(run(&words).1);
+    assert!(!run(&words).1);
+    for it in std::fs::read_dir(folder.join("target/nogsimat")).unwrap() {
+        std::fs::write(it.unwrap().path(), "{").unwrap();
+    }
+    assert!(run(&words).1);
+    assert!(!run(&words).1);
+}
