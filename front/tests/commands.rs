@@ -154,6 +154,13 @@ fn session_prints_what_the_program_is_given() {
     assert!(replies.iter().all(|it| it.get("ok").is_some()), "{replies:?}");
 }
 
+/// Saves a text in place of a file at once, as many editors do: nobody sees it half written.
+fn save(path: &Path, text: &str) {
+    let new = path.with_extension("new");
+    std::fs::write(&new, text).unwrap();
+    std::fs::rename(&new, path).unwrap();
+}
+
 /// A `watch` that has begun. It ends with this.
 struct Watching {
     child: Child,
@@ -196,21 +203,24 @@ fn watch_tells_what_a_save_changes() {
     assert!(until("1 error in").contains("unresolved import `crate::price::Rebate`"));
     let price = folder.path().join("shop/src/price.rs");
     let before = std::fs::read_to_string(&price).unwrap();
-    std::fs::write(&price, format!("{before}\npub struct Rebate;\n")).unwrap();
+    save(&price, &format!("{before}\npub struct Rebate;\n"));
     let made = until("; 0 errors");
     assert!(made.contains("gone: shop/src/report.rs:6:32: unresolved import `crate::price::Rebate`"), "{made}");
     assert!(made.contains("resolved again: shop, shop (bin shop) ("), "{made}");
     // A body alone.
-    std::fs::write(&price, format!("{}\npub struct Rebate;\n", before.replace("price.0 / 5", "price.0 / 4"))).unwrap();
+    save(&price, &format!("{}\npub struct Rebate;\n", before.replace("price.0 / 5", "price.0 / 4")));
     assert!(until("; 0 errors").contains("nothing to resolve again"));
     // A file that isn't there any more, and that is there again.
     std::fs::remove_file(&price).unwrap();
     assert!(until("resolved again").contains("file not found for module `price`"));
-    std::fs::write(&price, format!("{before}\npub struct Rebate;\n")).unwrap();
+    save(&price, &format!("{before}\npub struct Rebate;\n"));
     until("; 0 errors");
     // A file with a bracket too many.
-    std::fs::write(&price, format!("{before}}}\n")).unwrap();
+    save(&price, &format!("{before}}}\n"));
     assert!(until("resolved again").contains("this isn't Rust's syntax"));
+    // A file that is emptied and written: what it has in between may be told as well.
+    std::fs::write(&price, format!("{before}\npub struct Rebate;\n")).unwrap();
+    assert!(until("; 0 errors").contains("this isn't Rust's syntax"));
 }
 
 #[test]
@@ -670,13 +680,13 @@ fn watch_in_real_crates() {
         watching.until(&format!("all names resolved in {name} ("));
         let root = folder.path().join(name).join("src/lib.rs");
         let before = std::fs::read_to_string(&root).unwrap();
-        std::fs::write(&root, format!("{before}\nuse crate::no_such_module::Nothing;\n")).unwrap();
+        save(&root, &format!("{before}\nuse crate::no_such_module::Nothing;\n"));
         let line = before.lines().count() + 2;
         let made = watching.until("; 1 error");
         assert!(made.contains("unresolved import `crate::no_such_module::Nothing`"), "{made}");
         assert!(made.contains(&format!("{name}/src/lib.rs:{line}:5")), "{made}");
         assert!(made.contains(&format!("resolved again: {name} (")), "{made}");
-        std::fs::write(&root, &before).unwrap();
+        save(&root, &before);
         let made = watching.until("; 0 errors");
         assert!(made.contains(&format!("gone: {name}/src/lib.rs:{line}:5")), "{made}");
     }

@@ -1,14 +1,13 @@
 //! The language server as an editor calls it.
 //!
 //! The files `lsp/*.jsonl` hold what is sent and what comes back, one JSON object a line: `send` and `receive` with a
-//! message, `write` and `remove` with a file below the package's folder, `say` for the reader. After each run of lines
-//! that do something comes what the server sends until it has done all of that, or null where that is nothing. `DIR`
-//! stands for the package's folder. `session.jsonl` is the recorded session of `lsp_edits.rs`.
-//! With the variable `UPDATE` set the files are written anew.
+//! message, `write` and `remove` with a file below the package's folder, `until` with the number of a request that has to
+//! be answered before what follows is done, `say` for the reader. After each run of lines that do something comes what
+//! the server sends until it has done all of that, or null where that is nothing. `DIR` stands for the package's folder.
+//! `session.jsonl` is the recorded session of `lsp_edits.rs`. With the variable `UPDATE` set the files are written anew.
 
 use std::path::{Path, PathBuf};
 use std::process::Command;
-use std::time::Duration;
 
 use crate::common::client::{program, Client};
 #[cfg(unix)]
@@ -21,13 +20,19 @@ use serde_json::{json, Value};
 
 /// Runs the messages of a file; answers the status with which the server ends.
 fn run(name: &str) -> i32 {
+    let folder = market();
+    let client = Client::start(folder.path(), &[]);
+    run_with(name, folder.path(), client)
+}
+
+/// The same with a server that was started in a folder.
+fn run_with(name: &str, folder: &Path, mut client: Client) -> i32 {
     let path = own("tests/lsp").join(name).with_extension("jsonl");
     let text = std::fs::read_to_string(&path).unwrap();
     let lines: Vec<Value> = text.lines().map(|it| serde_json::from_str(it).unwrap()).collect();
-    let folder = market();
-    let mut client = Client::start(folder.path(), &[]);
     let mut made = Vec::new();
     let mut block = Vec::new();
+    let mut received = Vec::new();
     let acts = |it: &Value| it.get("receive").is_none();
     for (at, line) in lines.iter().enumerate() {
         if !acts(line) {
@@ -35,23 +40,26 @@ fn run(name: &str) -> i32 {
         }
         made.push(line.clone());
         if let Some(name) = line["write"].as_str() {
-            let path = folder.path().join(name);
+            let path = folder.join(name);
             std::fs::create_dir_all(path.parent().unwrap()).unwrap();
             std::fs::write(path, line["text"].as_str().unwrap()).unwrap();
         } else if let Some(name) = line["remove"].as_str() {
-            std::fs::remove_file(folder.path().join(name)).unwrap();
+            std::fs::remove_file(folder.join(name)).unwrap();
         } else if let Some(it) = line.get("send") {
             block.push(it.clone());
+        } else if let Some(id) = line.get("until") {
+            client.send_all(&std::mem::take(&mut block));
+            let all = client.receive_to(|it| it["id"] == *id);
+            received.extend(client.steady_all(&all));
         }
         // A run of lines ends before what is received, or where the reader is told something.
         let is_last = lines.get(at + 1).map_or(true, |it| !acts(it) || it.get("say").is_some());
-        if is_last && !block.is_empty() {
-            let received = client.exchange(&block);
+        if is_last && !(block.is_empty() && received.is_empty()) {
+            received.extend(client.exchange(&std::mem::take(&mut block)));
             if received.is_empty() {
                 made.push(json!({"receive": null}));
             }
-            made.extend(received.into_iter().map(|it| json!({"receive": it})));
-            block.clear();
+            made.extend(received.drain(..).map(|it| json!({"receive": it})));
         }
     }
     let written: String = made.iter().map(|it| format!("{it}\n")).collect();
@@ -72,9 +80,22 @@ fn how_a_session_begins_and_ends() {
     assert_eq!(run("begin"), 0);
 }
 
+/// A program that begins when the file `gate` is in the folder.
+#[cfg(unix)]
+fn write_gated_program(folder: &Path) -> PathBuf {
+    let script = folder.join("program");
+    let wait = format!("until [ -e {} ]; do sleep 0.01; done", folder.join("gate").display());
+    write_script(&script, &format!("#!/bin/sh\n{wait}\nexec {}\n", program().display()));
+    script
+}
+
+#[cfg(unix)]
 #[test]
 fn cancelled_requests() {
-    assert_eq!(run("cancel"), 1);
+    let folder = market();
+    let script = write_gated_program(folder.path());
+    let client = Client::start(folder.path(), &["--program", script.to_str().unwrap()]);
+    assert_eq!(run_with("cancel", folder.path(), client), 1);
 }
 
 #[test]
@@ -197,10 +218,7 @@ fn text_outside_ascii() {
 #[test]
 fn progress_while_a_package_is_opened() {
     let folder = market();
-    let (script, gate) = (folder.path().join("program"), folder.path().join("gate"));
-    // A program that begins when the gate is there.
-    let (wait, begin) = (format!("until [ -e {} ]; do sleep 0.01; done", gate.display()), program());
-    write_script(&script, &format!("#!/bin/sh\n{wait}\nexec {}\n", begin.display()));
+    let (script, gate) = (write_gated_program(folder.path()), folder.path().join("gate"));
     let ask = |id: &str, method: &str| {
         let params = json!({
             "textDocument": {"uri": "file://DIR/shop/src/model.rs"}, "position": {"line": 10, "character": 14},
@@ -271,7 +289,6 @@ fn a_program_that_dies() {
     let kill = || {
         let pid = std::fs::read_to_string(folder.path().join("pid")).unwrap();
         assert!(Command::new("kill").args(["-9", pid.trim()]).status().unwrap().success());
-        std::thread::sleep(Duration::from_millis(50));
     };
     let name = "shop/src/price.rs";
     let text = std::fs::read_to_string(folder.path().join(name)).unwrap();
