@@ -549,6 +549,15 @@ fn a_program_that_stops() {
             "{name}: {told}"
         );
     }
+    // One that reads no further: what is left for it is more than a pipe holds.
+    let many: String = (0..5000).map(|it| format!("pub fn function_of_this_number{it}() {{}}\n")).collect();
+    std::fs::write(folder.path().join("src/a.rs"), many).unwrap();
+    let answers = "*refresh*) echo '{\"ok\":[]}' ;; *) echo '{\"ok\":null}' ;;";
+    let halts = "*src/lib.rs*'\"unit\"'*) echo '{}'; exec sleep 100000 ;;";
+    write_script(&program, &format!("#!/bin/sh\nwhile read -r line; do case $line in {halts} {answers} esac; done\n"));
+    let made = run(folder.path(), &["check", "--no-std", "--program", "./program"]);
+    assert_eq!(made.status.code(), Some(2));
+    assert!(text(&made.stderr).contains("is at fault: its reply"), "{}", text(&made.stderr));
     std::fs::remove_file(&program).unwrap();
     std::fs::write(&program, "no program").unwrap();
     let made = run(folder.path(), &["check", "--no-std", "--program", "./program"]);
