@@ -128,8 +128,10 @@ impl Workspace {
             self.follow_globs(&judged, &mut bound)?;
         }
         let imports = self.judged_imports(imports, &mut bound, &mut report);
+        // What a glob might have brought is told beside it, as rustc does.
         let unresolved: Bound = imports
             .iter()
+            .filter(|it| it.binds.as_deref() != Some("*"))
             .filter_map(|it| Some((it.krate, it.located.module.clone(), it.binds.as_ref()?.to_string())))
             .collect();
         for it in imports.iter().filter(|it| self.crates.all[it.krate as usize].is_asked) {

@@ -487,6 +487,27 @@ fn imports_of_what_an_item_lacks() {
     assert_eq!(lines, [10, 12, 13, 14, 15, 16]);
 }
 
+/// A glob that isn't resolved is told, and so is what it might have brought: as many errors as rustc has places of them.
+#[test]
+fn globs_that_are_not_resolved() {
+    for (text, count) in [
+        ("use crate::x::*;", 1),
+        ("use crate::x::{self as y, *};", 2),
+        ("use crate::x::a; use crate::y::*;", 2),
+        ("mod m { pub use crate::none::*; } use m::a;", 2),
+        ("mod m { pub use crate::none::*; pub use b::c; } use m::a; use crate::m::d::e;", 4),
+        ("pub mod m { pub use super::n::*; } pub mod n { pub use super::m::gone::*; pub use crate::q; } use m::a;", 3),
+        ("use self::a::*; use self::b::*; use c::d;", 3),
+        ("mod m { pub use nothing::*; } pub use m::*; use crate::g::h; use zz;", 3),
+        // What follows from another error isn't told.
+        ("mod m { pub use crate::none::S; } use m::S as T; use m::S::*;", 1),
+    ] {
+        let folder = package(&[("src/lib.rs", text)]);
+        let made = run(folder.path(), &["check", "--no-std"]);
+        assert_eq!(crate::commands::text(&made.stdout).matches("error[E0432]").count(), count, "{text}");
+    }
+}
+
 /// Macros mean what they mean in rustc's order: also those that expansions define, and of two of one name the one before
 /// the call.
 #[test]
