@@ -416,6 +416,10 @@ fn parameters_without_sense() {
         json!({"uri": uri}),
         json!({"uri": "file://DIR/shop"}),
         json!({"uri": "file://DIR/no/such.rs"}),
+        json!({"uri": "file:///dev/zero"}),
+        json!({"uri": "file:///dev/stdin"}),
+        json!({"uri": "file://DIR/%00.rs"}),
+        json!({"uri": format!("file://DIR/{}", "a/".repeat(3000))}),
         json!({"uri": "untitled:one"}),
         json!({"uri": "file://%ff"}),
         json!({"uri": 1}),
@@ -478,14 +482,88 @@ fn parameters_without_sense() {
     assert_eq!(client.end(), 1);
 }
 
+/// Contents that are no message are told, and what comes behind them is answered.
 #[test]
 fn messages_that_are_none() {
     let folder = market();
     let mut client = Client::start(folder.path(), &[]);
-    client.write(b"Content-Length: 3\r\n\r\n{,}X: y\r\nContent-Length: 2\r\n\r\n[]");
+    let framed = |it: &[u8]| [format!("Content-Length: {}\r\n\r\n", it.len()).as_bytes(), it].concat();
+    let deep = format!("{{\"id\":1,\"method\":\"x\",\"params\":{}{}}}", "[".repeat(9000), "]".repeat(9000));
+    for it in ["{,}", "", "\0\0", "{} {}", "{\"a\":\"\\ud800\"}", "{\"id\":1e999}", "\u{feff}{}", &deep] {
+        client.write(&framed(it.as_bytes()));
+        assert_eq!(client.receive()["error"]["code"], message::PARSE_ERROR, "{:.20}", it);
+    }
+    client.write(&framed(b"{\"a\":\"\xff\"}"));
     assert_eq!(client.receive()["error"]["code"], message::PARSE_ERROR);
+    for it in ["[]", "{}", "1", "null", "\"x\"", "[{\"id\":1,\"method\":\"shutdown\"}]", "{\"id\":1,\"method\":7}"] {
+        client.write(&framed(it.as_bytes()));
+        assert_eq!(client.receive()["error"]["code"], message::INVALID_REQUEST, "{it}");
+    }
+    // Of a head the last length counts.
+    client.write(b"\r\nX: y\r\n:\r\n\r\ncontent-LENGTH:99\nContent-Length: 2\r\n\r\n[]");
     assert_eq!(client.receive()["error"]["code"], message::INVALID_REQUEST);
     client.initialize();
     client.input = None;
     assert_eq!(client.child.wait().unwrap().code(), Some(1));
+}
+
+/// Texts that are deep, long, or no Rust: what is asked in them is answered, and the rest of the package as before.
+#[test]
+fn texts_without_sense() {
+    let pairs = |open: &str, count: usize, close: &str| format!("{}{}", open.repeat(count), close.repeat(count));
+    let texts = [
+        String::new(),
+        "\0".repeat(100),
+        "(".repeat(5000),
+        ")".repeat(5000),
+        pairs("{", 5000, "}"),
+        pairs("mod a { ", 300, "}"),
+        format!("type A = {};", pairs("Vec<", 1000, ">")),
+        format!("fn f() {{ {} }}", "x;".repeat(5000)),
+        format!("fn f() {{ {}1 }}", "|x| ".repeat(1000)),
+        format!("fn f() {{ {} }}", pairs("{ use a::b; ", 200, "}")),
+        format!("use {};", pairs("{a::", 400, "}")),
+        format!("use {}b;", "a::".repeat(1000)),
+        (0..100).map(|it| format!("use crate::x{it}::{{self as y{it}, *}};\n")).collect(),
+        format!("{}struct S;", "#[a]".repeat(1000)),
+        format!("#[cfg({}a{})] struct S;", "not(".repeat(400), ")".repeat(400)),
+        "\n".repeat(10_000),
+        "\r".repeat(10_000),
+        "🦀".repeat(5000),
+        "\u{feff}\u{feff}use crate::\u{202e}model\u{202c}::Item;\u{2028}\u{85}use a\u{301};".to_owned(),
+        "r#\"".repeat(1000),
+        "/*".repeat(5000),
+        "#!".repeat(5000),
+        "'".repeat(5000),
+        format!("struct {};", "a".repeat(20_000)),
+        "#[path = \"price.rs\"] mod a; include!(\"price.rs\"); include!(\"/dev/zero\"); include!(\".\");".to_owned(),
+        "macro_rules! m { ($($x:tt)*) => { $($x)* m!($($x)* $($x)*); } } m!(a);".to_owned(),
+    ];
+    let folder = market();
+    let mut client = Client::start(folder.path(), &[]);
+    client.initialize();
+    let uri = "file://DIR/shop/src/price.rs";
+    let document = json!({"uri": uri});
+    for text in texts {
+        let shown: String = text.chars().take(20).collect();
+        let opened = json!({"uri": uri, "languageId": "rust", "version": 1, "text": text});
+        let mut sent = vec![message::notification("textDocument/didOpen", json!({"textDocument": opened}))];
+        for (line, character) in [(0, 9), (u32::MAX, u32::MAX)] {
+            let at = json!({"line": line, "character": character});
+            for it in ["definition", "hover", "references", "documentSymbol", "completion", "codeAction"] {
+                let params = json!({"textDocument": document, "position": at, "range": {"start": at, "end": at}});
+                let method = format!("textDocument/{it}");
+                sent.push(json!({"jsonrpc": "2.0", "id": sent.len(), "method": method, "params": params}));
+            }
+        }
+        let count = sent.len() - 1;
+        sent.push(message::notification("textDocument/didClose", json!({"textDocument": document})));
+        let made = client.exchange(&sent);
+        assert_eq!(made.iter().filter(|it| it.get("result").is_some()).count(), count, "{shown}");
+        assert!(made.iter().all(|it| it["method"] != "window/showMessage"), "{shown}");
+        assert_eq!(client.published.len(), 1, "{shown}: {:?}", client.published.keys());
+    }
+    let made = client.at("textDocument/definition", "shop/src/report.rs", (5, 26));
+    assert_eq!(made[0]["uri"], uri);
+    assert_eq!(client.end(), 1);
 }

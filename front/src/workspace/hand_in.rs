@@ -115,7 +115,6 @@ impl Workspace {
     /// files that were built.
     pub(super) fn build_files(&mut self, keys: Vec<Key>, lines: &mut Vec<String>) -> Result<HashSet<Key>> {
         let mut work: Vec<(Key, u32, Vec<Arc<Unit>>)> = Vec::new();
-        let none = Vec::new();
         let mut seen = HashSet::new();
         let same =
             |a: &[Arc<Unit>], b: &[Arc<Unit>]| a.len() == b.len() && a.iter().zip(b).all(|(a, b)| Arc::ptr_eq(a, b));
@@ -132,7 +131,7 @@ impl Workspace {
             if !parsed.is_plain {
                 replaced_in(&parsed.unit.items, &self.replaced, &mut replaced);
             }
-            let with_blocks = self.states[krate].expansions_with_blocks.get(&key).unwrap_or(&none);
+            let with_blocks = self.states[krate].expansions_with_blocks.get(&key).map_or(&[][..], |it| it);
             let is_same = self.sent.get(&key).is_some_and(|it| {
                 Arc::ptr_eq(&it.unit, &parsed.unit)
                     && it.krate as usize == krate
@@ -149,8 +148,8 @@ impl Workspace {
         let made = on_threads(&work, |(key, krate, _)| {
             let (parsed, krate) = (&parsed[key], *krate);
             let expanded = Expanded { krate, state: &states[krate as usize], cache, moved };
-            let (options, derives) = (&all[krate as usize].options, left_out_of(key, states));
-            let without = Without { derives, associated: is_brief };
+            let options = &all[krate as usize].options;
+            let without = Without { derives: left_out_of(key, states), associated: is_brief };
             let (mut built, blocks) = built_of(&parsed.unit, options, without, replaced, expanded, takes_blocks);
             if parsed.error.is_some() {
                 built.json = "\"broken\"".to_owned();
