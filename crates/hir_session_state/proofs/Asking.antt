@@ -1,8 +1,8 @@
 -- For which sources the runs of places asked.
 use Rattle.std.proofs.Common.{◌≡◌, ◌≢◌, ◌⊎◌, ◌∙◌, ap, sym, subst, zero, suc, ◌<◌, true, Some, None, List, [], ◌∷◌, inl, inr, arith, Contains}
 use Rattle.std.proofs.lemmas.List.Elements.{Contains-append_cases}
-use Rattle.hir_base.specs.declared.ids.Crate.{Crate}
-use Rattle.hir_base.specs.declared.ids.MapId.{MapId}
+use Rattle.hir_ids.specs.declared.ids.Crate.{Crate}
+use Rattle.hir_ids.specs.declared.ids.MapId.{MapId}
 use Rattle.hir_tables.specs.Tables.{TablesValue, KeepsTables}
 use Rattle.hir_collector_rules.specs.Asked.{IsOwnPart}
 use Rattle.hir_collector_rules.specs.Growth.{AskedKeysHaveMeaning}

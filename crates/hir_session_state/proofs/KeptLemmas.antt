@@ -5,10 +5,10 @@ use Rattle.std.specs.Option.{option_map}
 use Rattle.std.specs.BTreeMap.{BTreeMap, get, is_at, IsUnchanged}
 use Rattle.std.specs.Map.{keys_of as ids_of, lookup}
 use Rattle.std.proofs.lemmas.List.{length-map}
-use Rattle.hir_base.specs.declared.ids.MapId.{MapId}
-use Rattle.hir_base.specs.declared.ids.ModuleId.{ModuleId}
-use Rattle.hir_base.specs.contracts.ids.MapIdOrd.TheImpl as map_order
-use Rattle.hir_base.specs.contracts.ids.MapIdPartialEq.TheImpl as map_id
+use Rattle.hir_ids.specs.declared.ids.MapId.{MapId}
+use Rattle.hir_ids.specs.declared.ids.ModuleId.{ModuleId}
+use Rattle.hir_ids.specs.contracts.ids.MapIdOrd.TheImpl as map_order
+use Rattle.hir_ids.specs.contracts.ids.MapIdPartialEq.TheImpl as map_id
 use Rattle.hir_def_map.specs.declared.world.finished.Finished.{Finished}
 use Rattle.hir_def_map.specs.declared.world.insert.InsertError.{InsertError}
 use Rattle.hir_def_map_rules.specs.Inner.OverlayLaws.{exact_map, same_id}

@@ -2,8 +2,8 @@
 use Rattle.std.specs.Prelude.{◌≡◌, Bool, true, false, Option, None, Some, Contains}
 use Rattle.std.specs.BTreeMap.{get}
 use Rattle.std.specs.BTreeSet.{BTreeSet, contains}
-use Rattle.hir_base.specs.declared.ids.MapId.{MapId}
-use Rattle.hir_base.specs.contracts.ids.MapIdOrd.TheImpl as map_order
+use Rattle.hir_ids.specs.declared.ids.MapId.{MapId}
+use Rattle.hir_ids.specs.contracts.ids.MapIdOrd.TheImpl as map_order
 use Rattle.hir_tables.specs.Tables.{TablesValue}
 use Rattle.hir_collector_rules.specs.declared.source_database.Key.{Key}
 use Rattle.hir_session_state.specs.declared.askers.Askers.{Askers}

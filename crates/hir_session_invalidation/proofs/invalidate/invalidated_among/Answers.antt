@@ -1,6 +1,6 @@
 -- One more place is judged.
 use Rattle.std.proofs.Common.{◌∙◌, ap, sym, rules, List, ◌++◌, append-nil, append_assoc, map}
-use Rattle.hir_base.specs.declared.ids.MapId.{MapId}
+use Rattle.hir_ids.specs.declared.ids.MapId.{MapId}
 use Rattle.hir_session_sources.proofs.Changing.{no_trees}
 use Rattle.hir_session_invalidation.proofs.Judging.{judged-same, judging-start, judging-more, one_behind}
 use Rattle.hir_session_invalidation.proofs.invalidate.invalidated_among.Goals as goal

@@ -1,6 +1,6 @@
 -- What the run came to is kept.
 use Rattle.std.proofs.Common.{◌∙◌, sym, subst, Option, Some}
-use Rattle.hir_base.specs.declared.ids.ModuleId.{ModuleId}
+use Rattle.hir_ids.specs.declared.ids.ModuleId.{ModuleId}
 use Rattle.hir_session_state.specs.Standing.{block_map}
 use Rattle.hir_session_core.specs.Progress.{AreFollowedCurrent}
 use Rattle.hir_session_core.proofs.Due.{passed_on}

@@ -2,8 +2,8 @@
 use Rattle.std.proofs.Common.{◌≡◌, ◌∙◌, ap, sym, refl, Bool, true, false, cond, is_some, Option, Some, None}
 use Rattle.std.specs.BTreeMap.{BTreeMap, get, is_at}
 use Rattle.std.specs.BTreeSet.{BTreeSet, contains}
-use Rattle.hir_base.specs.contracts.ids.MapIdOrd.TheImpl as map_order
-use Rattle.hir_base.specs.declared.ids.MapId.{MapId}
+use Rattle.hir_ids.specs.contracts.ids.MapIdOrd.TheImpl as map_order
+use Rattle.hir_ids.specs.declared.ids.MapId.{MapId}
 use Rattle.hir_session_state.specs.Askers.{is_in}
 use Rattle.hir_session_state.specs.contracts.source_number.SourceNumberOrd.TheImpl as number_order
 use Rattle.hir_session_state.specs.contracts.source_number.SourceNumberOrd.TheImpl.Laws.{matches_eq-law as numbers_tie}

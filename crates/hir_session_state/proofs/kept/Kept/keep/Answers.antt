@@ -1,8 +1,8 @@
 -- What was found is complete and names only what is kept, so it joins the maps, and stands where nothing was kept.
 use Rattle.std.proofs.Common.{◌≡◌, ◌∙◌, ap, subst, Some, false}
 use Rattle.std.specs.BTreeMap.{is_at}
-use Rattle.hir_base.specs.declared.ids.MapId.{MapId}
-use Rattle.hir_base.specs.contracts.ids.MapIdOrd.TheImpl as map_order
+use Rattle.hir_ids.specs.declared.ids.MapId.{MapId}
+use Rattle.hir_ids.specs.contracts.ids.MapIdOrd.TheImpl as map_order
 use Rattle.hir_def_map_rules.specs.Overlay.{Maps, holders_under}
 use Rattle.hir_scope.proofs.Rewrites.{on_err}
 use Rattle.hir_session_state.specs.Types.{KeptRun}
