@@ -8,10 +8,10 @@ ghost use Rattle.hir_ids.specs.declared.ids.MapId.{MapId};
 ghost use Rattle.hir_ids.specs.contracts.ids.MapIdOrd.TheImpl as map_order;
 ghost use Rattle.hir_def_map.specs.Insertion.{may_join};
 ghost use Rattle.hir_def_map_rules.specs.References.{is_well_formed};
-ghost use Rattle.hir_def_map.specs.Removal.{Depends};
+ghost use Rattle.hir_nameres.specs.Removal.{Depends};
 ghost use Rattle.hir_def_map_rules.specs.Overlay.{holders_under, with_map};
 ghost use Rattle.hir_collector_rules.specs.Derivation.{collected_view};
-ghost use Rattle.hir_def_map.specs.World.{finished_in, placed_of};
+ghost use Rattle.hir_nameres.specs.World.{finished_in, placed_of};
 ghost use Rattle.hir_session_state.specs.Kept.{finished_by, held, kept_in, names_in, leftover_of, was_limited, asked_of, keys_of, resolution_from, resolution_of, AreForgotten};
 
 use crate::runs::{KeptRun, Runs};

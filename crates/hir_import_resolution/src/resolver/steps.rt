@@ -14,12 +14,12 @@ use crate::answers::{
 use crate::resolver::Resolver;
 use hir_base::ids::TraitId;
 use hir_base::name::Name;
-use hir_def_map::nameres::path_resolution::{ReachedFixedPoint, ResolvePathResult};
 use hir_glob_imports::{Edge, MAX_STEPS, Target};
 use hir_import_rules::directive::{ImportDirective, ImportSource, is_one_name};
 use hir_import_rules::error::ImportError;
 use hir_import_rules::namespaces::Namespaces;
 use hir_import_rules::taken::Taken;
+use hir_nameres::nameres::path_resolution::{ReachedFixedPoint, ResolvePathResult};
 use hir_scope::per_ns::PerNs;
 use hir_scope::visibility::Visibility;
 use hir_use_tree::imports::ImportKind;

@@ -1,6 +1,6 @@
 -- What depends on the map that goes depends on it by what is kept too.
 use Rattle.std.proofs.Common.{◌∙◌, ap, sym, subst}
-use Rattle.hir_def_map.specs.Removal.{Depends}
+use Rattle.hir_nameres.specs.Removal.{Depends}
 use Rattle.hir_session_state.specs.Kept.{Resolutions, kept_in, names_in}
 use Rattle.hir_session_state.proofs.KeptLemmas.{kept_gone, kept_stays}
 use Rattle.hir_session_state.proofs.kept.Kept.forget_one.Goals as goal
