@@ -25,6 +25,7 @@ use hir_import_rules::{ImportDirective, ImportSource};
 use hir_item_tree::expand::Import;
 use hir_item_tree::raw_visibility::RawVisibility;
 use hir_item_tree::shape::{ExternCrateName, ImportAlias, ImportKind};
+use hir_item_tree::shared_path::SharedPath;
 use hir_item_tree::use_tree::UseTree;
 use hir_scope::imports::ImportId;
 use smallvec::SmallVec;
@@ -38,7 +39,7 @@ fn expanded(alloc: Global, tree: &UseTree) -> Result<VecDeque<Import>, AllocErro
     let mut imports = VecDeque::new(alloc);
     tree.expand(
         alloc,
-        &mut |place: u32, path: ModPath, kind: ImportKind, alias: Option<ImportAlias>| -> Result<
+        &mut |place: u32, path: SharedPath, kind: ImportKind, alias: Option<ImportAlias>| -> Result<
             (),
             AllocError,
         >
@@ -160,7 +161,7 @@ fn crate_import(
             krate: run.crate_named(name),
         },
         visibility: head.visibility.clone()?,
-        path: path_of_crate(run.allocator(), name)?,
+        path: SharedPath::alone(path_of_crate(run.allocator(), name)?),
         alias: clone_alias(alias)?,
     })
 }

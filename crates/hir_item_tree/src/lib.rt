@@ -2,7 +2,9 @@
 #![tactic(auto)]
 
 pub use hir_raw_visibility::raw_visibility;
-pub use hir_use_tree::{imports as expand, joined_path, lower as lower_use_tree, use_tree};
+pub use hir_use_tree::{
+    imports as expand, joined_path, lower as lower_use_tree, shared_path, use_tree,
+};
 
 pub mod attr_query;
 pub mod attrs;

@@ -1,3 +1,4 @@
 pub mod UseTreeLemmas
 pub mod CallLemmas
 pub mod UseTreePlaces
+pub mod SharedPathLemmas

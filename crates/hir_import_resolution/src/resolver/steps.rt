@@ -13,6 +13,7 @@ use crate::answers::{
 };
 use crate::resolver::Resolver;
 use hir_base::ids::TraitId;
+use hir_base::mod_path::ModPath;
 use hir_base::name::Name;
 use hir_def_map::nameres::path_resolution::{ReachedFixedPoint, ResolvePathResult};
 use hir_glob_imports::{Edge, MAX_STEPS, Target};
@@ -66,8 +67,9 @@ fn note_target(taken: &mut Vec<Taken>, i: usize, target: Target) -> Result<(), A
 }
 
 impl Resolver<'_> {
-    /// What the path of an import reaches.
-    fn path_answer(&self, import: &ImportDirective) -> ResolvePathResult
+    /// What a path reaches, which is that of an import.
+    fn answer_by(&self, import: &ImportDirective, path: &ModPath) -> ResolvePathResult
+        requires path { path.now ≡ import.now.path }
         ensures value { result ≡ path_answer (finished_by self.now) self.now.local self.now.scopes.map import.now }
     {
         answer(
@@ -75,17 +77,27 @@ impl Resolver<'_> {
             &self.local,
             self.scopes.world(),
             self.scopes.module_id(import.home),
-            &import.path,
+            path,
         )
     }
 
+    /// What the path of an import reaches.
+    fn path_answer(&self, import: &ImportDirective) -> Result<ResolvePathResult, AllocError>
+        ensures value { IfOk result (λ answer. answer ≡ path_answer (finished_by self.now) self.now.local self.now.scopes.map import.now) }
+    {
+        match import.path.as_path() {
+            Some(path) => Ok(self.answer_by(import, path)),
+            None => Ok(self.answer_by(import, &import.path.to_path(self.alloc)?)),
+        }
+    }
+
     /// What the path of the import at the place reaches, if there is one.
-    pub(crate) fn path_at(&self, i: usize) -> Option<ResolvePathResult>
-        ensures value { result ≡ option_map (path_answer (finished_by self.now) self.now.local self.now.scopes.map) (slice_get self.now.imports.items i) }
+    pub(crate) fn path_at(&self, i: usize) -> Result<Option<ResolvePathResult>, AllocError>
+        ensures value { IfOk result (λ answer. answer ≡ option_map (path_answer (finished_by self.now) self.now.local self.now.scopes.map) (slice_get self.now.imports.items i)) }
     {
         match self.imports.get(i) {
-            Some(import) => Some(self.path_answer(import)),
-            None => None,
+            Some(import) => Ok(Some(self.path_answer(import)?)),
+            None => Ok(None),
         }
     }
 

@@ -92,11 +92,12 @@ impl Resolver<'_> {
         let ImportSource::Use { .. } = import.source else {
             return Ok(());
         };
+        let path = import.path.to_path(self.alloc)?;
         let slots = self.scopes.maps().path_slots(
             Some(&self.local),
             ResolveMode::Import,
             self.scopes.module_id(import.home),
-            &import.path,
+            &path,
             BuiltinShadowMode::Module,
             None,
         );
