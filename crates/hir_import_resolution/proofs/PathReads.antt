@@ -24,10 +24,11 @@ pub reads_use : (apart : Bool) (finished : Maps) (s : ImportState) (i : ℕ) (r 
 reads_use apart finished s i r id kind e f g = (λ j. cond (e j) (reads_by finished s (f j)) []) ∙ (λ j. path_reads finished s r (g j))
 
 -- slots of the same path
-pub slots_same : (maps all : Maps) (own map : Map) (at from : ModuleId) (asking : Asking) (path : Path) (slots : List Slot)
-    → slots ≡ slots_of maps asking own.id at path.kind path.segments → maps ≡ all → own ≡ map → at ≡ from → slots ≡ slots_of all asking map.id from path.kind
-    path.segments
-slots_same maps all own map at from asking path slots e f g h = e ∙ (λ j. slots_of (f j) asking (g j).id (h j) path.kind path.segments)
+pub slots_same : (maps all : Maps) (own map : Map) (at from : ModuleId) (asking : Asking) (path written : Path) (slots : List Slot)
+    → slots ≡ slots_of maps asking own.id at path.kind path.segments → maps ≡ all → own ≡ map → at ≡ from → path ≡ written
+    → slots ≡ slots_of all asking map.id from written.kind written.segments
+slots_same maps all own map at from asking path written slots e f g h same =
+    e ∙ (λ j. slots_of (f j) asking (g j).id (h j) (same j).kind (same j).segments)
 
 -- what was found at a place
 pub found_at : {X : Type 0} (items xs : List X) (i : ℕ) (x : X) → xs ≡ items → i < length xs → x ≡ get_or xs i x → slice_get items i ≡ Some x

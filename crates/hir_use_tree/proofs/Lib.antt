@@ -1,4 +1,3 @@
 pub mod UseTreeLemmas
 pub mod CallLemmas
 pub mod UseTreePlaces
-pub mod SharedPathLemmas

@@ -2,7 +2,7 @@
 //!
 //! The paths of a list's leaves begin alike, up to some thousand names where lists stand in lists. So what stands before a
 //! list is kept once, and a leaf keeps its own part alone.
-ghost use Rattle.std.specs.Prelude.{◌≡◌, ◌==◌, ◌++◌, is_empty, length, slice_get, IfOk, IfSome, OnOk};
+ghost use Rattle.std.specs.Prelude.{◌≡◌, ◌==◌, ◌++◌, length, slice_get, IfOk, IfSome, OnOk};
 ghost use Rattle.std.specs.Option.{option_copied};
 ghost use Rattle.hir_use_tree.specs.SharedPath.{names_before, last_name};
 
@@ -25,9 +25,10 @@ pub struct Prefix {
 impl Model for Prefix {
     ghost use Rattle.std.specs.Prelude.{◌++◌, length};
     ghost use Rattle.hir_base.specs.ModPath.{Path};
-    ghost use Rattle.hir_use_tree.specs.SharedPath.{names_before, GoesOn};
 
     ghost Value = { Path };
+
+    ghost use Rattle.hir_use_tree.specs.SharedPath.{names_before, GoesOn};
 
     ghost view = { λ p. record { kind = p.own.kind; segments = names_before p.before ++ p.own.segments } };
 
@@ -35,9 +36,9 @@ impl Model for Prefix {
 
     ghost size = { λ path. length path.segments };
 
-    ghost use Rattle.hir_use_tree.proofs.SharedPathLemmas.{shorter_before};
+    ghost use Rattle.std.proofs.Common.{arith, length-append};
 
-    ghost size_decreases = { λ p h. shorter_before p.before p.own.segments h };
+    ghost size_decreases = { λ p h. Prim.grind (arith, length-append) };
 }
 
 /// A path behind what stands before it, if something does.
@@ -51,11 +52,14 @@ pub struct SharedPath {
 impl Model for SharedPath {
     ghost use Rattle.std.specs.Prelude.{◌++◌};
     ghost use Rattle.hir_base.specs.ModPath.{Path};
-    ghost use Rattle.hir_use_tree.specs.SharedPath.{names_before};
 
     ghost Value = { Path };
 
+    ghost use Rattle.hir_use_tree.specs.SharedPath.{names_before, BeginsAs};
+
     ghost view = { λ p. record { kind = p.own.kind; segments = names_before p.before ++ p.own.segments } };
+
+    ghost invariant = { λ p. BeginsAs p.before p.own.kind };
 }
 
 impl SharedPath {
@@ -153,7 +157,7 @@ impl Prefix {
 
     /// Whether there is no name.
     pub(crate) fn is_empty(&self) -> bool
-        ensures value { result ≡ is_empty self.now.segments }
+        ensures value { result ≡ (length self.now.segments == 0) }
     {
         self.before.is_none() && self.own.segments().is_empty()
     }
