@@ -35,12 +35,12 @@ use hir_tables::Tables;
 use std::alloc::{AllocError, Global};
 use std::rc::Rc;
 
-/// The same text, if there is one.
-fn copied(alloc: Global, text: Option<&str>) -> Result<Option<Text>, AllocError>
-    ensures value { IfOk result (λ copy. copy ≡ option_map (λ t. t.now) text.entry) }
+/// The same text without a copy, if there is one.
+fn shared(text: Option<&Text>) -> Result<Option<Text>, AllocError>
+    ensures value { IfOk result (λ same. same ≡ option_map (λ t. t.now) text.entry) }
 {
     match text {
-        Some(text) => Ok(Some(Text::from_str(alloc, text)?)),
+        Some(text) => Ok(Some(text.clone()?)),
         None => Ok(None),
     }
 }
@@ -84,7 +84,7 @@ fn text_in<D: SourceDatabase>(
         id: tree_of(loc),
     };
     let source = source_at(alloc, db, locations, key)?;
-    copied(alloc, source.text(NodeId { kind, id: loc.id }))
+    shared(source.text(NodeId { kind, id: loc.id }))
 }
 
 /// The text of a macro, where a source writes it.
@@ -123,13 +123,10 @@ fn input_at<D: SourceDatabase>(
         },
     };
     let source = source_at(alloc, db, locations, key)?;
-    copied(
-        alloc,
-        source.input(NodeId {
-            kind: ast.kind,
-            id: ast.id,
-        }),
-    )
+    shared(source.input(NodeId {
+        kind: ast.kind,
+        id: ast.id,
+    }))
 }
 
 /// A text, or an empty one.

@@ -16,6 +16,7 @@ use crate::source_tree::SourceTree;
 use crate::tree_id::{TreeId, TreeKey};
 use hir_base::ast_id::SyntaxId;
 use hir_base::ids::Crate;
+use hir_base::text::Text;
 use std::alloc::{AllocError, Global};
 use std::collections::BTreeMap;
 use std::rc::Rc;
@@ -129,7 +130,7 @@ impl Trees {
             ≡ option_and_then (λ t. option_and_then entry_text (side_of t node)) (source_at self.now key) }
     {
         match self.get(key) {
-            Some(tree) => tree.text(node),
+            Some(tree) => as_str(tree.text(node)),
             None => None,
         }
     }
@@ -140,9 +141,19 @@ impl Trees {
             ≡ option_and_then (λ t. option_and_then entry_input (side_of t node)) (source_at self.now key) }
     {
         match self.get(key) {
-            Some(tree) => tree.input(node),
+            Some(tree) => as_str(tree.input(node)),
             None => None,
         }
+    }
+}
+
+/// A text as `&str`, if there is one.
+fn as_str(text: Option<&Text>) -> Option<&str>
+    ensures value { option_map (λ t. t.now) result ≡ option_map (λ t. t.now) text.entry }
+{
+    match text {
+        Some(text) => Some(text.as_str()),
+        None => None,
     }
 }
 
