@@ -21,10 +21,10 @@ others : (old new : Runs) (id own : MapId) → id ≡ own
 others old new id own is stand =
     subst (λ (x : MapId). (j : MapId) → is_at (map_order.ghosts.cmp x) j ≡ false → run_in new j ≡ run_in old j) is stand
 
-pub returns-in_err-put-clause-err : goal.returns-in_err-put-clause-err
-returns-in_err-put-clause-err c =
-    on_err c.from_residual.result (same_runs c.self.inside.world.maps c.self.inside.runs.by_place c.put.new.self.by_place c.in_err-put.ensures.err ∙
-    c.self.view_is)
+pub returns-in_err-put_run-clause-err : goal.returns-in_err-put_run-clause-err
+returns-in_err-put_run-clause-err c =
+    on_err c.from_residual-in_err-put_run.result
+    (same_runs c.self.inside.world.maps c.self.inside.runs.by_place c.put_run.new.runs.by_place c.in_err-put_run.ensures.err ∙ c.self.view_is)
 
 pub join-requires : goal.join-requires
 join-requires c = record {
@@ -32,33 +32,24 @@ join-requires c = record {
       c.requires.free c.requires.complete;
 }
 
-pub returns-in_err-join-clause-err : goal.returns-in_err-join-clause-err
-returns-in_err-join-clause-err c =
-    on_err c.from_residual-in_err-join.result
-    (same_resolutions c.self.inside.world.maps c.join.new.world.maps c.put.new.self.by_place c.in_err-join.ensures.err
-    ∙ run_aside c.self.inside.world.maps c.self.inside.runs.by_place c.put.new.self.by_place c.args.found.map.id
-    (others c.self.inside.runs.by_place c.put.new.self.by_place c.id-id.result c.args.found.map.id c.id-id.ensures.value c.in_ok-put.ensures.others)
-    (absent c.self.inside.world.maps c.self.inside.runs.by_place c.args.self.now c.self.view_is c.args.found.map.id c.requires.free)
-    ∙ c.self.view_is)
-
 pub returns-clause-here : goal.returns-clause-here
 returns-clause-here c =
-    kept_here c.self.inside.world.maps c.join.new.world.maps c.self.inside.runs.by_place c.put.new.self.by_place c.args.found.map c.args.found.local
+    kept_here c.self.inside.world.maps c.join.new.world.maps c.self.inside.runs.by_place c.put_run.new.runs.by_place c.args.found.map c.args.found.local
     (record { leftover = c.args.found.leftover; round_limit_met = c.args.found.round_limit_met; asked = c.args.found.asked })
-    c.in_ok-join.ensures.maps
-    (here c.put.new.self.by_place _ c.id-id.result c.args.found.map.id c.id-id.ensures.value c.in_ok-put.ensures.here)
-    (others c.self.inside.runs.by_place c.put.new.self.by_place c.id-id.result c.args.found.map.id c.id-id.ensures.value c.in_ok-put.ensures.others)
+    c.in-Ok.ensures.maps
+    (here c.put_run.new.runs.by_place _ c.id-id.result c.args.found.map.id c.id-id.ensures.value c.in_ok-put_run.ensures.here)
+    (others c.self.inside.runs.by_place c.put_run.new.runs.by_place c.id-id.result c.args.found.map.id c.id-id.ensures.value c.in_ok-put_run.ensures.others)
     (absent c.self.inside.world.maps c.self.inside.runs.by_place c.args.self.now c.self.view_is c.args.found.map.id c.requires.free)
     ∙ ap (λ (finished : Maps). Some (held (collected_view c.args.found) (holders_under finished c.args.found.map.id c.args.found.map.holder)))
     (told c.self.inside.world.maps c.self.inside.runs.by_place ∙ ap finished_by c.self.view_is)
 
 pub returns-clause-others : goal.returns-clause-others
 returns-clause-others c id ne =
-    kept_else c.self.inside.world.maps c.join.new.world.maps c.self.inside.runs.by_place c.put.new.self.by_place c.args.found.map c.args.found.local
+    kept_else c.self.inside.world.maps c.join.new.world.maps c.self.inside.runs.by_place c.put_run.new.runs.by_place c.args.found.map c.args.found.local
     (record { leftover = c.args.found.leftover; round_limit_met = c.args.found.round_limit_met; asked = c.args.found.asked })
-    c.in_ok-join.ensures.maps
-    (here c.put.new.self.by_place _ c.id-id.result c.args.found.map.id c.id-id.ensures.value c.in_ok-put.ensures.here)
-    (others c.self.inside.runs.by_place c.put.new.self.by_place c.id-id.result c.args.found.map.id c.id-id.ensures.value c.in_ok-put.ensures.others)
+    c.in-Ok.ensures.maps
+    (here c.put_run.new.runs.by_place _ c.id-id.result c.args.found.map.id c.id-id.ensures.value c.in_ok-put_run.ensures.here)
+    (others c.self.inside.runs.by_place c.put_run.new.runs.by_place c.id-id.result c.args.found.map.id c.id-id.ensures.value c.in_ok-put_run.ensures.others)
     (absent c.self.inside.world.maps c.self.inside.runs.by_place c.args.self.now c.self.view_is c.args.found.map.id c.requires.free)
     id ne
     ∙ ap (λ (kept : Resolutions). kept_in kept id) c.self.view_is
