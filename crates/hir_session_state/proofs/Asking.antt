@@ -27,7 +27,7 @@ none_held tables kept askers none empty =
     record { each = λ n k id. empty n k id ∙ sym (ap (λ (o : Option Resolution). asked_by tables o n k) (none id)) }
 
 -- a key that is one of some
-among_keys : (keys : List Key) (k : Key) → list_any (is_key k) keys ≡ true → Contains keys k
+pub among_keys : (keys : List Key) (k : Key) → list_any (is_key k) keys ≡ true → Contains keys k
 among_keys keys k on =
     let found = found-any (is_key k) keys on in
     subst (λ (x : Key). Contains keys x) (sym (equal_key k found.0 found.2)) found.1

@@ -1,9 +1,9 @@
 -- Places are entered at keys, and taken out, one key after another.
-use Rattle.std.proofs.Common.{◌≡◌, ◌∙◌, ap, sym, refl, Bool, true, false, not, ◌&&◌, ◌||◌, cond, Option, Some, None, List, [], ◌∷◌}
+use Rattle.std.proofs.Common.{◌≡◌, ◌∙◌, ap, sym, refl, Bool, true, false, not, ◌&&◌, ◌||◌, cond, Option, Some, None, List, [], ◌∷◌, length, arith}
 use Rattle.std.specs.List.{list_any}
 use Rattle.std.specs.Option.{UnwrapsOrElse}
-use Rattle.std.specs.BTreeMap.{is_at, IsEmpty as HasNoEntry, IsOrdered as HasOrderedKeys}
-use Rattle.std.specs.BTreeSet.{BTreeSet, contains, IsEmpty, IsOrdered}
+use Rattle.std.specs.BTreeMap.{btree_map_len, is_at, IsEmpty as HasNoEntry, IsOrdered as HasOrderedKeys}
+use Rattle.std.specs.BTreeSet.{BTreeSet, btree_set_len, contains, IsEmpty, IsOrdered}
 use Rattle.std.specs.Map.{lookup}
 use Rattle.std.specs.declared.cmp.Ordering.{Ordering}
 use Rattle.std.proofs.lemmas.List.Folds.{list_any-append}
@@ -67,6 +67,25 @@ module _ {K V : Type 0} (cmp : K → K → Ordering) (exact : (x y : K) → is_a
       go true e = is ∙ ap (λ (x : K). op (f (old x)) b) (exact k q e)
       go false e = sym (none (f (old q)))
 
+-- what was written and then taken out is gone
+pub written_twice : {V : Type 0} (b : Bool) (mid old new w : Option V) → mid ≡ cond b w old → new ≡ cond b None mid → new ≡ cond b None old
+written_twice {V} b mid old new w first second = second ∙ ap (cond b None) first ∙ go b
+  where
+    go : (b : Bool) → cond b None (cond b w old) ≡ cond b None old
+    go true = refl
+    go false = refl
+
+-- nothing is taken out at a key that isn't there
+pub absent_at : {K : Type 0} (cmp : K → K → Ordering) (exact : (x y : K) → is_at (cmp x) y ≡ true → x ≡ y) (has : K → Bool) (k : K) (b : Bool)
+    → has k ≡ false → (q : K) → has q ≡ (has q && not (is_at (cmp k) q && b))
+absent_at cmp exact has k b gone q = go (is_at (cmp k) q) refl
+  where
+    go : (s : Bool) → is_at (cmp k) q ≡ s → has q ≡ (has q && not (s && b))
+    go true e =
+        let none : has q ≡ false = sym (ap has (exact k q e)) ∙ gone in
+        none ∙ sym (ap (λ (a : Bool). a && not (true && b)) none)
+    go false e = sym (and-true (has q))
+
 -- ---- sets and maps that were made where there was none
 
 pub made_set : (found : Option (BTreeSet MapId)) (before : BTreeSet MapId)
@@ -80,6 +99,21 @@ pub made_map : (found : Option KeyAskers) (before : KeyAskers)
     → (key : Key) (id : MapId) → has_asked before key id ≡ has_asked_in found key id
 made_map None before made key id = ap (λ (es : List (Key × BTreeSet MapId)). is_in (lookup (is_key key) es) id) made.0
 made_map (Some m) before is key id = ap (λ (m : KeyAskers). has_asked m key id) is
+
+-- nothing is in one that is empty
+pub empty_set : (ids : BTreeSet MapId) → btree_set_len ids ≡ 0 → (id : MapId) → contains map_order.ghosts.cmp ids id ≡ false
+empty_set ids e id = go ids.keys e
+  where
+    go : (xs : List MapId) → length xs ≡ 0 → list_any (is_id id) xs ≡ false
+    go [] e = refl
+    go (x ∷ xs) e = absurd (omega (arith, e))
+
+pub empty_map : (m : KeyAskers) → btree_map_len m ≡ 0 → (key : Key) (id : MapId) → has_asked m key id ≡ false
+empty_map m e key id = go m.entries e
+  where
+    go : (es : List (Key × BTreeSet MapId)) → length es ≡ 0 → is_in (lookup (is_key key) es) id ≡ false
+    go [] e = refl
+    go (x ∷ xs) e = absurd (omega (arith, e))
 
 -- ---- one key
 

@@ -4,6 +4,7 @@ use Rattle.std.proofs.Common.{◌∷◌, arith}
 use Rattle.std.specs.List.{count_by, list_any}
 use Rattle.std.specs.Option.{option_map}
 use Rattle.std.specs.BTreeMap.{is_at}
+use Rattle.std.proofs.lemmas.List.Sums.{sum_by-cons}
 use Rattle.hir_base.specs.declared.ids.MapId.{MapId}
 use Rattle.hir_base.specs.contracts.ids.MapIdOrd.TheImpl as map_order
 use Rattle.hir_def_map.specs.declared.world.finished.Finished.{Finished}
@@ -20,16 +21,16 @@ use Rattle.hir_session_state.proofs.Truth.{clash}
 -- ---- whether something is counted
 
 none_counted : {A : Type 0} (test : A → Bool) (xs : List A) → count_by test xs ≡ 0 → list_any test xs ≡ false
-none_counted test [] e = refl
-none_counted test (x ∷ xs) e = go (none_counted test xs) (test x) e
+none_counted {A} test [] e = refl
+none_counted {A} test (x ∷ xs) e = go (none_counted test xs) (test x) (sym (sum_by-cons (λ (y : A). cond (test y) 1 0) x xs) ∙ e)
   where
     go : (count_by test xs ≡ 0 → list_any test xs ≡ false) → (b : Bool) → cond b 1 0 + count_by test xs ≡ 0 → (b || list_any test xs) ≡ false
     go rest true e = absurd (omega (arith, e))
     go rest false e = rest (omega (arith, e))
 
 one_counted : {A : Type 0} (test : A → Bool) (xs : List A) → count_by test xs ≡ 1 → list_any test xs ≡ true
-one_counted test [] e = absurd (omega (arith, e))
-one_counted test (x ∷ xs) e = go (one_counted test xs) (test x) e
+one_counted {A} test [] e = absurd (omega (arith, e))
+one_counted {A} test (x ∷ xs) e = go (one_counted test xs) (test x) (sym (sum_by-cons (λ (y : A). cond (test y) 1 0) x xs) ∙ e)
   where
     go : (count_by test xs ≡ 1 → list_any test xs ≡ true) → (b : Bool) → cond b 1 0 + count_by test xs ≡ 1 → (b || list_any test xs) ≡ true
     go rest true e = refl

@@ -1,5 +1,5 @@
 -- What maps in a world, and what else is kept of each run, tell together.
-use Rattle.std.proofs.Common.{◌≡◌, ◌≢◌, ◌∙◌, ap, sym, subst, refl, ℕ, zero, suc, ◌<◌, ◌+◌, Bool, true, false, not, is_some, cond, Option, Some, None, List, []}
+use Rattle.std.proofs.Common.{◌≡◌, ◌≢◌, ◌∙◌, ap, sym, subst, refl, ℕ, zero, suc, ◌<◌, ◌≤◌, ◌+◌, Bool, true, false, not, is_some, cond, Option, Some, None, List, []}
 use Rattle.std.proofs.Common.{◌∷◌, ◌⊎◌, inl, inr, length, get_or, map, arith}
 use Rattle.std.specs.Option.{option_map}
 use Rattle.std.specs.BTreeMap.{BTreeMap, get, is_at, IsUnchanged}
@@ -26,7 +26,7 @@ use Rattle.hir_session_state.specs.Kept.{resolution_from, resolutions_in, AreFor
 use Rattle.std.specs.List.Sorted.{IsStrictlySortedBy}
 use Rattle.hir_base.specs.contracts.ids.MapIdOrd.TheImpl.Laws.{total-law as order_total}
 use Rattle.hir_session_state.proofs.Counting.{one_more_at_most}
-use Rattle.hir_session_state.proofs.Ids.{equal_id, other_id}
+use Rattle.hir_session_state.proofs.Ids.{equal_id, other_id, own_id}
 use Rattle.hir_session_state.proofs.Truth.{both_true, clash, on_bool, on_same}
 
 abbrev pub Store : Type 0
@@ -111,6 +111,18 @@ kept_none maps runs id none = kept_at maps runs id ∙ ap (option_map (λ (f : F
 pub none_kept : (maps : Store) (runs : Runs) → finished_in maps ≡ no_maps → (id : MapId) → kept_in (resolutions_in maps runs) id ≡ None
 unfolding finished_in
 none_kept maps runs none id = kept_none maps runs id (not_found (found_in maps id) (ap (λ (all : Maps). all id) none))
+
+-- and there is none
+pub no_entries : (maps : Store) → finished_in maps ≡ no_maps → length maps.entries ≡ 0
+unfolding finished_in
+no_entries maps none = go maps.entries (λ id. not_found (found_in maps id) (ap (λ (all : Maps). all id) none))
+  where
+    go : (es : List (MapId × Finished)) → ((id : MapId) → lookup (is_at (map_order.ghosts.cmp id)) es ≡ None) → length es ≡ 0
+    go [] empty = refl
+    go (e ∷ es) empty =
+        let found : Some e.1 ≡ None =
+        sym (ap (λ (b : Bool). cond b (Some e.1) (lookup (is_at (map_order.ghosts.cmp e.0)) es)) (own_id e.0)) ∙ empty e.0 in
+        absurd (let wrong : ⊥ = cc in wrong)
 
 -- ---- the maps of which they tell
 

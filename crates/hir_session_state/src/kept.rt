@@ -124,6 +124,22 @@ fn joined<'a>(
 }
 
 /// Adds a map that is complete beside the others.
+fn insert(world: &mut World, map: DefMap, local: LocalDefMap) -> Result<(), AllocError>
+    requires may { may_join (finished_in world.old.maps) map local ≡ true }
+    ensures maps { OnOk result ((id : MapId) → finished_in world.new.maps id ≡ with_map (finished_in world.old.maps) map local id) }
+    ensures err { OnErr result (IsUnchanged world.old.maps world.new.maps) }
+{
+    match world.insert(map, local) {
+        Ok(()) => Ok(()),
+        Err(refused) => {
+            let for_memory = matches!(refused.why, InsertError::Memory);
+            prove!(for_memory);
+            Err(AllocError)
+        }
+    }
+}
+
+/// The same. There is at most one map more then.
 fn join(world: &mut World, map: DefMap, local: LocalDefMap) -> Result<(), AllocError>
     requires may { may_join (finished_in world.old.maps) map local ≡ true }
     ensures maps { OnOk result ((id : MapId) → finished_in world.new.maps id ≡ with_map (finished_in world.old.maps) map local id) }
@@ -131,18 +147,10 @@ fn join(world: &mut World, map: DefMap, local: LocalDefMap) -> Result<(), AllocE
     ensures err { OnErr result (IsUnchanged world.old.maps world.new.maps) }
 {
     let before = world.maps.len();
-    match world.insert(map, local) {
-        Ok(()) => {
-            let is_one_more = world.maps.len() <= before + 1;
-            prove!(is_one_more);
-            Ok(())
-        }
-        Err(refused) => {
-            let for_memory = matches!(refused.why, InsertError::Memory);
-            prove!(for_memory);
-            Err(AllocError)
-        }
-    }
+    insert(world, map, local)?;
+    let after = world.maps.len();
+    prove!(after <= before + 1);
+    Ok(())
 }
 
 /// Makes room for the ids of all maps and of one more.
