@@ -111,7 +111,7 @@ pub dropping-end : (tables : TablesValue) (all left : List MapId) (old : RunsByI
 dropping-end tables all left old before now mid end dropping = record {
   runs = λ id. sym (dropping.runs id ∙ ap (λ (ids : List MapId). cond (is_one ids id) None (run_at now id)) end);
   askers = λ n k id. sym (
-    dropping.askers n k id
-        ∙ ap (λ (ids : List MapId). is_asker mid n k id && not (is_one ids id && is_asked tables (asked_of (run_at now id)) n k)) end
-        ∙ and-true (is_asker mid n k id));
+      dropping.askers n k id
+      ∙ ap (λ (ids : List MapId). is_asker mid n k id && not (is_one ids id && is_asked tables (asked_of (run_at now id)) n k)) end
+      ∙ and-true (is_asker mid n k id));
 }

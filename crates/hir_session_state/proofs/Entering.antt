@@ -290,10 +290,10 @@ asked_own tables own all part n k = go (asks tables n k) refl
   where
     go : (b : Bool) → asks tables n k ≡ b → (list_any (is_key k) own && b) ≡ (list_any (is_key k) all && b)
     go true on = ap (λ (b : Bool). b && true) (sym (
-      ap (list_any (is_key k)) part.is
-          ∙ list_any-append (is_key k) own (map_keys part.dependencies)
-          ∙ ap (λ (b : Bool). list_any (is_key k) own || b) (of_maps tables part.dependencies n k on)
-          ∙ or-false (list_any (is_key k) own)))
+        ap (list_any (is_key k)) part.is
+        ∙ list_any-append (is_key k) own (map_keys part.dependencies)
+        ∙ ap (λ (b : Bool). list_any (is_key k) own || b) (of_maps tables part.dependencies n k on)
+        ∙ or-false (list_any (is_key k) own)))
     go false off = and-false (list_any (is_key k) own) ∙ sym (and-false (list_any (is_key k) all))
 
 pub enters_all : (tables : TablesValue) (old new : Askers) (own all : List Key) (id : MapId) → IsOwnPart own all → Enters tables old new own id

@@ -276,8 +276,7 @@ impl Kept {
         ensures stay { (j : MapId) → ¬ Depends (names_in self.old) id j → kept_in self.new j ≡ kept_in self.old j }
         ensures exact { HoldsExactly tables.now self.new askers.new }
     {
-        self.world
-            .remove_with_dependents_into(id, &mut self.fallen);
+        self.world.remove_with_dependents_into(id, &mut self.fallen);
         drop_runs(&mut self.runs, askers, tables, &mut self.fallen);
     }
 

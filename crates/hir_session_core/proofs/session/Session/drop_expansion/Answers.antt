@@ -11,7 +11,8 @@ pub invariant_of-self : goal.invariant_of-self
 invariant_of-self c =
     let old = state_of c.self.inside.inputs c.self.inside.tables c.self.inside.kept in
     let new = record old { sources = edited old.sources (of_expansion (expansion_value c.args.key.now) None); kept = c.forget.new.kept } in (
-      rw c.remove_expansion.ensures.value (edited_sound _ (of_expansion (expansion_value c.args.key.now) None) _ _ c.self.invariant.0 (c.in_ok-hits.ensures.hit _ c.self.invariant.1)
+      rw c.remove_expansion.ensures.value (edited_sound _ (of_expansion (expansion_value c.args.key.now) None) _ _ c.self.invariant.0
+          (c.in_ok-hits.ensures.hit _ c.self.invariant.1)
           c.forget.ensures.forgotten),
       c.forget.ensures.exact,
       rw c.remove_expansion.ensures.value (known_forgot old new c.self.inside.pending c.forget.new.pending refl refl c.forget.ensures.pending

@@ -17,7 +17,8 @@ invariant_of-self-2 c =
     let block = c.args.block in
     let own = c.block_id-own.ensures.value ∙ ap (λ (t : SessionState). option_map (block_map block.holder.krate) (block_number t.tables block))
     (sym c.self.view_is) in (
-      rw c.in_ok-set_block.ensures.ok (edited_sound _ (of_block block (Some (source_view c.args.source))) _ _ c.self.invariant.0 (c.in_ok-hits.ensures.hit _ c.self.invariant.1)
+      rw c.in_ok-set_block.ensures.ok (edited_sound _ (of_block block (Some (source_view c.args.source))) _ _ c.self.invariant.0
+          (c.in_ok-hits.ensures.hit _ c.self.invariant.1)
           c.forget_block.ensures.forgotten),
       c.forget_block.ensures.exact,
       rw c.in_ok-set_block.ensures.ok (known_set old block c.block_id-own.result own (source_view c.args.source) c.forget_block.new.kept c.self.inside.pending

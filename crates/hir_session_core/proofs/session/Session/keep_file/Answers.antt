@@ -14,7 +14,8 @@ pub invariant_of-self-2 : goal.invariant_of-self-2
 invariant_of-self-2 c =
     let old = state_of c.self.inside.inputs c.self.inside.tables c.self.inside.kept in
     let new = record old { sources = edited old.sources (of_file c.args.file (Some (source_view c.args.source))); kept = c.forget.new.kept } in (
-      rw c.in_ok-set_file.ensures.ok (edited_sound _ (of_file c.args.file (Some (source_view c.args.source))) _ _ c.self.invariant.0 (c.in_ok-hits.ensures.hit _ c.self.invariant.1)
+      rw c.in_ok-set_file.ensures.ok (edited_sound _ (of_file c.args.file (Some (source_view c.args.source))) _ _ c.self.invariant.0
+          (c.in_ok-hits.ensures.hit _ c.self.invariant.1)
           c.forget.ensures.forgotten),
       c.forget.ensures.exact,
       rw c.in_ok-set_file.ensures.ok (known_forgot old new c.self.inside.pending c.forget.new.pending refl refl c.forget.ensures.pending c.self.invariant.2),

@@ -17,13 +17,13 @@ keep-requires-clause-free c =
     let found : IsResolutionOf inside c.args.found.map.id (held_in inside (collected_view c.args.found)) =
     subst (λ (s : SessionState). IsResolutionOf s c.args.found.map.id (held_in s (collected_view c.args.found))) back c.requires.found in
     free_own inside c.args.found.map.id (held_in inside (collected_view c.args.found)) found.own
-        (subst (λ (s : SessionState). is_marked s c.args.found.map.id ≡ true) back
+    (subst (λ (s : SessionState). is_marked s c.args.found.map.id ≡ true) back
     c.requires.marked)
 
 pub keep-requires-clause-complete : goal.keep-requires-clause-complete
 keep-requires-clause-complete c =
     may_join _ c.args.found.map.id _ (subst (λ (s : SessionState). IsResolutionOf s c.args.found.map.id (held_in s (collected_view c.args.found)))
-        (sym c.self.view_is)
+    (sym c.self.view_is)
     c.requires.found)
 
 pub invariant_of-self : goal.invariant_of-self
