@@ -19,5 +19,5 @@ invariant_of-self c =
 pub returns-clause-ok : goal.returns-clause-ok
 returns-clause-ok c =
     rw c.remove_file.ensures.value (edited_becomes _ (of_file c.args.file.now None) _ _ _ c.self.view_is c.self.invariant.0
-        (c.in_ok-hits.ensures.hit _ c.self.invariant.1)
+    (c.in_ok-hits.ensures.hit _ c.self.invariant.1)
     c.forget.ensures.forgotten)
