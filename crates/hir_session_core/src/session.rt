@@ -5,9 +5,9 @@
 //! block, which asks for its own source too, and for the maps of its crate and of what holds it. What it comes to is kept, with
 //! these keys.
 //!
-//! An edit of a source compares what the source has with what it gets, at the keys of those runs that asked for it. Where one
-//! is altered the place is marked, and so is each place that depends on it: what is kept of them is dropped, and that is all
-//! that a mark is. A refresh runs the import rules for the marked places: for crates in the order of their numbers, and then for
+//! An edit of a source compares what the source has with what it gets, at each key of it for which a kept run asked: an index has
+//! these keys by source, and of each the places. Where one is altered those places are marked, and so is each place that depends
+//! on one: what is kept of them is dropped, with what the index has of them, and that is all that a mark is. A refresh runs the import rules for the marked places: for crates in the order of their numbers, and then for
 //! blocks, an outer one before those within it, so that a run finds what it depends on.
 //!
 //! The one difficulty: no query looks at a source. What is kept of a place is right because it is what the import rules could
@@ -80,7 +80,7 @@ impl Drop for Session {
 }
 
 impl Model for Session {
-    ghost use Rattle.hir_session_state.specs.Askers.{AreNoted};
+    ghost use Rattle.hir_session_state.specs.Askers.{HoldsExactly};
     ghost use Rattle.hir_session_state.specs.SessionState.{SessionState, IsSound, state_of};
     ghost use Rattle.hir_session_state.specs.Codes.{coded_session};
     ghost use Rattle.hir_session_core.specs.Progress.{AreKnownPending};
@@ -91,7 +91,7 @@ impl Model for Session {
 
     ghost view = { λ s. state_of s.inputs s.tables s.kept };
 
-    ghost invariant = { λ s. IsSound (state_of s.inputs s.tables s.kept) × AreNoted s.tables s.kept s.askers
+    ghost invariant = { λ s. IsSound (state_of s.inputs s.tables s.kept) × HoldsExactly s.tables s.kept s.askers
         × AreKnownPending (state_of s.inputs s.tables s.kept) s.pending };
 }
 
@@ -145,12 +145,17 @@ impl Session {
             alloc,
             &self.inputs,
             &self.tables,
-            &self.kept,
             &self.askers,
             edit,
         )?;
         self.inputs.set_file(file, source, trees)?;
-        forget(&mut self.kept, &mut self.pending, &hits);
+        forget(
+            &self.tables,
+            &mut self.kept,
+            &mut self.askers,
+            &mut self.pending,
+            &hits,
+        );
         Ok(())
     }
 
@@ -167,12 +172,17 @@ impl Session {
             alloc,
             &self.inputs,
             &self.tables,
-            &self.kept,
             &self.askers,
             edit,
         )?;
         self.inputs.remove_file(file, trees);
-        forget(&mut self.kept, &mut self.pending, &hits);
+        forget(
+            &self.tables,
+            &mut self.kept,
+            &mut self.askers,
+            &mut self.pending,
+            &hits,
+        );
         Ok(())
     }
 
@@ -194,12 +204,17 @@ impl Session {
             alloc,
             &self.inputs,
             &self.tables,
-            &self.kept,
             &self.askers,
             edit,
         )?;
         self.inputs.set_expansion(key, entry)?;
-        forget(&mut self.kept, &mut self.pending, &hits);
+        forget(
+            &self.tables,
+            &mut self.kept,
+            &mut self.askers,
+            &mut self.pending,
+            &hits,
+        );
         Ok(())
     }
 
@@ -213,12 +228,17 @@ impl Session {
             alloc,
             &self.inputs,
             &self.tables,
-            &self.kept,
             &self.askers,
             edit,
         )?;
         self.inputs.remove_expansion(key);
-        forget(&mut self.kept, &mut self.pending, &hits);
+        forget(
+            &self.tables,
+            &mut self.kept,
+            &mut self.askers,
+            &mut self.pending,
+            &hits,
+        );
         Ok(())
     }
 

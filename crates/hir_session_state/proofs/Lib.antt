@@ -12,5 +12,9 @@ pub mod Turns
 pub mod Worlds
 pub mod Resolving
 pub mod NumberLemmas
+pub mod KeyIds
+pub mod Entering
+pub mod Dropping
 pub mod Asking
+pub mod Falling
 pub mod Counting

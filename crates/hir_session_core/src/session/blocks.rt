@@ -80,14 +80,20 @@ impl Session {
             alloc,
             &self.inputs,
             &self.tables,
-            &self.kept,
             &self.askers,
             edit,
         )?;
         let one = PendingBlock::new(alloc, &block)?;
         let own = self.block_id(&block);
         self.inputs.set_block(block, source)?;
-        forget_block(&mut self.kept, &mut self.pending, own, &hits);
+        forget_block(
+            &self.tables,
+            &mut self.kept,
+            &mut self.askers,
+            &mut self.pending,
+            own,
+            &hits,
+        );
         let is_kept = self.kept.has(own);
         settle(&mut self.pending, one, !is_kept);
         Ok(())
@@ -106,14 +112,20 @@ impl Session {
             alloc,
             &self.inputs,
             &self.tables,
-            &self.kept,
             &self.askers,
             edit,
         )?;
         let one = PendingBlock::new(alloc, block)?;
         let own = self.block_id(block);
         self.inputs.remove_block(block)?;
-        forget_block(&mut self.kept, &mut self.pending, own, &hits);
+        forget_block(
+            &self.tables,
+            &mut self.kept,
+            &mut self.askers,
+            &mut self.pending,
+            own,
+            &hits,
+        );
         settle(&mut self.pending, one, false);
         Ok(())
     }

@@ -71,19 +71,18 @@ fn refresh_error(error: CollectError) -> RefreshError
 
 impl Session {
     /// Keeps what a run came to for a marked place, of which what it depends on is current.
-    fn keep_found(&mut self, id: MapId, found: Collected) -> Result<(), AllocError>
-        requires place { IsPlace self.old id }
-        requires marked { is_marked self.old id ≡ true }
-        requires found { IsResolutionOf self.old id (held_in self.old (collected_view found)) }
-        requires behind { AreFollowedCurrent self.old id found.map.holder }
-        ensures ok { OnOk result (Resolved self.old id (held_in self.old (collected_view found)) self.new) }
+    fn keep_found(&mut self, found: Collected) -> Result<(), AllocError>
+        requires place { IsPlace self.old found.map.id }
+        requires marked { is_marked self.old found.map.id ≡ true }
+        requires found { IsResolutionOf self.old found.map.id (held_in self.old (collected_view found)) }
+        requires behind { AreFollowedCurrent self.old found.map.id found.map.holder }
+        ensures ok { OnOk result (Resolved self.old found.map.id (held_in self.old (collected_view found)) self.new) }
         ensures sound { IsSound self.new }
         ensures err { OnErr result (self.new ≡ self.old) }
     {
         // Fewer blocks may wait now. `refresh_blocks` says which do.
         self.pending = None;
-        self.askers.note(&self.tables, &found.asked, id)?;
-        self.kept.keep(found)?;
+        self.kept.keep(&self.tables, &mut self.askers, found)?;
         Ok(())
     }
 
@@ -122,7 +121,7 @@ impl Session {
         ensures err { OnErr result (Grows self.old self.new) }
     {
         let found = self.found_at::<C>(alloc, k)?;
-        self.keep_found(MapId::of_crate(Crate(k)), found)?;
+        self.keep_found(found)?;
         Ok(())
     }
 
@@ -211,11 +210,7 @@ impl Session {
         ensures err { OnErr result (Grows self.old self.new) }
     {
         let found = self.found_in::<C>(alloc, at)?;
-        let id = MapId {
-            krate: at.krate,
-            block: Some(at.block),
-        };
-        self.keep_found(id, found)?;
+        self.keep_found(found)?;
         Ok(())
     }
 

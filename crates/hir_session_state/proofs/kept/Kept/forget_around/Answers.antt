@@ -12,6 +12,7 @@ returns c =
     c.forget.ensures.forgotten.fewer c.args.own in
     record {
       forgotten = c.forget.ensures.forgotten;
+      exact = c.forget.ensures.exact;
       alone = (
         λ on. counts.0 ((λ i. sym c.len-before.ensures.value i + one (sym c.has-has.ensures.value i)) ∙ c.is_as_many.ensures.value.0 on
             ∙ (λ i. c.len.ensures.value i + one (c.has-had.ensures.value i))),
