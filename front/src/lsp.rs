@@ -144,6 +144,8 @@ struct Server<W: Write> {
     needs_report: bool,
     /// When the program was started again.
     restarts: Vec<Instant>,
+    /// How often it was since some work with it was done.
+    failures: usize,
     has_nested_symbols: bool,
     registers_watchers: bool,
     shows_progress: bool,
@@ -151,7 +153,7 @@ struct Server<W: Write> {
     openings: u32,
 }
 
-/// More often than this within a minute the program isn't started again.
+/// More often than this, within a minute or for the same work, the program isn't started again.
 const MOST_RESTARTS: usize = 3;
 
 const ERROR: u32 = 1;
@@ -178,6 +180,7 @@ impl<W: Write> Server<W> {
             touched: HashSet::new(),
             needs_report: false,
             restarts: Vec::new(),
+            failures: 0,
             has_nested_symbols: false,
             registers_watchers: false,
             shows_progress: false,
@@ -462,7 +465,10 @@ impl<W: Write> Server<W> {
                 return Ok(None);
             };
             let error = match work(space) {
-                Ok(it) => return Ok(Some(it)),
+                Ok(it) => {
+                    self.failures = 0;
+                    return Ok(Some(it));
+                }
                 Err(it) => it,
             };
             if space.is_running() {
@@ -477,12 +483,14 @@ impl<W: Write> Server<W> {
         let now = Instant::now();
         self.restarts.retain(|it| now.duration_since(*it) < Duration::from_secs(60));
         self.needs_report = true;
-        if self.restarts.len() >= MOST_RESTARTS {
+        if self.restarts.len().max(self.failures) >= MOST_RESTARTS {
             self.space = None;
             self.restarts.clear();
+            self.failures = 0;
             return self.show(ERROR, &format!("Nogsimat: {error:#}. It isn't started again; a save tries again"));
         }
         self.restarts.push(now);
+        self.failures += 1;
         let Some(space) = &mut self.space else {
             return Ok(());
         };

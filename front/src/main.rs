@@ -144,6 +144,16 @@ impl Options {
         let program = program::find(self.program.as_deref())?;
         let bar = self.bar()?;
         let crates = Crates::read(&self.wanted(path))?;
+        let space = Workspace::open(crates, &program, self.expansions.as_deref(), shown_by(&bar));
+        bar.finish_and_clear();
+        space
+    }
+
+    /// The same for reports alone.
+    fn open_brief(&self, path: &Path) -> Result<Workspace> {
+        let program = program::find(self.program.as_deref())?;
+        let bar = self.bar()?;
+        let crates = Crates::read(&self.wanted(path))?;
         self.open_crates(crates, &program, &bar)
     }
 
@@ -161,14 +171,19 @@ impl Options {
     }
 
     fn open_crates(&self, crates: Crates, program: &Path, bar: &ProgressBar) -> Result<Workspace> {
-        let shown = bar.clone();
-        let space = Workspace::open(crates, program, self.expansions.as_deref(), move |what, done, of| {
-            shown.set_message(what.to_owned());
-            shown.set_length(of as u64);
-            shown.set_position(done as u64);
-        });
+        let space = Workspace::open_brief(crates, program, self.expansions.as_deref(), shown_by(bar));
         bar.finish_and_clear();
         space
+    }
+}
+
+/// Shows how reading goes.
+fn shown_by(bar: &ProgressBar) -> impl Fn(&str, usize, usize) + Send + 'static {
+    let shown = bar.clone();
+    move |what, done, of| {
+        shown.set_message(what.to_owned());
+        shown.set_length(of as u64);
+        shown.set_position(done as u64);
     }
 }
 
@@ -366,7 +381,7 @@ fn resolve(path: &str, at: &str, options: &Options) -> Result<ExitCode> {
 
 fn watch(path: &Path, options: &Options) -> Result<ExitCode> {
     let start = Instant::now();
-    let mut space = options.open(path)?;
+    let mut space = options.open_brief(path)?;
     let mut report = space.report()?;
     tell(&told(&space, &report, options.json)?, start.elapsed(), options.json)?;
     let (send, events) = std::sync::mpsc::channel();
@@ -390,7 +405,7 @@ fn watch(path: &Path, options: &Options) -> Result<ExitCode> {
         let names_manifest = |it: &PathBuf| it.file_name().is_some_and(|it| it == "Cargo.toml" || it == "Cargo.lock");
         let start = Instant::now();
         let resolved = if paths.iter().any(names_manifest) {
-            match options.open(path) {
+            match options.open_brief(path) {
                 Ok(it) => space = it,
                 Err(error) => {
                     eprintln!("error: {error:#}");

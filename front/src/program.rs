@@ -78,7 +78,7 @@ impl Program {
 
     /// The replies to the commands, in order.
     pub fn ask_all(&mut self, lines: &[String]) -> Result<Vec<Value>> {
-        let Program { input, output, .. } = self;
+        let Program { input, output, child, .. } = self;
         let mut replies = Vec::with_capacity(lines.len());
         let fault = std::thread::scope(|scope| {
             scope.spawn(move || {
@@ -89,18 +89,12 @@ impl Program {
                 }
                 let _ = input.flush();
             });
-            let mut text = String::new();
-            for _ in lines {
-                text.clear();
-                match output.read_line(&mut text) {
-                    Ok(0) | Err(_) => return Some(None),
-                    Ok(_) => match serde_json::from_str::<Value>(&text) {
-                        Ok(it) if it.get("ok").is_some() || it.get("error").is_some() => replies.push(it),
-                        _ => return Some(Some(std::mem::take(&mut text))),
-                    },
-                }
+            let fault = lines.iter().find_map(|_| read_reply(output).map(|it| replies.push(it)).err());
+            if fault.is_some() {
+                // It may read no further, so that the rest can't be written.
+                let _ = child.kill();
             }
-            None
+            fault
         });
         self.answered += replies.len();
         match fault {
@@ -141,6 +135,18 @@ impl Program {
             self.path.display(),
             self.answered
         )
+    }
+}
+
+/// A reply, or the line that is none; without a line nothing comes any more.
+fn read_reply(output: &mut impl BufRead) -> std::result::Result<Value, Option<String>> {
+    let mut text = String::new();
+    match output.read_line(&mut text) {
+        Ok(0) | Err(_) => Err(None),
+        Ok(_) => match serde_json::from_str::<Value>(&text) {
+            Ok(it) if it.get("ok").is_some() || it.get("error").is_some() => Ok(it),
+            _ => Err(Some(text)),
+        },
     }
 }
 

@@ -6,15 +6,17 @@ mod imports;
 
 use std::collections::HashMap;
 use std::path::Path;
+use std::sync::Arc;
 
 use anyhow::Result;
 use serde::Serialize;
 use serde_json::Value;
 
 use crate::question::names_of;
+use crate::syntax::Item;
 use crate::token::Span;
-use crate::unit::{place_json, quoted, steps_of};
-use crate::workspace::{bytes_of, path_of_key, Located, NotRun, Workspace};
+use crate::unit::{numbered, paths_of, place_json, quoted, steps_of};
+use crate::workspace::{bytes_of, path_of_key, Key, Located, NotRun, Workspace};
 pub use answers::{Answer, Meaning};
 pub(crate) use associated::MOST_ALIASES;
 use imports::{prefixes, Bound, Import};
@@ -79,6 +81,9 @@ impl Report {
     }
 }
 
+/// Where the paths of attributes stand, by the crate and the item, which stays where it is while a report is made.
+type SpansOfItems = HashMap<(u32, *const Item), HashMap<u64, (Span, Vec<Span>)>>;
+
 /// What isn't resolved in crates, as the program tells it.
 #[derive(Default)]
 struct Unresolved {
@@ -128,8 +133,10 @@ impl Workspace {
             self.follow_globs(&judged, &mut bound)?;
         }
         let imports = self.judged_imports(imports, &mut bound, &mut report);
+        // What a glob might have brought is told beside it, as rustc does.
         let unresolved: Bound = imports
             .iter()
+            .filter(|it| it.binds.as_deref() != Some("*"))
             .filter_map(|it| Some((it.krate, it.located.module.clone(), it.binds.as_ref()?.to_string())))
             .collect();
         for it in imports.iter().filter(|it| self.crates.all[it.krate as usize].is_asked) {
@@ -140,9 +147,10 @@ impl Workspace {
         for krate in judged.iter().copied().filter(|it| self.crates.all[*it as usize].is_asked).collect::<Vec<_>>() {
             self.imports_past_items(krate, &mut report)?;
         }
+        let mut spans = SpansOfItems::new();
         for (krate, it) in calls {
             if self.crates.all[krate as usize].is_asked {
-                self.call_diagnostic(krate, &it, &bound, &mut report)?;
+                self.call_diagnostic(krate, &it, &bound, &mut spans, &mut report)?;
             }
         }
         self.files_report(&mut report);
@@ -225,7 +233,25 @@ impl Workspace {
         }
     }
 
-    fn call_diagnostic(&mut self, krate: u32, it: &Value, bound: &Bound, report: &mut Report) -> Result<()> {
+    /// Where the paths of an item's attributes stand, by their numbers, each with those of its derives that are handed in.
+    fn spans_of_attributes(&self, krate: u32, file: &Key, item: &Item) -> HashMap<u64, (Span, Vec<Span>)> {
+        let left_out = self.left_out(krate, file);
+        let all = numbered(&item.attributes, &self.crates.all[krate as usize].options).into_iter();
+        let spans = all.map(|(number, it)| {
+            let derived = paths_of(&it).unwrap_or_default().into_iter().filter(|it| !left_out.hold(&it.text));
+            (u64::from(number), (it.path.span, derived.map(|it| it.span).collect()))
+        });
+        spans.collect()
+    }
+
+    fn call_diagnostic(
+        &mut self,
+        krate: u32,
+        it: &Value,
+        bound: &Bound,
+        spans: &mut SpansOfItems,
+        report: &mut Report,
+    ) -> Result<()> {
         let Some(located) = self.locate(krate, &it["call"]) else {
             return Ok(());
         };
@@ -248,17 +274,14 @@ impl Workspace {
             (_, false) => "attribute",
             _ => "macro",
         };
+        let call = &it["call"];
         let mut span = located.span;
-        if let (Some(number), Some(item), false) =
-            (it["call"]["attr"].as_u64(), &located.node.item, located.is_expanded)
-        {
-            let all = crate::unit::numbered(&item.attributes, &self.crates.all[krate as usize].options);
-            if let Some((_, attribute)) = all.iter().find(|it| u64::from(it.0) == number) {
-                span = attribute.path.span;
-                let mut derived = crate::unit::paths_of(attribute).unwrap_or_default();
-                derived.retain(|it| !self.left_out(krate, &located.file).hold(&it.text));
-                let derived = it["call"]["derive"].as_u64().and_then(|it| derived.get(it as usize).cloned());
-                span = derived.map_or(span, |it| it.span);
+        if let (Some(number), Some(item), false) = (call["attr"].as_u64(), &located.node.item, located.is_expanded) {
+            let spans = spans.entry((krate, Arc::as_ptr(item)));
+            let spans = spans.or_insert_with(|| self.spans_of_attributes(krate, &located.file, item));
+            if let Some((of_attribute, derived)) = spans.get(&number) {
+                let derived = call["derive"].as_u64().and_then(|it| derived.get(it as usize));
+                span = *derived.unwrap_or(of_attribute);
             }
         }
         report.diagnostics.push(Diagnostic {

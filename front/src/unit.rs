@@ -208,6 +208,15 @@ pub fn quoted(text: &str) -> String {
     serde_json::to_string(text).expect("a text has a JSON form")
 }
 
+/// What a unit is handed in without.
+#[derive(Clone, Copy, Default)]
+pub struct Without {
+    /// The derives that are left out.
+    pub derives: Derives,
+    /// Whether it is impls, but for those with attributes that may be macros, and what is in traits.
+    pub associated: bool,
+}
+
 /// What stands for a call in place of the call itself.
 pub type Replaced<'a> = &'a dyn Fn(&Call) -> Option<Arc<Unit>>;
 
@@ -217,6 +226,8 @@ struct Builder<'a> {
     options: &'a Options,
     replaced: Replaced<'a>,
     left_out: Derives,
+    /// Whether the items of traits and impls are none of the unit in JSON, nor are impls.
+    is_brief: bool,
     /// The call in whose place the items stand.
     place: Option<Span>,
     /// The call whose expansion they are of. What a macro's text brings is said to stand there.
@@ -230,22 +241,24 @@ struct Builder<'a> {
 
 /// The unit of a file or of an expansion. Calls for which `replaced` has items are those items.
 pub fn build(unit: &Unit, options: &Options, replaced: Replaced) -> Built {
-    build_at(unit, options, replaced, Derives::default(), None)
+    build_at(unit, options, replaced, Without::default(), None)
 }
 
-/// The same without these derives.
-pub fn build_without(unit: &Unit, options: &Options, replaced: Replaced, left_out: Derives) -> Built {
-    build_at(unit, options, replaced, left_out, None)
+/// The same without some of it.
+pub fn build_without(unit: &Unit, options: &Options, replaced: Replaced, without: Without) -> Built {
+    build_at(unit, options, replaced, without, None)
 }
 
 /// The same for what the call at `call` expands to.
-fn build_at(unit: &Unit, options: &Options, replaced: Replaced, left_out: Derives, call: Option<Span>) -> Built {
+fn build_at(unit: &Unit, options: &Options, replaced: Replaced, without: Without, call: Option<Span>) -> Built {
+    let Without { derives: left_out, associated: is_brief } = without;
     let mut builder = Builder {
         made: Built::default(),
         seen: HashMap::new(),
         options,
         replaced,
         left_out,
+        is_brief,
         place: None,
         call,
         modules: Vec::new(),
@@ -284,7 +297,12 @@ impl Builder<'_> {
     /// The items of a trait or an impl.
     fn associated(&mut self, items: &[Item], holder: usize) {
         self.holder = Some(holder);
+        let at = self.made.json.len();
         self.list(items);
+        if self.is_brief {
+            self.made.json.truncate(at);
+            self.made.json.push_str("[]");
+        }
         self.holder = None;
     }
 
@@ -315,6 +333,7 @@ impl Builder<'_> {
             (None, ItemKind::Call(call)) => call.path.span,
             (None, _) => item.span,
         });
+        let start = self.made.json.len();
         if !self.made.json.ends_with('[') {
             self.made.json.push(',');
         }
@@ -359,6 +378,11 @@ impl Builder<'_> {
         self.rest(item, at, modules);
         (self.around, self.is_left_out) = (around, was_left_out);
         self.made.json.push('}');
+        // Of an impl its attributes alone may mean something.
+        let mut kept = item.attributes.iter().filter(|it| is_kept(it));
+        if self.is_brief && kind == "Impl" && kept.all(|it| it.path.text == "cfg") {
+            self.made.json.truncate(start);
+        }
     }
 
     /// What is told of the attributes of an item. Answers whether something is looked up for one of them.

@@ -232,6 +232,8 @@ pub struct Workspace {
     circular: HashMap<Key, Arc<Parsed>>,
     /// Whether the program takes the blocks of bodies.
     takes_blocks: bool,
+    /// Whether impls and the items of traits aren't handed in.
+    is_brief: bool,
     /// The blocks that were handed in, by their places as JSON.
     blocks: BTreeMap<String, SentBlock>,
     /// What the program tells of a crate since it was resolved last.
@@ -271,6 +273,26 @@ impl Workspace {
         elsewhere: Option<&Path>,
         progress: impl Fn(&str, usize, usize) + Send + 'static,
     ) -> Result<Workspace> {
+        Workspace::open_as(crates, program, elsewhere, false, Box::new(progress))
+    }
+
+    /// The same for reports alone: impls and the items of traits, which no import names, aren't handed in.
+    pub fn open_brief(
+        crates: Crates,
+        program: &Path,
+        elsewhere: Option<&Path>,
+        progress: impl Fn(&str, usize, usize) + Send + 'static,
+    ) -> Result<Workspace> {
+        Workspace::open_as(crates, program, elsewhere, true, Box::new(progress))
+    }
+
+    fn open_as(
+        crates: Crates,
+        program: &Path,
+        elsewhere: Option<&Path>,
+        is_brief: bool,
+        progress: Progress,
+    ) -> Result<Workspace> {
         let program = Program::start(program)?;
         let states = crates.all.iter().map(|_| CrateState::default()).collect();
         let mut space = Workspace {
@@ -293,13 +315,14 @@ impl Workspace {
             refused: Vec::new(),
             circular: HashMap::new(),
             takes_blocks: false,
+            is_brief,
             blocks: BTreeMap::new(),
             told: HashMap::new(),
             past_items: HashMap::new(),
             reached: HashMap::new(),
             globs: HashMap::new(),
             names: Names::default(),
-            progress: Box::new(progress),
+            progress,
         };
         if let Some(it) = elsewhere {
             space.read_elsewhere(it)?;

@@ -154,6 +154,13 @@ fn session_prints_what_the_program_is_given() {
     assert!(replies.iter().all(|it| it.get("ok").is_some()), "{replies:?}");
 }
 
+/// Saves a text in place of a file at once, as many editors do: nobody sees it half written.
+fn save(path: &Path, text: &str) {
+    let new = path.with_extension("new");
+    std::fs::write(&new, text).unwrap();
+    std::fs::rename(&new, path).unwrap();
+}
+
 /// A `watch` that has begun. It ends with this.
 struct Watching {
     child: Child,
@@ -196,21 +203,24 @@ fn watch_tells_what_a_save_changes() {
     assert!(until("1 error in").contains("unresolved import `crate::price::Rebate`"));
     let price = folder.path().join("shop/src/price.rs");
     let before = std::fs::read_to_string(&price).unwrap();
-    std::fs::write(&price, format!("{before}\npub struct Rebate;\n")).unwrap();
+    save(&price, &format!("{before}\npub struct Rebate;\n"));
     let made = until("; 0 errors");
     assert!(made.contains("gone: shop/src/report.rs:6:32: unresolved import `crate::price::Rebate`"), "{made}");
     assert!(made.contains("resolved again: shop, shop (bin shop) ("), "{made}");
     // A body alone.
-    std::fs::write(&price, format!("{}\npub struct Rebate;\n", before.replace("price.0 / 5", "price.0 / 4"))).unwrap();
+    save(&price, &format!("{}\npub struct Rebate;\n", before.replace("price.0 / 5", "price.0 / 4")));
     assert!(until("; 0 errors").contains("nothing to resolve again"));
     // A file that isn't there any more, and that is there again.
     std::fs::remove_file(&price).unwrap();
     assert!(until("resolved again").contains("file not found for module `price`"));
-    std::fs::write(&price, format!("{before}\npub struct Rebate;\n")).unwrap();
+    save(&price, &format!("{before}\npub struct Rebate;\n"));
     until("; 0 errors");
     // A file with a bracket too many.
-    std::fs::write(&price, format!("{before}}}\n")).unwrap();
+    save(&price, &format!("{before}}}\n"));
     assert!(until("resolved again").contains("this isn't Rust's syntax"));
+    // A file that is emptied and written: what it has in between may be told as well.
+    std::fs::write(&price, format!("{before}\npub struct Rebate;\n")).unwrap();
+    assert!(until("; 0 errors").contains("this isn't Rust's syntax"));
 }
 
 #[test]
@@ -477,6 +487,27 @@ fn imports_of_what_an_item_lacks() {
     assert_eq!(lines, [10, 12, 13, 14, 15, 16]);
 }
 
+/// A glob that isn't resolved is told, and so is what it might have brought: as many errors as rustc has places of them.
+#[test]
+fn globs_that_are_not_resolved() {
+    for (text, count) in [
+        ("use crate::x::*;", 1),
+        ("use crate::x::{self as y, *};", 2),
+        ("use crate::x::a; use crate::y::*;", 2),
+        ("mod m { pub use crate::none::*; } use m::a;", 2),
+        ("mod m { pub use crate::none::*; pub use b::c; } use m::a; use crate::m::d::e;", 4),
+        ("pub mod m { pub use super::n::*; } pub mod n { pub use super::m::gone::*; pub use crate::q; } use m::a;", 3),
+        ("use self::a::*; use self::b::*; use c::d;", 3),
+        ("mod m { pub use nothing::*; } pub use m::*; use crate::g::h; use zz;", 3),
+        // What follows from another error isn't told.
+        ("mod m { pub use crate::none::S; } use m::S as T; use m::S::*;", 1),
+    ] {
+        let folder = package(&[("src/lib.rs", text)]);
+        let made = run(folder.path(), &["check", "--no-std"]);
+        assert_eq!(crate::commands::text(&made.stdout).matches("error[E0432]").count(), count, "{text}");
+    }
+}
+
 /// Macros mean what they mean in rustc's order: also those that expansions define, and of two of one name the one before
 /// the call.
 #[test]
@@ -539,6 +570,15 @@ fn a_program_that_stops() {
             "{name}: {told}"
         );
     }
+    // One that reads no further: what is left for it is more than a pipe holds.
+    let many: String = (0..5000).map(|it| format!("pub fn function_of_this_number{it}() {{}}\n")).collect();
+    std::fs::write(folder.path().join("src/a.rs"), many).unwrap();
+    let answers = "*refresh*) echo '{\"ok\":[]}' ;; *) echo '{\"ok\":null}' ;;";
+    let halts = "*src/lib.rs*'\"unit\"'*) echo '{}'; exec sleep 100000 ;;";
+    write_script(&program, &format!("#!/bin/sh\nwhile read -r line; do case $line in {halts} {answers} esac; done\n"));
+    let made = run(folder.path(), &["check", "--no-std", "--program", "./program"]);
+    assert_eq!(made.status.code(), Some(2));
+    assert!(text(&made.stderr).contains("is at fault: its reply"), "{}", text(&made.stderr));
     std::fs::remove_file(&program).unwrap();
     std::fs::write(&program, "no program").unwrap();
     let made = run(folder.path(), &["check", "--no-std", "--program", "./program"]);
@@ -670,13 +710,13 @@ fn watch_in_real_crates() {
         watching.until(&format!("all names resolved in {name} ("));
         let root = folder.path().join(name).join("src/lib.rs");
         let before = std::fs::read_to_string(&root).unwrap();
-        std::fs::write(&root, format!("{before}\nuse crate::no_such_module::Nothing;\n")).unwrap();
+        save(&root, &format!("{before}\nuse crate::no_such_module::Nothing;\n"));
         let line = before.lines().count() + 2;
         let made = watching.until("; 1 error");
         assert!(made.contains("unresolved import `crate::no_such_module::Nothing`"), "{made}");
         assert!(made.contains(&format!("{name}/src/lib.rs:{line}:5")), "{made}");
         assert!(made.contains(&format!("resolved again: {name} (")), "{made}");
-        std::fs::write(&root, &before).unwrap();
+        save(&root, &before);
         let made = watching.until("; 0 errors");
         assert!(made.contains(&format!("gone: {name}/src/lib.rs:{line}:5")), "{made}");
     }

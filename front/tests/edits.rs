@@ -3,6 +3,7 @@
 use std::path::PathBuf;
 
 use crate::common::{open, package};
+use cargo_nogsimat::package::{Crates, Wanted};
 use cargo_nogsimat::program;
 use cargo_nogsimat::question::{Context, Question};
 use cargo_nogsimat::unit::steps_of;
@@ -82,6 +83,73 @@ fn what_is_asked_after_an_edit() {
     paths.sort_unstable();
     // How far the two imports that the program doesn't resolve are reached, where the glob leads, and what an enum may lack.
     assert_eq!(paths, ["E::A", "E::B", "below", "below::m", "std"]);
+}
+
+/// A package with a program that keeps its commands in a file, and those that it is given by `check`.
+#[cfg(unix)]
+fn given_by_check(folder: &std::path::Path) -> Vec<serde_json::Value> {
+    let (script, log) = (folder.join("program"), folder.join("log"));
+    let begin = program::find(None).unwrap();
+    let text = crate::common::logged(&log.to_string_lossy(), &begin.to_string_lossy());
+    crate::common::write_script(&script, &format!("#!/bin/sh\n{text}\n"));
+    let mut command = std::process::Command::new(env!("CARGO_BIN_EXE_cargo-nogsimat"));
+    command.args(["nogsimat", "check", "--no-std", "--program"]).arg(&script).current_dir(folder);
+    let made = command.output().unwrap();
+    assert!(made.status.success(), "{}", String::from_utf8_lossy(&made.stdout));
+    std::fs::read_to_string(&log).unwrap().lines().map(|it| serde_json::from_str(it).unwrap()).collect()
+}
+
+/// A macro that is exported behind where a path calls it is there in the first round.
+#[cfg(unix)]
+#[test]
+fn macros_that_are_exported_further_down() {
+    let folder = package(&[
+        ("src/lib.rs", "mod a;\nmod b;\nmod c { #[macro_export] macro_rules! two { () => { pub struct U; } } }\n"),
+        ("src/a.rs", "crate::one! { S }\ncrate::two!();\npub use self::{S as T, U as V};\n"),
+        ("src/b.rs", "#[macro_export]\nmacro_rules! one { ($n:ident) => { pub struct $n; } }\n"),
+    ]);
+    let given = given_by_check(folder.path());
+    let refreshes = given.iter().filter(|it| it["do"] == "refresh").count();
+    assert_eq!(refreshes, 2, "the standard library's crates, and all");
+    assert_eq!(given.iter().filter(|it| it["do"] == "set expansion").count(), 2);
+}
+
+/// `check` hands in no impls and no items of traits, and tells the same.
+#[cfg(unix)]
+#[test]
+fn what_check_hands_in() {
+    let text = "pub trait T { fn f(); type A; }\npub struct S;\nimpl T for S { fn f() { use self::h; fn h() {} h() } type A = u8; }\n\
+                macro_rules! m { () => { impl S { pub fn g() {} } pub use T as U; } }\nm!();\n";
+    let folder = package(&[("src/lib.rs", text)]);
+    let given = given_by_check(folder.path());
+    let kinds = |it: &serde_json::Value| -> Vec<String> {
+        let nodes = it["unit"]["nodes"].as_array().into_iter().flatten();
+        nodes.map(|it| format!("{} {}", it["kind"].as_str().unwrap(), it["items"])).collect()
+    };
+    let is_own = |it: &&serde_json::Value| {
+        it["file"].as_str().is_some_and(|it| it.ends_with("src/lib.rs") && !it.contains("stub"))
+            || it["do"] == "set expansion"
+    };
+    let own: Vec<Vec<String>> = given.iter().filter(is_own).map(kinds).collect();
+    assert_eq!(own, [&["Use null"][..], &["Trait []", "Struct null", "MacroRules null", "MacroCall null"]]);
+    let blocks = given.iter().filter(|it| it["do"] == "set block" && it["unit"]["nodes"].is_array());
+    assert_eq!(blocks.map(kinds).collect::<Vec<_>>(), [["Use null", "Fn null"]]);
+    let missing = text.replace("T as U", "{T as U, g}");
+    for text in [text, &missing, &format!("{text}#[derive(Clone)] #[none] impl S {{}}\n")] {
+        std::fs::write(folder.path().join("src/lib.rs"), text).unwrap();
+        let report = |is_brief: bool| {
+            let wanted = Wanted { path: folder.path().to_owned(), no_std: true, ..Wanted::default() };
+            let crates = Crates::read(&wanted).unwrap();
+            let program = program::find(None).unwrap();
+            let made = match is_brief {
+                true => Workspace::open_brief(crates, &program, None, |_, _, _| {}),
+                false => Workspace::open(crates, &program, None, |_, _, _| {}),
+            };
+            let mut space = made.unwrap();
+            (format!("{:?}", space.report().unwrap()), format!("{:?}", space.counts()))
+        };
+        assert_eq!(report(true), report(false));
+    }
 }
 
 /// Modules that lead back to a file around them, and no longer.

@@ -6,12 +6,24 @@ use std::process::Command;
 
 use crate::common::{package, write_script};
 
-/// Scripts that note what is asked of Cargo and of rustc. What Cargo itself asks of rustc isn't.
+/// When a file counts as written: long ago, or so late that what stands on it isn't kept.
+const LONG_AGO: &str = "2020-01-01";
+const JUST_NOW: &str = "2037-01-01";
+
+fn set_time(path: &Path, time: &str) {
+    assert!(Command::new("touch").args(["-d", time]).arg(path).status().unwrap().success());
+}
+
+/// Scripts that note what is asked of Cargo and of rustc, and the command itself. What Cargo itself asks of rustc isn't noted.
 fn write_tools(folder: &Path) {
+    let own = folder.join("cargo-nogsimat");
+    assert!(Command::new("cp").arg(env!("CARGO_BIN_EXE_cargo-nogsimat")).arg(&own).status().unwrap().success());
+    set_time(&own, LONG_AGO);
     let cargo = std::env::var("CARGO").unwrap_or("cargo".to_owned());
     for (name, real) in [("cargo", &*cargo), ("rustc", "rustc")] {
         let note = format!("case $1 in metadata|--print) echo {name} >> {}/log ;; esac", folder.display());
         write_script(&folder.join(name), &format!("#!/bin/sh\n{note}\nexec {real} \"$@\"\n"));
+        set_time(&folder.join(name), JUST_NOW);
     }
 }
 
@@ -19,7 +31,7 @@ fn write_tools(folder: &Path) {
 fn check(folder: &Path, words: &[&str]) -> (String, String) {
     let log = folder.join("tools/log");
     std::fs::write(&log, "").unwrap();
-    let made = Command::new(env!("CARGO_BIN_EXE_cargo-nogsimat"))
+    let made = Command::new(folder.join("tools/cargo-nogsimat"))
         .args(["nogsimat", "check", "--no-std", "--json"])
         .args(words)
         .current_dir(folder)
@@ -38,8 +50,7 @@ fn check(folder: &Path, words: &[&str]) -> (String, String) {
 /// As if all that Cargo reads had been written long ago.
 fn settle(folder: &Path) {
     for name in ["Cargo.toml", "Cargo.lock", "tools/cargo", "tools/rustc"] {
-        let made = Command::new("touch").args(["-d", "2020-01-01"]).arg(folder.join(name)).status().unwrap();
-        assert!(made.success());
+        set_time(&folder.join(name), LONG_AGO);
     }
 }
 
@@ -75,6 +86,7 @@ fn answers_of_tools_are_kept() {
     again(&[], "");
     let manifest = std::fs::read_to_string(folder.join("Cargo.toml")).unwrap();
     std::fs::write(folder.join("Cargo.toml"), manifest + "[features]\nmore = []\n").unwrap();
+    set_time(&folder.join("Cargo.toml"), JUST_NOW);
     again(&[], "cargo");
     again(&[], "cargo");
     settle(folder);
@@ -110,10 +122,7 @@ fn what_was_told_is_kept() {
     let real = crate::common::client::program();
     let note = format!("echo program >> {}", folder.join("tools/log").display());
     write_script(&script, &format!("#!/bin/sh\n{note}\nexec {}\n", real.display()));
-    let touch = |name: &str| {
-        let made = Command::new("touch").args(["-d", "2020-01-01"]).arg(folder.join(name)).status().unwrap();
-        assert!(made.success());
-    };
+    let touch = |name: &str| set_time(&folder.join(name), LONG_AGO);
     let words = ["--program", script.to_str().unwrap()];
     let run = |words: &[&str]| {
         let (told, started) = check(folder, words);
@@ -153,6 +162,8 @@ fn what_was_told_is_kept() {
     ]);
     // What is included; it is settled later.
     write("src/more.inc", "pub struct Other;\n");
+    set_time(&folder.join("src/more.inc"), JUST_NOW);
+    assert!(run(&words).1);
     assert!(run(&words).1);
     touch("src/more.inc");
     assert!(run(&words).1);
@@ -189,6 +200,8 @@ fn what_was_told_is_kept() {
     assert!(run(&[&words[..], &["--cfg", "x"]].concat()).1);
     assert!(!run(&words).1);
     write_script(&script, &format!("#!/bin/sh\n{note}\nexec {} \n", real.display()));
+    set_time(&script, JUST_NOW);
+    assert!(run(&words).1);
     assert!(run(&words).1);
     touch("tools/program");
     assert!(run(&words).1);

@@ -1,14 +1,13 @@
 //! The language server as an editor calls it.
 //!
 //! The files `lsp/*.jsonl` hold what is sent and what comes back, one JSON object a line: `send` and `receive` with a
-//! message, `write` and `remove` with a file below the package's folder, `say` for the reader. After each run of lines
-//! that do something comes what the server sends until it has done all of that, or null where that is nothing. `DIR`
-//! stands for the package's folder. `session.jsonl` is the recorded session of `lsp_edits.rs`.
-//! With the variable `UPDATE` set the files are written anew.
+//! message, `write` and `remove` with a file below the package's folder, `until` with the number of a request that has to
+//! be answered before what follows is done, `say` for the reader. After each run of lines that do something comes what
+//! the server sends until it has done all of that, or null where that is nothing. `DIR` stands for the package's folder.
+//! `session.jsonl` is the recorded session of `lsp_edits.rs`. With the variable `UPDATE` set the files are written anew.
 
 use std::path::{Path, PathBuf};
 use std::process::Command;
-use std::time::Duration;
 
 use crate::common::client::{program, Client};
 #[cfg(unix)]
@@ -21,13 +20,19 @@ use serde_json::{json, Value};
 
 /// Runs the messages of a file; answers the status with which the server ends.
 fn run(name: &str) -> i32 {
+    let folder = market();
+    let client = Client::start(folder.path(), &[]);
+    run_with(name, folder.path(), client)
+}
+
+/// The same with a server that was started in a folder.
+fn run_with(name: &str, folder: &Path, mut client: Client) -> i32 {
     let path = own("tests/lsp").join(name).with_extension("jsonl");
     let text = std::fs::read_to_string(&path).unwrap();
     let lines: Vec<Value> = text.lines().map(|it| serde_json::from_str(it).unwrap()).collect();
-    let folder = market();
-    let mut client = Client::start(folder.path(), &[]);
     let mut made = Vec::new();
     let mut block = Vec::new();
+    let mut received = Vec::new();
     let acts = |it: &Value| it.get("receive").is_none();
     for (at, line) in lines.iter().enumerate() {
         if !acts(line) {
@@ -35,23 +40,26 @@ fn run(name: &str) -> i32 {
         }
         made.push(line.clone());
         if let Some(name) = line["write"].as_str() {
-            let path = folder.path().join(name);
+            let path = folder.join(name);
             std::fs::create_dir_all(path.parent().unwrap()).unwrap();
             std::fs::write(path, line["text"].as_str().unwrap()).unwrap();
         } else if let Some(name) = line["remove"].as_str() {
-            std::fs::remove_file(folder.path().join(name)).unwrap();
+            std::fs::remove_file(folder.join(name)).unwrap();
         } else if let Some(it) = line.get("send") {
             block.push(it.clone());
+        } else if let Some(id) = line.get("until") {
+            client.send_all(&std::mem::take(&mut block));
+            let all = client.receive_to(|it| it["id"] == *id);
+            received.extend(client.steady_all(&all));
         }
         // A run of lines ends before what is received, or where the reader is told something.
         let is_last = lines.get(at + 1).map_or(true, |it| !acts(it) || it.get("say").is_some());
-        if is_last && !block.is_empty() {
-            let received = client.exchange(&block);
+        if is_last && !(block.is_empty() && received.is_empty()) {
+            received.extend(client.exchange(&std::mem::take(&mut block)));
             if received.is_empty() {
                 made.push(json!({"receive": null}));
             }
-            made.extend(received.into_iter().map(|it| json!({"receive": it})));
-            block.clear();
+            made.extend(received.drain(..).map(|it| json!({"receive": it})));
         }
     }
     let written: String = made.iter().map(|it| format!("{it}\n")).collect();
@@ -72,9 +80,22 @@ fn how_a_session_begins_and_ends() {
     assert_eq!(run("begin"), 0);
 }
 
+/// A program that begins when the file `gate` is in the folder.
+#[cfg(unix)]
+fn write_gated_program(folder: &Path) -> PathBuf {
+    let script = folder.join("program");
+    let wait = format!("until [ -e {} ]; do sleep 0.01; done", folder.join("gate").display());
+    write_script(&script, &format!("#!/bin/sh\n{wait}\nexec {}\n", program().display()));
+    script
+}
+
+#[cfg(unix)]
 #[test]
 fn cancelled_requests() {
-    assert_eq!(run("cancel"), 1);
+    let folder = market();
+    let script = write_gated_program(folder.path());
+    let client = Client::start(folder.path(), &["--program", script.to_str().unwrap()]);
+    assert_eq!(run_with("cancel", folder.path(), client), 1);
 }
 
 #[test]
@@ -197,10 +218,7 @@ fn text_outside_ascii() {
 #[test]
 fn progress_while_a_package_is_opened() {
     let folder = market();
-    let (script, gate) = (folder.path().join("program"), folder.path().join("gate"));
-    // A program that begins when the gate is there.
-    let (wait, begin) = (format!("until [ -e {} ]; do sleep 0.01; done", gate.display()), program());
-    write_script(&script, &format!("#!/bin/sh\n{wait}\nexec {}\n", begin.display()));
+    let (script, gate) = (write_gated_program(folder.path()), folder.path().join("gate"));
     let ask = |id: &str, method: &str| {
         let params = json!({
             "textDocument": {"uri": "file://DIR/shop/src/model.rs"}, "position": {"line": 10, "character": 14},
@@ -271,7 +289,6 @@ fn a_program_that_dies() {
     let kill = || {
         let pid = std::fs::read_to_string(folder.path().join("pid")).unwrap();
         assert!(Command::new("kill").args(["-9", pid.trim()]).status().unwrap().success());
-        std::thread::sleep(Duration::from_millis(50));
     };
     let name = "shop/src/price.rs";
     let text = std::fs::read_to_string(folder.path().join(name)).unwrap();
@@ -399,6 +416,10 @@ fn parameters_without_sense() {
         json!({"uri": uri}),
         json!({"uri": "file://DIR/shop"}),
         json!({"uri": "file://DIR/no/such.rs"}),
+        json!({"uri": "file:///dev/zero"}),
+        json!({"uri": "file:///dev/stdin"}),
+        json!({"uri": "file://DIR/%00.rs"}),
+        json!({"uri": format!("file://DIR/{}", "a/".repeat(3000))}),
         json!({"uri": "untitled:one"}),
         json!({"uri": "file://%ff"}),
         json!({"uri": 1}),
@@ -461,14 +482,88 @@ fn parameters_without_sense() {
     assert_eq!(client.end(), 1);
 }
 
+/// Contents that are no message are told, and what comes behind them is answered.
 #[test]
 fn messages_that_are_none() {
     let folder = market();
     let mut client = Client::start(folder.path(), &[]);
-    client.write(b"Content-Length: 3\r\n\r\n{,}X: y\r\nContent-Length: 2\r\n\r\n[]");
+    let framed = |it: &[u8]| [format!("Content-Length: {}\r\n\r\n", it.len()).as_bytes(), it].concat();
+    let deep = format!("{{\"id\":1,\"method\":\"x\",\"params\":{}{}}}", "[".repeat(9000), "]".repeat(9000));
+    for it in ["{,}", "", "\0\0", "{} {}", "{\"a\":\"\\ud800\"}", "{\"id\":1e999}", "\u{feff}{}", &deep] {
+        client.write(&framed(it.as_bytes()));
+        assert_eq!(client.receive()["error"]["code"], message::PARSE_ERROR, "{:.20}", it);
+    }
+    client.write(&framed(b"{\"a\":\"\xff\"}"));
     assert_eq!(client.receive()["error"]["code"], message::PARSE_ERROR);
+    for it in ["[]", "{}", "1", "null", "\"x\"", "[{\"id\":1,\"method\":\"shutdown\"}]", "{\"id\":1,\"method\":7}"] {
+        client.write(&framed(it.as_bytes()));
+        assert_eq!(client.receive()["error"]["code"], message::INVALID_REQUEST, "{it}");
+    }
+    // Of a head the last length counts.
+    client.write(b"\r\nX: y\r\n:\r\n\r\ncontent-LENGTH:99\nContent-Length: 2\r\n\r\n[]");
     assert_eq!(client.receive()["error"]["code"], message::INVALID_REQUEST);
     client.initialize();
     client.input = None;
     assert_eq!(client.child.wait().unwrap().code(), Some(1));
+}
+
+/// Texts that are deep, long, or no Rust: what is asked in them is answered, and the rest of the package as before.
+#[test]
+fn texts_without_sense() {
+    let pairs = |open: &str, count: usize, close: &str| format!("{}{}", open.repeat(count), close.repeat(count));
+    let texts = [
+        String::new(),
+        "\0".repeat(100),
+        "(".repeat(5000),
+        ")".repeat(5000),
+        pairs("{", 5000, "}"),
+        pairs("mod a { ", 300, "}"),
+        format!("type A = {};", pairs("Vec<", 1000, ">")),
+        format!("fn f() {{ {} }}", "x;".repeat(5000)),
+        format!("fn f() {{ {}1 }}", "|x| ".repeat(1000)),
+        format!("fn f() {{ {} }}", pairs("{ use a::b; ", 200, "}")),
+        format!("use {};", pairs("{a::", 400, "}")),
+        format!("use {}b;", "a::".repeat(1000)),
+        (0..100).map(|it| format!("use crate::x{it}::{{self as y{it}, *}};\n")).collect(),
+        format!("{}struct S;", "#[a]".repeat(1000)),
+        format!("#[cfg({}a{})] struct S;", "not(".repeat(400), ")".repeat(400)),
+        "\n".repeat(10_000),
+        "\r".repeat(10_000),
+        "🦀".repeat(5000),
+        "\u{feff}\u{feff}use crate::\u{202e}model\u{202c}::Item;\u{2028}\u{85}use a\u{301};".to_owned(),
+        "r#\"".repeat(1000),
+        "/*".repeat(5000),
+        "#!".repeat(5000),
+        "'".repeat(5000),
+        format!("struct {};", "a".repeat(20_000)),
+        "#[path = \"price.rs\"] mod a; include!(\"price.rs\"); include!(\"/dev/zero\"); include!(\".\");".to_owned(),
+        "macro_rules! m { ($($x:tt)*) => { $($x)* m!($($x)* $($x)*); } } m!(a);".to_owned(),
+    ];
+    let folder = market();
+    let mut client = Client::start(folder.path(), &[]);
+    client.initialize();
+    let uri = "file://DIR/shop/src/price.rs";
+    let document = json!({"uri": uri});
+    for text in texts {
+        let shown: String = text.chars().take(20).collect();
+        let opened = json!({"uri": uri, "languageId": "rust", "version": 1, "text": text});
+        let mut sent = vec![message::notification("textDocument/didOpen", json!({"textDocument": opened}))];
+        for (line, character) in [(0, 9), (u32::MAX, u32::MAX)] {
+            let at = json!({"line": line, "character": character});
+            for it in ["definition", "hover", "references", "documentSymbol", "completion", "codeAction"] {
+                let params = json!({"textDocument": document, "position": at, "range": {"start": at, "end": at}});
+                let method = format!("textDocument/{it}");
+                sent.push(json!({"jsonrpc": "2.0", "id": sent.len(), "method": method, "params": params}));
+            }
+        }
+        let count = sent.len() - 1;
+        sent.push(message::notification("textDocument/didClose", json!({"textDocument": document})));
+        let made = client.exchange(&sent);
+        assert_eq!(made.iter().filter(|it| it.get("result").is_some()).count(), count, "{shown}");
+        assert!(made.iter().all(|it| it["method"] != "window/showMessage"), "{shown}");
+        assert_eq!(client.published.len(), 1, "{shown}: {:?}", client.published.keys());
+    }
+    let made = client.at("textDocument/definition", "shop/src/report.rs", (5, 26));
+    assert_eq!(made[0]["uri"], uri);
+    assert_eq!(client.end(), 1);
 }

@@ -1,6 +1,6 @@
 //! Texts of the editor: handed to the session, and what is told of them.
 
-use std::collections::BTreeMap;
+use std::collections::{BTreeMap, HashSet};
 use std::io::Write;
 use std::sync::Arc;
 
@@ -101,15 +101,16 @@ impl<W: Write> Server<W> {
 
     pub(super) fn publish(&mut self, diagnostics: Vec<Diagnostic>) -> Result<()> {
         let mut now: BTreeMap<Key, Vec<Value>> = BTreeMap::new();
+        let mut listed = HashSet::new();
         self.touched.clear();
         for it in diagnostics {
             let Some(key) = key_of_place(&it.place) else {
                 continue;
             };
             let made = self.listed(&key, &it);
-            let list = now.entry(key).or_default();
-            if !list.contains(&made) {
-                list.push(made);
+            // A file of two crates has what is wrong in it once.
+            if listed.insert(format!("{key} {made}")) {
+                now.entry(key).or_default().push(made);
             }
         }
         for (key, error) in self.errors.clone() {

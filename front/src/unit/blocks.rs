@@ -6,7 +6,7 @@ use std::sync::Arc;
 
 use serde_json::Value;
 
-use super::{build_at, is_builtin, is_enabled, numbered, quoted, Built, Derives, Id, Replaced};
+use super::{build_at, is_builtin, is_enabled, numbered, quoted, Built, Id, Replaced, Without};
 use crate::cfg::Options;
 use crate::syntax::{Block, Call, Item, ItemKind, Unit};
 use crate::token::{Hash, Span};
@@ -184,7 +184,7 @@ impl Lowering<'_> {
                 let items = (self.known.replaced)(call).map_or(Vec::new(), |it| bare(&it.items, self.options));
                 Some(Arc::new(Unit { items, ..Unit::default() }))
             };
-            let built = Arc::new(build_at(&unit, self.options, &replaced, Derives::default(), self.call));
+            let built = Arc::new(build_at(&unit, self.options, &replaced, Without::default(), self.call));
             let (steps, names) = (self.steps.clone(), self.names.clone());
             self.made.push(BuiltBlock { block: block.clone(), steps, names, built, calls });
             self.items(&block.items, Hash::default());

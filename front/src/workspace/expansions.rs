@@ -13,7 +13,9 @@ use super::{Expansion, How, Key, Located, NotRun, SentExpansion, Target, Workspa
 use crate::macros::Rules;
 use crate::syntax::{statements_of, unit_of, Attribute, Call, Item, Unit};
 use crate::token::{count, on_a_thread, tokens_of, Hash, SyntaxError, Token};
-use crate::unit::{build_without, is_builtin, numbered, paths_of, place_json, quoted, steps_of, Built, Detail, Given};
+use crate::unit::{
+    build_without, is_builtin, numbered, paths_of, place_json, quoted, steps_of, Built, Detail, Given, Without,
+};
 
 pub(super) fn expand_rules(rules: &Result<Rules, String>, call: &Call, krate: u32) -> Expansion {
     let made = match rules {
@@ -90,7 +92,8 @@ impl Workspace {
             return it.built.clone();
         }
         let options = &self.crates.all[krate as usize].options;
-        let built = Arc::new(build_without(&expansion.unit, options, &|_| None, left_out));
+        let without = Without { derives: left_out, associated: self.is_brief };
+        let built = Arc::new(build_without(&expansion.unit, options, &|_| None, without));
         let error = expansion.error.as_ref().map_or(String::new(), |it| format!(",\"error\":{}", quoted(it)));
         let line = format!("{{\"do\":\"set expansion\",\"key\":{key},\"unit\":{}{error}}}", built.json);
         lines.push(line.clone());

@@ -1,12 +1,13 @@
 //! Files: their keys, what stands in them, and in which files modules are looked for.
 
-use std::collections::HashSet;
+use std::collections::{HashMap, HashSet};
 use std::path::{Component, Path, PathBuf};
 use std::sync::Arc;
 
 use anyhow::{bail, Result};
 
-use super::{Key, Parsed, Workspace};
+use super::walk::{is_exported, target_of};
+use super::{Key, Parsed, Target, Workspace};
 use crate::cfg::Options;
 use crate::syntax::{unit_of, Item, ItemKind};
 use crate::token::{on_a_thread, spawn, tokens_of, Hash, Span, SyntaxError};
@@ -199,6 +200,20 @@ pub(super) fn declared(items: &[Item], options: &Options, folder: &Folder, found
     }
 }
 
+/// Adds the macros that these items and those of their inline modules export.
+fn add_exported(items: &[Item], options: &Options, krate: u32, made: &mut HashMap<Arc<str>, Target>) {
+    for item in items.iter().filter(|it| is_enabled(&it.attributes, options)) {
+        match &item.kind {
+            ItemKind::Module(Some(items)) => add_exported(items, options, krate, made),
+            ItemKind::Macro(definition) if definition.is_rules && is_exported(item, options) => {
+                let target = target_of(krate, item.name_text(), Some(definition), item);
+                made.insert(definition.name.clone(), target);
+            }
+            _ => {}
+        }
+    }
+}
+
 /// The files around a module's, without links.
 struct Around {
     real: Arc<Path>,
@@ -255,6 +270,10 @@ impl Workspace {
                 if is_enabled(&parsed.unit.attributes, options) && !is_circular {
                     let mut found = Vec::new();
                     declared(&parsed.unit.items, options, &folder, &mut found);
+                    if !parsed.is_plain {
+                        let state = &mut self.states[krate as usize];
+                        add_exported(&parsed.unit.items, options, krate, &mut state.exported);
+                    }
                     let around = Some(Arc::new(Around { real: parsed.real.clone(), outer: around }));
                     level.extend(found.into_iter().map(|(path, owns)| (krate, path, owns, around.clone())));
                 }

@@ -14,13 +14,13 @@ use crate::cfg::Options;
 use crate::program::MOST_BYTES;
 use crate::syntax::{Block, Call, Item, ItemKind, Unit};
 use crate::token::Hash;
-use crate::unit::{build_blocks, build_without, place_json, quoted, steps_of, Built, BuiltBlock, Derives, Known, Step};
+use crate::unit::{build_blocks, build_without, place_json, quoted, steps_of, Built, BuiltBlock, Known, Step, Without};
 
 /// What a file is to the program, and the blocks in it where the program takes them.
 pub(super) fn built_of(
     unit: &Unit,
     options: &Options,
-    left_out: Derives,
+    without: Without,
     replaced: &HashMap<Hash, Arc<Unit>>,
     expanded: Expanded,
     takes_blocks: bool,
@@ -28,7 +28,7 @@ pub(super) fn built_of(
     let replaced = |call: &Call| replaced.get(&call.identity).cloned();
     let known = Known { replaced: &replaced, expanded: &|call| expanded.with_blocks(call) };
     let blocks = if takes_blocks { build_blocks(unit, options, known) } else { Vec::new() };
-    (build_without(unit, options, &replaced, left_out), blocks)
+    (build_without(unit, options, &replaced, without), blocks)
 }
 
 pub(super) fn set_file(key: &str, unit: &str) -> String {
@@ -115,7 +115,6 @@ impl Workspace {
     /// files that were built.
     pub(super) fn build_files(&mut self, keys: Vec<Key>, lines: &mut Vec<String>) -> Result<HashSet<Key>> {
         let mut work: Vec<(Key, u32, Vec<Arc<Unit>>)> = Vec::new();
-        let none = Vec::new();
         let mut seen = HashSet::new();
         let same =
             |a: &[Arc<Unit>], b: &[Arc<Unit>]| a.len() == b.len() && a.iter().zip(b).all(|(a, b)| Arc::ptr_eq(a, b));
@@ -132,7 +131,7 @@ impl Workspace {
             if !parsed.is_plain {
                 replaced_in(&parsed.unit.items, &self.replaced, &mut replaced);
             }
-            let with_blocks = self.states[krate].expansions_with_blocks.get(&key).unwrap_or(&none);
+            let with_blocks = self.states[krate].expansions_with_blocks.get(&key).map_or(&[][..], |it| it);
             let is_same = self.sent.get(&key).is_some_and(|it| {
                 Arc::ptr_eq(&it.unit, &parsed.unit)
                     && it.krate as usize == krate
@@ -145,12 +144,13 @@ impl Workspace {
             }
         }
         let (all, parsed, replaced, takes_blocks) = (&self.crates.all, &self.parsed, &self.replaced, self.takes_blocks);
-        let (states, cache, moved) = (&self.states, &self.cache, &self.moved);
+        let (states, cache, moved, is_brief) = (&self.states, &self.cache, &self.moved, self.is_brief);
         let made = on_threads(&work, |(key, krate, _)| {
             let (parsed, krate) = (&parsed[key], *krate);
             let expanded = Expanded { krate, state: &states[krate as usize], cache, moved };
-            let (options, left_out) = (&all[krate as usize].options, left_out_of(key, states));
-            let (mut built, blocks) = built_of(&parsed.unit, options, left_out, replaced, expanded, takes_blocks);
+            let options = &all[krate as usize].options;
+            let without = Without { derives: left_out_of(key, states), associated: is_brief };
+            let (mut built, blocks) = built_of(&parsed.unit, options, without, replaced, expanded, takes_blocks);
             if parsed.error.is_some() {
                 built.json = "\"broken\"".to_owned();
             }

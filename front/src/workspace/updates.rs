@@ -12,7 +12,7 @@ use super::left_out::left_out_of;
 use super::{Key, Parsed, Sent, Workspace};
 use crate::syntax::Unit;
 use crate::token::Hash;
-use crate::unit::{quoted, BuiltBlock};
+use crate::unit::{quoted, BuiltBlock, Without};
 
 impl Workspace {
     /// The files that were looked for without being read as modules: those that weren't there, and what `include!` names.
@@ -86,7 +86,8 @@ impl Workspace {
         self.moved.get_mut().unwrap_or_else(PoisonError::into_inner).clear();
         let (options, expanded) = (&self.crates.all[krate as usize].options, self.expanded(krate));
         let left_out = left_out_of(key, &self.states);
-        let (built, blocks) = built_of(&parsed.unit, options, left_out, &self.replaced, expanded, self.takes_blocks);
+        let without = Without { derives: left_out, associated: self.is_brief };
+        let (built, blocks) = built_of(&parsed.unit, options, without, &self.replaced, expanded, self.takes_blocks);
         let is_same = |it: (&BuiltBlock, &BuiltBlock)| it.0.is_same(it.1);
         let are_same = blocks.len() == sent.blocks.len() && blocks.iter().zip(&sent.blocks).all(is_same);
         if built.json != sent.built.json || left_out != sent.left_out || !are_same {
@@ -96,6 +97,8 @@ impl Workspace {
         let (text, given, is_plain) = (parsed.text, parsed.given, parsed.is_plain);
         let (replaced, with_blocks) = (sent.replaced.clone(), sent.with_blocks.clone());
         let krate = sent.krate;
+        self.type_names.add(&built);
+        self.type_names.remove(&sent.built);
         let sent = Sent { krate, unit: unit.clone(), replaced, with_blocks, left_out, built: Arc::new(built), blocks };
         self.sent.insert(key.clone(), sent);
         self.parsed.insert(key.clone(), Arc::new(Parsed { path, real, unit, error: None, text, given, is_plain }));

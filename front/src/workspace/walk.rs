@@ -207,7 +207,7 @@ impl Walk<'_> {
             match &item.kind {
                 ItemKind::Macro(definition) if definition.is_rules => {
                     let target = target_of(self.krate, item.name_text(), Some(definition), item);
-                    if numbered(&item.attributes, self.options()).iter().any(|it| it.1.path.text == "macro_export") {
+                    if is_exported(item, self.options()) {
                         let state = &mut self.space.states[self.krate as usize];
                         state.exported.insert(definition.name.clone(), target.clone());
                     }
@@ -395,6 +395,11 @@ impl Walk<'_> {
         }
         self.tokens = 0;
     }
+}
+
+/// Whether a `macro_rules` is known in its crate's root.
+pub(super) fn is_exported(item: &Item, options: &Options) -> bool {
+    numbered(&item.attributes, options).iter().any(|it| it.1.path.text == "macro_export")
 }
 
 pub(super) fn target_of(krate: u32, name: &str, definition: Option<&Arc<MacroDefinition>>, item: &Item) -> Target {

@@ -17,6 +17,9 @@ pub fn program() -> PathBuf {
     cargo_nogsimat::program::find(None).unwrap()
 }
 
+/// By then a server that says nothing has come to a halt, however slow the machine is.
+const LONGEST: Duration = Duration::from_secs(1800);
+
 /// A server, and what it sends.
 pub struct Client {
     pub child: Child,
@@ -59,7 +62,7 @@ impl Client {
     }
 
     pub fn receive(&mut self) -> Value {
-        let made = self.messages.recv_timeout(Duration::from_secs(120)).expect("the server answers in time");
+        let made = self.messages.recv_timeout(LONGEST).expect("the server answers");
         if made["method"] == "textDocument/publishDiagnostics" {
             let uri = made["params"]["uri"].as_str().unwrap().replace(&self.folder, "DIR");
             let list = &made["params"]["diagnostics"];
@@ -72,9 +75,7 @@ impl Client {
     }
 
     pub fn send(&mut self, it: &Value) {
-        let mut bytes = Vec::new();
-        message::write(&mut bytes, &self.placed(it)).unwrap();
-        self.write(&bytes);
+        self.send_all(std::slice::from_ref(it));
     }
 
     /// What comes up to the first message for which this holds.
@@ -88,27 +89,29 @@ impl Client {
         }
     }
 
-    /// Sends these at once, and answers what comes until the server has done all of it.
-    pub fn exchange(&mut self, sent: &[Value]) -> Vec<Value> {
-        let id = format!("last-{}", self.next);
-        self.next += 1;
-        let last = json!({"jsonrpc": "2.0", "id": id, "method": "textDocument/hover", "params": {}});
+    /// Sends these at once.
+    pub fn send_all(&mut self, sent: &[Value]) {
         let mut bytes = Vec::new();
-        for it in sent.iter().chain([&last]) {
+        for it in sent {
             message::write(&mut bytes, &self.placed(it)).unwrap();
         }
         self.write(&bytes);
-        let mut made = Vec::new();
-        loop {
-            let it = self.receive();
-            if it["id"] == json!(id) {
-                return made;
-            }
-            // Sizes and times.
-            if it["method"] != "window/logMessage" {
-                made.push(self.steady(&it));
-            }
-        }
+    }
+
+    /// Sends these at once, and answers what comes until the server has done all of it.
+    pub fn exchange(&mut self, sent: &[Value]) -> Vec<Value> {
+        let id = json!(format!("last-{}", self.next));
+        self.next += 1;
+        let last = json!({"jsonrpc": "2.0", "id": id, "method": "textDocument/hover", "params": {}});
+        self.send_all(&[sent, &[last]].concat());
+        let mut made = self.receive_to(|it| it["id"] == id);
+        made.pop();
+        self.steady_all(&made)
+    }
+
+    /// What of these is the same each time: not what is logged, which has sizes and times.
+    pub fn steady_all(&self, all: &[Value]) -> Vec<Value> {
+        all.iter().filter(|it| it["method"] != "window/logMessage").map(|it| self.steady(it)).collect()
     }
 
     pub fn notify(&mut self, method: &str, params: Value) -> Vec<Value> {

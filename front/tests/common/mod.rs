@@ -3,6 +3,8 @@
 pub mod client;
 
 use std::path::{Path, PathBuf};
+#[cfg(unix)]
+use std::process::Command;
 
 use cargo_nogsimat::package::{Crates, Wanted};
 use cargo_nogsimat::program;
@@ -14,16 +16,17 @@ pub fn own(path: &str) -> PathBuf {
     Path::new(env!("CARGO_MANIFEST_DIR")).join(path)
 }
 
-/// A folder with all that is in it, but for what Cargo builds there.
+/// A folder with all that is in it, but for what Cargo writes there, perhaps just now.
 pub fn copy(from: &Path, to: &Path) {
     std::fs::create_dir_all(to).unwrap();
     for it in std::fs::read_dir(from).unwrap() {
         let it = it.unwrap();
         let target = to.join(it.file_name());
+        if it.file_name() == "target" || it.file_name().to_string_lossy().starts_with("Cargo.lock") {
+            continue;
+        }
         if it.file_type().unwrap().is_dir() {
-            if it.file_name() != "target" {
-                copy(&it.path(), &target);
-            }
+            copy(&it.path(), &target);
         } else {
             std::fs::copy(it.path(), target).unwrap();
         }
@@ -60,12 +63,13 @@ pub fn open_with(folder: &Path, program: &Path) -> Workspace {
     Workspace::open(Crates::read(&wanted).unwrap(), program, None, |_, _, _| {}).unwrap()
 }
 
-/// A script that can be called.
+/// A script that can be called. Another process writes it: a file that is open for writing can't be called, and a child
+/// that another test starts meanwhile has for a moment all that is open here.
 #[cfg(unix)]
 pub fn write_script(path: &Path, text: &str) {
-    use std::os::unix::fs::PermissionsExt;
-    std::fs::write(path, text).unwrap();
-    std::fs::set_permissions(path, std::fs::Permissions::from_mode(0o755)).unwrap();
+    let write = "printf %s \"$2\" > \"$1\" && chmod 755 \"$1\"";
+    let made = Command::new("sh").args(["-c", write, "sh"]).arg(path).arg(text).status().unwrap();
+    assert!(made.success());
 }
 
 /// What a script calls a program by that keeps each line in a file before the program has it.

@@ -6,7 +6,7 @@ local function fail(what)
 end
 
 local function wait(what, holds)
-  if not vim.wait(60000, holds, 10) then
+  if not vim.wait(600000, holds, 10) then
     fail(what)
   end
 end
@@ -19,7 +19,7 @@ end
 local function complete(text)
   local timer = vim.loop.new_timer()
   local shown = {}
-  local left = 3000
+  local left = 30000
   timer:start(20, 20, vim.schedule_wrap(function()
     if timer:is_closing() then
       return

@@ -1,7 +1,7 @@
 -- Opens a file as a person would, with a configuration that starts the language server, and goes to a definition by a key.
 
 local function wait(what, holds)
-  if not vim.wait(60000, holds, 10) then
+  if not vim.wait(600000, holds, 10) then
     io.stdout:write("failed: " .. what .. "\n")
     vim.cmd("cquit 1")
   end

@@ -13,7 +13,7 @@ local function fail(what)
 end
 
 local function wait(what, holds)
-  if not vim.wait(60000, holds, 10) then
+  if not vim.wait(600000, holds, 10) then
     fail(what)
   end
 end
@@ -63,7 +63,7 @@ end
 
 local function ask(method, more)
   local params = vim.tbl_extend("force", vim.lsp.util.make_position_params(0, "utf-16"), more or {})
-  local replies = vim.lsp.buf_request_sync(0, method, params, 60000) or {}
+  local replies = vim.lsp.buf_request_sync(0, method, params, 600000) or {}
   return (replies[client] or {}).result
 end
 
