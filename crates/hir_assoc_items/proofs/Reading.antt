@@ -6,7 +6,7 @@ use Rattle.std.proofs.lemmas.Option.{slice_get_cases}
 use Rattle.std.specs.Prelude.{IfSome}
 use Rattle.hir_item_tree.specs.Collected.{Collected}
 use Rattle.hir_base.specs.Cfg.{Cfg}
-use Rattle.hir_base.specs.declared.ast_id.SyntaxId.{SyntaxId}
+use Rattle.hir_ids.specs.declared.ast_id.SyntaxId.{SyntaxId}
 use Rattle.hir_item_tree.specs.KeptForest.{KeptItem}
 use Rattle.hir_item_tree.specs.Kinds.{item_head}
 use Rattle.hir_item_tree.specs.Rows.{Content, alone, with_items, item_of, items_at, numbers_of}

@@ -134,7 +134,7 @@ pub struct AssociatedTypes<'a> {
 
 impl<'a> Model for AssociatedTypes<'a> {
     ghost use Rattle.std.specs.Prelude.{List};
-    ghost use Rattle.hir_base.specs.declared.ids.TypeAliasId.{TypeAliasId};
+    ghost use Rattle.hir_ids.specs.declared.ids.TypeAliasId.{TypeAliasId};
     ghost use Rattle.hir_assoc_items.specs.Readers.{types_among};
 
     ghost Value = { List TypeAliasId };
@@ -168,8 +168,8 @@ pub struct MacroCalls<'a> {
 
 impl<'a> Model for MacroCalls<'a> {
     ghost use Rattle.std.specs.Prelude.{List};
-    ghost use Rattle.hir_base.specs.declared.ast_id.AstId.{AstId};
-    ghost use Rattle.hir_base.specs.declared.ast_id.MacroCallId.{MacroCallId};
+    ghost use Rattle.hir_ids.specs.declared.ast_id.AstId.{AstId};
+    ghost use Rattle.hir_ids.specs.declared.ast_id.MacroCallId.{MacroCallId};
 
     ghost Value = { List (AstId × MacroCallId) };
 

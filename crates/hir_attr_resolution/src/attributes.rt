@@ -1,6 +1,6 @@
 //! The attributes of items: which of them are looked up, and which list derives.
 ghost use Rattle.std.specs.Prelude.{◌≡◌, ◌≤◌, ◌<◌, true, false, ◌+◌, ◌∷◌, [], IfOk, IfSome, IsSome, None, OnOk, Some, map as list_map, option_map, length, slice_get};
-ghost use Rattle.hir_base.specs.declared.ids.AdtId.{AdtId};
+ghost use Rattle.hir_ids.specs.declared.ids.AdtId.{AdtId};
 ghost use Rattle.hir_item_tree.specs.Attributes.{input_view};
 ghost use Rattle.hir_item_tree.specs.Collected.{numbered};
 ghost use Rattle.hir_item_tree.specs.KeptForest.{KeptItem};

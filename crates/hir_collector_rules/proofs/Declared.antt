@@ -1,7 +1,7 @@
 -- What a module lists, it goes on listing.
 use Rattle.std.proofs.Common.{ℕ, zero, suc, ◌<◌, ◌++◌, List, [], ◌∷◌, length, slice_get, Option, Some, refl, arith, Contains}
 use Rattle.std.proofs.lemmas.List.Elements.{Contains-append_left, Contains-append_right}
-use Rattle.hir_base.specs.declared.ids.ModuleDefId.{ModuleDefId}
+use Rattle.hir_ids.specs.declared.ids.ModuleDefId.{ModuleDefId}
 use Rattle.hir_def_map_rules.specs.Declaration.{listed}
 use Rattle.hir_def_map_rules.specs.State.{ModuleValue, changed_at, with_module_scope}
 use Rattle.hir_def_map_rules.specs.declared.declaration.Declaration.{Declaration}

@@ -6,8 +6,8 @@ use Rattle.std.specs.Prelude.{option_map, unwrap_or}
 use Rattle.hir_crate_graph.specs.CrateSet.{crate_of, crates_from}
 use Rattle.hir_crate_graph.specs.Dependencies.{is_reached}
 use Rattle.std.proofs.lemmas.List.Elements.{Contains-append_left, Contains-append_right, Contains-append_cases}
-use Rattle.hir_base.specs.declared.ids.Crate.{Crate}
-use Rattle.hir_base.specs.declared.ids.ModuleId.{ModuleId}
+use Rattle.hir_ids.specs.declared.ids.Crate.{Crate}
+use Rattle.hir_ids.specs.declared.ids.ModuleId.{ModuleId}
 use Rattle.hir_item_tree.specs.ItemTree.{Tree}
 use Rattle.hir_tables.specs.Tables.{KeepsTables, TablesValue}
 use Rattle.hir_def_map.specs.WorldParts.{among}

@@ -3,14 +3,14 @@ use Rattle.std.proofs.Common.{◌≡◌, ◌∙◌, ℕ, zero, suc, ◌<◌, fal
 use Rattle.std.proofs.Common.{Contains}
 use Rattle.std.specs.Prelude.{IsSome, option_map}
 use Rattle.std.specs.Option.{option_map_or, option_to_list}
-use Rattle.hir_base.specs.declared.ast_id.AstId.{AstId}
-use Rattle.hir_base.specs.declared.ast_id.AttrId.{AttrId}
-use Rattle.hir_base.specs.declared.ids.Crate.{Crate}
-use Rattle.hir_base.specs.declared.edition.Edition.{Edition}
-use Rattle.hir_base.specs.declared.ast_id.FileId.{FileId}
-use Rattle.hir_base.specs.declared.ast_id.MacroCallId.{MacroCallId}
-use Rattle.hir_base.specs.declared.macro_kind.MacroId.{MacroId}
-use Rattle.hir_base.specs.declared.macro_kind.MacroId.TheVariants as macros
+use Rattle.hir_ids.specs.declared.ast_id.AstId.{AstId}
+use Rattle.hir_ids.specs.declared.ast_id.AttrId.{AttrId}
+use Rattle.hir_ids.specs.declared.ids.Crate.{Crate}
+use Rattle.hir_ids.specs.declared.edition.Edition.{Edition}
+use Rattle.hir_ids.specs.declared.ast_id.FileId.{FileId}
+use Rattle.hir_ids.specs.declared.ast_id.MacroCallId.{MacroCallId}
+use Rattle.hir_ids.specs.declared.macro_kind.MacroId.{MacroId}
+use Rattle.hir_ids.specs.declared.macro_kind.MacroId.TheVariants as macros
 use Rattle.hir_item_tree.specs.declared.tree_id.TreeId.{TreeId}
 use Rattle.hir_mod_dir.specs.Directory.{Directory}
 use Rattle.hir_mod_dir.specs.declared.candidate.Candidate.{Candidate}

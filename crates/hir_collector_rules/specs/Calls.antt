@@ -3,26 +3,26 @@ use Rattle.std.specs.Prelude.{◌≡◌, ◌<◌, IsSome, ℕ, ◌+◌, Bool, tr
 use Rattle.std.specs.Prelude.{slice_get}
 use Rattle.std.specs.Option.{option_and_then}
 use Rattle.either.specs.declared.Either.{Either}
-use Rattle.hir_base.specs.Ids.{macro_module}
-use Rattle.hir_base.specs.MacroKind.{contains_styles, derive_alone, styles_of}
+use Rattle.hir_ids.specs.Ids.{macro_module}
+use Rattle.hir_ids.specs.MacroKind.{contains_styles, derive_alone, styles_of}
 use Rattle.hir_base.specs.ModPath.{Path}
-use Rattle.hir_base.specs.declared.ast_id.AstId.{AstId}
-use Rattle.hir_base.specs.declared.ast_id.AttrId.{AttrId}
-use Rattle.hir_base.specs.declared.macro_kind.BuiltinDeriveImplId.{BuiltinDeriveImplId}
+use Rattle.hir_ids.specs.declared.ast_id.AstId.{AstId}
+use Rattle.hir_ids.specs.declared.ast_id.AttrId.{AttrId}
+use Rattle.hir_ids.specs.declared.macro_kind.BuiltinDeriveImplId.{BuiltinDeriveImplId}
 use Rattle.hir_base.specs.declared.macro_kind.CallStyle.{CallStyle}
-use Rattle.hir_base.specs.declared.ids.Crate.{Crate}
-use Rattle.hir_base.specs.declared.ast_id.EntryId.{EntryId}
-use Rattle.hir_base.specs.declared.ast_id.MacroCallId.{MacroCallId}
+use Rattle.hir_ids.specs.declared.ids.Crate.{Crate}
+use Rattle.hir_ids.specs.declared.ast_id.EntryId.{EntryId}
+use Rattle.hir_ids.specs.declared.ast_id.MacroCallId.{MacroCallId}
 use Rattle.hir_base.specs.declared.macro_kind.MacroCallKind.{MacroCallKind}
 use Rattle.hir_base.specs.declared.macro_kind.MacroCallLoc.{MacroCallLoc}
-use Rattle.hir_base.specs.declared.macro_kind.MacroExpander.{MacroExpander}
-use Rattle.hir_base.specs.declared.macro_kind.MacroId.{MacroId}
+use Rattle.hir_ids.specs.declared.macro_kind.MacroExpander.{MacroExpander}
+use Rattle.hir_ids.specs.declared.macro_kind.MacroId.{MacroId}
 use Rattle.hir_base.specs.declared.resolve_mode.MacroSubNs.{MacroSubNs}
-use Rattle.hir_base.specs.declared.ast_id.HirFileId.TheVariants.{Macro}
+use Rattle.hir_ids.specs.declared.ast_id.HirFileId.TheVariants.{Macro}
 use Rattle.hir_base.specs.declared.macro_kind.CallStyle.TheVariants as styles
-use Rattle.hir_base.specs.declared.macro_kind.MacroExpander.TheVariants as expanders
+use Rattle.hir_ids.specs.declared.macro_kind.MacroExpander.TheVariants as expanders
 use Rattle.hir_base.specs.declared.macro_kind.MacroCallKind.TheVariants as call_kinds
-use Rattle.hir_base.specs.declared.macro_kind.MacroId.TheVariants.{Macro2Id, MacroRulesId, ProcMacroId}
+use Rattle.hir_ids.specs.declared.macro_kind.MacroId.TheVariants.{Macro2Id, MacroRulesId, ProcMacroId}
 use Rattle.hir_base.specs.declared.resolve_mode.BuiltinShadowMode.TheVariants as shadow_modes
 use Rattle.hir_base.specs.declared.resolve_mode.MacroSubNs.TheVariants as sub_namespaces
 use Rattle.hir_def_map_rules.specs.declared.path_result.ResolveMode.TheVariants as modes

@@ -6,7 +6,7 @@ use Rattle.hir_scope.specs.declared.imports.ImportOrExternCrate.TheVariants as w
 use Rattle.hir_def_map_rules.specs.State.{Local, Map, entry_at}
 use Rattle.hir_def_map_rules.specs.Overlay.{Maps}
 use Rattle.hir_def_map_rules.specs.declared.diagnostics.DefDiagnostic.{DefDiagnostic}
-use Rattle.hir_base.specs.declared.ids.Crate.{Crate}
+use Rattle.hir_ids.specs.declared.ids.Crate.{Crate}
 use Rattle.hir_tables.specs.Tables.{TablesValue}
 use Rattle.hir_glob_imports.specs.declared.edge.Target.{Target}
 use Rattle.hir_import_rules.specs.declared.directive.ImportDirective.{ImportDirective}

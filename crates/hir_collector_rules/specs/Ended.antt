@@ -1,9 +1,9 @@
 -- What do others see of a procedural-macro crate?
 use Rattle.std.specs.Prelude.{ℕ, List, [], ◌∷◌, cond}
-use Rattle.hir_base.specs.declared.ids.Crate.{Crate}
-use Rattle.hir_base.specs.declared.ids.FunctionId.{FunctionId}
-use Rattle.hir_base.specs.declared.ids.ModuleDefId.TheVariants as definitions
-use Rattle.hir_base.specs.contracts.ids.ModuleDefIdPartialEq.TheImpl as module_def
+use Rattle.hir_ids.specs.declared.ids.Crate.{Crate}
+use Rattle.hir_ids.specs.declared.ids.FunctionId.{FunctionId}
+use Rattle.hir_ids.specs.declared.ids.ModuleDefId.TheVariants as definitions
+use Rattle.hir_ids.specs.contracts.ids.ModuleDefIdPartialEq.TheImpl as module_def
 use Rattle.hir_scope.specs.Scope.{ScopeValue}
 use Rattle.hir_scope.specs.Scope.Updates.{censored_scope, without_definition}
 use Rattle.hir_def_map_rules.specs.State.{Map, with_scope}

@@ -2,8 +2,8 @@
 use Rattle.std.specs.Prelude.{◌==◌, ℕ, ◌&&◌, is_none, List, [], ◌∷◌, Option, None, Some, map, cond}
 use Rattle.std.specs.Str.{bytes_eq}
 use Rattle.hir_base.specs.ModPath.{Path}
-use Rattle.hir_base.specs.declared.ids.Crate.{Crate}
-use Rattle.hir_base.specs.declared.ids.UseId.{UseId}
+use Rattle.hir_ids.specs.declared.ids.Crate.{Crate}
+use Rattle.hir_ids.specs.declared.ids.UseId.{UseId}
 use Rattle.hir_base.specs.declared.mod_path.PathKind.TheVariants as path_kinds
 use Rattle.hir_item_tree.specs.Imports.{imports_of}
 use Rattle.hir_use_tree.specs.declared.imports.Import.{Import}

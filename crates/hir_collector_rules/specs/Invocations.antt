@@ -2,10 +2,10 @@
 use Rattle.std.specs.Prelude.{ℕ, List, None, cond, length, replicate}
 use Rattle.either.specs.declared.Either.TheVariants as either
 use Rattle.hir_base.specs.ModPath.{Path}
-use Rattle.hir_base.specs.declared.ast_id.AstId.{AstId}
-use Rattle.hir_base.specs.declared.ast_id.AttrId.{AttrId}
-use Rattle.hir_base.specs.declared.macro_kind.BuiltinDeriveImplId.{BuiltinDeriveImplId}
-use Rattle.hir_base.specs.declared.ast_id.MacroCallId.{MacroCallId}
+use Rattle.hir_ids.specs.declared.ast_id.AstId.{AstId}
+use Rattle.hir_ids.specs.declared.ast_id.AttrId.{AttrId}
+use Rattle.hir_ids.specs.declared.macro_kind.BuiltinDeriveImplId.{BuiltinDeriveImplId}
+use Rattle.hir_ids.specs.declared.ast_id.MacroCallId.{MacroCallId}
 use Rattle.hir_scope.specs.MacroScope.{has_derive_slot, with_call, with_derive, with_derive_attribute}
 use Rattle.hir_scope.specs.Scope.{DeriveCall, DeriveCalls, ScopeValue}
 use Rattle.hir_def_map_rules.specs.State.{Map, with_scope}

@@ -1,12 +1,12 @@
 -- What does an item declare?
 use Rattle.std.specs.Prelude.{ℕ, List, [], ◌∷◌, Option, None, Some, map, unwrap_or}
 use Rattle.std.specs.Option.{option_and_then}
-use Rattle.hir_base.specs.declared.ast_id.AstKind.TheVariants as kinds
-use Rattle.hir_base.specs.declared.edition.Edition.{Edition}
-use Rattle.hir_base.specs.declared.ids.ModuleDefId.{ModuleDefId}
-use Rattle.hir_base.specs.declared.ast_id.SyntaxId.{SyntaxId}
-use Rattle.hir_base.specs.declared.ids.AdtId.TheVariants as adts
-use Rattle.hir_base.specs.declared.ids.ModuleDefId.TheVariants as definitions
+use Rattle.hir_ids.specs.declared.ast_id.AstKind.TheVariants as kinds
+use Rattle.hir_ids.specs.declared.edition.Edition.{Edition}
+use Rattle.hir_ids.specs.declared.ids.ModuleDefId.{ModuleDefId}
+use Rattle.hir_ids.specs.declared.ast_id.SyntaxId.{SyntaxId}
+use Rattle.hir_ids.specs.declared.ids.AdtId.TheVariants as adts
+use Rattle.hir_ids.specs.declared.ids.ModuleDefId.TheVariants as definitions
 use Rattle.hir_item_tree.specs.KeptForest.{Head, Leaf, import, extern_crate, function, structure, union_structure, enumeration, constant, static_item}
 use Rattle.hir_item_tree.specs.KeptForest.{trait_item, implementation, type_alias, outline_module, macro_call, macro_rules, macro_def, KeptItem, leaf, holder}
 use Rattle.hir_item_tree.specs.declared.shape.FieldsShape.{FieldsShape}

@@ -2,13 +2,13 @@
 use Rattle.std.specs.Prelude.{◌≡◌, ◌<◌, ℕ, List, Option, Some, slice_get}
 use Rattle.hir_base.specs.Locations.{max_locations}
 use Rattle.hir_base.specs.ModPath.{Path}
-use Rattle.hir_base.specs.declared.ids.AdtId.{AdtId}
-use Rattle.hir_base.specs.declared.ast_id.AstId.{AstId}
-use Rattle.hir_base.specs.declared.ast_id.AttrId.{AttrId}
-use Rattle.hir_base.specs.declared.ids.Crate.{Crate}
-use Rattle.hir_base.specs.declared.ast_id.EntryId.{EntryId}
+use Rattle.hir_ids.specs.declared.ids.AdtId.{AdtId}
+use Rattle.hir_ids.specs.declared.ast_id.AstId.{AstId}
+use Rattle.hir_ids.specs.declared.ast_id.AttrId.{AttrId}
+use Rattle.hir_ids.specs.declared.ids.Crate.{Crate}
+use Rattle.hir_ids.specs.declared.ast_id.EntryId.{EntryId}
 use Rattle.hir_base.specs.declared.macro_kind.MacroCallKind.{MacroCallKind}
-use Rattle.hir_base.specs.declared.macro_kind.MacroId.{MacroId}
+use Rattle.hir_ids.specs.declared.macro_kind.MacroId.{MacroId}
 use Rattle.hir_base.specs.declared.macro_kind.MacroCallKind.TheVariants.{Attr}
 use Rattle.hir_item_tree.specs.Collected.{Numbered as Attribute}
 use Rattle.hir_item_tree.specs.KeptForest.{Head, leaf, outline_module}

@@ -3,12 +3,12 @@ use Rattle.std.specs.Prelude.{ℕ, Bool, ◌||◌, ◌&&◌, not, is_some, List,
 use Rattle.std.specs.Option.{option_and_then}
 use Rattle.std.specs.Str.{bytes_eq}
 use Rattle.hir_base.specs.ModPath.{Path}
-use Rattle.hir_base.specs.declared.edition.Edition.{Edition}
-use Rattle.hir_base.specs.declared.ids.ModuleDefId.{ModuleDefId}
-use Rattle.hir_base.specs.declared.ids.ModuleId.{ModuleId}
-use Rattle.hir_base.specs.declared.ids.UseId.{UseId}
-use Rattle.hir_base.specs.declared.edition.Edition.TheVariants as editions
-use Rattle.hir_base.specs.declared.ids.ModuleDefId.TheVariants as definitions
+use Rattle.hir_ids.specs.declared.edition.Edition.{Edition}
+use Rattle.hir_ids.specs.declared.ids.ModuleDefId.{ModuleDefId}
+use Rattle.hir_ids.specs.declared.ids.ModuleId.{ModuleId}
+use Rattle.hir_ids.specs.declared.ids.UseId.{UseId}
+use Rattle.hir_ids.specs.declared.edition.Edition.TheVariants as editions
+use Rattle.hir_ids.specs.declared.ids.ModuleDefId.TheVariants as definitions
 use Rattle.hir_base.specs.declared.mod_path.PathKind.TheVariants.{Abs}
 use Rattle.hir_scope.specs.Imports.{use_of}
 use Rattle.hir_scope.specs.declared.imports.ImportOrExternCrate.{ImportOrExternCrate}

@@ -1,6 +1,6 @@
 -- When does a run meet a source that has no number?
 use Rattle.std.specs.Prelude.{◌<◌, ℕ, IsSome}
-use Rattle.hir_base.specs.declared.macro_kind.MacroId.{MacroId}
+use Rattle.hir_ids.specs.declared.macro_kind.MacroId.{MacroId}
 use Rattle.hir_tables.specs.Tables.{TablesValue, source_of}
 use Rattle.hir_def_map_rules.specs.Overlay.{Maps}
 use Rattle.hir_collector_rules.specs.declared.macro_directive.MacroDirective.{MacroDirective}

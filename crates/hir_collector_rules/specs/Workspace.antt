@@ -2,8 +2,8 @@
 use Rattle.std.specs.Prelude.{ℕ, Bool, List, [], Option, None, Some, map, option_map, slice_get}
 use Rattle.hir_base.specs.ModPath.{Path}
 use Rattle.hir_base.specs.declared.cfg.CfgAtom.{CfgAtom}
-use Rattle.hir_base.specs.declared.ids.Crate.{Crate}
-use Rattle.hir_base.specs.declared.edition.Edition.{Edition}
+use Rattle.hir_ids.specs.declared.ids.Crate.{Crate}
+use Rattle.hir_ids.specs.declared.edition.Edition.{Edition}
 use Rattle.hir_item_tree.specs.Attributes.{Attributes, attributes_view}
 use Rattle.hir_item_tree.specs.ItemTree.{Tree}
 use Rattle.hir_item_tree.specs.SourceTree.{SourceTreeValue}

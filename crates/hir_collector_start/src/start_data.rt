@@ -4,7 +4,7 @@ ghost use Rattle.std.specs.Ordering.{nat_cmp};
 ghost use Rattle.std.specs.Cmp.Lexicographic.{slice_cmp};
 ghost use Rattle.std.specs.List.Sorted.{IsStrictlySortedBy};
 ghost use Rattle.hir_def_map.specs.WorldParts.{part_of};
-ghost use Rattle.hir_base.specs.declared.edition.Edition.TheVariants.{Edition2024};
+ghost use Rattle.hir_ids.specs.declared.edition.Edition.TheVariants.{Edition2024};
 ghost use Rattle.hir_collector_rules.specs.CrateTop.{crate_data_of};
 ghost use Rattle.hir_collector_rules.specs.Start.{start_data, start_local};
 

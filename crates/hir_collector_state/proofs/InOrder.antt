@@ -1,7 +1,7 @@
 -- The modules of a run's map come after what they are in.
 use Rattle.std.proofs.Common.{◌≡◌, ◌∙◌, ◌⊎◌, inl, inr, ℕ, zero, suc, ◌<◌, List, [], ◌∷◌, ◌++◌, length, slice_get, Option, None, Some, refl, sym, ap, subst}
 use Rattle.std.proofs.Common.{arith}
-use Rattle.hir_base.specs.declared.ids.ModuleId.{ModuleId}
+use Rattle.hir_ids.specs.declared.ids.ModuleId.{ModuleId}
 use Rattle.hir_scope.specs.Scope.{ScopeValue}
 use Rattle.hir_def_map_rules.proofs.Grown.{kept, length-changed}
 use Rattle.hir_def_map_rules.specs.Overlay.{Maps}

@@ -1,8 +1,8 @@
 -- What has changed of a run, and which slots do its calls read?
 use Rattle.std.specs.Prelude.{◌≡◌, ℕ, ◌<◌, ◌≤◌, Bool, false, [], List, None, Some, length, option_map, slice_get, unwrap_or}
 use Rattle.std.specs.List.{All}
-use Rattle.hir_base.specs.declared.ast_id.AstId.{AstId}
-use Rattle.hir_base.specs.declared.ids.EnumId.{EnumId}
+use Rattle.hir_ids.specs.declared.ast_id.AstId.{AstId}
+use Rattle.hir_ids.specs.declared.ids.EnumId.{EnumId}
 use Rattle.hir_def_map_rules.specs.Macros.{helpers_at}
 use Rattle.hir_def_map_rules.specs.Overlay.{Maps}
 use Rattle.hir_def_map.specs.Scoping.Slots.{reads}

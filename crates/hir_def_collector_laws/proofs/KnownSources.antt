@@ -2,9 +2,9 @@
 use Rattle.std.specs.Prelude.{◌≡◌, List, Bool, true, false, is_some, not, Option, Some, None, cond, option_map}
 use Rattle.std.proofs.Common.{ap, refl, subst, arith}
 use mathlib.Core.Bool.{true≢false}
-use Rattle.hir_base.specs.declared.macro_kind.MacroId.{MacroId}
-use Rattle.hir_base.specs.declared.ids.ModuleId.{ModuleId}
-use Rattle.hir_base.specs.declared.macro_kind.MacroId.TheVariants as macros
+use Rattle.hir_ids.specs.declared.macro_kind.MacroId.{MacroId}
+use Rattle.hir_ids.specs.declared.ids.ModuleId.{ModuleId}
+use Rattle.hir_ids.specs.declared.macro_kind.MacroId.TheVariants as macros
 use Rattle.hir_scope.specs.PerNs.{Item}
 use Rattle.hir_scope.specs.declared.imports.ImportOrExternCrate.{ImportOrExternCrate}
 use Rattle.hir_scope.specs.declared.per_ns.PerNs.{PerNs}

@@ -1,11 +1,11 @@
 -- What changes add to the lists of modules, and what they leave of modules.
 use Rattle.std.proofs.Common.{◌≡◌, ◌∙◌, ◌<◌, ◌+◌, ℕ, zero, suc, Bool, true, false, cond, List, [], ◌∷◌, ◌++◌, length, map as list_map, slice_get, Option, None}
 use Rattle.std.proofs.Common.{Some, refl, sym, ap, subst, arith, append-nil, append_assoc}
-use Rattle.hir_base.specs.declared.ast_id.AstId.{AstId}
-use Rattle.hir_base.specs.declared.macro_kind.MacroExpander.{MacroExpander}
-use Rattle.hir_base.specs.declared.macro_kind.MacroId.{MacroId}
-use Rattle.hir_base.specs.declared.ids.ModuleDefId.{ModuleDefId}
-use Rattle.hir_base.specs.declared.ids.ModuleId.{ModuleId}
+use Rattle.hir_ids.specs.declared.ast_id.AstId.{AstId}
+use Rattle.hir_ids.specs.declared.macro_kind.MacroExpander.{MacroExpander}
+use Rattle.hir_ids.specs.declared.macro_kind.MacroId.{MacroId}
+use Rattle.hir_ids.specs.declared.ids.ModuleDefId.{ModuleDefId}
+use Rattle.hir_ids.specs.declared.ids.ModuleId.{ModuleId}
 use Rattle.hir_item_tree.specs.KeptForest.{Head}
 use Rattle.hir_scope.specs.PerNs.{macros_only}
 use Rattle.hir_scope.specs.Scope.{ScopeValue}

@@ -5,8 +5,8 @@ use Rattle.std.specs.BTreeMap.{insert_entry, is_at}
 use Rattle.std.specs.Cmp.Lexicographic.{slice_cmp}
 use Rattle.std.specs.Map.{set_value}
 use Rattle.std.specs.Ordering.{nat_cmp}
-use Rattle.hir_base.specs.declared.ids.Crate.{Crate}
-use Rattle.hir_base.specs.declared.ids.MapId.{MapId}
+use Rattle.hir_ids.specs.declared.ids.Crate.{Crate}
+use Rattle.hir_ids.specs.declared.ids.MapId.{MapId}
 use Rattle.hir_scope.specs.Bindings.{Candidate, Push, taken, takes as takes_slot, written_items, written_places}
 use Rattle.hir_scope.specs.Entries.{item_at, with_entry}
 use Rattle.hir_scope.specs.Globs.{Place, has_place, with_place, without_place}

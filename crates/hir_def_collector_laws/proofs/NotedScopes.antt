@@ -1,13 +1,13 @@
 -- Where a glob brought what a name stands for, it is noted along which edge: in each scope of a map.
 use Rattle.std.proofs.Common.{◌≡◌, ◌≢◌, ◌∙◌, ℕ, Bool, true, false, cond, List, [], ◌∷◌, ◌++◌, Option, None, Some, is_some, option_and_then, slice_get}
 use Rattle.std.proofs.Common.{if◌then◌else◌, refl, sym, ap, subst, true≢false}
-use Rattle.hir_base.specs.contracts.ids.ModuleDefIdPartialEq.TheImpl as module_def
-use Rattle.hir_base.specs.contracts.macro_kind.MacroIdPartialEq.TheImpl as makro
-use Rattle.hir_base.specs.declared.macro_kind.MacroId.{MacroId}
-use Rattle.hir_base.specs.declared.ids.MapId.{MapId}
-use Rattle.hir_base.specs.declared.ids.ModuleDefId.{ModuleDefId}
-use Rattle.hir_base.specs.declared.ids.TraitId.{TraitId}
-use Rattle.hir_base.specs.declared.ids.ModuleDefId.TheVariants as definitions
+use Rattle.hir_ids.specs.contracts.ids.ModuleDefIdPartialEq.TheImpl as module_def
+use Rattle.hir_ids.specs.contracts.macro_kind.MacroIdPartialEq.TheImpl as makro
+use Rattle.hir_ids.specs.declared.macro_kind.MacroId.{MacroId}
+use Rattle.hir_ids.specs.declared.ids.MapId.{MapId}
+use Rattle.hir_ids.specs.declared.ids.ModuleDefId.{ModuleDefId}
+use Rattle.hir_ids.specs.declared.ids.TraitId.{TraitId}
+use Rattle.hir_ids.specs.declared.ids.ModuleDefId.TheVariants as definitions
 use Rattle.hir_scope.specs.contracts.imports.ImportOrExternCratePartialEq.TheImpl as item_import
 use Rattle.hir_scope.specs.contracts.imports.ImportOrGlobPartialEq.TheImpl as glob_import
 use Rattle.hir_scope.specs.Bindings.{Candidate, macro_candidate, type_candidate, value_candidate, with_item_definition, with_item_visibility, written_places}

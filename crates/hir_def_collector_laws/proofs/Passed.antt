@@ -10,9 +10,9 @@ use Rattle.std.specs.Str.{bytes_eq}
 use Rattle.std.specs.declared.cmp.Ordering.{Ordering}
 use Rattle.std.specs.declared.cmp.Ordering.TheVariants.{Less, Equal, Greater}
 use Rattle.hir_base.specs.ModPath.{Path}
-use Rattle.hir_base.specs.contracts.ast_id.AstIdOrd.TheImpl as ast_order
-use Rattle.hir_base.specs.contracts.ast_id.AstIdOrd.TheImpl.Laws.{total-law as ast_total}
-use Rattle.hir_base.specs.declared.ast_id.AstId.{AstId}
+use Rattle.hir_ids.specs.contracts.ast_id.AstIdOrd.TheImpl as ast_order
+use Rattle.hir_ids.specs.contracts.ast_id.AstIdOrd.TheImpl.Laws.{total-law as ast_total}
+use Rattle.hir_ids.specs.declared.ast_id.AstId.{AstId}
 use Rattle.hir_base.specs.declared.mod_path.PathKind.{PathKind}
 use Rattle.hir_base.specs.declared.mod_path.PathKind.TheVariants as roots
 use Rattle.hir_item_tree.specs.Collected.{Numbered}

@@ -6,15 +6,15 @@ use mathlib.Core.Bool.{true≢false}
 use Rattle.std.proofs.Common.{ap, refl, subst, sym, ◌∙◌}
 use Rattle.std.specs.Prelude.{nat_eq}
 use Rattle.std.specs.Cmp.Lexicographic.{pointwise}
-use Rattle.hir_base.specs.declared.ast_id.AstId.{AstId}
-use Rattle.hir_base.specs.declared.ids.Crate.{Crate}
-use Rattle.hir_base.specs.declared.ids.ExternCrateId.{ExternCrateId}
-use Rattle.hir_base.specs.declared.macro_kind.MacroId.{MacroId}
-use Rattle.hir_base.specs.declared.ids.ModuleDefId.{ModuleDefId}
-use Rattle.hir_base.specs.declared.ids.ModuleId.{ModuleId}
-use Rattle.hir_base.specs.declared.ids.TraitId.{TraitId}
-use Rattle.hir_base.specs.declared.ids.UseId.{UseId}
-use Rattle.hir_base.specs.declared.ids.ModuleDefId.TheVariants as definitions
+use Rattle.hir_ids.specs.declared.ast_id.AstId.{AstId}
+use Rattle.hir_ids.specs.declared.ids.Crate.{Crate}
+use Rattle.hir_ids.specs.declared.ids.ExternCrateId.{ExternCrateId}
+use Rattle.hir_ids.specs.declared.macro_kind.MacroId.{MacroId}
+use Rattle.hir_ids.specs.declared.ids.ModuleDefId.{ModuleDefId}
+use Rattle.hir_ids.specs.declared.ids.ModuleId.{ModuleId}
+use Rattle.hir_ids.specs.declared.ids.TraitId.{TraitId}
+use Rattle.hir_ids.specs.declared.ids.UseId.{UseId}
+use Rattle.hir_ids.specs.declared.ids.ModuleDefId.TheVariants as definitions
 use Rattle.hir_item_tree.specs.KeptForest.{Head, Leaf, KeptItem, leaf, holder, import, extern_crate, function, structure, union_structure, enumeration}
 use Rattle.hir_item_tree.specs.KeptForest.{constant, static_item, trait_item, implementation, type_alias, outline_module, macro_call, macro_rules, macro_def}
 use Rattle.hir_use_tree.specs.declared.imports.Import.{Import}
@@ -32,7 +32,7 @@ use Rattle.hir_def_map_rules.specs.declared.diagnostics.DefDiagnostic.{DefDiagno
 use Rattle.hir_def_map_rules.specs.declared.reference.Reference.{Reference}
 use Rattle.hir_def_map_rules.specs.declared.reference.Reference.TheVariants as named
 use Rattle.std.specs.Map.{lookup}
-use Rattle.hir_base.specs.contracts.ids.TraitIdPartialEq.TheImpl as trait_id
+use Rattle.hir_ids.specs.contracts.ids.TraitIdPartialEq.TheImpl as trait_id
 use Rattle.hir_def_map_rules.specs.Sources.{on_some}
 use Rattle.hir_def_map_rules.proofs.Fails.{Fails-keep, Fails-nothing, Fails-public, Fails-weaker}
 use Rattle.hir_def_map_rules.proofs.Referred.{module_parts, scope_parts}

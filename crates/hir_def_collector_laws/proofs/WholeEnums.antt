@@ -9,11 +9,11 @@ use Rattle.std.specs.Ordering.{is_eq, match_ordering, nat_cmp}
 use Rattle.std.specs.declared.cmp.Ordering.{Ordering}
 use Rattle.std.specs.declared.cmp.Ordering.TheVariants.{Less, Equal, Greater}
 use Rattle.std.proofs.Common.{ap, refl, ◌∙◌}
-use Rattle.hir_base.specs.contracts.ids.EnumIdOrd.TheImpl as enum_order
-use Rattle.hir_base.specs.contracts.ids.EnumIdOrd.TheImpl.Laws.{matches_eq-law as enum_ties, total-law as enum_total}
-use Rattle.hir_base.specs.contracts.ids.EnumIdPartialEq.TheImpl as enum_id
-use Rattle.hir_base.specs.contracts.ids.MapIdPartialEq.TheImpl as map_id
-use Rattle.hir_base.specs.declared.ids.EnumId.{EnumId}
+use Rattle.hir_ids.specs.contracts.ids.EnumIdOrd.TheImpl as enum_order
+use Rattle.hir_ids.specs.contracts.ids.EnumIdOrd.TheImpl.Laws.{matches_eq-law as enum_ties, total-law as enum_total}
+use Rattle.hir_ids.specs.contracts.ids.EnumIdPartialEq.TheImpl as enum_id
+use Rattle.hir_ids.specs.contracts.ids.MapIdPartialEq.TheImpl as map_id
+use Rattle.hir_ids.specs.declared.ids.EnumId.{EnumId}
 use Rattle.hir_item_tree.specs.declared.side_lists.VariantItem.{VariantItem}
 use Rattle.hir_def_map.proofs.Joined.{both}
 use Rattle.hir_def_map_rules.specs.References.{are_variants_of, is_missing}

@@ -1,8 +1,8 @@
 -- Does a crate's run ask for something of a block?
 use Rattle.std.specs.Prelude.{◌≡◌, false, is_some, Option, None, Some, Contains}
-use Rattle.hir_base.specs.declared.ast_id.BlockId.{BlockId}
-use Rattle.hir_base.specs.declared.macro_kind.MacroId.{MacroId}
-use Rattle.hir_base.specs.declared.macro_kind.MacroId.TheVariants as macros
+use Rattle.hir_ids.specs.declared.ast_id.BlockId.{BlockId}
+use Rattle.hir_ids.specs.declared.macro_kind.MacroId.{MacroId}
+use Rattle.hir_ids.specs.declared.macro_kind.MacroId.TheVariants as macros
 use Rattle.hir_def_map_rules.specs.Overlay.{Maps}
 use Rattle.hir_def_map_rules.specs.Sources.{HoldsNowhere, HoldsNowhereIn, SourceTest}
 use Rattle.hir_def_map_rules.specs.WellFormed.{AreWellFormed}

@@ -1,6 +1,6 @@
 -- Of what do a run's diagnostics speak?
 use Rattle.std.specs.Prelude.{◌≡◌, ◌<◌, ℕ, length, Contains}
-use Rattle.hir_base.specs.declared.ast_id.AstId.{AstId}
+use Rattle.hir_ids.specs.declared.ast_id.AstId.{AstId}
 use Rattle.hir_item_tree.specs.KeptForest.{KeptItem}
 use Rattle.hir_item_tree.specs.Kinds.{item_head, item_kind}
 use Rattle.hir_tables.specs.Tables.{TablesValue}

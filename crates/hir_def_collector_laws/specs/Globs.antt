@@ -1,6 +1,6 @@
 -- Which glob brought a name, and what does its source show now?
 use Rattle.std.specs.Prelude.{◌≡◌, ◌≢◌, ℕ, Bool, true, false, List, Option, None, Some, option_and_then, slice_get}
-use Rattle.hir_base.specs.declared.ids.Crate.{Crate}
+use Rattle.hir_ids.specs.declared.ids.Crate.{Crate}
 use Rattle.hir_scope.specs.Imports.{as_item_import, glob_of}
 use Rattle.hir_scope.specs.ModuleTree.{same_crate}
 use Rattle.hir_scope.specs.PerNs.{Item}

@@ -1,6 +1,6 @@
 -- Where is written what a run binds?
 use Rattle.std.specs.Prelude.{◌≡◌, false, List, Some, Contains, is_some, not, option_map}
-use Rattle.hir_base.specs.declared.ids.ModuleId.{ModuleId}
+use Rattle.hir_ids.specs.declared.ids.ModuleId.{ModuleId}
 use Rattle.hir_def_map_rules.specs.Closed.{ModuleIsThere}
 use Rattle.hir_def_map_rules.specs.WellFormed.{AreWellFormed}
 use Rattle.hir_def_map_rules.specs.Sources.{HoldsNowhere, HoldsNowhereIn, HoldsOfNoExtern, SourceTest}

@@ -1,6 +1,6 @@
 -- Which items do the sources write that a run asked for?
 use Rattle.std.specs.Prelude.{◌≡◌, ◌≢◌, true, List, None, Contains}
-use Rattle.hir_base.specs.declared.ast_id.MacroCallId.{MacroCallId}
+use Rattle.hir_ids.specs.declared.ast_id.MacroCallId.{MacroCallId}
 use Rattle.hir_item_tree.specs.Collected.{is_enabled}
 use Rattle.hir_item_tree.specs.KeptForest.{Head, Holder, KeptItem, KeptForest, holder, item}
 use Rattle.hir_item_tree.specs.declared.tree_id.TreeId.{TreeId}

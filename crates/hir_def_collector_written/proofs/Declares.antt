@@ -1,8 +1,8 @@
 -- What an item declares stands for one definition, and carries no import.
 use Rattle.std.proofs.Common.{◌≡◌, ℕ, List, Option, None, Some, refl, ap, subst}
-use Rattle.hir_base.specs.declared.macro_kind.MacroId.{MacroId}
-use Rattle.hir_base.specs.declared.ids.ModuleDefId.{ModuleDefId}
-use Rattle.hir_base.specs.declared.ids.ModuleDefId.TheVariants as definitions
+use Rattle.hir_ids.specs.declared.macro_kind.MacroId.{MacroId}
+use Rattle.hir_ids.specs.declared.ids.ModuleDefId.{ModuleDefId}
+use Rattle.hir_ids.specs.declared.ids.ModuleDefId.TheVariants as definitions
 use Rattle.hir_item_tree.specs.KeptForest.{Head, Holder, KeptItem, Leaf, constant, enumeration, extern_block, extern_crate, function, holder, implementation}
 use Rattle.hir_item_tree.specs.KeptForest.{import, inline_module, leaf, macro_call, macro_def, macro_rules, outline_module, static_item, structure, trait_item}
 use Rattle.hir_item_tree.specs.KeptForest.{type_alias, union_structure}

@@ -1,7 +1,7 @@
 -- Of what names stand for that no import brought, something holds where a run stands, and no glob is noted as what brought it.
 use Rattle.std.proofs.Common.{◌≡◌, ◌∙◌, ℕ, Bool, true, false, List, Option, None, Some, is_some, map as list_map, if◌then◌else◌, refl, sym, ap, subst}
-use Rattle.hir_base.specs.declared.macro_kind.MacroId.{MacroId}
-use Rattle.hir_base.specs.declared.ids.ModuleDefId.{ModuleDefId}
+use Rattle.hir_ids.specs.declared.macro_kind.MacroId.{MacroId}
+use Rattle.hir_ids.specs.declared.ids.ModuleDefId.{ModuleDefId}
 use Rattle.hir_scope.specs.Entries.{item_at}
 use Rattle.hir_scope.specs.PerNs.{Item, value_import}
 use Rattle.hir_scope.specs.Scope.{ScopeValue}

@@ -1,10 +1,10 @@
 -- Which item declares what a name stands for that no import brought?
 use Rattle.std.specs.Prelude.{◌≡◌, ℕ, zero, suc, Bool, true, false, List, Option, None, Some, Contains}
-use Rattle.hir_base.specs.declared.macro_kind.MacroExpander.{MacroExpander}
-use Rattle.hir_base.specs.declared.macro_kind.MacroId.{MacroId}
-use Rattle.hir_base.specs.declared.ids.ModuleDefId.{ModuleDefId}
-use Rattle.hir_base.specs.declared.ids.ModuleDefId.TheVariants as definitions
-use Rattle.hir_base.specs.declared.macro_kind.MacroId.TheVariants.{ProcMacroId}
+use Rattle.hir_ids.specs.declared.macro_kind.MacroExpander.{MacroExpander}
+use Rattle.hir_ids.specs.declared.macro_kind.MacroId.{MacroId}
+use Rattle.hir_ids.specs.declared.ids.ModuleDefId.{ModuleDefId}
+use Rattle.hir_ids.specs.declared.ids.ModuleDefId.TheVariants as definitions
+use Rattle.hir_ids.specs.declared.macro_kind.MacroId.TheVariants.{ProcMacroId}
 use Rattle.hir_item_tree.specs.Collected.{is_enabled}
 use Rattle.hir_item_tree.specs.Kinds.{item_head}
 use Rattle.hir_item_tree.specs.KeptForest.{Head, Holder, KeptItem, Leaf, enumeration, extern_block, function, holder, inline_module, leaf, macro_def}

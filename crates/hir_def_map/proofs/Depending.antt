@@ -1,6 +1,6 @@
 -- What falls with a map, in one step or more.
 use Rattle.std.proofs.Common.{◌≡◌, ◌∙◌, ap, true}
-use Rattle.hir_base.specs.declared.ids.MapId.{MapId}
+use Rattle.hir_ids.specs.declared.ids.MapId.{MapId}
 use Rattle.hir_def_map.specs.Removal.{Depends, FallsWith, Names}
 use Rattle.hir_def_map.specs.Removal.Depends.{itself, through}
 

@@ -2,7 +2,7 @@
 use Rattle.std.specs.Prelude.{Bool, ◌&&◌}
 use Rattle.std.specs.Option.{option_eq}
 use Rattle.std.specs.BTreeMap.{BTreeMap}
-use Rattle.hir_base.specs.declared.ids.MapId.{MapId}
+use Rattle.hir_ids.specs.declared.ids.MapId.{MapId}
 use Rattle.hir_def_map.specs.declared.world.finished.Finished.{Finished}
 use Rattle.hir_def_map_rules.specs.Equality.{same_def_map, same_local}
 use Rattle.hir_def_map_rules.specs.Overlay.{map_in}

@@ -1,14 +1,14 @@
 -- Which modules of a map does a file hold?
 use Rattle.std.specs.Prelude.{ℕ, suc, List, [], ◌∷◌, Bool, false, Option, None, Some, cond}
-use Rattle.hir_base.specs.contracts.ast_id.FileIdPartialEq.TheImpl as file_id
-use Rattle.hir_base.specs.contracts.ast_id.MacroCallIdPartialEq.TheImpl as call_id
-use Rattle.hir_base.specs.declared.ast_id.EditionedFileId.{EditionedFileId}
-use Rattle.hir_base.specs.declared.ast_id.FileId.{FileId}
-use Rattle.hir_base.specs.declared.ast_id.HirFileId.{HirFileId}
-use Rattle.hir_base.specs.declared.ast_id.MacroCallId.{MacroCallId}
-use Rattle.hir_base.specs.declared.ids.MapId.{MapId}
-use Rattle.hir_base.specs.declared.ids.ModuleId.{ModuleId}
-use Rattle.hir_base.specs.declared.ast_id.HirFileId.TheVariants as files
+use Rattle.hir_ids.specs.contracts.ast_id.FileIdPartialEq.TheImpl as file_id
+use Rattle.hir_ids.specs.contracts.ast_id.MacroCallIdPartialEq.TheImpl as call_id
+use Rattle.hir_ids.specs.declared.ast_id.EditionedFileId.{EditionedFileId}
+use Rattle.hir_ids.specs.declared.ast_id.FileId.{FileId}
+use Rattle.hir_ids.specs.declared.ast_id.HirFileId.{HirFileId}
+use Rattle.hir_ids.specs.declared.ast_id.MacroCallId.{MacroCallId}
+use Rattle.hir_ids.specs.declared.ids.MapId.{MapId}
+use Rattle.hir_ids.specs.declared.ids.ModuleId.{ModuleId}
+use Rattle.hir_ids.specs.declared.ast_id.HirFileId.TheVariants as files
 use Rattle.hir_def_map_rules.specs.Origins.{file_of}
 use Rattle.hir_def_map_rules.specs.State.{ModuleValue, numbered}
 use Rattle.hir_def_map.specs.declared.nameres.module_ids.WantedFile.{WantedFile}

@@ -1,10 +1,10 @@
 -- Which finished maps does a part of a world have?
 use Rattle.std.specs.Prelude.{◌&&◌, ◌||◌, Bool, true, is_none, Option, None, Some, List, [], cond, option_and_then, option_copied}
 use Rattle.std.specs.List.{list_all, list_any}
-use Rattle.hir_base.specs.declared.ids.Crate.{Crate}
-use Rattle.hir_base.specs.declared.ids.MapId.{MapId}
-use Rattle.hir_base.specs.declared.ids.ModuleId.{ModuleId}
-use Rattle.hir_base.specs.contracts.ids.MapIdPartialEq.TheImpl as map_id
+use Rattle.hir_ids.specs.declared.ids.Crate.{Crate}
+use Rattle.hir_ids.specs.declared.ids.MapId.{MapId}
+use Rattle.hir_ids.specs.declared.ids.ModuleId.{ModuleId}
+use Rattle.hir_ids.specs.contracts.ids.MapIdPartialEq.TheImpl as map_id
 use Rattle.hir_scope.specs.ModuleTree.{same_crate}
 use Rattle.hir_def_map.specs.declared.world.part.WorldPart.{WorldPart}
 use Rattle.hir_def_map_rules.specs.State.{Local, Map}

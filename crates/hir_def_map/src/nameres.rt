@@ -1,7 +1,7 @@
 //! The def map of a crate, after rust-analyzer's `nameres.rs`.
 ghost use Rattle.std.specs.Prelude.{◌≡◌, ◌<◌, length, IfOk, OnOk, OnErr, Some, is_some, option_map};
 ghost use Rattle.std.specs.Borrow.{sem};
-ghost use Rattle.hir_base.specs.Refusal.{Gives};
+ghost use Rattle.hir_ids.specs.Refusal.{Gives};
 ghost use Rattle.hir_def_map_rules.specs.State.{at_name, child_at, entry_at, parent_at, module_at, empty_map, scope_at, root_of, variants_at, with_enum, with_macro_use, with_module, with_prelude, globs_after, pushed, push_changes, IsNumbered};
 ghost use Rattle.hir_def_map_rules.specs.Scoping.FirstSegment.{legacy_of};
 ghost use Rattle.hir_def_map_rules.specs.Building.{new_module_verdict, IsMemory};

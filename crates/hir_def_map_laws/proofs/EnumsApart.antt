@@ -1,12 +1,12 @@
 -- What is read of a map, whatever variants its enums have.
 use Rattle.std.proofs.Common.{◌≡◌, ◌∙◌, ap, refl, ℕ, zero, suc, List, Bool, true, false, ◌||◌, cond, Option, None, Some}
 use Rattle.std.specs.Option.{option_and_then, option_map}
-use Rattle.hir_base.specs.declared.ids.Crate.{Crate}
-use Rattle.hir_base.specs.declared.ids.EnumId.{EnumId}
-use Rattle.hir_base.specs.declared.ids.MapId.{MapId}
-use Rattle.hir_base.specs.declared.ids.UseId.{UseId}
-use Rattle.hir_base.specs.declared.ids.ModuleId.{ModuleId as AnyModule}
-use Rattle.hir_base.specs.contracts.ids.MapIdPartialEq.TheImpl as map_id
+use Rattle.hir_ids.specs.declared.ids.Crate.{Crate}
+use Rattle.hir_ids.specs.declared.ids.EnumId.{EnumId}
+use Rattle.hir_ids.specs.declared.ids.MapId.{MapId}
+use Rattle.hir_ids.specs.declared.ids.UseId.{UseId}
+use Rattle.hir_ids.specs.declared.ids.ModuleId.{ModuleId as AnyModule}
+use Rattle.hir_ids.specs.contracts.ids.MapIdPartialEq.TheImpl as map_id
 use Rattle.hir_scope.specs.ModuleTree.{same_crate}
 use Rattle.hir_scope.specs.PerNs.{keep_of, or_of}
 use Rattle.hir_scope.specs.Visibility.{is_visible}

@@ -1,7 +1,7 @@
 -- A map that grows keeps its modules, and the variants of the enums that names stand for.
 use Rattle.std.proofs.Common.{◌≡◌, ◌∙◌, sym, refl, length, Bool, false, Option, None, Some}
 use Rattle.std.specs.Prelude.{is_some, not}
-use Rattle.hir_base.specs.declared.ids.EnumId.{EnumId}
+use Rattle.hir_ids.specs.declared.ids.EnumId.{EnumId}
 use Rattle.hir_def_map_rules.specs.State.{Map, Variants, entry_at, variants_at}
 use Rattle.hir_def_map_rules.specs.Overlay.{Maps}
 use Rattle.hir_def_map_rules.specs.declared.reference.Reference.{Reference}

@@ -1,6 +1,6 @@
 -- What a segment takes from a module.
 use Rattle.std.proofs.Common.{◌≡◌, ap, refl, ℕ, List, Bool, true, false, cond, Option, None, Some}
-use Rattle.hir_base.specs.declared.ids.ModuleId.{ModuleId}
+use Rattle.hir_ids.specs.declared.ids.ModuleId.{ModuleId}
 use Rattle.hir_scope.specs.PerNs.{Item, keep_item, keep_of}
 use Rattle.hir_scope.specs.declared.per_ns.PerNs.{PerNs}
 use Rattle.hir_scope.specs.declared.visibility.Visibility.{Visibility}

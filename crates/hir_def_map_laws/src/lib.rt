@@ -2,7 +2,7 @@
 #![tactic(auto)]
 
 ghost use Rattle.std.specs.Prelude.{◌≡◌, ℕ, true, List};
-ghost use Rattle.hir_base.specs.Laws.{HashesAlike};
+ghost use Rattle.hir_ids.specs.Laws.{HashesAlike};
 ghost use Rattle.hir_scope.specs.Laws.{GivesItsList};
 ghost use Rattle.hir_def_map_rules.specs.Overlay.{Maps, overlay};
 ghost use Rattle.hir_def_map_rules.specs.References.{is_well_formed};

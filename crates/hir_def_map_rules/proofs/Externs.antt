@@ -9,8 +9,8 @@ use Rattle.std.specs.Map.{lookup}
 use Rattle.std.proofs.Common.{ap, refl, sym, ◌∙◌}
 use Rattle.std.proofs.lemmas.Slice.Eq.{slice_eq-Decides}
 use mathlib.Core.Bool.{true≢false}
-use Rattle.hir_base.specs.declared.ids.ExternCrateId.{ExternCrateId}
-use Rattle.hir_base.specs.declared.ids.ModuleId.{ModuleId}
+use Rattle.hir_ids.specs.declared.ids.ExternCrateId.{ExternCrateId}
+use Rattle.hir_ids.specs.declared.ids.ModuleId.{ModuleId}
 use Rattle.hir_def_map_rules.specs.State.{Local, at_name, with_extern}
 use Rattle.hir_def_map_rules.proofs.Grown.{same_text, other_text}
 

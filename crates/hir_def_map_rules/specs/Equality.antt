@@ -5,31 +5,31 @@ use Rattle.std.specs.Option.{option_eq}
 use Rattle.std.specs.Ordering.{on, eq_of_both}
 use Rattle.std.specs.Cmp.{IsEquivalence, on_equiv, and_equiv, bool_eq_equiv, nat_eq_equiv}
 use Rattle.std.specs.Cmp.Lexicographic.{pointwise, lists_equiv, options_equiv, nat_list_eq_equiv}
-use Rattle.hir_base.specs.contracts.ast_id.AstIdPartialEq.TheImpl as ast_id
-use Rattle.hir_base.specs.contracts.ast_id.AstIdEq.TheImpl.Laws.{laws-law as ast_id_laws}
-use Rattle.hir_base.specs.contracts.edition.EditionPartialEq.TheImpl as edition
-use Rattle.hir_base.specs.contracts.edition.EditionEq.TheImpl.Laws.{laws-law as edition_laws}
-use Rattle.hir_base.specs.contracts.ids.CratePartialEq.TheImpl as krate
-use Rattle.hir_base.specs.contracts.ids.CrateEq.TheImpl.Laws.{laws-law as krate_laws}
-use Rattle.hir_base.specs.declared.ids.ExternCrateId.{ExternCrateId}
-use Rattle.hir_base.specs.declared.ids.ModuleId.{ModuleId}
-use Rattle.hir_base.specs.declared.ids.UseId.{UseId}
-use Rattle.hir_base.specs.contracts.ids.EnumIdPartialEq.TheImpl as enum_id
-use Rattle.hir_base.specs.contracts.ids.EnumIdEq.TheImpl.Laws.{laws-law as enum_id_laws}
-use Rattle.hir_base.specs.contracts.ids.ExternCrateIdPartialEq.TheImpl as extern_crate
-use Rattle.hir_base.specs.contracts.ids.ExternCrateIdEq.TheImpl.Laws.{laws-law as extern_crate_laws}
-use Rattle.hir_base.specs.contracts.ids.FunctionIdPartialEq.TheImpl as function
-use Rattle.hir_base.specs.contracts.ids.FunctionIdEq.TheImpl.Laws.{laws-law as function_laws}
-use Rattle.hir_base.specs.contracts.ids.MapIdPartialEq.TheImpl as map_id
-use Rattle.hir_base.specs.contracts.ids.MapIdEq.TheImpl.Laws.{laws-law as map_id_laws}
-use Rattle.hir_base.specs.contracts.ids.ModuleIdPartialEq.TheImpl as module_id
-use Rattle.hir_base.specs.contracts.ids.ModuleIdEq.TheImpl.Laws.{laws-law as module_id_laws}
-use Rattle.hir_base.specs.contracts.ids.UseIdPartialEq.TheImpl as use_id
-use Rattle.hir_base.specs.contracts.ids.UseIdEq.TheImpl.Laws.{laws-law as use_id_laws}
-use Rattle.hir_base.specs.contracts.macro_kind.MacroIdPartialEq.TheImpl as makro
-use Rattle.hir_base.specs.contracts.macro_kind.MacroIdEq.TheImpl.Laws.{laws-law as makro_laws}
-use Rattle.hir_base.specs.contracts.macro_kind.ProcMacroIdPartialEq.TheImpl as proc_macro
-use Rattle.hir_base.specs.contracts.macro_kind.ProcMacroIdEq.TheImpl.Laws.{laws-law as proc_macro_laws}
+use Rattle.hir_ids.specs.contracts.ast_id.AstIdPartialEq.TheImpl as ast_id
+use Rattle.hir_ids.specs.contracts.ast_id.AstIdEq.TheImpl.Laws.{laws-law as ast_id_laws}
+use Rattle.hir_ids.specs.contracts.edition.EditionPartialEq.TheImpl as edition
+use Rattle.hir_ids.specs.contracts.edition.EditionEq.TheImpl.Laws.{laws-law as edition_laws}
+use Rattle.hir_ids.specs.contracts.ids.CratePartialEq.TheImpl as krate
+use Rattle.hir_ids.specs.contracts.ids.CrateEq.TheImpl.Laws.{laws-law as krate_laws}
+use Rattle.hir_ids.specs.declared.ids.ExternCrateId.{ExternCrateId}
+use Rattle.hir_ids.specs.declared.ids.ModuleId.{ModuleId}
+use Rattle.hir_ids.specs.declared.ids.UseId.{UseId}
+use Rattle.hir_ids.specs.contracts.ids.EnumIdPartialEq.TheImpl as enum_id
+use Rattle.hir_ids.specs.contracts.ids.EnumIdEq.TheImpl.Laws.{laws-law as enum_id_laws}
+use Rattle.hir_ids.specs.contracts.ids.ExternCrateIdPartialEq.TheImpl as extern_crate
+use Rattle.hir_ids.specs.contracts.ids.ExternCrateIdEq.TheImpl.Laws.{laws-law as extern_crate_laws}
+use Rattle.hir_ids.specs.contracts.ids.FunctionIdPartialEq.TheImpl as function
+use Rattle.hir_ids.specs.contracts.ids.FunctionIdEq.TheImpl.Laws.{laws-law as function_laws}
+use Rattle.hir_ids.specs.contracts.ids.MapIdPartialEq.TheImpl as map_id
+use Rattle.hir_ids.specs.contracts.ids.MapIdEq.TheImpl.Laws.{laws-law as map_id_laws}
+use Rattle.hir_ids.specs.contracts.ids.ModuleIdPartialEq.TheImpl as module_id
+use Rattle.hir_ids.specs.contracts.ids.ModuleIdEq.TheImpl.Laws.{laws-law as module_id_laws}
+use Rattle.hir_ids.specs.contracts.ids.UseIdPartialEq.TheImpl as use_id
+use Rattle.hir_ids.specs.contracts.ids.UseIdEq.TheImpl.Laws.{laws-law as use_id_laws}
+use Rattle.hir_ids.specs.contracts.macro_kind.MacroIdPartialEq.TheImpl as makro
+use Rattle.hir_ids.specs.contracts.macro_kind.MacroIdEq.TheImpl.Laws.{laws-law as makro_laws}
+use Rattle.hir_ids.specs.contracts.macro_kind.ProcMacroIdPartialEq.TheImpl as proc_macro
+use Rattle.hir_ids.specs.contracts.macro_kind.ProcMacroIdEq.TheImpl.Laws.{laws-law as proc_macro_laws}
 use Rattle.hir_scope.specs.Inner.Equality.{same_scope, same_scope_equiv}
 use Rattle.hir_scope.specs.contracts.visibility.VisibilityPartialEq.TheImpl as visibility
 use Rattle.hir_scope.specs.contracts.visibility.VisibilityEq.TheImpl.Laws.{laws-law as visibility_laws}

@@ -1,10 +1,10 @@
 -- Where is a module written?
 use Rattle.std.specs.Prelude.{Bool, true, false, Option, None, Some}
-use Rattle.hir_base.specs.declared.ast_id.AstId.{AstId}
-use Rattle.hir_base.specs.declared.ast_id.EditionedFileId.{EditionedFileId}
-use Rattle.hir_base.specs.declared.ast_id.InFile.{InFile}
-use Rattle.hir_base.specs.declared.ast_id.SyntaxId.{SyntaxId}
-use Rattle.hir_base.specs.declared.ast_id.HirFileId.TheVariants as files
+use Rattle.hir_ids.specs.declared.ast_id.AstId.{AstId}
+use Rattle.hir_ids.specs.declared.ast_id.EditionedFileId.{EditionedFileId}
+use Rattle.hir_ids.specs.declared.ast_id.InFile.{InFile}
+use Rattle.hir_ids.specs.declared.ast_id.SyntaxId.{SyntaxId}
+use Rattle.hir_ids.specs.declared.ast_id.HirFileId.TheVariants as files
 use Rattle.hir_def_map_rules.specs.declared.origin.ModuleOrigin.{ModuleOrigin}
 use Rattle.hir_def_map_rules.specs.declared.origin.ModuleOrigin.TheVariants as origins
 use Rattle.hir_def_map_rules.specs.declared.origin.ModuleSource.{ModuleSource}

@@ -2,7 +2,7 @@
 ghost use Rattle.std.specs.Prelude.{◌≡◌, ◌++◌, ◌∷◌, [], Some, IfOk, OnOk, OnErr, is_some};
 ghost use Rattle.std.specs.BTreeMap.{is_at};
 ghost use Rattle.std.specs.Map.{lookup};
-ghost use Rattle.hir_base.specs.contracts.ast_id.AstIdOrd.TheImpl as ast_order;
+ghost use Rattle.hir_ids.specs.contracts.ast_id.AstIdOrd.TheImpl as ast_order;
 ghost use Rattle.hir_def_map_rules.specs.Macros.{with_behind};
 
 use either::Either;

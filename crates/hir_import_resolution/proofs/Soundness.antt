@@ -3,7 +3,7 @@ use Rattle.std.proofs.Common.{◌≡◌, ◌∙◌, ap, sym, subst, refl, ℕ, z
 use Rattle.std.proofs.Common.{Some, is_some, if◌then◌else◌, map as list_map, arith}
 use Rattle.std.proofs.lemmas.Bool.{lt-ltb, ltb-true, true≢false}
 use Rattle.std.specs.Prelude.{Contains, slice_get, slice_set}
-use Rattle.hir_base.specs.declared.ids.TraitId.{TraitId}
+use Rattle.hir_ids.specs.declared.ids.TraitId.{TraitId}
 use Rattle.hir_scope.specs.declared.imports.ImportId.{ImportId}
 use Rattle.hir_scope.specs.declared.imports.ImportOrExternCrate.{ImportOrExternCrate}
 use Rattle.hir_scope.specs.declared.per_ns.PerNs.{PerNs}

@@ -1,7 +1,7 @@
 -- What of imports and globs lasts as a map grows?
 use Rattle.std.specs.Prelude.{◌≡◌, ℕ, ◌<◌, true, false, List, None, Some, length, slice_get}
 use Rattle.std.specs.List.{All}
-use Rattle.hir_base.specs.declared.ids.ModuleId.{ModuleId}
+use Rattle.hir_ids.specs.declared.ids.ModuleId.{ModuleId}
 use Rattle.hir_scope.specs.Globs.{GlobNames}
 use Rattle.hir_scope.specs.declared.visibility.Visibility.{Visibility}
 use Rattle.hir_scope.specs.declared.visibility.Visibility.TheVariants as visibilities

@@ -1,6 +1,6 @@
 -- What visibilities mean in a map beside finished ones.
 use Rattle.std.specs.Prelude.{Bool, true, false, Option}
-use Rattle.hir_base.specs.declared.ids.ModuleId.{ModuleId}
+use Rattle.hir_ids.specs.declared.ids.ModuleId.{ModuleId}
 use Rattle.hir_raw_visibility.specs.declared.raw_visibility.RawVisibility.{RawVisibility}
 use Rattle.hir_scope.specs.Visibility.{greater_of, is_visible, lesser_of}
 use Rattle.hir_scope.specs.declared.visibility.Visibility.{Visibility}

@@ -8,7 +8,7 @@ pub use Rattle.hir_item_tree.specs.declared.kinds.ModItemKind.{ModItemKind}
 pub use Rattle.hir_item_tree.specs.declared.kinds.ModKind.{ModKind}
 pub use Rattle.hir_item_tree.specs.declared.raw_attr.RawAttr.{RawAttr}
 pub use Rattle.hir_raw_visibility.specs.declared.raw_visibility.RawVisibility.{RawVisibility}
-pub use Rattle.hir_raw_visibility.specs.declared.raw_visibility.VisibilityExplicitness.{VisibilityExplicitness}
+pub use Rattle.hir_ids.specs.declared.explicitness.VisibilityExplicitness.{VisibilityExplicitness}
 pub use Rattle.hir_item_tree.specs.declared.rows.ModItemId.{ModItemId}
 pub use Rattle.hir_item_tree.specs.declared.rows.Row.{Row}
 pub use Rattle.hir_item_tree.specs.declared.shape.ExternCrateName.{ExternCrateName}

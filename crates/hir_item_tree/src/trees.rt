@@ -3,7 +3,7 @@ ghost use Rattle.std.specs.Prelude.{◌≡◌, ◌↔◌, Some, None, IsSome, Is
 ghost use Rattle.std.specs.Bool.{OnTrue, OnFalse};
 ghost use Rattle.std.specs.BTreeMap.{get};
 ghost use Rattle.std.specs.Option.{option_and_then};
-ghost use Rattle.hir_base.specs.contracts.ids.CrateOrd.TheImpl.{ghosts};
+ghost use Rattle.hir_ids.specs.contracts.ids.CrateOrd.TheImpl.{ghosts};
 ghost use Rattle.hir_item_tree.specs.SideLists.{row_item, entry_associated, entry_text, entry_input};
 ghost use Rattle.hir_item_tree.specs.SourceTree.{side_of, variants_of};
 ghost use Rattle.hir_item_tree.specs.Trees.{is_key, source_at};

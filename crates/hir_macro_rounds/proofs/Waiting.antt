@@ -5,7 +5,7 @@ use Rattle.std.proofs.lemmas.Bool.Decides.{nat_tests}
 use Rattle.std.proofs.lemmas.List.Elements.{All-contains_itself, All-nil}
 use Rattle.std.specs.List.{All}
 use Rattle.std.specs.Prelude.{not, slice_index_or}
-use Rattle.hir_base.specs.declared.ast_id.AstId.{AstId}
+use Rattle.hir_ids.specs.declared.ast_id.AstId.{AstId}
 use Rattle.hir_def_map_laws.specs.ReadLaw.{BeginsOutside}
 use Rattle.hir_def_map_rules.specs.Overlay.{Maps}
 use Rattle.hir_def_map_rules.specs.State.{CrateData, IsInOrder}

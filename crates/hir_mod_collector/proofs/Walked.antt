@@ -9,8 +9,8 @@ use Rattle.hir_item_tree.specs.Collected.{is_enabled, numbered}
 use Rattle.hir_item_tree.specs.ItemTree.{Tree}
 use Rattle.hir_base.specs.Cfg.{Cfg}
 use Rattle.hir_def_map_rules.specs.declared.diagnostics.DefDiagnostic.{DefDiagnostic}
-use Rattle.hir_base.specs.declared.ast_id.AstKind.{AstKind}
-use Rattle.hir_base.specs.declared.ast_id.AstKind.TheVariants as nodes
+use Rattle.hir_ids.specs.declared.ast_id.AstKind.{AstKind}
+use Rattle.hir_ids.specs.declared.ast_id.AstKind.TheVariants as nodes
 use Rattle.hir_item_tree.specs.Kinds.{item_head, item_kind, kind_content, kind_of, module_content}
 use Rattle.hir_item_tree.specs.declared.kinds.ExternBlock.{ExternBlock}
 use Rattle.hir_item_tree.specs.declared.kinds.Mod.{Mod}

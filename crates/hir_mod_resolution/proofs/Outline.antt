@@ -4,9 +4,9 @@ use Rattle.std.proofs.Common.{◌≡◌, ◌∙◌, ℕ, ◌+◌, ◌<◌, ◌�
 use Rattle.std.proofs.Common.{Option, Some, None, refl, sym, ap, subst, arith}
 use Rattle.std.specs.Prelude.{IsSome, option_map}
 use Rattle.std.specs.Option.{option_to_list}
-use Rattle.hir_base.specs.declared.ids.Crate.{Crate}
-use Rattle.hir_base.specs.declared.edition.Edition.{Edition}
-use Rattle.hir_base.specs.declared.ast_id.FileId.{FileId}
+use Rattle.hir_ids.specs.declared.ids.Crate.{Crate}
+use Rattle.hir_ids.specs.declared.edition.Edition.{Edition}
+use Rattle.hir_ids.specs.declared.ast_id.FileId.{FileId}
 use Rattle.hir_item_tree.specs.Collected.{is_enabled}
 use Rattle.hir_item_tree.specs.ItemTree.{Tree}
 use Rattle.hir_item_tree.specs.KeptForest.{Head, KeptForest, KeptItem, holder, inline_module, leaf, outline_module}
@@ -28,7 +28,7 @@ use Rattle.hir_collector_rules.specs.Workspace.{Workspace}
 use Rattle.hir_collector_rules.specs.Keys.{Environment, environment, source_in, source_under}
 use Rattle.hir_collector_rules.specs.Items.{file_origin, inline_origin, own_visibility}
 use Rattle.hir_collector_rules.specs.ItemIds.{module_id, node_of}
-use Rattle.hir_base.specs.declared.ast_id.AstKind.TheVariants as nodes
+use Rattle.hir_ids.specs.declared.ast_id.AstKind.TheVariants as nodes
 use Rattle.hir_collector_rules.specs.ModuleFiles.{AreTried, IsFileMeant, IsNumberOf, IsNumbered, IsSearch, ModuleFile, Search, Tried, file_tree, module_file}
 use Rattle.hir_collector_rules.specs.ModuleFiles.{IsTriedFile}
 use Rattle.hir_collector_rules.specs.Macros.{is_macro_use}

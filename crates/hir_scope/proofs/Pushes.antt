@@ -9,12 +9,12 @@ use Rattle.std.specs.List.Sorted.{IsStrictlySortedBy}
 use Rattle.std.specs.Ordering.{nat_cmp, is_eq}
 use Rattle.std.specs.BTreeSet.{insert_key}
 use Rattle.std.proofs.lemmas.Cmp.{tied_itself, nat_list_cmp_total}
-use Rattle.hir_base.specs.contracts.ids.ModuleDefIdPartialEq.TheImpl as module_def
-use Rattle.hir_base.specs.contracts.ids.ModuleDefIdEq.TheImpl.Laws.{laws-law as module_def_laws}
-use Rattle.hir_base.specs.contracts.macro_kind.MacroIdPartialEq.TheImpl as makro
-use Rattle.hir_base.specs.contracts.macro_kind.MacroIdEq.TheImpl.Laws.{laws-law as makro_laws}
-use Rattle.hir_base.specs.declared.macro_kind.MacroId.{MacroId}
-use Rattle.hir_base.specs.declared.ids.ModuleDefId.{ModuleDefId}
+use Rattle.hir_ids.specs.contracts.ids.ModuleDefIdPartialEq.TheImpl as module_def
+use Rattle.hir_ids.specs.contracts.ids.ModuleDefIdEq.TheImpl.Laws.{laws-law as module_def_laws}
+use Rattle.hir_ids.specs.contracts.macro_kind.MacroIdPartialEq.TheImpl as makro
+use Rattle.hir_ids.specs.contracts.macro_kind.MacroIdEq.TheImpl.Laws.{laws-law as makro_laws}
+use Rattle.hir_ids.specs.declared.macro_kind.MacroId.{MacroId}
+use Rattle.hir_ids.specs.declared.ids.ModuleDefId.{ModuleDefId}
 use Rattle.hir_scope.specs.contracts.imports.ImportOrExternCratePartialEq.TheImpl as import_or_extern_crate
 use Rattle.hir_scope.specs.contracts.imports.ImportOrExternCrateEq.TheImpl.Laws.{laws-law as import_or_extern_crate_laws}
 use Rattle.hir_scope.specs.contracts.imports.ImportOrExternCrateOrd.TheImpl as import_or_extern_crate_order

@@ -1,10 +1,10 @@
 -- What does a push bring to a name in each namespace, and what prevails there?
 use Rattle.std.specs.Prelude.{Option, None, Some, option_map}
-use Rattle.hir_base.specs.declared.macro_kind.MacroId.{MacroId}
-use Rattle.hir_base.specs.declared.ids.ModuleDefId.{ModuleDefId}
-use Rattle.hir_base.specs.declared.ids.ModuleDefId.TheVariants as defs
-use Rattle.hir_base.specs.contracts.ids.ModuleDefIdPartialEq.TheImpl as module_def
-use Rattle.hir_base.specs.contracts.macro_kind.MacroIdPartialEq.TheImpl as makro
+use Rattle.hir_ids.specs.declared.macro_kind.MacroId.{MacroId}
+use Rattle.hir_ids.specs.declared.ids.ModuleDefId.{ModuleDefId}
+use Rattle.hir_ids.specs.declared.ids.ModuleDefId.TheVariants as defs
+use Rattle.hir_ids.specs.contracts.ids.ModuleDefIdPartialEq.TheImpl as module_def
+use Rattle.hir_ids.specs.contracts.macro_kind.MacroIdPartialEq.TheImpl as makro
 use Rattle.hir_scope_table.specs.declared.item.Candidate.{Candidate as TableCandidate}
 use Rattle.hir_scope_table.specs.declared.item.Push.{Push as TablePush}
 use Rattle.hir_scope_table.specs.Bindings.{Slot as TableSlot}

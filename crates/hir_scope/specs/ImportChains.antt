@@ -1,9 +1,9 @@
 -- Which definition does an import reach in the end?
 use Rattle.std.specs.Prelude.{ℕ, zero, suc, Option, None, Some}
-use Rattle.hir_base.specs.declared.macro_kind.MacroId.{MacroId}
-use Rattle.hir_base.specs.declared.ids.ModuleDefId.{ModuleDefId}
-use Rattle.hir_base.specs.declared.ids.ModuleId.{ModuleId}
-use Rattle.hir_base.specs.declared.ids.ModuleDefId.TheVariants as def
+use Rattle.hir_ids.specs.declared.macro_kind.MacroId.{MacroId}
+use Rattle.hir_ids.specs.declared.ids.ModuleDefId.{ModuleDefId}
+use Rattle.hir_ids.specs.declared.ids.ModuleId.{ModuleId}
+use Rattle.hir_ids.specs.declared.ids.ModuleDefId.TheVariants as def
 use Rattle.hir_scope.specs.contracts.imports.ImportOrExternCrateOrd.TheImpl as import_or_extern_crate
 use Rattle.hir_scope.specs.contracts.imports.ImportOrGlobOrd.TheImpl as import_or_glob
 use Rattle.hir_scope.specs.declared.imports.ImportId.{ImportId}

@@ -1,6 +1,6 @@
 -- What does a scope record of an import?
 use Rattle.std.specs.Prelude.{Bool, true, false, Option, None, Some}
-use Rattle.hir_base.specs.declared.ids.ModuleDefId.{ModuleDefId}
+use Rattle.hir_ids.specs.declared.ids.ModuleDefId.{ModuleDefId}
 use Rattle.hir_scope.specs.declared.imports.ImportOrDef.{ImportOrDef}
 use Rattle.hir_scope.specs.declared.imports.ImportOrDef.TheVariants as reached
 use Rattle.hir_scope.specs.declared.imports.ImportOrExternCrate.{ImportOrExternCrate}

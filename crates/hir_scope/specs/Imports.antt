@@ -1,6 +1,6 @@
 -- Which import does one of several cases hold?
 use Rattle.std.specs.Prelude.{Option, None, Some}
-use Rattle.hir_base.specs.declared.ids.UseId.{UseId}
+use Rattle.hir_ids.specs.declared.ids.UseId.{UseId}
 use Rattle.hir_scope.specs.declared.imports.ImportId.{ImportId}
 use Rattle.hir_scope.specs.declared.imports.GlobId.{GlobId}
 use Rattle.hir_scope.specs.declared.imports.ImportOrGlob.{ImportOrGlob}

@@ -3,12 +3,12 @@ use Rattle.hir_scope_table.specs.declared.item.Item.{Item as TableItem}
 use Rattle.hir_scope_table.specs.Bindings.{first_of}
 use Rattle.std.specs.Prelude.{Bool, ◌&&◌, not, is_some, Option, None, Some, cond, List, ◌++◌, ◌≡◌}
 use Rattle.std.specs.Option.{option_map, option_to_list}
-use Rattle.hir_base.specs.declared.ids.AdtId.TheVariants as adt
-use Rattle.hir_base.specs.declared.ids.Crate.{Crate}
-use Rattle.hir_base.specs.declared.macro_kind.MacroId.{MacroId}
-use Rattle.hir_base.specs.declared.ids.ModuleDefId.{ModuleDefId}
-use Rattle.hir_base.specs.declared.ids.ModuleId.{ModuleId}
-use Rattle.hir_base.specs.declared.ids.ModuleDefId.TheVariants as def
+use Rattle.hir_ids.specs.declared.ids.AdtId.TheVariants as adt
+use Rattle.hir_ids.specs.declared.ids.Crate.{Crate}
+use Rattle.hir_ids.specs.declared.macro_kind.MacroId.{MacroId}
+use Rattle.hir_ids.specs.declared.ids.ModuleDefId.{ModuleDefId}
+use Rattle.hir_ids.specs.declared.ids.ModuleId.{ModuleId}
+use Rattle.hir_ids.specs.declared.ids.ModuleDefId.TheVariants as def
 use Rattle.hir_scope.specs.declared.imports.ImportOrExternCrate.{ImportOrExternCrate}
 use Rattle.hir_scope.specs.declared.imports.ImportOrGlob.{ImportOrGlob}
 use Rattle.hir_scope.specs.declared.item_in_ns.ItemInNs.{ItemInNs}
@@ -16,7 +16,7 @@ use Rattle.hir_scope.specs.declared.item_in_ns.ItemInNs.TheVariants.{Types, Valu
 use Rattle.hir_scope.specs.declared.visibility.Visibility.{Visibility}
 use Rattle.hir_scope.specs.declared.per_ns.PerNs.{PerNs}
 use Rattle.hir_scope.specs.Imports.{import_or_glob_of, as_item_import}
-use Rattle.hir_base.specs.Ids.{definition_module, macro_module}
+use Rattle.hir_ids.specs.Ids.{definition_module, macro_module}
 use Rattle.hir_scope.specs.declared.per_ns_items.PerNsItems.{PerNsItems}
 
 -- an item of a namespace: a definition, who may see it, and what brought it

@@ -3,7 +3,7 @@ ghost use Rattle.std.specs.Prelude.{◌≡◌};
 ghost use Rattle.hir_scope.specs.Imports.{import_or_glob_of, import_of, glob_of, use_of, import_of_value, as_item_import, as_target, value_as_target};
 
 use crate::imports::{GlobId, ImportId, ImportOrDef, ImportOrExternCrate, ImportOrGlob};
-use hir_base::ids::UseId;
+use hir_ids::ids::UseId;
 
 impl ImportOrExternCrate {
     pub fn import_or_glob(self) -> Option<ImportOrGlob>

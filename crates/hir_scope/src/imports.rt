@@ -1,6 +1,6 @@
 //! What brings a name into a scope, after rust-analyzer's `item_scope.rs`.
 
-use hir_base::ids::{ExternCrateId, ModuleDefId, UseId};
+use hir_ids::ids::{ExternCrateId, ModuleDefId, UseId};
 
 /// An import of one name: its `use` item, and its leaf's place there.
 #[derive(Clone, Copy, Debug, PartialEq, Eq, PartialOrd, Ord, Hash)]

@@ -2,8 +2,8 @@
 ghost use Rattle.std.specs.Prelude.{◌≡◌};
 ghost use Rattle.hir_scope.specs.PerNs.{def_of_item, module_of_item, crate_of_item};
 
-use hir_base::ids::{Crate, HasModule, ModuleDefId, ModuleId};
-use hir_base::macro_kind::MacroId;
+use hir_ids::ids::{Crate, HasModule, ModuleDefId, ModuleId};
+use hir_ids::macro_kind::MacroId;
 
 /// An item, by the namespace that it stands in.
 #[derive(Clone, Copy, Debug, PartialEq, Eq, Hash)]

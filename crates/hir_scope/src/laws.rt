@@ -1,5 +1,5 @@
 //! Laws of scopes, and of the ids of imports and of items by namespace. The functions do nothing: their contracts are the laws.
-ghost use Rattle.hir_base.specs.Laws.{HashesAlike, OrdersTotally};
+ghost use Rattle.hir_ids.specs.Laws.{HashesAlike, OrdersTotally};
 
 use crate::imports::{GlobId, ImportId, ImportOrDef, ImportOrExternCrate, ImportOrGlob};
 use crate::item_in_ns::ItemInNs;

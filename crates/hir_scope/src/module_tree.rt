@@ -1,9 +1,9 @@
 //! Modules with what lies above them.
 ghost use Rattle.std.specs.Prelude.{◌≡◌, Option, List};
-ghost use Rattle.hir_base.specs.declared.ids.ModuleId.{ModuleId};
+ghost use Rattle.hir_ids.specs.declared.ids.ModuleId.{ModuleId};
 ghost use Rattle.hir_scope.specs.ModuleTree.{up_of, chain_from, IsInOneCrate};
 
-use hir_base::ids::ModuleId;
+use hir_ids::ids::ModuleId;
 
 /// Modules, each with its parent in its own map, and with the module that holds the block of its map.
 ///

@@ -6,8 +6,8 @@ ghost use Rattle.hir_scope.specs.declared.per_ns.PerNs.{PerNs};
 
 use crate::imports::{ImportOrExternCrate, ImportOrGlob};
 use crate::visibility::Visibility;
-use hir_base::ids::{AdtId, ModuleDefId};
-use hir_base::macro_kind::MacroId;
+use hir_ids::ids::{AdtId, ModuleDefId};
+use hir_ids::macro_kind::MacroId;
 
 #[derive(Clone, Copy, Debug, PartialEq, Eq, Hash)]
 pub enum Namespace {

@@ -8,8 +8,8 @@ ghost use Rattle.hir_scope.specs.ModuleTree.{is_at_or_above};
 ghost use Rattle.hir_scope.specs.Visibility.{stands_for, is_visible, greater_of, lesser_of, either_written, upper_of, lower_of, IsUnion, IsMeet};
 
 use crate::module_tree::ModuleTree;
-use hir_base::ids::{Crate, MapId, ModuleId};
-use hir_raw_visibility::raw_visibility::VisibilityExplicitness;
+use hir_ids::explicitness::VisibilityExplicitness;
+use hir_ids::ids::{Crate, MapId, ModuleId};
 
 /// The modules that may see an item.
 #[derive(Clone, Copy, Debug, PartialEq, Eq, Hash)]

@@ -9,7 +9,7 @@ use Rattle.std.specs.Cmp.Lexicographic.{slice_cmp}
 use Rattle.std.specs.List.Sorted.{IsStrictlySortedBy}
 use Rattle.std.proofs.lemmas.Cmp.{tied_itself, nat_list_cmp_total}
 use Rattle.std.proofs.lemmas.Map.Lookups.{exact_bytes}
-use Rattle.hir_base.specs.contracts.ids.ModuleIdOrd.TheImpl as module_id
+use Rattle.hir_ids.specs.contracts.ids.ModuleIdOrd.TheImpl as module_id
 use Rattle.hir_scope_table.specs.Types.{Candidate, Item, Push}
 use Rattle.hir_scope_table.specs.Bindings.{Slot, first_of, is_same_import, takes}
 use Rattle.hir_scope_table.specs.Entries.{item_at, value_at, with_entry}

@@ -4,7 +4,7 @@ ghost use Rattle.hir_scope_table.specs.Slots.{Slots, is_vacant};
 ghost use Rattle.hir_scope_table.specs.Bindings.{first_of};
 ghost use Rattle.hir_scope_table.specs.Inner.Kept.{unboxed, over, marked, no_slots, revised, without_value};
 
-use hir_base::name::Name;
+use hir_ids::name::Name;
 use std::alloc::{AllocError, Global};
 use std::marker::Model;
 

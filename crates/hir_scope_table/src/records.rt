@@ -10,8 +10,8 @@ ghost use Rattle.hir_scope_table.specs.Inner.Reserved.{IsEntryFor, IsKeyFor};
 use crate::globs::Globs;
 use crate::item::{Candidate, Item};
 use crate::reserved::{Reserved, add_entry, remove_entry, write_entry};
-use hir_base::ids::ModuleId;
-use hir_base::name::Name;
+use hir_ids::ids::ModuleId;
+use hir_ids::name::Name;
 use std::alloc::AllocError;
 use std::collections::BTreeMap;
 

@@ -4,25 +4,25 @@ use Rattle.std.specs.Prelude.{option_map, option_and_then}
 use Rattle.std.proofs.Common.{ap, arith, refl, subst, sym, ◌∙◌}
 use mathlib.Core.Bool.{true≢false}
 use Rattle.hir_base.specs.ModPath.{Path}
-use Rattle.hir_base.specs.declared.ids.AdtId.{AdtId}
-use Rattle.hir_base.specs.declared.ast_id.AstId.{AstId}
-use Rattle.hir_base.specs.declared.ast_id.BlockId.{BlockId}
+use Rattle.hir_ids.specs.declared.ids.AdtId.{AdtId}
+use Rattle.hir_ids.specs.declared.ast_id.AstId.{AstId}
+use Rattle.hir_ids.specs.declared.ast_id.BlockId.{BlockId}
 use Rattle.hir_base.specs.declared.place.BlockPlace.{BlockPlace}
-use Rattle.hir_base.specs.declared.ids.Crate.{Crate}
-use Rattle.hir_base.specs.declared.ast_id.EditionedFileId.{EditionedFileId}
-use Rattle.hir_base.specs.declared.ast_id.HirFileId.{HirFileId}
-use Rattle.hir_base.specs.declared.ast_id.MacroCallId.{MacroCallId}
+use Rattle.hir_ids.specs.declared.ids.Crate.{Crate}
+use Rattle.hir_ids.specs.declared.ast_id.EditionedFileId.{EditionedFileId}
+use Rattle.hir_ids.specs.declared.ast_id.HirFileId.{HirFileId}
+use Rattle.hir_ids.specs.declared.ast_id.MacroCallId.{MacroCallId}
 use Rattle.hir_base.specs.declared.macro_kind.MacroCallLoc.{MacroCallLoc}
-use Rattle.hir_base.specs.declared.macro_kind.MacroId.{MacroId}
-use Rattle.hir_base.specs.declared.ids.MapId.{MapId}
-use Rattle.hir_base.specs.declared.ids.ModuleDefId.{ModuleDefId}
-use Rattle.hir_base.specs.declared.ids.ModuleId.{ModuleId}
-use Rattle.hir_base.specs.declared.ast_id.SyntaxId.{SyntaxId}
-use Rattle.hir_base.specs.declared.ast_id.HirFileId.TheVariants.{File, Macro}
-use Rattle.hir_base.specs.declared.ids.AdtId.TheVariants as adt
-use Rattle.hir_base.specs.declared.ids.ModuleDefId.TheVariants as def
-use Rattle.hir_base.specs.contracts.ids.MapIdPartialEq.TheImpl as map_id
-use Rattle.hir_base.specs.declared.macro_kind.MacroId.TheVariants as macro
+use Rattle.hir_ids.specs.declared.macro_kind.MacroId.{MacroId}
+use Rattle.hir_ids.specs.declared.ids.MapId.{MapId}
+use Rattle.hir_ids.specs.declared.ids.ModuleDefId.{ModuleDefId}
+use Rattle.hir_ids.specs.declared.ids.ModuleId.{ModuleId}
+use Rattle.hir_ids.specs.declared.ast_id.SyntaxId.{SyntaxId}
+use Rattle.hir_ids.specs.declared.ast_id.HirFileId.TheVariants.{File, Macro}
+use Rattle.hir_ids.specs.declared.ids.AdtId.TheVariants as adt
+use Rattle.hir_ids.specs.declared.ids.ModuleDefId.TheVariants as def
+use Rattle.hir_ids.specs.contracts.ids.MapIdPartialEq.TheImpl as map_id
+use Rattle.hir_ids.specs.declared.macro_kind.MacroId.TheVariants as macro
 use Rattle.hir_scope.specs.declared.imports.ImportOrExternCrate.{ImportOrExternCrate}
 use Rattle.hir_scope.specs.declared.imports.ImportOrGlob.{ImportOrGlob}
 use Rattle.hir_scope.specs.declared.visibility.Visibility.{Visibility}

@@ -1,8 +1,8 @@
 -- An answer that is given stands on what is kept.
 use Rattle.std.proofs.Common.{◌≡◌, List, Option, Some, None, option_map, Result, Ok, refl, sym, ap, subst, ◌∙◌}
-use Rattle.hir_base.specs.declared.ids.Crate.{Crate}
-use Rattle.hir_base.specs.declared.ids.MapId.{MapId}
-use Rattle.hir_base.specs.declared.ids.ModuleId.{ModuleId}
+use Rattle.hir_ids.specs.declared.ids.Crate.{Crate}
+use Rattle.hir_ids.specs.declared.ids.MapId.{MapId}
+use Rattle.hir_ids.specs.declared.ids.ModuleId.{ModuleId}
 use Rattle.hir_base.specs.ModPath.{Path}
 use Rattle.hir_base.specs.Place.{PlaceValue}
 use Rattle.hir_def_map_rules.specs.Closed.{PathsLeadToWhatIsThere}

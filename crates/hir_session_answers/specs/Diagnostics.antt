@@ -2,8 +2,8 @@
 use Rattle.std.specs.Prelude.{nat_lt, List, length, Option, None, Some, option_map, Result, Ok, Err, if◌then◌else◌}
 use Rattle.std.specs.List.{filter_map}
 use Rattle.hir_base.specs.Cfg.{cfg_text}
-use Rattle.hir_base.specs.declared.ast_id.AstId.{AstId}
-use Rattle.hir_base.specs.declared.ids.Crate.{Crate}
+use Rattle.hir_ids.specs.declared.ast_id.AstId.{AstId}
+use Rattle.hir_ids.specs.declared.ids.Crate.{Crate}
 use Rattle.hir_tables.specs.Tables.{TablesValue}
 use Rattle.hir_def_map_rules.specs.Diagnostics.{DiagnosticValue, KindValue, UnresolvedModule, UnresolvedExternCrate, UnresolvedImport, UnconfiguredCode}
 use Rattle.hir_def_map_rules.specs.Diagnostics.{UnresolvedMacroCall, UnimplementedBuiltinMacro, InvalidDeriveTarget, MalformedDerive, MacroDefError, MacroError}

@@ -1,6 +1,6 @@
 -- What do the diagnostics of a crate stand on?
 use Rattle.std.specs.Prelude.{◌≡◌, List, Some, map}
-use Rattle.hir_base.specs.declared.ids.Crate.{Crate}
+use Rattle.hir_ids.specs.declared.ids.Crate.{Crate}
 use Rattle.hir_tables.specs.Tables.{TablesValue}
 use Rattle.hir_def_map_rules.specs.Diagnostics.{diagnostic_view}
 use Rattle.hir_def_map_rules.specs.Overlay.{Maps, overlay}

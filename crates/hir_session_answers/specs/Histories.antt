@@ -1,6 +1,6 @@
 -- When may two answers to one query differ?
 use Rattle.std.specs.Prelude.{◌≡◌, ◌⊎◌, List, Option, Some}
-use Rattle.hir_base.specs.declared.ids.MapId.{MapId}
+use Rattle.hir_ids.specs.declared.ids.MapId.{MapId}
 use Rattle.hir_base.specs.ModPath.{Path}
 use Rattle.hir_base.specs.Place.{PlaceValue}
 use Rattle.hir_collector_rules.specs.declared.source_database.Key.{Key}

@@ -1,7 +1,7 @@
 -- Which page shows the tree of a file?
 use Rattle.std.specs.Prelude.{ℕ, nat_lt, List, length, Result, Ok, Err, if◌then◌else◌}
-use Rattle.hir_base.specs.declared.ids.Crate.{Crate}
-use Rattle.hir_base.specs.declared.edition.Edition.{Edition}
+use Rattle.hir_ids.specs.declared.ids.Crate.{Crate}
+use Rattle.hir_ids.specs.declared.edition.Edition.{Edition}
 use Rattle.hir_item_tree.specs.Page.{page}
 use Rattle.hir_session_state.specs.declared.error.TreeTextError.{TreeTextError}
 use Rattle.hir_session_state.specs.declared.error.TreeTextError.TheVariants as error

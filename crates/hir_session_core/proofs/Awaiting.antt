@@ -14,8 +14,8 @@ use Rattle.std.proofs.lemmas.List.Elements.{All-contains, All-contains_itself, A
 use Rattle.std.proofs.lemmas.Map.Views.{All-insert_key, Contains-from_any, list_any-from_Contains}
 use Rattle.hir_base.specs.Place.{PlaceValue}
 use Rattle.hir_base.specs.contracts.place.BlockPlaceOrd.TheImpl as block_order
-use Rattle.hir_base.specs.declared.ast_id.BlockId.{BlockId}
-use Rattle.hir_base.specs.declared.ids.MapId.{MapId}
+use Rattle.hir_ids.specs.declared.ast_id.BlockId.{BlockId}
+use Rattle.hir_ids.specs.declared.ids.MapId.{MapId}
 use Rattle.hir_base.specs.declared.place.BlockPlace.{BlockPlace}
 use Rattle.hir_item_tree.specs.Source.{SourceValue}
 use Rattle.hir_tables.specs.Tables.{TablesValue, KeepsTables, block_at}

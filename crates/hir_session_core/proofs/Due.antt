@@ -3,7 +3,7 @@ use Rattle.std.specs.Prelude.{is_none}
 use Rattle.std.proofs.Common.{append_assoc, append-nil, ◌≡◌, ℕ, ◌+◌, ◌<◌, true, false, List, [], ◌∷◌, ◌++◌, length, arith, below_more, refl, sym, subst, ◌∙◌}
 use Rattle.std.proofs.Common.{ap, Option, Result, Ok, Err, IsErrAnd}
 use Rattle.hir_base.specs.Place.{PlaceValue}
-use Rattle.hir_base.specs.declared.ids.MapId.{MapId}
+use Rattle.hir_ids.specs.declared.ids.MapId.{MapId}
 use Rattle.hir_session_state.specs.Crates.{CrateValue, id_of}
 use Rattle.hir_session_state.specs.SessionState.{SessionState, Resolution, kept_of, is_marked, IsSound}
 use Rattle.hir_tables.proofs.Growth.{KeepsTables-refl, KeepsTables-trans}

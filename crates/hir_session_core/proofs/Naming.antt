@@ -4,12 +4,12 @@ use Rattle.std.specs.BTreeMap.{is_at}
 use Rattle.std.specs.List.{list_any}
 use Rattle.std.proofs.Common.{◌≡◌, ◌≢◌, ◌⊎◌, inl, inr, ◌<◌, true, not, List, Option, Some, None, option_map, arith, sym, ap, ◌∙◌, subst, Contains}
 use Rattle.std.proofs.lemmas.List.Folds.{list_any_at}
-use Rattle.hir_base.specs.declared.ast_id.BlockId.{BlockId}
-use Rattle.hir_base.specs.declared.ids.Crate.{Crate}
-use Rattle.hir_base.specs.declared.ids.MapId.{MapId}
-use Rattle.hir_base.specs.declared.ids.ModuleId.{ModuleId}
-use Rattle.hir_base.specs.contracts.ids.MapIdOrd.TheImpl as map_order
-use Rattle.hir_base.specs.contracts.ids.MapIdPartialEq.TheImpl as map_id
+use Rattle.hir_ids.specs.declared.ast_id.BlockId.{BlockId}
+use Rattle.hir_ids.specs.declared.ids.Crate.{Crate}
+use Rattle.hir_ids.specs.declared.ids.MapId.{MapId}
+use Rattle.hir_ids.specs.declared.ids.ModuleId.{ModuleId}
+use Rattle.hir_ids.specs.contracts.ids.MapIdOrd.TheImpl as map_order
+use Rattle.hir_ids.specs.contracts.ids.MapIdPartialEq.TheImpl as map_id
 use Rattle.hir_def_map_rules.specs.Inner.OverlayLaws.{same_id}
 use Rattle.hir_def_map_rules.specs.References.{lies_in, any_reference_in, refers_to, any_own_crate, any_reference, prelude_reference, test_crate, test_extern}
 use Rattle.hir_def_map_rules.specs.References.{test_of}

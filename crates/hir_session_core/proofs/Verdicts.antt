@@ -2,7 +2,7 @@
 use Rattle.std.proofs.Common.{◌≡◌, ℕ, ◌≤◌, false, nat_lt, List, length, map, Option, None, Some, option_map, Result, Ok, Err, OnOk, IfErr, ◌⊎◌, inl, inr, refl}
 use Rattle.std.proofs.Common.{sym, subst, arith}
 use Rattle.std.proofs.lemmas.List.{length-map}
-use Rattle.hir_base.specs.declared.ids.Crate.{Crate}
+use Rattle.hir_ids.specs.declared.ids.Crate.{Crate}
 use Rattle.hir_base.specs.declared.place.PlaceElement.{PlaceElement}
 use Rattle.std.specs.List.{list_any}
 use Rattle.hir_wire.specs.CommandValue.{CrateInputValue}

@@ -14,7 +14,7 @@
 //! have given just now, over the present sources: the invariant of a session says so of each place, and an edit or a refresh that ends
 //! early leaves it true.
 ghost use Rattle.std.specs.Prelude.{◌≡◌, map, length, None, Some, IfOk, OnOk, OnErr, IfErr, ◌≤◌, ◌⊎◌, Ok, Err};
-ghost use Rattle.hir_base.specs.Refusal.{Gives};
+ghost use Rattle.hir_ids.specs.Refusal.{Gives};
 ghost use Rattle.hir_wire.specs.CommandValue.{crate_input_view};
 ghost use Rattle.hir_tables.specs.SourcePlaces.{expansion_value};
 ghost use Rattle.hir_wire.specs.Edits.{edit_view, entry_view};

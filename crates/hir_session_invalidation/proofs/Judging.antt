@@ -9,9 +9,9 @@ use Rattle.std.specs.Ordering.{is_eq}
 use Rattle.std.proofs.lemmas.List.Elements.{Contains-append_left, Contains-append_right, Contains-append_cases}
 use Rattle.std.proofs.lemmas.Map.Lookups.{CmpEqualImpliesEq}
 use Rattle.std.proofs.lemmas.Map.Views.{btree_set_contains_iff}
-use Rattle.hir_base.specs.declared.ids.MapId.{MapId}
-use Rattle.hir_base.specs.contracts.ids.MapIdOrd.TheImpl as map_order
-use Rattle.hir_base.specs.contracts.ids.MapIdOrd.TheImpl.Laws.{total-law as order_total}
+use Rattle.hir_ids.specs.declared.ids.MapId.{MapId}
+use Rattle.hir_ids.specs.contracts.ids.MapIdOrd.TheImpl as map_order
+use Rattle.hir_ids.specs.contracts.ids.MapIdOrd.TheImpl.Laws.{total-law as order_total}
 use Rattle.hir_def_map_rules.specs.Overlay.{no_maps}
 use Rattle.hir_tables.specs.Tables.{TablesValue}
 use Rattle.hir_collector_rules.specs.Keys.{AgreeOn, look}

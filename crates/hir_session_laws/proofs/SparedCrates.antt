@@ -1,11 +1,11 @@
 -- An edit of a block changes no mark of a crate: no crate's run asks for something of a block.
 use Rattle.std.proofs.Common.{◌≡◌, ◌≢◌, ◌∙◌, ap, sym, subst, refl, ℕ, zero, suc, ◌<◌, true, Option, Some, None, option_map, List, [], arith, Contains}
-use Rattle.hir_base.specs.declared.ast_id.BlockId.{BlockId}
+use Rattle.hir_ids.specs.declared.ast_id.BlockId.{BlockId}
 use Rattle.hir_base.specs.declared.place.BlockPlace.{BlockPlace}
-use Rattle.hir_base.specs.declared.ast_id.HirFileId.{HirFileId}
-use Rattle.hir_base.specs.declared.ids.MapId.{MapId}
-use Rattle.hir_base.specs.declared.ast_id.HirFileId.TheVariants as syntax
-use Rattle.hir_base.specs.declared.macro_kind.MacroId.TheVariants as macros
+use Rattle.hir_ids.specs.declared.ast_id.HirFileId.{HirFileId}
+use Rattle.hir_ids.specs.declared.ids.MapId.{MapId}
+use Rattle.hir_ids.specs.declared.ast_id.HirFileId.TheVariants as syntax
+use Rattle.hir_ids.specs.declared.macro_kind.MacroId.TheVariants as macros
 use Rattle.hir_item_tree.specs.Source.{SourceValue}
 use Rattle.hir_tables.specs.SourcePlaces.{ExpansionValue, block, expansion, file}
 use Rattle.hir_tables.specs.Tables.{TablesValue, entry_at, expansion_of, file_at, source_under}

@@ -2,7 +2,7 @@ use Rattle.std.proofs.Common.{◌≡◌, ◌⊎◌, inl, inr, ℕ, ◌≤◌, Bo
 use Rattle.std.proofs.Common.{arith}
 use Rattle.std.proofs.lemmas.Bool.Decides.{nat_tests}
 use Rattle.std.specs.List.{list_any}
-use Rattle.hir_base.specs.declared.ids.Crate.{Crate}
+use Rattle.hir_ids.specs.declared.ids.Crate.{Crate}
 use Rattle.hir_wire.specs.CommandValue.{CommandValue, CrateInputValue}
 use Rattle.hir_wire.specs.declared.reply.Reply.{Reply}
 use Rattle.hir_session_state.specs.SessionState.{SessionState, IsSound, max_crates}

@@ -13,8 +13,8 @@ use Rattle.std.specs.declared.alloc.Global.{Global}
 use Rattle.std.specs.declared.vec.Vec.{Vec}
 use Rattle.std.proofs.lemmas.List.{same_from_push}
 use Rattle.hir_base.specs.Place.{PlaceValue}
-use Rattle.hir_base.specs.contracts.ids.CrateOrd.TheImpl as crate_order
-use Rattle.hir_base.specs.contracts.ids.CrateOrd.TheImpl.Laws.{total-law as crates_total}
+use Rattle.hir_ids.specs.contracts.ids.CrateOrd.TheImpl as crate_order
+use Rattle.hir_ids.specs.contracts.ids.CrateOrd.TheImpl.Laws.{total-law as crates_total}
 use Rattle.hir_base.specs.contracts.place.BlockPlaceOrd.TheImpl as block_order
 use Rattle.hir_base.specs.contracts.place.BlockPlaceOrd.TheImpl.Laws.{total-law as blocks_total, matches_eq-law as blocks_tie}
 use Rattle.hir_base.specs.contracts.place.BlockPlacePartialEq.TheImpl as block_eq
@@ -22,7 +22,7 @@ use Rattle.hir_base.specs.contracts.place.PlaceElementOrd.TheImpl as element_ord
 use Rattle.hir_base.specs.contracts.place.PlaceElementOrd.TheImpl.Laws.{total-law as elements_total, matches_eq-law as elements_tie}
 use Rattle.hir_base.specs.contracts.place.PlaceElementPartialEq.TheImpl as element_eq
 use Rattle.hir_base.specs.declared.place.BlockPlace.{BlockPlace}
-use Rattle.hir_base.specs.declared.ids.Crate.{Crate}
+use Rattle.hir_ids.specs.declared.ids.Crate.{Crate}
 use Rattle.hir_base.specs.declared.place.PlaceElement.{PlaceElement}
 use Rattle.hir_base.specs.declared.place.PlaceElement.TheVariants as element
 use Rattle.hir_item_tree.specs.Source.{SourceValue}

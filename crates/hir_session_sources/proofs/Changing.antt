@@ -5,9 +5,9 @@ use Rattle.std.specs.BTreeMap.{get, is_at, IsEmpty}
 use Rattle.std.specs.Map.{lookup}
 use Rattle.std.specs.declared.alloc.Global.{Global}
 use Rattle.std.specs.declared.rc.Rc.{Rc}
-use Rattle.hir_base.specs.contracts.ids.CrateOrd.TheImpl as crate_order
-use Rattle.hir_base.specs.contracts.ids.CrateOrd.TheImpl.Laws.{matches_eq-law as crates_tie}
-use Rattle.hir_base.specs.declared.ids.Crate.{Crate}
+use Rattle.hir_ids.specs.contracts.ids.CrateOrd.TheImpl as crate_order
+use Rattle.hir_ids.specs.contracts.ids.CrateOrd.TheImpl.Laws.{matches_eq-law as crates_tie}
+use Rattle.hir_ids.specs.declared.ids.Crate.{Crate}
 use Rattle.hir_item_tree.specs.SourceTree.{SourceTreeValue}
 use Rattle.hir_item_tree.specs.Source.{SourceValue}
 use Rattle.hir_tables.specs.SourcePlaces.{SourcePlaceValue}

@@ -5,8 +5,8 @@ use Rattle.std.specs.Cmp.Lexicographic.{lists_ties, lists_total, nat_list_cmp_to
 use Rattle.std.specs.Ordering.{is_eq, nat_cmp, on, then_cmp}
 use Rattle.std.specs.BTreeMap.{is_at}
 use mathlib.Core.Bool.{true≢false}
-use Rattle.hir_base.specs.contracts.ids.CrateOrd.TheImpl as crate_order
-use Rattle.hir_base.specs.contracts.ids.CrateOrd.TheImpl.Laws.{total-law as crates_total}
+use Rattle.hir_ids.specs.contracts.ids.CrateOrd.TheImpl as crate_order
+use Rattle.hir_ids.specs.contracts.ids.CrateOrd.TheImpl.Laws.{total-law as crates_total}
 use Rattle.hir_base.specs.contracts.macro_kind.CallStyleOrd.TheImpl as style_order
 use Rattle.hir_base.specs.contracts.macro_kind.CallStyleOrd.TheImpl.Laws.{total-law as styles_total, matches_eq-law as styles_tie}
 use Rattle.hir_base.specs.contracts.macro_kind.CallStylePartialEq.TheImpl as style_eq

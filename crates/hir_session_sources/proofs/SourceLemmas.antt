@@ -4,11 +4,11 @@ use Rattle.std.specs.Ordering.{nat_cmp}
 use Rattle.std.specs.Cmp.Lexicographic.{slice_cmp, bytes_decides}
 use Rattle.std.specs.BTreeMap.{is_at}
 use Rattle.std.proofs.lemmas.Map.Text.{is_eq-slice_cmp}
-use Rattle.hir_base.specs.declared.ast_id.AstKind.TheVariants.{MacroDef, MacroRules}
+use Rattle.hir_ids.specs.declared.ast_id.AstKind.TheVariants.{MacroDef, MacroRules}
 use Rattle.hir_base.specs.contracts.place.BlockPlaceOrd.TheImpl as block_order
 use Rattle.hir_base.specs.declared.place.BlockPlace.{BlockPlace}
-use Rattle.hir_base.specs.declared.ast_id.EntryId.{EntryId}
-use Rattle.hir_base.specs.declared.macro_kind.MacroId.TheVariants as macros
+use Rattle.hir_ids.specs.declared.ast_id.EntryId.{EntryId}
+use Rattle.hir_ids.specs.declared.macro_kind.MacroId.TheVariants as macros
 use Rattle.hir_item_tree.specs.Source.{SourceValue}
 use Rattle.hir_item_tree.specs.SourceTree.{SourceTreeValue, variants_of}
 use Rattle.hir_item_tree.specs.SyntaxIds.{node_id}

@@ -1,9 +1,9 @@
 use Rattle.std.proofs.Common.{◌≡◌, ℕ, zero, suc, ◌+◌, ◌<◌, ◌≤◌, true, false, List, [], ◌∷◌, ◌++◌, length, map, is_none, slice_get, drop, get_or, drop-cons}
 use Rattle.std.proofs.Common.{add-one, append_assoc, append-nil, drop_of_length-le, Option, None, Some, refl, sym, ap, subst, ◌∙◌, Contains, arith, nat_le}
 use Rattle.std.proofs.lemmas.List.Folds.{list_any_at}
-use Rattle.hir_base.specs.declared.ids.Crate.{Crate}
-use Rattle.hir_base.specs.declared.ast_id.FileId.{FileId}
-use Rattle.hir_base.specs.declared.ids.MapId.{MapId}
+use Rattle.hir_ids.specs.declared.ids.Crate.{Crate}
+use Rattle.hir_ids.specs.declared.ast_id.FileId.{FileId}
+use Rattle.hir_ids.specs.declared.ids.MapId.{MapId}
 use Rattle.hir_collector_rules.specs.Calls.{AreCallsPlaced}
 use Rattle.hir_collector_rules.specs.declared.source_database.Dependency.{Dependency}
 use Rattle.hir_wire.specs.CommandValue.{CrateInputValue, crate_input_view}

@@ -9,11 +9,11 @@ use Rattle.std.specs.Cmp.Lexicographic.{slice_cmp}
 use Rattle.std.specs.Ordering.{nat_cmp}
 use Rattle.std.specs.declared.alloc.Global.{Global}
 use Rattle.std.specs.declared.rc.Rc.{Rc}
-use Rattle.hir_base.specs.contracts.ids.CrateOrd.TheImpl as crate_order
+use Rattle.hir_ids.specs.contracts.ids.CrateOrd.TheImpl as crate_order
 use Rattle.hir_base.specs.contracts.macro_kind.ExpansionKeyOrd.TheImpl as key_order
 use Rattle.hir_base.specs.contracts.place.BlockPlaceOrd.TheImpl as block_order
 use Rattle.hir_base.specs.declared.place.BlockPlace.{BlockPlace}
-use Rattle.hir_base.specs.declared.ids.Crate.{Crate}
+use Rattle.hir_ids.specs.declared.ids.Crate.{Crate}
 use Rattle.hir_base.specs.declared.macro_kind.ExpansionKey.{ExpansionKey}
 use Rattle.hir_item_tree.specs.SourceTree.{SourceTreeValue}
 use Rattle.hir_tables.specs.SourcePlaces.{ExpansionValue, SourcePlaceValue, expansion_value, block, expansion, file}

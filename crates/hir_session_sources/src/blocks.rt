@@ -5,7 +5,7 @@
 ghost use Rattle.std.specs.Prelude.{◌≡◌, ◌++◌, [], map, is_some, IfOk, IfSome, OnOk, OnErr, option_map};
 ghost use Rattle.std.specs.BTreeMap.{is_at, insert_entry};
 ghost use Rattle.std.specs.Map.{lookup};
-ghost use Rattle.hir_base.specs.contracts.ids.CrateOrd.TheImpl as crate_order;
+ghost use Rattle.hir_ids.specs.contracts.ids.CrateOrd.TheImpl as crate_order;
 ghost use Rattle.hir_item_tree.specs.Source.{source_view};
 ghost use Rattle.hir_session_state.specs.Blocks.{block_in, place_of_block, steps_cmp, with_block, without_block};
 ghost use Rattle.hir_session_sources.specs.BlockTables.{ArePlacedIn, has_place, sources_of, steps_in, with_set, without_set, without_steps};

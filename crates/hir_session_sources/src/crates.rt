@@ -1,6 +1,6 @@
 //! The crates of a session by number, and the transitive dependencies of each.
 ghost use Rattle.std.specs.Prelude.{◌≡◌, ℕ, ◌+◌, List, length, map, IfOk, OnOk, option_map, slice_get, unwrap_or};
-ghost use Rattle.hir_base.specs.declared.ids.Crate.{Crate};
+ghost use Rattle.hir_ids.specs.declared.ids.Crate.{Crate};
 ghost use Rattle.hir_crate_graph.specs.Dependencies.{AreTransitive};
 ghost use Rattle.hir_session_state.specs.Crates.{config_in, crate_in, no_crate, transitive_in};
 

@@ -4,7 +4,7 @@
 //! number is at hand by which `Trees` would find it. A block is asked for under its own crate, and an expansion under the crate
 //! that calls; what they have under others is made anew.
 ghost use Rattle.std.specs.Prelude.{◌≡◌, None, Some, IfOk, OnOk, OnErr, option_map, if◌then◌else◌, false};
-ghost use Rattle.hir_base.specs.declared.ids.Crate.{Crate};
+ghost use Rattle.hir_ids.specs.declared.ids.Crate.{Crate};
 ghost use Rattle.hir_base.specs.CfgOptions.{is_set};
 ghost use Rattle.hir_item_tree.specs.Source.{source_view};
 ghost use Rattle.hir_item_tree.specs.SourceTree.{SourceTreeValue, source_tree_of};

@@ -1,7 +1,7 @@
 -- At which keys places are entered: those for which their kept runs asked.
 use Rattle.std.proofs.Common.{◌≡◌, ◌≢◌, ◌∙◌, ap, sym, subst, refl, Bool, true, false, ◌&&◌, ◌||◌, Option, Some, None, List, Contains}
 use Rattle.std.specs.List.{list_any}
-use Rattle.hir_base.specs.declared.ids.MapId.{MapId}
+use Rattle.hir_ids.specs.declared.ids.MapId.{MapId}
 use Rattle.hir_tables.specs.Tables.{TablesValue, KeepsTables}
 use Rattle.hir_collector_rules.specs.Growth.{AskedKeysHaveMeaning}
 use Rattle.hir_collector_rules.specs.Keys.{HasMeaning}

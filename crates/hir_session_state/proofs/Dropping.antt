@@ -3,8 +3,8 @@ use Rattle.std.proofs.Common.{◌≡◌, ◌∙◌, ap, sym, refl, Bool, true, f
 use Rattle.std.specs.List.{list_any}
 use Rattle.std.specs.BTreeMap.{BTreeMap, get, is_at}
 use Rattle.std.proofs.lemmas.List.Folds.{list_any-append}
-use Rattle.hir_base.specs.declared.ids.MapId.{MapId}
-use Rattle.hir_base.specs.contracts.ids.MapIdOrd.TheImpl as map_order
+use Rattle.hir_ids.specs.declared.ids.MapId.{MapId}
+use Rattle.hir_ids.specs.contracts.ids.MapIdOrd.TheImpl as map_order
 use Rattle.hir_tables.specs.Tables.{TablesValue}
 use Rattle.hir_collector_rules.specs.declared.source_database.Key.{Key}
 use Rattle.hir_session_state.specs.Askers.{AreDropped, is_asked, is_asker, is_one, Leaves}

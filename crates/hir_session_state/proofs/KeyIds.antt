@@ -5,19 +5,19 @@ use Rattle.std.specs.Cmp.{unsigned_Decides, first_so, second_so, tied_itself}
 use Rattle.std.specs.Option.{option_eq}
 use Rattle.std.specs.Ordering.{is_eq}
 use denote.Enum.Bare.{same_true, sameb}
-use Rattle.hir_base.specs.contracts.ast_id.AstIdPartialEq.TheImpl as ast_eq
-use Rattle.hir_base.specs.contracts.ast_id.AstKind.{the_type as ast_kinds}
-use Rattle.hir_base.specs.contracts.ast_id.BlockIdPartialEq.TheImpl as block_eq
-use Rattle.hir_base.specs.contracts.ast_id.HirFileIdPartialEq.TheImpl as file_eq
-use Rattle.hir_base.specs.contracts.ast_id.SyntaxIdPartialEq.TheImpl as syntax_eq
-use Rattle.hir_base.specs.contracts.edition.Edition.{the_type as editions}
-use Rattle.hir_base.specs.contracts.macro_kind.MacroIdPartialEq.TheImpl as macro_eq
-use Rattle.hir_base.specs.declared.ast_id.AstId.{AstId}
-use Rattle.hir_base.specs.declared.ast_id.BlockId.{BlockId}
-use Rattle.hir_base.specs.declared.ast_id.HirFileId.{HirFileId}
-use Rattle.hir_base.specs.declared.ast_id.HirFileId.TheVariants as files
-use Rattle.hir_base.specs.declared.ast_id.SyntaxId.{SyntaxId}
-use Rattle.hir_base.specs.declared.macro_kind.MacroId.{MacroId}
+use Rattle.hir_ids.specs.contracts.ast_id.AstIdPartialEq.TheImpl as ast_eq
+use Rattle.hir_ids.specs.contracts.ast_id.AstKind.{the_type as ast_kinds}
+use Rattle.hir_ids.specs.contracts.ast_id.BlockIdPartialEq.TheImpl as block_eq
+use Rattle.hir_ids.specs.contracts.ast_id.HirFileIdPartialEq.TheImpl as file_eq
+use Rattle.hir_ids.specs.contracts.ast_id.SyntaxIdPartialEq.TheImpl as syntax_eq
+use Rattle.hir_ids.specs.contracts.edition.Edition.{the_type as editions}
+use Rattle.hir_ids.specs.contracts.macro_kind.MacroIdPartialEq.TheImpl as macro_eq
+use Rattle.hir_ids.specs.declared.ast_id.AstId.{AstId}
+use Rattle.hir_ids.specs.declared.ast_id.BlockId.{BlockId}
+use Rattle.hir_ids.specs.declared.ast_id.HirFileId.{HirFileId}
+use Rattle.hir_ids.specs.declared.ast_id.HirFileId.TheVariants as files
+use Rattle.hir_ids.specs.declared.ast_id.SyntaxId.{SyntaxId}
+use Rattle.hir_ids.specs.declared.macro_kind.MacroId.{MacroId}
 use Rattle.hir_item_tree.specs.contracts.tree_id.TreeIdPartialEq.TheImpl as tree_eq
 use Rattle.hir_item_tree.specs.contracts.tree_id.TreeKeyPartialEq.TheImpl as tree_key_eq
 use Rattle.hir_item_tree.specs.declared.tree_id.TreeKey.{TreeKey}

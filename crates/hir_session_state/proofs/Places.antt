@@ -12,16 +12,16 @@ use Rattle.std.proofs.lemmas.Bool.{lt-ltb, ltb-true}
 use mathlib.Core.Bool.{true≢false}
 use Rattle.hir_base.specs.Locations.{KeepsNumbers}
 use Rattle.hir_base.specs.Place.{PlaceValue}
-use Rattle.hir_base.specs.contracts.ast_id.SyntaxIdPartialEq.TheImpl as syntax_eq
+use Rattle.hir_ids.specs.contracts.ast_id.SyntaxIdPartialEq.TheImpl as syntax_eq
 use Rattle.hir_base.specs.contracts.place.BlockPlaceEq.TheImpl.Laws.{laws-law as block_laws}
 use Rattle.hir_base.specs.contracts.place.BlockPlacePartialEq.TheImpl as block_eq
 use Rattle.hir_base.specs.contracts.place.PlaceElementPartialEq.TheImpl as element_eq
 use Rattle.hir_base.specs.contracts.place.PlaceOrd.TheImpl.Laws.{total-law as place_total}
 use Rattle.hir_base.specs.contracts.place.PlacePartialEq.TheImpl as place_eq
-use Rattle.hir_base.specs.declared.ast_id.BlockId.{BlockId}
+use Rattle.hir_ids.specs.declared.ast_id.BlockId.{BlockId}
 use Rattle.hir_base.specs.declared.place.BlockPlace.{BlockPlace}
 use Rattle.hir_base.specs.declared.place.PlaceElement.{PlaceElement}
-use Rattle.hir_base.specs.declared.ast_id.SyntaxId.{SyntaxId}
+use Rattle.hir_ids.specs.declared.ast_id.SyntaxId.{SyntaxId}
 use Rattle.hir_base.specs.declared.place.PlaceElement.TheVariants as element
 use Rattle.hir_tables.specs.Tables.{TablesValue, HasEachOnce, KeepsTables, block_at}
 use Rattle.hir_session_state.specs.Blocks.{block_cmp, nesting_of, place_of_block}

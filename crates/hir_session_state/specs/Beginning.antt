@@ -5,7 +5,7 @@ use Rattle.hir_wire.specs.CommandValue.{CrateInputValue}
 use Rattle.hir_wire.specs.declared.command.Dependency.{Dependency as HandedIn}
 use Rattle.hir_collector_rules.specs.declared.source_database.Dependency.{Dependency}
 use Rattle.hir_collector_rules.specs.Workspace.{ConfigValue}
-use Rattle.hir_base.specs.declared.ids.MapId.{MapId}
+use Rattle.hir_ids.specs.declared.ids.MapId.{MapId}
 use Rattle.hir_session_state.specs.Crates.{CrateValue, crate_in}
 use Rattle.hir_tables.specs.Tables.{TablesValue, file_at, KeepsTables}
 use Rattle.hir_session_state.specs.SessionState.{SessionState, kept_of}

@@ -1,7 +1,7 @@
 -- What do the calls of a session change?
 use Rattle.std.specs.Prelude.{◌≡◌, true, false, List}
 use Rattle.hir_base.specs.Place.{PlaceValue}
-use Rattle.hir_base.specs.declared.ids.MapId.{MapId}
+use Rattle.hir_ids.specs.declared.ids.MapId.{MapId}
 use Rattle.hir_wire.specs.Edits.{EditValue}
 use Rattle.hir_session_state.specs.SourceEdits.{edit_of, edited}
 use Rattle.hir_session_state.specs.SourceTable.{SourceTable}

@@ -5,7 +5,7 @@ use Rattle.std.specs.Cmp.Lexicographic.{slice_cmp}
 use Rattle.std.specs.BTreeMap.{is_at, insert_entry}
 use Rattle.std.specs.Map.{lookup}
 use Rattle.std.specs.declared.cmp.Ordering.{Ordering}
-use Rattle.hir_base.specs.contracts.ids.CrateOrd.TheImpl as crate_order
+use Rattle.hir_ids.specs.contracts.ids.CrateOrd.TheImpl as crate_order
 use Rattle.hir_base.specs.contracts.macro_kind.CallStyleOrd.TheImpl as style_order
 use Rattle.hir_base.specs.contracts.macro_kind.MacroTextOrd.TheImpl as text_order
 use Rattle.hir_base.specs.declared.macro_kind.ExpansionKey.{ExpansionKey}

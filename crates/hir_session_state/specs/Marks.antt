@@ -1,6 +1,6 @@
 -- Which places does an edit mark?
 use Rattle.std.specs.Prelude.{◌≡◌, ◌≢◌, true, Some, Contains}
-use Rattle.hir_base.specs.declared.ids.MapId.{MapId}
+use Rattle.hir_ids.specs.declared.ids.MapId.{MapId}
 use Rattle.hir_def_map_rules.specs.Overlay.{no_maps}
 use Rattle.hir_collector_rules.specs.Workspace.{Workspace}
 use Rattle.hir_collector_rules.specs.Keys.{look}

@@ -1,8 +1,8 @@
 //! Which places asked for which keys.
 ghost use Rattle.std.specs.Prelude.{◌≡◌, ◌&&◌, ◌||◌, ◌∷◌, [], false, not, OnOk, OnErr, option_map};
 ghost use Rattle.std.specs.BTreeMap.{get, is_at};
-ghost use Rattle.hir_base.specs.declared.ids.MapId.{MapId};
-ghost use Rattle.hir_base.specs.contracts.ids.MapIdOrd.TheImpl as map_order;
+ghost use Rattle.hir_ids.specs.declared.ids.MapId.{MapId};
+ghost use Rattle.hir_ids.specs.contracts.ids.MapIdOrd.TheImpl as map_order;
 ghost use Rattle.hir_collector_rules.specs.declared.source_database.Key.{Key};
 ghost use Rattle.hir_collector_rules.specs.contracts.source_database.KeyOrd.TheImpl as key_order;
 ghost use Rattle.hir_session_state.specs.declared.source_number.SourceNumber.{SourceNumber as Number};

@@ -1,8 +1,8 @@
 //! What is kept of runs beside the maps.
 ghost use Rattle.std.specs.Prelude.{◌≡◌, false, None, Some, IfErr, OnOk, OnErr, option_map};
 ghost use Rattle.std.specs.BTreeMap.{get, is_at, IsUnchanged, Updates};
-ghost use Rattle.hir_base.specs.declared.ids.MapId.{MapId};
-ghost use Rattle.hir_base.specs.contracts.ids.MapIdOrd.TheImpl as map_order;
+ghost use Rattle.hir_ids.specs.declared.ids.MapId.{MapId};
+ghost use Rattle.hir_ids.specs.contracts.ids.MapIdOrd.TheImpl as map_order;
 
 use hir_base::ids::MapId;
 use hir_collector_rules::collected::Asked;

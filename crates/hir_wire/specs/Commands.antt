@@ -4,8 +4,8 @@ use Rattle.std.specs.Str.{bytes_eq, is_utf8}
 use Rattle.serde_json.specs.Data.{Data, null, boolean, number, string, array, object, Members}
 use Rattle.serde_json.specs.Read.{read}
 use Rattle.serde_json.specs.Written.{has_float}
-use Rattle.hir_base.specs.declared.edition.Edition.{Edition}
-use Rattle.hir_base.specs.declared.edition.Edition.TheVariants as edition
+use Rattle.hir_ids.specs.declared.edition.Edition.{Edition}
+use Rattle.hir_ids.specs.declared.edition.Edition.TheVariants as edition
 use Rattle.hir_item_tree.specs.Attributes.{no_attributes}
 use Rattle.hir_wire.specs.Types.{Dependency, MacroStyle, Shadow}
 use Rattle.hir_wire.specs.Types.shadow

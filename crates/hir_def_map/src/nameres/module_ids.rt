@@ -75,7 +75,7 @@ pub struct ModuleIds<'a> {
 
 impl<'a> Model for ModuleIds<'a> {
     ghost use Rattle.std.specs.Prelude.{List, length, ◌+◌, ◌<◌, ◌^◌};
-    ghost use Rattle.hir_base.specs.declared.ids.ModuleId.{ModuleId};
+    ghost use Rattle.hir_ids.specs.declared.ids.ModuleId.{ModuleId};
     ghost use Rattle.hir_def_map.specs.ModuleIds.{ids_held};
 
     ghost Value = { List ModuleId };

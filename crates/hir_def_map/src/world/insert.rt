@@ -2,8 +2,8 @@
 ghost use Rattle.std.specs.Prelude.{◌≡◌, ◌+◌, ◌≤◌, None, Some, cond, IfErr, IfOk, OnOk, OnErr};
 ghost use Rattle.std.specs.Vec.{vec_capacity};
 ghost use Rattle.std.specs.BTreeMap.{btree_map_len, get, is_at, IsUnchanged, Updates};
-ghost use Rattle.hir_base.specs.contracts.ids.MapIdOrd.TheImpl as map_order;
-ghost use Rattle.hir_base.specs.declared.ids.MapId.{MapId};
+ghost use Rattle.hir_ids.specs.contracts.ids.MapIdOrd.TheImpl as map_order;
+ghost use Rattle.hir_ids.specs.declared.ids.MapId.{MapId};
 ghost use Rattle.hir_def_map_rules.specs.Overlay.{holders_under, with_map};
 ghost use Rattle.hir_def_map.specs.Inner.Dependents.{HasRoom, IsEntered, IsIndexed};
 ghost use Rattle.hir_def_map.specs.Insertion.{may_join, Inserts};

@@ -1,7 +1,7 @@
 //! A restricted view of a world.
 ghost use Rattle.std.specs.Prelude.{◌≡◌, true, option_copied, option_map};
 ghost use Rattle.std.specs.List.{list_any};
-ghost use Rattle.hir_base.specs.contracts.ids.MapIdPartialEq.TheImpl as map_id;
+ghost use Rattle.hir_ids.specs.contracts.ids.MapIdPartialEq.TheImpl as map_id;
 ghost use Rattle.hir_def_map.specs.WorldParts.{among, are_within, is_within, part_of};
 ghost use Rattle.hir_def_map_rules.specs.Ancestors.{frames_of, head_of, holders_of_frame};
 ghost use Rattle.hir_def_map_rules.specs.Overlay.{Placed, map_in};

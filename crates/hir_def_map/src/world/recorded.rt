@@ -5,7 +5,7 @@
 ghost use Rattle.std.specs.Prelude.{◌≡◌, IfOk, OnOk, ◌||◌};
 ghost use Rattle.std.specs.List.{list_any};
 ghost use Rattle.std.specs.BTreeMap.{is_at};
-ghost use Rattle.hir_base.specs.contracts.ids.MapIdOrd.TheImpl as map_order;
+ghost use Rattle.hir_ids.specs.contracts.ids.MapIdOrd.TheImpl as map_order;
 ghost use Rattle.hir_def_map.specs.Insertion.{Gains};
 ghost use Rattle.hir_def_map.specs.Inner.Recorded.{AreCovered, GainsOnly, IsRecordedFor, Records, is_left_out};
 ghost use Rattle.hir_def_map_rules.specs.Inner.ReferenceLists.{any_listed, listed_besides, listed_in};

@@ -1,6 +1,6 @@
 -- What lies above a module hangs on frames alone.
 use Rattle.std.proofs.Common.{◌≡◌}
-use Rattle.hir_base.specs.declared.ids.MapId.{MapId}
+use Rattle.hir_ids.specs.declared.ids.MapId.{MapId}
 use Rattle.hir_def_map_rules.specs.Overlay.{Maps}
 use Rattle.hir_def_map_rules.specs.Ancestors.{above_by, above_in, frames_of, holders_by}
 use Rattle.hir_def_map_rules.proofs.Grown.{frames_of-pushed}

@@ -4,14 +4,14 @@ use Rattle.std.specs.Option.{option_eq}
 use Rattle.std.specs.Hash as fed
 use Rattle.std.specs.Hash.{Alike, HashWrites, and-Alike, items_Alike, on_Alike}
 use Rattle.std.proofs.Common.{refl}
-use Rattle.hir_base.specs.declared.ids.ExternCrateId.{ExternCrateId}
-use Rattle.hir_base.specs.declared.ids.ModuleId.{ModuleId}
-use Rattle.hir_base.specs.contracts.ids.ExternCrateIdHash.TheImpl as extern_crate_hash
-use Rattle.hir_base.specs.contracts.ids.ExternCrateIdHash.TheImpl.Laws.{respects_eq-law as extern_crate_alike}
-use Rattle.hir_base.specs.contracts.ids.ExternCrateIdPartialEq.TheImpl as extern_crate
-use Rattle.hir_base.specs.contracts.ids.ModuleIdHash.TheImpl as module_hash
-use Rattle.hir_base.specs.contracts.ids.ModuleIdHash.TheImpl.Laws.{respects_eq-law as module_alike}
-use Rattle.hir_base.specs.contracts.name.NameHash.TheImpl.Laws.{respects_eq-law as name_alike}
+use Rattle.hir_ids.specs.declared.ids.ExternCrateId.{ExternCrateId}
+use Rattle.hir_ids.specs.declared.ids.ModuleId.{ModuleId}
+use Rattle.hir_ids.specs.contracts.ids.ExternCrateIdHash.TheImpl as extern_crate_hash
+use Rattle.hir_ids.specs.contracts.ids.ExternCrateIdHash.TheImpl.Laws.{respects_eq-law as extern_crate_alike}
+use Rattle.hir_ids.specs.contracts.ids.ExternCrateIdPartialEq.TheImpl as extern_crate
+use Rattle.hir_ids.specs.contracts.ids.ModuleIdHash.TheImpl as module_hash
+use Rattle.hir_ids.specs.contracts.ids.ModuleIdHash.TheImpl.Laws.{respects_eq-law as module_alike}
+use Rattle.hir_ids.specs.contracts.name.NameHash.TheImpl.Laws.{respects_eq-law as name_alike}
 use Rattle.hir_def_map_rules.specs.Equality.{same_local}
 use Rattle.hir_def_map_rules.specs.State.{Local}
 

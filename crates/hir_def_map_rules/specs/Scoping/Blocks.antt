@@ -1,6 +1,6 @@
 -- What does a path mean that is asked from inside a block?
 use Rattle.std.specs.Prelude.{ℕ, List, [], ◌∷◌, max, ◌&&◌, ◌||◌, not, is_some, Option, None, Some, cond}
-use Rattle.hir_base.specs.declared.ids.ModuleId.{ModuleId}
+use Rattle.hir_ids.specs.declared.ids.ModuleId.{ModuleId}
 use Rattle.hir_base.specs.declared.mod_path.PathKind.{PathKind}
 use Rattle.hir_base.specs.declared.mod_path.PathKind.TheVariants as kinds
 use Rattle.hir_scope.specs.PerNs.{or_of}

@@ -1,17 +1,17 @@
 -- What does the first segment of a path name in a module?
 use Rattle.std.specs.Prelude.{◌==◌, ℕ, ◌-◌, List, [], ◌∷◌, length, Bool, true, false, ◌&&◌, ◌||◌, is_some, Option, None, Some, cond, slice_get, option_and_then}
 use Rattle.std.specs.Prelude.{option_map}
-use Rattle.hir_base.specs.BuiltinType.{builtin_named}
-use Rattle.hir_base.specs.MacroKind.{styles_of}
-use Rattle.hir_base.specs.declared.builtin_type.BuiltinType.{BuiltinType as AnyBuiltin}
+use Rattle.hir_ids.specs.BuiltinType.{builtin_named}
+use Rattle.hir_ids.specs.MacroKind.{styles_of}
+use Rattle.hir_ids.specs.declared.builtin_type.BuiltinType.{BuiltinType as AnyBuiltin}
 use Rattle.hir_base.specs.declared.resolve_mode.BuiltinShadowMode.{BuiltinShadowMode}
-use Rattle.hir_base.specs.declared.ids.ExternCrateId.{ExternCrateId}
-use Rattle.hir_base.specs.declared.macro_kind.MacroId.{MacroId}
+use Rattle.hir_ids.specs.declared.ids.ExternCrateId.{ExternCrateId}
+use Rattle.hir_ids.specs.declared.macro_kind.MacroId.{MacroId}
 use Rattle.hir_base.specs.declared.resolve_mode.MacroSubNs.{MacroSubNs}
-use Rattle.hir_base.specs.declared.ids.ModuleDefId.{ModuleDefId}
-use Rattle.hir_base.specs.declared.ids.UseId.{UseId}
-use Rattle.hir_base.specs.declared.ids.ModuleId.{ModuleId as AnyModule}
-use Rattle.hir_base.specs.declared.ids.ModuleDefId.TheVariants.{ModuleId, BuiltinType}
+use Rattle.hir_ids.specs.declared.ids.ModuleDefId.{ModuleDefId}
+use Rattle.hir_ids.specs.declared.ids.UseId.{UseId}
+use Rattle.hir_ids.specs.declared.ids.ModuleId.{ModuleId as AnyModule}
+use Rattle.hir_ids.specs.declared.ids.ModuleDefId.TheVariants.{ModuleId, BuiltinType}
 use Rattle.hir_scope.specs.declared.imports.ImportOrExternCrate.{ImportOrExternCrate}
 use Rattle.hir_scope.specs.declared.per_ns.PerNs.{PerNs}
 use Rattle.hir_scope.specs.declared.imports.ImportOrExternCrate.TheVariants as ways

@@ -3,10 +3,10 @@
 //! They are read from the present sources, so nothing of them is kept. The macro calls in them get numbers, and that is all that
 //! such a query changes.
 ghost use Rattle.std.specs.Prelude.{◌≡◌, ◌≢◌, ◌<◌, ◌⊎◌, false, is_none, length, Some, IfOk, IfErr, Ok, Err};
-ghost use Rattle.hir_base.specs.declared.ast_id.AstKind.TheVariants as kind;
-ghost use Rattle.hir_base.specs.declared.ids.ImplId.{ImplId};
-ghost use Rattle.hir_base.specs.declared.ids.TraitId.{TraitId};
-ghost use Rattle.hir_base.specs.declared.ids.ItemContainerId.TheVariants as container;
+ghost use Rattle.hir_ids.specs.declared.ast_id.AstKind.TheVariants as kind;
+ghost use Rattle.hir_ids.specs.declared.ids.ImplId.{ImplId};
+ghost use Rattle.hir_ids.specs.declared.ids.TraitId.{TraitId};
+ghost use Rattle.hir_ids.specs.declared.ids.ItemContainerId.TheVariants as container;
 ghost use Rattle.hir_assoc_items.specs.AssocItems.{items_written, listing_of};
 ghost use Rattle.hir_def_map.specs.DefMaps.{maps_of};
 ghost use Rattle.hir_def_map.specs.WorldParts.{among};

@@ -1,6 +1,6 @@
 //! Blocks that wait to be resolved.
 ghost use Rattle.std.specs.Prelude.{◌≡◌, ◌≢◌, ◌⊎◌, true, false, IfOk, IfSome, OnOk, None, Some, is_none, length};
-ghost use Rattle.hir_base.specs.declared.ids.MapId.{MapId};
+ghost use Rattle.hir_ids.specs.declared.ids.MapId.{MapId};
 ghost use Rattle.hir_session_state.specs.Askers.{HoldsExactly};
 ghost use Rattle.hir_session_state.specs.Blocks.{place_of_block};
 ghost use Rattle.hir_session_state.specs.Kept.{kept_in, AreForgotten};

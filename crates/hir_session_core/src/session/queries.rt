@@ -1,7 +1,7 @@
 //! What a session is asked.
 ghost use Rattle.std.specs.Prelude.{◌≡◌, ◌++◌, ◌⊎◌, IfOk, IfErr, OnOk, Ok, Err, option_map, string_bytes};
 ghost use Rattle.std.specs.Option.{option_and_then};
-ghost use Rattle.hir_base.specs.Refusal.{Gives};
+ghost use Rattle.hir_ids.specs.Refusal.{Gives};
 ghost use Rattle.hir_item_tree.specs.Source.{source_view};
 ghost use Rattle.hir_session_state.specs.Files.{file_at};
 ghost use Rattle.hir_session_state.specs.SessionState.{kept_of, module_of, standing_of};

@@ -1,7 +1,7 @@
 //! What traits and impls hold, over the present sources.
 ghost use Rattle.std.specs.Prelude.{◌≡◌, IfOk, Err};
-ghost use Rattle.hir_base.specs.declared.ast_id.AstKind.TheVariants as kind;
-ghost use Rattle.hir_base.specs.declared.ids.ItemContainerId.TheVariants as container;
+ghost use Rattle.hir_ids.specs.declared.ast_id.AstKind.TheVariants as kind;
+ghost use Rattle.hir_ids.specs.declared.ids.ItemContainerId.TheVariants as container;
 ghost use Rattle.hir_tables.specs.Tables.{KeepsTables};
 ghost use Rattle.hir_def_map.specs.DefMaps.{maps_of};
 ghost use Rattle.hir_collector_rules.specs.Calls.{AreCallsPlaced};

@@ -1,7 +1,7 @@
 -- The items of an expansion stand in the call's place.
 use Rattle.std.proofs.Common.{rules, ◌≡◌, ◌∙◌, ◌+◌, ◌++◌, List, ap, map, subst, sym}
 use Rattle.std.specs.Prelude.{IsSome}
-use Rattle.hir_base.specs.declared.ast_id.AstId.{AstId}
+use Rattle.hir_ids.specs.declared.ast_id.AstId.{AstId}
 use Rattle.hir_item_tree.specs.ItemTree.{Tree}
 use Rattle.hir_item_tree.specs.SourceTree.{SourceTreeValue}
 use Rattle.hir_item_tree.specs.declared.tree_id.TreeId.{TreeId}

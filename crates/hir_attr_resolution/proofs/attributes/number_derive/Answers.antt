@@ -1,6 +1,6 @@
 -- The expansion gets a number, and then the call.
 use Rattle.std.proofs.Common.{◌≡◌, ◌∙◌, Some, ap, subst, sym}
-use Rattle.hir_base.specs.declared.ids.MapId.{MapId}
+use Rattle.hir_ids.specs.declared.ids.MapId.{MapId}
 use Rattle.hir_base.specs.declared.macro_kind.MacroCallKind.TheVariants.{Attr}
 use Rattle.hir_tables.specs.Interning.{IsFull}
 use Rattle.hir_tables.specs.SourcePlaces.{ExpansionValue, expansion_value}

@@ -1,9 +1,9 @@
 -- All that the expansion of a call depends on is asked for, and the expansion.
 use Rattle.std.proofs.Common.{◌≡◌, ◌∙◌, Some, ap, refl, subst, sym}
-use Rattle.hir_base.specs.declared.ast_id.AstId.{AstId}
+use Rattle.hir_ids.specs.declared.ast_id.AstId.{AstId}
 use Rattle.hir_base.specs.declared.macro_kind.CallStyle.{CallStyle}
 use Rattle.hir_base.specs.declared.macro_kind.MacroCallKind.{MacroCallKind}
-use Rattle.hir_base.specs.declared.ids.MapId.{MapId}
+use Rattle.hir_ids.specs.declared.ids.MapId.{MapId}
 use Rattle.hir_tables.specs.Interning.{Interns, IsFull}
 use Rattle.hir_tables.specs.SourcePlaces.{ExpansionValue, expansion_value}
 use Rattle.hir_tables.specs.Tables.{TablesValue}

@@ -1,5 +1,5 @@
 use Rattle.std.proofs.Common.{◌≡◌, refl, rules}
-use Rattle.hir_base.specs.declared.macro_kind.MacroId.TheVariants as macros
+use Rattle.hir_ids.specs.declared.macro_kind.MacroId.TheVariants as macros
 use Rattle.hir_collector_rules.specs.TreeReads.{head_of}
 use Rattle.hir_collector_state.proofs.Made.{count_kept, defined_macro}
 use Rattle.hir_collector_state.proofs.Noted.{noted_follow}

@@ -1,6 +1,6 @@
 -- What is left behind the scope is in the root module.
 use Rattle.std.proofs.Common.{◌∙◌, ap}
-use Rattle.hir_base.specs.declared.ids.MapId.{MapId}
+use Rattle.hir_ids.specs.declared.ids.MapId.{MapId}
 use Rattle.hir_scope.specs.Scope.{ScopeValue}
 use Rattle.hir_def_map_rules.specs.State.{with_scope}
 use Rattle.hir_import_rules.proofs.Lent.{scope_left}

@@ -1,7 +1,7 @@
 -- The walk's steps lead on to where imports and calls rest.
 use Rattle.std.proofs.Common.{rules, ◌≡◌, ◌∙◌, false, List, None, option_map, ap, sym, subst}
 use Rattle.std.specs.Prelude.{IsSome}
-use Rattle.hir_base.specs.declared.ids.Crate.{Crate}
+use Rattle.hir_ids.specs.declared.ids.Crate.{Crate}
 use Rattle.hir_tables.specs.SourcePlaces.{source_value}
 use Rattle.hir_tables.specs.Tables.{source_of}
 use Rattle.hir_tables.proofs.Growth.{KeepsTables-trans}

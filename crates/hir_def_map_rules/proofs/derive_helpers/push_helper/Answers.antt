@@ -1,7 +1,7 @@
 -- The list that refused the helper is as it was, and so the entries are.
 use Rattle.std.proofs.Common.{◌∙◌, ap, sym, Some}
 use Rattle.std.specs.BTreeMap.{is_at}
-use Rattle.hir_base.specs.contracts.ast_id.AstIdOrd.TheImpl as ast_order
+use Rattle.hir_ids.specs.contracts.ast_id.AstIdOrd.TheImpl as ast_order
 use Rattle.hir_def_map_rules.proofs.Rewrites.{on_err, set_value-same}
 use Rattle.hir_def_map_rules.proofs.derive_helpers.push_helper.Goals as goal
 

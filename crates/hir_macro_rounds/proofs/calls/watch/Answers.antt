@@ -1,6 +1,6 @@
 -- A call that reaches no macro watches what it has read.
 use Rattle.std.proofs.Common.{◌∙◌, ◌≡◌, ℕ, ap, subst, List, Option, length}
-use Rattle.hir_base.specs.declared.ast_id.AstId.{AstId}
+use Rattle.hir_ids.specs.declared.ast_id.AstId.{AstId}
 use Rattle.hir_def_map_rules.specs.State.{Map}
 use Rattle.hir_def_map.specs.WorldParts.{part_of}
 use Rattle.hir_def_map.specs.declared.nameres.path_resolution.slots.Slot.{Slot}

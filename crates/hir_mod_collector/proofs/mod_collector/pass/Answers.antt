@@ -8,7 +8,7 @@ use Rattle.hir_item_tree.specs.Kinds.{item_head, kind_content, kind_of}
 use Rattle.hir_item_tree.specs.Rows.{item_of}
 use Rattle.hir_item_tree.specs.SourceTree.{SourceTreeValue}
 use Rattle.hir_item_tree.specs.declared.attrs.Attr.{Attr}
-use Rattle.hir_base.specs.declared.ast_id.AstKind.{AstKind}
+use Rattle.hir_ids.specs.declared.ast_id.AstKind.{AstKind}
 use Rattle.hir_collector_rules.specs.ItemIds.{node_of}
 use Rattle.hir_collector_rules.specs.Moves.{Passes, PassesTooFar}
 use Rattle.hir_attr_resolution.specs.Visiting.{IsVisited}

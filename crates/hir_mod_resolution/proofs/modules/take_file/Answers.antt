@@ -1,6 +1,6 @@
 use Rattle.std.proofs.Common.{rules, ◌≡◌, ◌∙◌, Option, Some, option_map, inl, refl, sym, ap}
 use Rattle.hir_base.specs.Cfg.{cfg_view}
-use Rattle.hir_base.specs.declared.ast_id.AstKind.TheVariants as nodes
+use Rattle.hir_ids.specs.declared.ast_id.AstKind.TheVariants as nodes
 use Rattle.hir_base.specs.declared.cfg.CfgExpr.{CfgExpr}
 use Rattle.hir_item_tree.specs.Collected.{Collected}
 use Rattle.hir_item_tree.specs.ItemTree.{Tree}

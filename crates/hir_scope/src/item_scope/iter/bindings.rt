@@ -7,9 +7,9 @@ ghost use Rattle.hir_scope.specs.PerNs.{Item};
 use crate::imports::{ImportOrExternCrate, ImportOrGlob};
 use crate::item_scope::ItemScope;
 use crate::per_ns::{Item, MacrosItem, TypesItem, ValuesItem};
-use hir_base::ids::ModuleDefId;
-use hir_base::macro_kind::MacroId;
-use hir_base::name::Name;
+use hir_ids::ids::ModuleDefId;
+use hir_ids::macro_kind::MacroId;
+use hir_ids::name::Name;
 use hir_scope_table::slot_walk::SlotWalk;
 use std::marker::Model;
 

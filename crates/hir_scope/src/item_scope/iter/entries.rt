@@ -2,7 +2,7 @@
 ghost use Rattle.std.specs.Prelude.{◌≡◌, ℕ, List, Option};
 ghost use Rattle.std.specs.Option.{option_copied};
 ghost use Rattle.std.specs.Iterator.{YieldsFirstBy, item_count};
-ghost use Rattle.hir_base.specs.declared.name.Name.{Name};
+ghost use Rattle.hir_ids.specs.declared.name.Name.{Name};
 ghost use Rattle.hir_scope.specs.declared.per_ns.PerNs.{PerNs};
 ghost use Rattle.hir_scope.specs.Inner.Entries.{items_of};
 ghost use Rattle.hir_scope.specs.Scope.Entries.{entries_of, resolutions_in, import_as_item, unnamed_binding};
@@ -10,8 +10,8 @@ ghost use Rattle.hir_scope.specs.Scope.Entries.{entries_of, resolutions_in, impo
 use crate::imports::{ImportId, ImportOrExternCrate};
 use crate::item_scope::ItemScope;
 use crate::per_ns::{Item, MacrosItem, PerNs, TypesItem, ValuesItem};
-use hir_base::ids::{ModuleDefId, TraitId};
-use hir_base::name::Name;
+use hir_ids::ids::{ModuleDefId, TraitId};
+use hir_ids::name::Name;
 use hir_scope_table::entry::Entry;
 use std::marker::Model;
 

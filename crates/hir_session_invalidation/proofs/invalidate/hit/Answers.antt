@@ -1,6 +1,6 @@
 -- One more place is hit.
 use Rattle.std.proofs.Common.{◌≡◌, ◌∙◌, ap, sym, List, [], ◌∷◌, ◌++◌, append-nil, append_assoc}
-use Rattle.hir_base.specs.declared.ids.MapId.{MapId}
+use Rattle.hir_ids.specs.declared.ids.MapId.{MapId}
 use Rattle.hir_session_invalidation.proofs.invalidate.hit.Goals as goal
 
 pub loop-id-preserved : goal.loop-id-preserved

@@ -2,7 +2,7 @@
 use Rattle.std.proofs.Common.{rules, sym, subst, List}
 use Rattle.std.specs.Map.Iter.{deref_pair}
 use Rattle.std.proofs.lemmas.Map.Iter.{btree_map_turn}
-use Rattle.hir_base.specs.declared.ids.MapId.{MapId}
+use Rattle.hir_ids.specs.declared.ids.MapId.{MapId}
 use Rattle.hir_collector_rules.specs.contracts.source_database.KeyOrd.TheImpl.Laws.{total-law as keys_total}
 use Rattle.hir_session_sources.proofs.Changing.{no_trees}
 use Rattle.hir_session_invalidation.proofs.Judging.{judging-end, judging-more, judging-start}

@@ -5,8 +5,8 @@ use Rattle.std.specs.BTreeMap.{get}
 use Rattle.std.specs.BTreeSet.{BTreeSet, contains, IsEmpty, IsOrdered}
 use Rattle.std.specs.Option.{UnwrapsOrElse}
 use Rattle.std.proofs.lemmas.Grind.{common_steps}
-use Rattle.hir_base.specs.contracts.ids.MapIdOrd.TheImpl as map_order
-use Rattle.hir_base.specs.declared.ids.MapId.{MapId}
+use Rattle.hir_ids.specs.contracts.ids.MapIdOrd.TheImpl as map_order
+use Rattle.hir_ids.specs.declared.ids.MapId.{MapId}
 use Rattle.hir_collector_rules.specs.contracts.source_database.KeyOrd.TheImpl as key_order
 use Rattle.hir_scope.proofs.Rewrites.{on_err}
 use Rattle.hir_session_state.specs.Askers.{is_in}

@@ -3,8 +3,8 @@ use Rattle.std.proofs.Common.{◌≡◌, ◌∙◌, ap, sym, Bool, ◌&&◌, not
 use Rattle.std.specs.BTreeMap.{BTreeMap, get, is_at}
 use Rattle.std.specs.BTreeSet.{BTreeSet, contains}
 use Rattle.std.specs.Option.{option_copied_mut}
-use Rattle.hir_base.specs.contracts.ids.MapIdOrd.TheImpl as map_order
-use Rattle.hir_base.specs.declared.ids.MapId.{MapId}
+use Rattle.hir_ids.specs.contracts.ids.MapIdOrd.TheImpl as map_order
+use Rattle.hir_ids.specs.declared.ids.MapId.{MapId}
 use Rattle.hir_collector_rules.specs.contracts.source_database.KeyOrd.TheImpl as key_order
 use Rattle.hir_collector_rules.specs.declared.source_database.Key.{Key}
 use Rattle.hir_session_state.specs.Askers.{KeyAskers, has_asked, is_in}

@@ -1,6 +1,6 @@
 -- All pages are written, from the first on.
 use Rattle.std.proofs.Common.{◌≡◌, ◌∙◌, ap, ℕ, List}
-use Rattle.hir_base.specs.declared.ids.ModuleId.{ModuleId}
+use Rattle.hir_ids.specs.declared.ids.ModuleId.{ModuleId}
 use Rattle.hir_def_map_rules.specs.Overlay.{Maps, overlay}
 use Rattle.hir_def_map.specs.World.{finished_in}
 use Rattle.hir_def_map.specs.DefMaps.{maps_of}

@@ -1,7 +1,7 @@
 -- What is left decides.
 use Rattle.std.proofs.Common.{◌≡◌, length}
 use Rattle.std.specs.List.{list_all}
-use Rattle.hir_base.specs.declared.ids.EnumId.{EnumId}
+use Rattle.hir_ids.specs.declared.ids.EnumId.{EnumId}
 use Rattle.hir_def_map_rules.specs.State.{Variants}
 use Rattle.hir_def_map_rules.specs.References.{are_variants_of, has_its_variants}
 use Rattle.hir_def_map.proofs.nameres.DefMap.has_its_variants.Given as goal

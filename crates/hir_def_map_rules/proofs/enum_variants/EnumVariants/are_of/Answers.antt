@@ -1,7 +1,7 @@
 -- A variant that is the enum's leaves the answer to those that are left.
 use Rattle.std.proofs.Common.{rules, ◌≡◌, ◌∙◌, ap, sym, refl, true, false, Bool, ◌&&◌, ◌∷◌}
 use Rattle.std.specs.Prelude.{not}
-use Rattle.hir_base.specs.contracts.ids.EnumIdPartialEq.TheImpl as enum_id
+use Rattle.hir_ids.specs.contracts.ids.EnumIdPartialEq.TheImpl as enum_id
 use Rattle.hir_def_map_rules.specs.References.{are_variants_of}
 use Rattle.hir_def_map_rules.proofs.enum_variants.EnumVariants.are_of.Goals as goal
 

@@ -1,6 +1,6 @@
 -- What the run came to may join what is kept, and all on which its place stands is current.
 use Rattle.std.proofs.Common.{◌≡◌, ◌∙◌, ap, sym, subst, true}
-use Rattle.hir_base.specs.declared.ids.MapId.{MapId}
+use Rattle.hir_ids.specs.declared.ids.MapId.{MapId}
 use Rattle.hir_collector_rules.specs.Derivation.{collected_view}
 use Rattle.hir_session_state.specs.Due.{Resolved}
 use Rattle.hir_session_state.specs.Kept.{kept_in}

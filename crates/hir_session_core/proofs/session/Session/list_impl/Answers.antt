@@ -1,7 +1,7 @@
 -- The maps are those that are read in the impl's map; calls get numbers, and a session stays sound as tables grow.
 use Rattle.std.proofs.Common.{◌≡◌, ◌∙◌, ap, sym, subst, refl, false, List}
-use Rattle.hir_base.specs.declared.ast_id.AstKind.TheVariants as kind
-use Rattle.hir_base.specs.declared.ids.ItemContainerId.TheVariants as container
+use Rattle.hir_ids.specs.declared.ast_id.AstKind.TheVariants as kind
+use Rattle.hir_ids.specs.declared.ids.ItemContainerId.TheVariants as container
 use Rattle.hir_def_map_rules.specs.Overlay.{Maps, overlay}
 use Rattle.hir_assoc_items.specs.AssocItems.{items_written, listing_of}
 use Rattle.hir_session_state.specs.Due.{Grows}

@@ -1,6 +1,6 @@
 -- All that the crate depends on comes before it.
 use Rattle.std.proofs.Common.{◌≡◌, ◌∙◌, sym, subst, refl, true, length, List, ◌<◌}
-use Rattle.hir_base.specs.declared.ids.MapId.{MapId}
+use Rattle.hir_ids.specs.declared.ids.MapId.{MapId}
 use Rattle.hir_collector_rules.specs.Derivation.{collected_view}
 use Rattle.hir_session_state.specs.Crates.{CrateValue, id_of}
 use Rattle.hir_session_state.specs.Due.{Resolved}

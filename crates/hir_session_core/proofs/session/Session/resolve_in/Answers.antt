@@ -1,7 +1,7 @@
 -- What the run came to is kept.
 use Rattle.std.proofs.Common.{◌≡◌, ◌∙◌, sym, subst, true, Option, Some}
-use Rattle.hir_base.specs.declared.ids.MapId.{MapId}
-use Rattle.hir_base.specs.declared.ids.ModuleId.{ModuleId}
+use Rattle.hir_ids.specs.declared.ids.MapId.{MapId}
+use Rattle.hir_ids.specs.declared.ids.ModuleId.{ModuleId}
 use Rattle.hir_collector_rules.specs.Derivation.{collected_view}
 use Rattle.hir_session_state.specs.Due.{Resolved}
 use Rattle.hir_session_state.specs.SessionState.{IsPlace, IsResolutionOf, is_marked}

@@ -1,6 +1,6 @@
 -- One more place is gone.
 use Rattle.std.proofs.Common.{◌∙◌, ap, sym, subst, ◌<◌, List, length, get_or, None}
-use Rattle.hir_base.specs.declared.ids.MapId.{MapId}
+use Rattle.hir_ids.specs.declared.ids.MapId.{MapId}
 use Rattle.hir_session_state.proofs.KeptLemmas.{forgetting-more, forgetting-start, listed}
 use Rattle.hir_session_state.proofs.kept.Kept.forget.Goals as goal
 

@@ -1,7 +1,7 @@
 -- What falls is no longer counted.
 use Rattle.std.proofs.Common.{◌∙◌, ◌+◌, sym}
-use Rattle.hir_base.specs.contracts.ids.MapIdOrd.TheImpl as map_order
-use Rattle.hir_base.specs.contracts.ids.MapIdOrd.TheImpl.Laws.{total-law as order_total}
+use Rattle.hir_ids.specs.contracts.ids.MapIdOrd.TheImpl as map_order
+use Rattle.hir_ids.specs.contracts.ids.MapIdOrd.TheImpl.Laws.{total-law as order_total}
 use Rattle.hir_session_state.proofs.Counting.{counted, one}
 use Rattle.hir_session_state.proofs.Ids.{equal_id}
 use Rattle.hir_session_state.proofs.kept.Kept.forget_around.Goals as goal

@@ -1,7 +1,7 @@
 -- What depends on the map that goes depends on it by what is kept too, and is dropped with it.
 use Rattle.std.proofs.Common.{◌≡◌, ◌∙◌, ap, length, sym, subst, arith, List}
 use Rattle.std.specs.Vec.{vec_len}
-use Rattle.hir_base.specs.declared.ids.MapId.{MapId}
+use Rattle.hir_ids.specs.declared.ids.MapId.{MapId}
 use Rattle.hir_def_map.specs.Removal.{Depends, GainsRemoved}
 use Rattle.hir_session_state.specs.Askers.{HoldsExactly}
 use Rattle.hir_session_state.specs.Kept.{Resolutions, kept_in, names_in}

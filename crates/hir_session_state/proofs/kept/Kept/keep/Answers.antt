@@ -1,8 +1,8 @@
 -- What was found is complete and names only what is kept, so it joins the maps, and stands where nothing was kept.
 use Rattle.std.proofs.Common.{◌≡◌, ◌∙◌, ap, cond, sym, subst, Bool, Option, Some, None, false}
 use Rattle.std.specs.BTreeMap.{is_at}
-use Rattle.hir_base.specs.declared.ids.MapId.{MapId}
-use Rattle.hir_base.specs.contracts.ids.MapIdOrd.TheImpl as map_order
+use Rattle.hir_ids.specs.declared.ids.MapId.{MapId}
+use Rattle.hir_ids.specs.contracts.ids.MapIdOrd.TheImpl as map_order
 use Rattle.hir_collector_rules.specs.declared.source_database.Key.{Key}
 use Rattle.hir_collector_rules.specs.Derivation.{collected_view}
 use Rattle.hir_def_map_rules.specs.Overlay.{Maps, holders_under}

@@ -1,9 +1,9 @@
 -- Where the modules that are left may be read, all may be; the holders that are left are among all.
 use Rattle.std.proofs.Common.{◌≡◌, true, length, option_copied}
 use Rattle.std.specs.List.{list_any}
-use Rattle.hir_base.specs.declared.ids.MapId.{MapId}
-use Rattle.hir_base.specs.declared.ids.ModuleId.{ModuleId}
-use Rattle.hir_base.specs.contracts.ids.MapIdPartialEq.TheImpl as map_id
+use Rattle.hir_ids.specs.declared.ids.MapId.{MapId}
+use Rattle.hir_ids.specs.declared.ids.ModuleId.{ModuleId}
+use Rattle.hir_ids.specs.contracts.ids.MapIdPartialEq.TheImpl as map_id
 use Rattle.hir_def_map.specs.WorldParts.{are_within}
 use Rattle.hir_def_map.proofs.world.part.WorldPart.are_in_order.Given as goal
 
