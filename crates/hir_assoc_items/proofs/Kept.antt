@@ -6,7 +6,7 @@ use Rattle.hir_item_tree.specs.KeptForest.{KeptItem}
 use Rattle.hir_item_tree.specs.SideLists.{entry_associated}
 use Rattle.hir_item_tree.specs.SourceTree.{side_of}
 use Rattle.hir_item_tree.specs.declared.check.NodeId.{NodeId}
-use Rattle.hir_item_tree.specs.declared.tree_id.TreeKey.{TreeKey}
+use Rattle.hir_base.specs.declared.tree_id.TreeKey.{TreeKey}
 use Rattle.hir_tables.specs.SourcePlaces.{SourcePlaceValue}
 use Rattle.hir_tables.specs.Tables.{TablesValue, source_of}
 use Rattle.hir_collector_rules.specs.Keys.{source_in, source_under}

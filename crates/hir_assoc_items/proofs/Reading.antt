@@ -11,7 +11,7 @@ use Rattle.hir_item_tree.specs.KeptForest.{KeptItem}
 use Rattle.hir_item_tree.specs.Kinds.{item_head}
 use Rattle.hir_item_tree.specs.Rows.{Content, alone, with_items, item_of, items_at, numbers_of}
 use Rattle.hir_item_tree.specs.declared.rows.ModItemId.{ModItemId}
-use Rattle.hir_item_tree.specs.declared.tree_id.TreeId.{TreeId}
+use Rattle.hir_base.specs.declared.tree_id.TreeId.{TreeId}
 use Rattle.hir_assoc_items.specs.Written.{WrittenValue, top_items, written, written_content, written_found, written_item}
 
 -- an item that is put together of its head and what it is

@@ -28,8 +28,8 @@ use Rattle.hir_item_tree.specs.SideLists.{entry_associated}
 use Rattle.hir_item_tree.specs.SourceTree.{SourceTreeValue, side_of}
 use Rattle.hir_item_tree.specs.SyntaxIds.{node_id}
 use Rattle.hir_item_tree.specs.declared.check.NodeId.{NodeId}
-use Rattle.hir_item_tree.specs.declared.tree_id.TreeId.{TreeId}
-use Rattle.hir_item_tree.specs.declared.tree_id.TreeKey.{TreeKey}
+use Rattle.hir_base.specs.declared.tree_id.TreeId.{TreeId}
+use Rattle.hir_base.specs.declared.tree_id.TreeKey.{TreeKey}
 use Rattle.hir_tables.specs.SourcePlaces.{ExpansionValue}
 use Rattle.hir_tables.specs.Tables.{TablesValue, call_at, entry_at}
 use Rattle.hir_def_map_rules.specs.Diagnostics.{DiagnosticValue, KindValue, UnconfiguredCode, UnresolvedMacroCall, MacroError, diagnostic_view}

@@ -8,7 +8,7 @@ use Rattle.hir_ids.specs.declared.ast_id.SyntaxId.{SyntaxId}
 use Rattle.hir_ids.specs.declared.ast_id.AstKind.TheVariants as nodes
 use Rattle.hir_item_tree.specs.KeptForest.{Leaf, function, constant, type_alias, macro_call, KeptItem, leaf, holder, KeptForest, no_items, item}
 use Rattle.hir_item_tree.specs.Rows.{Content, alone, with_items}
-use Rattle.hir_item_tree.specs.declared.tree_id.TreeId.{TreeId}
+use Rattle.hir_base.specs.declared.tree_id.TreeId.{TreeId}
 use Rattle.hir_assoc_items.specs.declared.written.AssocKind.{AssocKind}
 use Rattle.hir_assoc_items.specs.declared.written.AssocKind.TheVariants as kinds
 use Rattle.hir_assoc_items.specs.declared.written.Written.{Written}

@@ -10,6 +10,8 @@ pub mod Display
 pub mod Limit
 -- places, ids and macros
 pub mod Place
+-- what items are written as
+pub mod Shape
 -- conditions on a crate's options
 pub mod Cfg
 pub mod CfgOptions

@@ -15,6 +15,8 @@ mod parse_path;
 mod pieces;
 pub mod place;
 pub mod resolve_mode;
+pub mod shape;
+pub mod tree_id;
 
 pub use ast_id::{
     AstId, AstKind, AttrId, BlockId, EditionedFileId, EntryId, FileId, HirFileId, InFile,
@@ -39,4 +41,6 @@ pub use mod_path::{ModPath, ParseError, PathKind};
 pub use name::{Name, NameError};
 pub use place::{BlockPlace, Place, PlaceElement};
 pub use resolve_mode::{BuiltinShadowMode, MacroSubNs};
+pub use shape::{ExternCrateName, FieldsShape};
 pub use text::Text;
+pub use tree_id::{TreeId, TreeKey};

@@ -6,7 +6,7 @@ use Rattle.hir_ids.specs.declared.ids.Crate.{Crate}
 use Rattle.hir_ids.specs.declared.ids.ModuleId.{ModuleId}
 use Rattle.hir_item_tree.specs.ItemTree.{Tree}
 use Rattle.hir_item_tree.specs.KeptForest.{KeptForest, no_items, item}
-use Rattle.hir_item_tree.specs.declared.tree_id.TreeId.{TreeId}
+use Rattle.hir_base.specs.declared.tree_id.TreeId.{TreeId}
 use Rattle.hir_def_map_rules.proofs.NoneOf.{not_first, not_second}
 use Rattle.hir_def_map_rules.specs.State.{Map, entry_at, place_at}
 use Rattle.hir_def_map_rules.specs.Overlay.{Maps}

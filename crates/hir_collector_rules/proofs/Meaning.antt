@@ -25,7 +25,7 @@ use Rattle.hir_item_tree.specs.SourceTree.{variants_of}
 use Rattle.hir_item_tree.specs.SyntaxIds.{node_id}
 use Rattle.hir_mod_dir.specs.Directory.{Directory}
 use Rattle.hir_mod_dir.specs.ModuleFiles.{inline_directory}
-use Rattle.hir_item_tree.specs.declared.tree_id.TreeId.{TreeId}
+use Rattle.hir_base.specs.declared.tree_id.TreeId.{TreeId}
 use Rattle.hir_tables.specs.SourcePlaces.{ExpansionValue, SourcePlaceValue, expansion as of_expansion, file as of_file}
 use Rattle.hir_tables.specs.Tables.{TablesValue, KeepsTables, entry_at, file_at, source_of, source_under as place_under}
 use Rattle.hir_tables.proofs.Growth.{source_of-kept}

@@ -10,9 +10,9 @@ use Rattle.hir_use_tree.specs.declared.imports.Import.{Import}
 use Rattle.hir_use_tree.specs.declared.imports.ImportAlias.{ImportAlias}
 use Rattle.hir_item_tree.specs.KeptForest.{Head}
 use Rattle.hir_item_tree.specs.UseTree.{UseTree}
-use Rattle.hir_item_tree.specs.declared.shape.ExternCrateName.{ExternCrateName}
+use Rattle.hir_base.specs.declared.shape.ExternCrateName.{ExternCrateName}
 use Rattle.hir_raw_visibility.specs.declared.raw_visibility.RawVisibility.{RawVisibility}
-use Rattle.hir_item_tree.specs.declared.shape.ExternCrateName.TheVariants.{SelfCrate, Name}
+use Rattle.hir_base.specs.declared.shape.ExternCrateName.TheVariants.{SelfCrate, Name}
 use Rattle.hir_def_map_rules.specs.Scoping.Start.{crate_root}
 use Rattle.hir_def_map_rules.specs.State.{Local, Map, with_extern}
 use Rattle.hir_import_rules.specs.declared.directive.ImportDirective.{ImportDirective}

@@ -22,7 +22,7 @@ use Rattle.hir_ids.specs.declared.ids.UnionId.{UnionId}
 use Rattle.hir_ids.specs.declared.ids.UseId.{UseId}
 use Rattle.hir_ids.specs.declared.ids.ItemContainerId.TheVariants as containers
 use Rattle.hir_ids.specs.declared.macro_kind.MacroId.TheVariants as macros
-use Rattle.hir_item_tree.specs.declared.tree_id.TreeId.{TreeId}
+use Rattle.hir_base.specs.declared.tree_id.TreeId.{TreeId}
 use Rattle.hir_def_map_rules.specs.State.{Map, numbered}
 use Rattle.hir_collector_rules.specs.declared.site.Site.{Site}
 

@@ -11,8 +11,8 @@ use Rattle.hir_ids.specs.declared.ast_id.HirFileId.TheVariants.{File, Macro}
 use Rattle.hir_item_tree.specs.Attributes.{Input, literal, parentheses}
 use Rattle.hir_item_tree.specs.Collected.{Numbered}
 use Rattle.hir_item_tree.specs.ItemTree.{Tree}
-use Rattle.hir_item_tree.specs.declared.tree_id.TreeId.{TreeId}
-use Rattle.hir_item_tree.specs.declared.tree_id.TreeKey.{TreeKey}
+use Rattle.hir_base.specs.declared.tree_id.TreeId.{TreeId}
+use Rattle.hir_base.specs.declared.tree_id.TreeKey.{TreeKey}
 use Rattle.hir_mod_dir.specs.Directory.{Directory}
 use Rattle.hir_mod_dir.specs.ModuleFiles.{file_beside}
 use Rattle.hir_mod_dir.specs.declared.candidate.Candidate.{Candidate}

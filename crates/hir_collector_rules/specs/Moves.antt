@@ -13,7 +13,7 @@ use Rattle.hir_ids.specs.declared.ids.Crate.{Crate}
 use Rattle.hir_base.specs.declared.locations.LocationsError.{LocationsError}
 use Rattle.hir_ids.specs.declared.ast_id.MacroCallId.{MacroCallId}
 use Rattle.hir_item_tree.specs.declared.kinds.ModItemKind.{ModItemKind}
-use Rattle.hir_item_tree.specs.declared.tree_id.TreeId.{TreeId}
+use Rattle.hir_base.specs.declared.tree_id.TreeId.{TreeId}
 use Rattle.hir_item_tree.specs.declared.kinds.ModItemKind.TheVariants as kinds
 use Rattle.hir_mod_dir.specs.declared.candidate.Candidate.{Candidate}
 use Rattle.hir_def_map_rules.specs.Macros.{with_diagnostic, with_exported, with_macro_data}

@@ -10,8 +10,8 @@ use Rattle.hir_ids.specs.declared.edition.Edition.TheVariants.{Edition2024}
 use Rattle.hir_item_tree.specs.Collected.{is_enabled}
 use Rattle.hir_item_tree.specs.ItemTree.{Tree}
 use Rattle.hir_ids.specs.declared.explicitness.VisibilityExplicitness.TheVariants.{Implicit}
-use Rattle.hir_item_tree.specs.declared.tree_id.TreeId.{TreeId}
-use Rattle.hir_item_tree.specs.declared.tree_id.TreeKey.{TreeKey}
+use Rattle.hir_base.specs.declared.tree_id.TreeId.{TreeId}
+use Rattle.hir_base.specs.declared.tree_id.TreeKey.{TreeKey}
 use Rattle.hir_mod_dir.specs.ModuleFiles.{root as root_directory}
 use Rattle.hir_scope.specs.declared.visibility.Visibility.{Visibility}
 use Rattle.hir_scope.specs.declared.visibility.Visibility.TheVariants as visibilities

@@ -22,7 +22,7 @@ use Rattle.hir_item_tree.specs.Kinds.{item_head, item_kind}
 use Rattle.hir_item_tree.specs.KeptForest.{Head, KeptItem, KeptForest, leaf, function, import, extern_crate, enumeration, constant, implementation}
 use Rattle.hir_item_tree.specs.KeptForest.{outline_module, macro_call, macro_rules, macro_def, holder, extern_block, inline_module}
 use Rattle.hir_item_tree.specs.UseTree.{UseTree}
-use Rattle.hir_item_tree.specs.declared.shape.ExternCrateName.{ExternCrateName}
+use Rattle.hir_base.specs.declared.shape.ExternCrateName.{ExternCrateName}
 use Rattle.hir_item_tree.specs.declared.side_lists.VariantItem.{VariantItem}
 use Rattle.hir_use_tree.specs.UseTree.{count_of}
 use Rattle.hir_use_tree.specs.declared.imports.ImportAlias.{ImportAlias}

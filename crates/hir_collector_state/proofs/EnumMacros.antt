@@ -11,7 +11,7 @@ use Rattle.hir_ids.specs.declared.ids.ModuleDefId.TheVariants.{ModuleId, Functio
 use Rattle.hir_ids.specs.declared.ids.ModuleDefId.TheVariants.{BuiltinType, MacroId}
 use Rattle.hir_ids.specs.declared.macro_kind.MacroId.{MacroId as AnyMacro}
 use Rattle.hir_base.specs.declared.mod_path.PathKind.TheVariants as kinds
-use Rattle.hir_item_tree.specs.Shape.{has_constructor}
+use Rattle.hir_base.specs.Shape.{has_constructor}
 use Rattle.hir_scope.specs.Bindings.{first_of}
 use Rattle.hir_scope.specs.ModuleTree.{same_block, same_crate}
 use Rattle.hir_scope.specs.PerNs.{Item, with_constructor}

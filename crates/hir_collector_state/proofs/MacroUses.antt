@@ -5,7 +5,7 @@ use Rattle.std.proofs.Common.{◌∙◌, ap, refl}
 use Rattle.hir_ids.specs.declared.macro_kind.MacroId.{MacroId}
 use Rattle.hir_item_tree.specs.Collected.{Numbered}
 use Rattle.hir_item_tree.specs.KeptForest.{Head}
-use Rattle.hir_item_tree.specs.declared.shape.ExternCrateName.{ExternCrateName}
+use Rattle.hir_base.specs.declared.shape.ExternCrateName.{ExternCrateName}
 use Rattle.hir_scope.specs.Scope.{ScopeValue}
 use Rattle.hir_def_map_rules.specs.Overlay.{Maps}
 use Rattle.hir_def_map_rules.specs.State.{Map}

@@ -23,8 +23,8 @@ use Rattle.hir_item_tree.specs.Kinds.{item_head}
 use Rattle.hir_item_tree.specs.KeptForest.{Head, Leaf, KeptItem, KeptForest, constant, enumeration, extern_block, extern_crate, function, holder}
 use Rattle.hir_item_tree.specs.KeptForest.{implementation, import, inline_module, leaf, macro_call, macro_def, macro_rules, no_items, outline_module}
 use Rattle.hir_item_tree.specs.KeptForest.{static_item, structure, trait_item, type_alias, union_structure}
-use Rattle.hir_item_tree.specs.declared.tree_id.TreeId.{TreeId}
-use Rattle.hir_item_tree.specs.declared.tree_id.TreeKey.{TreeKey}
+use Rattle.hir_base.specs.declared.tree_id.TreeId.{TreeId}
+use Rattle.hir_base.specs.declared.tree_id.TreeKey.{TreeKey}
 use Rattle.hir_mod_dir.specs.Directory.{Directory}
 use Rattle.hir_mod_dir.specs.ModuleFiles.{inline_directory}
 use Rattle.hir_tables.specs.Tables.{TablesValue}

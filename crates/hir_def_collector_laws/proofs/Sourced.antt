@@ -28,8 +28,8 @@ use Rattle.hir_item_tree.specs.KeptForest.{Head, Leaf, KeptItem, KeptForest, lea
 use Rattle.hir_item_tree.specs.KeptForest.{enumeration, constant, static_item, trait_item, implementation, type_alias, outline_module, macro_call, macro_rules}
 use Rattle.hir_item_tree.specs.KeptForest.{macro_def}
 use Rattle.hir_raw_visibility.specs.declared.raw_visibility.RawVisibility.{RawVisibility}
-use Rattle.hir_item_tree.specs.declared.tree_id.TreeId.{TreeId}
-use Rattle.hir_item_tree.specs.declared.tree_id.TreeKey.{TreeKey}
+use Rattle.hir_base.specs.declared.tree_id.TreeId.{TreeId}
+use Rattle.hir_base.specs.declared.tree_id.TreeKey.{TreeKey}
 use Rattle.hir_raw_visibility.specs.declared.raw_visibility.RawVisibility.TheVariants as raws
 use Rattle.hir_use_tree.specs.declared.imports.ImportKind.TheVariants as import_kinds
 use Rattle.hir_mod_dir.specs.Directory.{Directory}

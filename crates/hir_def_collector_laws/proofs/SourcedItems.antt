@@ -12,10 +12,10 @@ use Rattle.hir_ids.specs.declared.ids.ModuleId.{ModuleId}
 use Rattle.hir_item_tree.specs.KeptForest.{Head, KeptForest, item, no_items}
 use Rattle.hir_use_tree.specs.declared.imports.Import.{Import}
 use Rattle.hir_use_tree.specs.declared.imports.ImportKind.{ImportKind}
-use Rattle.hir_item_tree.specs.declared.shape.FieldsShape.{FieldsShape}
+use Rattle.hir_base.specs.declared.shape.FieldsShape.{FieldsShape}
 use Rattle.hir_item_tree.specs.declared.side_lists.VariantItem.{VariantItem}
 use Rattle.hir_ids.specs.declared.explicitness.VisibilityExplicitness.{VisibilityExplicitness}
-use Rattle.hir_item_tree.specs.declared.shape.FieldsShape.TheVariants.{Record, Tuple, Unit as UnitShape}
+use Rattle.hir_base.specs.declared.shape.FieldsShape.TheVariants.{Record, Tuple, Unit as UnitShape}
 use Rattle.hir_use_tree.specs.declared.imports.ImportKind.TheVariants as import_kinds
 use Rattle.hir_scope.specs.ModuleTree.{is_at_or_above, same_crate, same_module}
 use Rattle.hir_scope.specs.PerNs.{keep_item, Item}

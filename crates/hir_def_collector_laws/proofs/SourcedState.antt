@@ -6,7 +6,7 @@ use mathlib.Core.Bool.{true≢false}
 use Rattle.hir_ids.specs.contracts.ids.MapIdPartialEq.TheImpl as map_id
 use Rattle.hir_ids.specs.declared.ids.MapId.{MapId}
 use Rattle.hir_ids.specs.declared.ids.ModuleId.{ModuleId}
-use Rattle.hir_item_tree.specs.declared.tree_id.TreeKey.{TreeKey}
+use Rattle.hir_base.specs.declared.tree_id.TreeKey.{TreeKey}
 use Rattle.hir_def_map_rules.specs.Closed.{ModuleIsThere}
 use Rattle.hir_def_map_rules.specs.Sources.{HoldsNowhereIn, HoldsOfNoExtern, SourceTest, on_import}
 use Rattle.hir_def_map_rules.specs.State.{Map, module_at}

@@ -21,9 +21,9 @@ use Rattle.hir_item_tree.specs.KeptForest.{structure, trait_item, type_alias, un
 use Rattle.hir_item_tree.specs.Kinds.{item_head}
 use Rattle.hir_use_tree.specs.UseTree.{count_of}
 use Rattle.hir_item_tree.specs.UseTree.{UseTree}
-use Rattle.hir_item_tree.specs.declared.shape.ExternCrateName.{ExternCrateName}
-use Rattle.hir_item_tree.specs.declared.tree_id.TreeId.{TreeId}
-use Rattle.hir_item_tree.specs.declared.tree_id.TreeKey.{TreeKey}
+use Rattle.hir_base.specs.declared.shape.ExternCrateName.{ExternCrateName}
+use Rattle.hir_base.specs.declared.tree_id.TreeId.{TreeId}
+use Rattle.hir_base.specs.declared.tree_id.TreeKey.{TreeKey}
 use Rattle.hir_use_tree.specs.declared.imports.Import.{Import}
 use Rattle.hir_use_tree.specs.declared.imports.ImportAlias.{ImportAlias}
 use Rattle.hir_mod_dir.specs.Directory.{Directory}

@@ -10,8 +10,8 @@ use Rattle.hir_item_tree.specs.Collected.{is_enabled}
 use Rattle.hir_item_tree.specs.Imports.{imports_of}
 use Rattle.hir_item_tree.specs.KeptForest.{Head, leaf, import, extern_crate}
 use Rattle.hir_item_tree.specs.UseTree.{UseTree}
-use Rattle.hir_item_tree.specs.declared.shape.ExternCrateName.{ExternCrateName}
-use Rattle.hir_item_tree.specs.declared.tree_id.TreeKey.{TreeKey}
+use Rattle.hir_base.specs.declared.shape.ExternCrateName.{ExternCrateName}
+use Rattle.hir_base.specs.declared.tree_id.TreeKey.{TreeKey}
 use Rattle.hir_use_tree.specs.declared.imports.Import.{Import}
 use Rattle.hir_use_tree.specs.declared.imports.ImportKind.{ImportKind}
 use Rattle.hir_use_tree.specs.declared.imports.ImportAlias.TheVariants.{Underscore}

@@ -6,7 +6,7 @@ use Rattle.hir_ids.specs.declared.ids.ModuleDefId.{ModuleDefId}
 use Rattle.hir_item_tree.specs.Collected.{is_enabled}
 use Rattle.hir_item_tree.specs.ItemTree.{Tree as ItemTree}
 use Rattle.hir_item_tree.specs.KeptForest.{Head, KeptForest, holder, inline_module, leaf, no_items, outline_module}
-use Rattle.hir_item_tree.specs.declared.tree_id.TreeId.{TreeId}
+use Rattle.hir_base.specs.declared.tree_id.TreeId.{TreeId}
 use Rattle.hir_mod_dir.specs.ModuleFiles.{inline_directory}
 use Rattle.hir_tables.specs.Tables.{TablesValue}
 use Rattle.hir_def_map_rules.specs.Overlay.{Maps}

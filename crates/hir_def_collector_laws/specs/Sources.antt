@@ -7,8 +7,8 @@ use Rattle.hir_def_map_rules.specs.Sources.{HoldsNowhere, HoldsNowhereIn, HoldsO
 use Rattle.hir_def_map_rules.specs.State.{Map, crate_map}
 use Rattle.hir_def_map_rules.specs.Overlay.{Maps, Placed, overlay}
 use Rattle.hir_def_map_rules.specs.Scoping.Asking.{local_of}
-use Rattle.hir_item_tree.specs.declared.tree_id.TreeId.{TreeId}
-use Rattle.hir_item_tree.specs.declared.tree_id.TreeKey.{TreeKey}
+use Rattle.hir_base.specs.declared.tree_id.TreeId.{TreeId}
+use Rattle.hir_base.specs.declared.tree_id.TreeKey.{TreeKey}
 use Rattle.hir_tables.specs.Tables.{TablesValue, source_under}
 use Rattle.hir_collector_rules.specs.declared.source_database.Key.{Key}
 use Rattle.hir_collector_rules.specs.declared.start.Start.{Start}

@@ -9,7 +9,7 @@ use Rattle.hir_item_tree.specs.Imports.{imports_of}
 use Rattle.hir_item_tree.specs.KeptForest.{Head, Holder, KeptForest, KeptItem, Leaf, extern_block, extern_crate, holder, import, inline_module, item, leaf}
 use Rattle.hir_item_tree.specs.KeptForest.{no_items}
 use Rattle.hir_item_tree.specs.UseTree.{UseTree}
-use Rattle.hir_item_tree.specs.declared.tree_id.TreeId.{TreeId}
+use Rattle.hir_base.specs.declared.tree_id.TreeId.{TreeId}
 use Rattle.hir_use_tree.specs.declared.imports.Import.{Import}
 use Rattle.hir_mod_dir.specs.Directory.{Directory}
 use Rattle.hir_mod_dir.specs.ModuleFiles.{inline_directory}

@@ -13,7 +13,7 @@ use crate::world::World;
 use crate::world::part::WorldPart;
 use hir_base::ids::{MapId, ModuleDefId, ModuleId};
 use hir_def_map_rules::local_def_map::LocalDefMap;
-use hir_item_tree::raw_visibility::{RawVisibility, VisibilityExplicitness};
+use hir_raw_visibility::raw_visibility::{RawVisibility, VisibilityExplicitness};
 use hir_scope::per_ns::PerNs;
 use hir_scope::visibility::Visibility;
 

@@ -24,7 +24,7 @@ use Rattle.hir_ids.specs.declared.ids.ModuleDefId.TheVariants.{ModuleId, Functio
 use Rattle.hir_ids.specs.declared.ids.ModuleDefId.TheVariants.{BuiltinType, MacroId}
 use Rattle.hir_ids.specs.declared.macro_kind.MacroId.{MacroId as AnyMacro}
 use Rattle.hir_base.specs.declared.mod_path.PathKind.TheVariants as kinds
-use Rattle.hir_item_tree.specs.Shape.{has_constructor}
+use Rattle.hir_base.specs.Shape.{has_constructor}
 use Rattle.hir_scope.specs.declared.imports.ImportOrExternCrate.{ImportOrExternCrate}
 use Rattle.hir_scope.specs.declared.per_ns.PerNs.{PerNs}
 use Rattle.hir_scope.specs.declared.visibility.Visibility.{Visibility}

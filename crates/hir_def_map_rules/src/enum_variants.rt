@@ -5,7 +5,7 @@ ghost use Rattle.hir_def_map_rules.specs.State.{at_name, with_name};
 
 use hir_base::ids::{EnumId, EnumVariantId};
 use hir_base::name::Name;
-use hir_item_tree::shape::FieldsShape;
+use hir_base::shape::FieldsShape;
 use std::alloc::{AllocError, Global};
 use std::collections::{BTreeMap, btree_map};
 use std::marker::Model;

@@ -3,7 +3,7 @@ ghost use Rattle.std.specs.Prelude.{◌≡◌};
 ghost use Rattle.hir_def_map_rules.specs.Origins.{declaration_of, file_of, is_in_place, node_of, source_of};
 
 use hir_base::ast_id::{AstId, BlockId, EditionedFileId, HirFileId, InFile, SyntaxId};
-use hir_item_tree::tree_id::TreeId;
+use hir_base::tree_id::TreeId;
 
 /// Where a module is written, after rust-analyzer's `ModuleOrigin`.
 #[derive(Clone, Copy, Debug, PartialEq, Eq, Hash)]

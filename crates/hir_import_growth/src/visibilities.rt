@@ -8,7 +8,7 @@ use hir_def_map::def_maps::DefMaps;
 use hir_def_map::nameres::DefMap;
 use hir_def_map::nameres::local_def_map::LocalDefMap;
 use hir_def_map::world::part::WorldPart;
-use hir_item_tree::raw_visibility::RawVisibility;
+use hir_raw_visibility::raw_visibility::RawVisibility;
 use hir_scope::visibility::Visibility;
 
 /// What a visibility means that is written in a module of the map; one whose path leads to no module counts as public.

@@ -14,7 +14,7 @@ use Rattle.std.proofs.lemmas.Map.Lookups.{exact_bytes}
 use Rattle.hir_ids.specs.contracts.ids.TraitIdPartialEq.TheImpl as trait_id
 use Rattle.hir_ids.specs.declared.ids.ModuleDefId.TheVariants as definitions
 use Rattle.hir_ids.specs.declared.ids.TraitId.{TraitId}
-use Rattle.hir_item_tree.specs.Shape.{has_constructor}
+use Rattle.hir_base.specs.Shape.{has_constructor}
 use Rattle.hir_scope.specs.Entries.{item_at}
 use Rattle.hir_scope.specs.PerNs.{Item, keep_item, with_constructor}
 use Rattle.hir_scope.specs.Scope.{ScopeValue, binding_of}

@@ -17,10 +17,10 @@ use hir_def_map::nameres::path_resolution::{
 use hir_def_map::world::part::WorldPart;
 use hir_glob_imports::Target;
 pub use hir_import_growth::visibilities::{lesser, visibility};
-use hir_item_tree::shape::ImportKind;
 use hir_scope::imports::ImportOrExternCrate;
 use hir_scope::per_ns::{Item, PerNs, TypesItem};
 use hir_scope::visibility::Visibility;
+use hir_use_tree::imports::ImportKind;
 
 /// What a path means that a module's import names.
 #[tactic(auto, unfolding(hir_import_rules::specs::Directives::answer_in))]

@@ -5,10 +5,10 @@ ghost use Rattle.hir_import_rules.specs.Directives.{glob_of, is_one_name, is_pla
 use hir_base::ids::{Crate, ExternCrateId};
 use hir_base::mod_path::PathKind;
 use hir_base::name::Name;
-use hir_item_tree::raw_visibility::RawVisibility;
-use hir_item_tree::shape::{ImportAlias, ImportKind};
 use hir_item_tree::shared_path::SharedPath;
+use hir_raw_visibility::raw_visibility::RawVisibility;
 use hir_scope::imports::{GlobId, ImportId, ImportOrExternCrate};
+use hir_use_tree::imports::{ImportAlias, ImportKind};
 use std::alloc::AllocError;
 
 /// What writes an import.

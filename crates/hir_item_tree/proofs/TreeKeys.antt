@@ -18,8 +18,8 @@ use Rattle.hir_ids.specs.declared.ast_id.BlockId.{BlockId}
 use Rattle.hir_ids.specs.declared.ids.Crate.{Crate}
 use Rattle.hir_ids.specs.declared.ast_id.HirFileId.{HirFileId}
 use Rattle.hir_ids.specs.declared.ast_id.HirFileId.TheVariants.{File, Macro}
-use Rattle.hir_item_tree.specs.contracts.tree_id.TreeIdOrd.TheImpl.{ghosts as ids}
-use Rattle.hir_item_tree.specs.contracts.tree_id.TreeIdOrd.TheImpl.Laws.{total-law as ids_total, matches_eq-law as ids_tie}
+use Rattle.hir_base.specs.contracts.tree_id.TreeIdOrd.TheImpl.{ghosts as ids}
+use Rattle.hir_base.specs.contracts.tree_id.TreeIdOrd.TheImpl.Laws.{total-law as ids_total, matches_eq-law as ids_tie}
 use Rattle.hir_item_tree.specs.Types.{TreeId, TreeKey}
 use Rattle.hir_item_tree.specs.Trees.{is_key}
 

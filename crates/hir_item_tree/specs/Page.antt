@@ -10,8 +10,8 @@ use Rattle.hir_raw_visibility.specs.declared.raw_visibility.RawVisibility.{RawVi
 use Rattle.hir_raw_visibility.specs.declared.raw_visibility.RawVisibility.TheVariants as raw
 use Rattle.hir_use_tree.specs.declared.imports.ImportAlias.{ImportAlias}
 use Rattle.hir_use_tree.specs.declared.imports.ImportAlias.TheVariants as aliases
-use Rattle.hir_item_tree.specs.declared.shape.ExternCrateName.{ExternCrateName}
-use Rattle.hir_item_tree.specs.declared.shape.ExternCrateName.TheVariants as crates
+use Rattle.hir_base.specs.declared.shape.ExternCrateName.{ExternCrateName}
+use Rattle.hir_base.specs.declared.shape.ExternCrateName.TheVariants as crates
 use Rattle.hir_base.specs.Cfg.{Cfg, cfg_text}
 use Rattle.hir_item_tree.specs.Attributes.{Tokens, paths, tokens, derive, Input, literal, parentheses, MetaValue}
 use Rattle.hir_item_tree.specs.Collected.{Numbered, Collected}

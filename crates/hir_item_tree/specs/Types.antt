@@ -11,10 +11,10 @@ pub use Rattle.hir_raw_visibility.specs.declared.raw_visibility.RawVisibility.{R
 pub use Rattle.hir_ids.specs.declared.explicitness.VisibilityExplicitness.{VisibilityExplicitness}
 pub use Rattle.hir_item_tree.specs.declared.rows.ModItemId.{ModItemId}
 pub use Rattle.hir_item_tree.specs.declared.rows.Row.{Row}
-pub use Rattle.hir_item_tree.specs.declared.shape.ExternCrateName.{ExternCrateName}
-pub use Rattle.hir_item_tree.specs.declared.shape.FieldsShape.{FieldsShape}
+pub use Rattle.hir_base.specs.declared.shape.ExternCrateName.{ExternCrateName}
+pub use Rattle.hir_base.specs.declared.shape.FieldsShape.{FieldsShape}
 pub use Rattle.hir_item_tree.specs.declared.side_lists.VariantItem.{VariantItem}
 pub use Rattle.hir_item_tree.specs.declared.source.Node.{Node}
 pub use Rattle.hir_item_tree.specs.declared.source.Source.{Source}
-pub use Rattle.hir_item_tree.specs.declared.tree_id.TreeId.{TreeId}
-pub use Rattle.hir_item_tree.specs.declared.tree_id.TreeKey.{TreeKey}
+pub use Rattle.hir_base.specs.declared.tree_id.TreeId.{TreeId}
+pub use Rattle.hir_base.specs.declared.tree_id.TreeKey.{TreeKey}

@@ -157,12 +157,22 @@ fn as_str(text: Option<&Text>) -> Option<&str>
     }
 }
 
-impl TreeId {
+/// What has a tree that may be kept.
+pub trait KeptTree: Copy {
+    ghost use Rattle.hir_base.specs.declared.tree_id.TreeId.{TreeId};
+
+    ghost id_of: { Self → TreeId };
+
     /// The tree of the source under a crate, where one is kept.
-    pub fn item_tree(self, trees: &Trees, krate: Crate) -> Option<&ItemTree>
+    fn item_tree(self, trees: &Trees, krate: Crate) -> Option<&ItemTree>
         ensures value { option_map (λ t. t.now) result
-            ≡ option_map (λ t. t.tree) (source_at trees.now (record { krate = krate; id = self })) }
-    {
+            ≡ option_map (λ t. t.tree) (source_at trees.now (record { krate = krate; id = id_of self })) };
+}
+
+impl KeptTree for TreeId {
+    ghost id_of = { λ id. id };
+
+    fn item_tree(self, trees: &Trees, krate: Crate) -> Option<&ItemTree> {
         match trees.get(TreeKey { krate, id: self }) {
             Some(tree) => Some(tree.tree()),
             None => None,

@@ -47,8 +47,8 @@ use Rattle.hir_def_map_rules.proofs.StaysSourced.{HoldsNowhere-overlay}
 use Rattle.hir_def_map_rules.specs.declared.origin.ModuleOrigin.{ModuleOrigin}
 use Rattle.hir_def_map_rules.specs.declared.origin.ModuleOrigin.TheVariants as origin
 use Rattle.hir_def_map_rules.specs.declared.reference.Reference.TheVariants as named
-use Rattle.hir_item_tree.specs.declared.tree_id.TreeId.{TreeId}
-use Rattle.hir_item_tree.specs.declared.tree_id.TreeKey.{TreeKey}
+use Rattle.hir_base.specs.declared.tree_id.TreeId.{TreeId}
+use Rattle.hir_base.specs.declared.tree_id.TreeKey.{TreeKey}
 use Rattle.hir_tables.specs.SourcePlaces.{file, block as block_place, expansion}
 use Rattle.hir_tables.specs.Tables.{TablesValue, block_at, call_at, entry_at, source_of as source_of_tree}
 use Rattle.hir_def_map_rules.specs.Diagnostics.{call_node}

@@ -7,7 +7,7 @@ use Rattle.hir_ids.specs.declared.ast_id.BlockId.{BlockId}
 use Rattle.hir_ids.specs.declared.ast_id.HirFileId.{HirFileId}
 use Rattle.hir_ids.specs.declared.ids.MapId.{MapId}
 use Rattle.hir_ids.specs.declared.ids.ModuleId.{ModuleId}
-use Rattle.hir_item_tree.specs.declared.tree_id.TreeKey.{TreeKey}
+use Rattle.hir_base.specs.declared.tree_id.TreeKey.{TreeKey}
 use Rattle.hir_tables.specs.Tables.{TablesValue}
 use Rattle.hir_def_map_rules.specs.Diagnostics.{diagnostic_view, node_of}
 use Rattle.hir_def_map_rules.specs.Overlay.{Maps}

@@ -16,7 +16,7 @@ use Rattle.hir_base.specs.declared.place.PlaceElement.TheVariants as element
 use Rattle.hir_item_tree.specs.BodyTexts.{BodyTextsLeaveTheSides, BodyTextsLeaveTheTree, source_without_bodies}
 use Rattle.hir_item_tree.specs.Source.{SourceValue}
 use Rattle.hir_item_tree.specs.SourceTree.{SourceTreeValue}
-use Rattle.hir_item_tree.specs.declared.tree_id.TreeKey.{TreeKey}
+use Rattle.hir_base.specs.declared.tree_id.TreeKey.{TreeKey}
 use Rattle.hir_tables.specs.SourcePlaces.{ExpansionValue, SourcePlaceValue, block, expansion, file}
 use Rattle.hir_tables.specs.Tables as numbers
 use Rattle.hir_tables.specs.Tables.{KeepsTables, TablesValue, source_of}

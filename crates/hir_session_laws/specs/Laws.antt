@@ -8,7 +8,7 @@ use Rattle.hir_ids.specs.declared.ast_id.EntryId.{EntryId}
 use Rattle.hir_ids.specs.declared.ids.MapId.{MapId}
 use Rattle.hir_item_tree.specs.BodyTexts.{source_without_bodies}
 use Rattle.hir_item_tree.specs.Source.{SourceValue}
-use Rattle.hir_item_tree.specs.declared.tree_id.TreeKey.{TreeKey}
+use Rattle.hir_base.specs.declared.tree_id.TreeKey.{TreeKey}
 use Rattle.hir_tables.specs.SourcePlaces.{ExpansionValue, SourcePlaceValue, block, file}
 use Rattle.hir_tables.specs.Tables as numbers
 use Rattle.hir_tables.specs.Tables.{source_of}

@@ -8,7 +8,7 @@ use Rattle.hir_ids.specs.declared.ast_id.HirFileId.{HirFileId}
 use Rattle.hir_base.specs.declared.macro_kind.MacroCallLoc.{MacroCallLoc}
 use Rattle.hir_ids.specs.declared.ast_id.HirFileId.TheVariants as syntax
 use Rattle.hir_ids.specs.declared.macro_kind.MacroId.TheVariants as macros
-use Rattle.hir_item_tree.specs.declared.tree_id.TreeKey.{TreeKey}
+use Rattle.hir_base.specs.declared.tree_id.TreeKey.{TreeKey}
 use Rattle.hir_tables.specs.SourcePlaces.{SourcePlaceValue, block, expansion, file}
 use Rattle.hir_tables.specs.Tables.{TablesValue, HasEachOnce, KeepsTables, block_at, call_at, entry_at, file_at, source_under}
 use Rattle.hir_collector_rules.specs.Keys.{HasMeaning}

@@ -1,7 +1,7 @@
 -- What is a crate of a session?
 use Rattle.std.specs.Prelude.{◌≡◌, ℕ, false, List, [], length, map, Option, None, Some, option_map, slice_get, slice_index_or}
 use Rattle.hir_item_tree.specs.Attributes.{no_attributes}
-use Rattle.hir_item_tree.specs.declared.tree_id.TreeId.{TreeId}
+use Rattle.hir_base.specs.declared.tree_id.TreeId.{TreeId}
 use Rattle.hir_ids.specs.declared.ast_id.BlockId.{BlockId}
 use Rattle.hir_base.specs.declared.cfg.CfgAtom.{CfgAtom}
 use Rattle.hir_ids.specs.declared.ids.Crate.{Crate}

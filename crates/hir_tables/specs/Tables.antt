@@ -11,7 +11,7 @@ use Rattle.hir_ids.specs.declared.ast_id.MacroCallId.{MacroCallId}
 use Rattle.hir_base.specs.declared.macro_kind.MacroCallLoc.{MacroCallLoc}
 use Rattle.hir_ids.specs.declared.ast_id.HirFileId.TheVariants.{File, Macro}
 use Rattle.hir_base.specs.Locations.{KeepsNumbers}
-use Rattle.hir_item_tree.specs.declared.tree_id.TreeId.{TreeId}
+use Rattle.hir_base.specs.declared.tree_id.TreeId.{TreeId}
 use Rattle.hir_tables.specs.Interning.{IsOnce}
 use Rattle.hir_tables.specs.SourcePlaces.{ExpansionValue, expansion_value, SourcePlaceValue, file, block, expansion}
 

@@ -15,7 +15,7 @@ use hir_base::file_path::FilePath;
 use hir_base::locations::LocationsError;
 use hir_base::macro_kind::{ExpansionKey, MacroCallLoc};
 use hir_base::place::BlockPlace;
-use hir_item_tree::tree_id::TreeId;
+use hir_base::tree_id::TreeId;
 use std::alloc::Global;
 use std::marker::Model;
 

@@ -11,7 +11,7 @@ use crate::nameres::path_resolution::{BuiltinShadowMode, ResolveMode};
 use crate::resolve_visibility::path_seen;
 use hir_base::ids::ModuleId;
 use hir_def_map_rules::local_def_map::LocalDefMap;
-use hir_item_tree::raw_visibility::RawVisibility;
+use hir_raw_visibility::raw_visibility::RawVisibility;
 use hir_scope::visibility::Visibility;
 use std::alloc::{AllocError, Global};
 

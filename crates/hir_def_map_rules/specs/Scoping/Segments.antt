@@ -6,7 +6,7 @@ use Rattle.hir_ids.specs.declared.ids.EnumId.{EnumId}
 use Rattle.hir_ids.specs.declared.ids.ModuleDefId.{ModuleDefId}
 use Rattle.hir_ids.specs.declared.ids.ModuleDefId.TheVariants as definitions
 use Rattle.hir_ids.specs.declared.ids.AdtId.TheVariants as adts
-use Rattle.hir_item_tree.specs.Shape.{has_constructor}
+use Rattle.hir_base.specs.Shape.{has_constructor}
 use Rattle.hir_scope.specs.declared.imports.ImportOrExternCrate.{ImportOrExternCrate}
 use Rattle.hir_scope.specs.declared.per_ns.PerNs.{PerNs}
 use Rattle.hir_scope.specs.declared.visibility.Visibility.{Visibility}

@@ -21,9 +21,9 @@ use hir_import_rules::directive::{ImportDirective, ImportSource, is_one_name};
 use hir_import_rules::error::ImportError;
 use hir_import_rules::namespaces::Namespaces;
 use hir_import_rules::taken::Taken;
-use hir_item_tree::shape::ImportKind;
 use hir_scope::per_ns::PerNs;
 use hir_scope::visibility::Visibility;
+use hir_use_tree::imports::ImportKind;
 use std::alloc::AllocError;
 
 /// What is to be done to take an import.

@@ -1,7 +1,7 @@
 -- A call and what it depends on get numbers, and its expansion is looked up.
 use Rattle.std.proofs.Common.{◌≡◌, ◌∙◌, ap, subst, sym}
 use Rattle.hir_ids.specs.declared.ids.Crate.{Crate}
-use Rattle.hir_item_tree.specs.declared.tree_id.TreeId.{TreeId}
+use Rattle.hir_base.specs.declared.tree_id.TreeId.{TreeId}
 use Rattle.hir_tables.specs.Interning.{IsFull}
 use Rattle.hir_tables.specs.SourcePlaces.{ExpansionValue, expansion_value}
 use Rattle.hir_tables.specs.Tables.{TablesValue}

@@ -1,8 +1,8 @@
 //! Which source a tree is of, after rust-analyzer's `TreeId`.
 ghost use Rattle.std.specs.Prelude.{◌≡◌, ◌↔◌, IsTrue, IsSome};
 
-use hir_base::ast_id::{BlockId, HirFileId};
-use hir_base::ids::Crate;
+use crate::ast_id::{BlockId, HirFileId};
+use crate::ids::Crate;
 
 /// A file, what a call expands to, or a block in one of them.
 #[derive(Clone, Copy, Debug, PartialEq, Eq, PartialOrd, Ord, Hash)]
