@@ -15,22 +15,22 @@ use Rattle.hir_ids.specs.declared.macro_kind.MacroId.{MacroId}
 use Rattle.hir_ids.specs.declared.ids.ModuleDefId.{ModuleDefId}
 use Rattle.hir_ids.specs.declared.ids.ModuleId.{ModuleId}
 use Rattle.hir_ids.specs.declared.ids.TraitId.{TraitId}
-use Rattle.hir_scope.specs.contracts.imports.ImportOrExternCratePartialEq.TheImpl as item_import
-use Rattle.hir_scope.specs.contracts.imports.ImportOrGlobPartialEq.TheImpl as glob_import
+use Rattle.hir_per_ns.specs.contracts.imports.ImportOrExternCratePartialEq.TheImpl as item_import
+use Rattle.hir_per_ns.specs.contracts.imports.ImportOrGlobPartialEq.TheImpl as glob_import
 use Rattle.hir_scope.specs.Bindings.{Candidate, macro_candidate, taken, takes, type_candidate, value_candidate, with_item_definition, with_item_visibility}
 use Rattle.hir_scope.specs.Bindings.{written_items}
 use Rattle.hir_scope.specs.Entries.{item_at}
 use Rattle.hir_scope.specs.Globs.{GlobNames, Place, has_place}
-use Rattle.hir_scope.specs.PerNs.{nothing, Item, is_nothing}
+use Rattle.hir_per_ns.specs.PerNs.{nothing, Item, is_nothing}
 use Rattle.hir_scope.specs.Scope.{ScopeValue, binding_of}
 use Rattle.hir_scope.specs.Scope.Push.{pushed_scope, taken_candidates, taken_macro, taken_type, taken_value, with_unresolved, written_scope}
-use Rattle.hir_scope.specs.declared.imports.ImportId.{ImportId}
-use Rattle.hir_scope.specs.declared.imports.ImportOrExternCrate.{ImportOrExternCrate}
-use Rattle.hir_scope.specs.declared.imports.ImportOrGlob.{ImportOrGlob}
-use Rattle.hir_scope.specs.declared.item_in_ns.ItemInNs.{ItemInNs}
-use Rattle.hir_scope.specs.declared.per_ns.PerNs.{PerNs}
-use Rattle.hir_scope.specs.declared.visibility.Visibility.{Visibility}
-use Rattle.hir_scope.specs.declared.item_in_ns.ItemInNs.TheVariants as in_ns
+use Rattle.hir_per_ns.specs.declared.imports.ImportId.{ImportId}
+use Rattle.hir_per_ns.specs.declared.imports.ImportOrExternCrate.{ImportOrExternCrate}
+use Rattle.hir_per_ns.specs.declared.imports.ImportOrGlob.{ImportOrGlob}
+use Rattle.hir_per_ns.specs.declared.item_in_ns.ItemInNs.{ItemInNs}
+use Rattle.hir_per_ns.specs.declared.per_ns.PerNs.{PerNs}
+use Rattle.hir_per_ns.specs.declared.visibility.Visibility.{Visibility}
+use Rattle.hir_per_ns.specs.declared.item_in_ns.ItemInNs.TheVariants as in_ns
 use Rattle.hir_scope.proofs.AfterPush.{item_at-with_entry}
 use Rattle.hir_scope.proofs.Pushes.{pushed-macros, pushed-types, pushed-values}
 use Rattle.hir_def_map_rules.specs.State.{Map, ModuleValue, changed_at, entry_of, with_module_scope}

@@ -6,8 +6,8 @@ use Rattle.hir_ids.specs.declared.macro_kind.MacroExpander.{MacroExpander}
 use Rattle.hir_ids.specs.declared.macro_kind.MacroId.{MacroId}
 use Rattle.hir_ids.specs.declared.ids.ModuleId.{ModuleId}
 use Rattle.hir_item_tree.specs.KeptForest.{Head}
-use Rattle.hir_scope.specs.PerNs.{macros_only}
-use Rattle.hir_scope.specs.declared.visibility.Visibility.TheVariants as visibilities
+use Rattle.hir_per_ns.specs.PerNs.{macros_only}
+use Rattle.hir_per_ns.specs.declared.visibility.Visibility.TheVariants as visibilities
 use Rattle.hir_def_map_rules.specs.Overlay.{Maps}
 use Rattle.hir_def_map_rules.specs.State.{Map}
 use Rattle.hir_def_map_rules.specs.declared.derive_helpers.DeriveHelper.{DeriveHelper}

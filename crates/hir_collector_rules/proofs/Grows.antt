@@ -14,8 +14,8 @@ use Rattle.hir_textual_scope.specs.Macros.{with_macro}
 use Rattle.hir_textual_scope.specs.declared.textual_scope.TextualMacro.{TextualMacro}
 use Rattle.hir_scope.specs.Globs.{GlobNames}
 use Rattle.hir_scope.specs.Scope.{ScopeValue, binding_of}
-use Rattle.hir_scope.specs.declared.per_ns.PerNs.{PerNs}
-use Rattle.hir_scope.specs.declared.visibility.Visibility.{Visibility}
+use Rattle.hir_per_ns.specs.declared.per_ns.PerNs.{PerNs}
+use Rattle.hir_per_ns.specs.declared.visibility.Visibility.{Visibility}
 use Rattle.hir_def_map_rules.specs.State.{MacroDataValue, Map, Variants, changed_at, entry_at, module_at, new_id, new_module, numbered, pushed, with_child}
 use Rattle.hir_def_map_rules.specs.State.{with_declared, with_enum, with_extern_block, with_module, with_module_scope, with_scope}
 use Rattle.hir_def_map_rules.specs.Overlay.{Maps}

@@ -10,7 +10,7 @@ use Rattle.hir_base.specs.declared.tree_id.TreeId.{TreeId}
 use Rattle.hir_def_map_rules.proofs.NoneOf.{not_first, not_second}
 use Rattle.hir_def_map_rules.specs.State.{Map, entry_at, place_at}
 use Rattle.hir_def_map_rules.specs.Overlay.{Maps}
-use Rattle.hir_scope.specs.declared.per_ns.PerNs.{PerNs}
+use Rattle.hir_per_ns.specs.declared.per_ns.PerNs.{PerNs}
 use Rattle.hir_glob_imports.specs.Rules.{Act}
 use Rattle.hir_glob_imports.specs.declared.edge.Target.{Target}
 use Rattle.hir_def_map_rules.specs.Scoping.{Resolution}

@@ -28,9 +28,9 @@ use Rattle.hir_base.specs.declared.resolve_mode.MacroSubNs.TheVariants as sub_na
 use Rattle.hir_def_map_rules.specs.declared.path_result.ResolveMode.TheVariants as modes
 use Rattle.hir_base.specs.declared.tree_id.TreeId.{TreeId}
 use Rattle.hir_base.specs.declared.tree_id.TreeKey.{TreeKey}
-use Rattle.hir_scope.specs.PerNs.{Item}
-use Rattle.hir_scope.specs.declared.imports.ImportOrExternCrate.{ImportOrExternCrate}
-use Rattle.hir_scope.specs.declared.per_ns.PerNs.{PerNs}
+use Rattle.hir_per_ns.specs.PerNs.{Item}
+use Rattle.hir_per_ns.specs.declared.imports.ImportOrExternCrate.{ImportOrExternCrate}
+use Rattle.hir_per_ns.specs.declared.per_ns.PerNs.{PerNs}
 use Rattle.hir_tables.specs.SourcePlaces.{ExpansionValue}
 use Rattle.hir_tables.specs.Tables.{TablesValue, call_at, entry_at, source_of}
 use Rattle.hir_def_map_rules.specs.Diagnostics.{call_node}

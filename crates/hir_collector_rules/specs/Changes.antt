@@ -7,7 +7,7 @@ use Rattle.hir_ids.specs.declared.ids.ExternCrateId.{ExternCrateId}
 use Rattle.hir_ids.specs.declared.macro_kind.MacroId.{MacroId}
 use Rattle.hir_ids.specs.declared.macro_kind.ProcMacroId.{ProcMacroId}
 use Rattle.hir_scope.specs.Scope.{ScopeValue}
-use Rattle.hir_scope.specs.declared.visibility.Visibility.{Visibility}
+use Rattle.hir_per_ns.specs.declared.visibility.Visibility.{Visibility}
 use Rattle.hir_def_map_rules.specs.Declaration.{listed}
 use Rattle.hir_def_map_rules.specs.Macros.{with_derive_helper, with_diagnostic, with_exported, with_macro_data, with_macro_def}
 use Rattle.hir_def_map_rules.specs.State.{MacroDataValue, Map, Variants, new_module, with_enum, with_module, with_scope}

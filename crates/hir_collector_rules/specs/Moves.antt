@@ -23,8 +23,8 @@ use Rattle.hir_def_map_rules.specs.declared.origin.ModuleOrigin.{ModuleOrigin}
 use Rattle.hir_ids.specs.declared.macro_kind.MacroId.TheVariants.{ProcMacroId}
 use Rattle.hir_collector_rules.specs.declared.declaration.Declaration.{Declaration}
 use Rattle.hir_collector_rules.specs.declared.exported.Export.{Export}
-use Rattle.hir_scope.specs.declared.visibility.Visibility.{Visibility}
-use Rattle.hir_scope.specs.declared.visibility.Visibility.TheVariants.{Public}
+use Rattle.hir_per_ns.specs.declared.visibility.Visibility.{Visibility}
+use Rattle.hir_per_ns.specs.declared.visibility.Visibility.TheVariants.{Public}
 use Rattle.hir_def_map_rules.specs.Overlay.{Maps}
 use Rattle.hir_def_map_rules.specs.State.{Map, ModuleValue, new_module, with_module}
 use Rattle.hir_collector_rules.specs.declared.site.Site.{Site}

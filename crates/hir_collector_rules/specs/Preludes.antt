@@ -10,9 +10,9 @@ use Rattle.hir_ids.specs.declared.ids.UseId.{UseId}
 use Rattle.hir_ids.specs.declared.edition.Edition.TheVariants as editions
 use Rattle.hir_ids.specs.declared.ids.ModuleDefId.TheVariants as definitions
 use Rattle.hir_base.specs.declared.mod_path.PathKind.TheVariants.{Abs}
-use Rattle.hir_scope.specs.Imports.{use_of}
-use Rattle.hir_scope.specs.declared.imports.ImportOrExternCrate.{ImportOrExternCrate}
-use Rattle.hir_scope.specs.PerNs.{Item}
+use Rattle.hir_per_ns.specs.Imports.{use_of}
+use Rattle.hir_per_ns.specs.declared.imports.ImportOrExternCrate.{ImportOrExternCrate}
+use Rattle.hir_per_ns.specs.PerNs.{Item}
 use Rattle.hir_def_map_rules.specs.State.{CrateData, Local, Map, at_name, with_extern, root_of}
 use Rattle.hir_def_map_rules.specs.Overlay.{Maps, overlay}
 use Rattle.hir_def_map_rules.specs.Scoping.{resolution_of}

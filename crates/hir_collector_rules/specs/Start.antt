@@ -13,8 +13,8 @@ use Rattle.hir_ids.specs.declared.explicitness.VisibilityExplicitness.TheVariant
 use Rattle.hir_base.specs.declared.tree_id.TreeId.{TreeId}
 use Rattle.hir_base.specs.declared.tree_id.TreeKey.{TreeKey}
 use Rattle.hir_mod_dir.specs.ModuleFiles.{root as root_directory}
-use Rattle.hir_scope.specs.declared.visibility.Visibility.{Visibility}
-use Rattle.hir_scope.specs.declared.visibility.Visibility.TheVariants as visibilities
+use Rattle.hir_per_ns.specs.declared.visibility.Visibility.{Visibility}
+use Rattle.hir_per_ns.specs.declared.visibility.Visibility.TheVariants as visibilities
 use Rattle.hir_tables.specs.Tables.{TablesValue}
 use Rattle.hir_def_map.specs.WorldParts.{among}
 use Rattle.hir_def_map_rules.specs.References.{crate_map}

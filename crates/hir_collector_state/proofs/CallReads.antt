@@ -10,8 +10,8 @@ use Rattle.hir_ids.specs.declared.ids.MapId.{MapId}
 use Rattle.hir_ids.specs.declared.ids.ModuleId.{ModuleId}
 use Rattle.hir_base.specs.declared.mod_path.PathKind.{PathKind}
 use Rattle.hir_base.specs.declared.mod_path.PathKind.TheVariants as roots
-use Rattle.hir_scope.specs.PerNs.{Item}
-use Rattle.hir_scope.specs.declared.imports.ImportOrExternCrate.{ImportOrExternCrate}
+use Rattle.hir_per_ns.specs.PerNs.{Item}
+use Rattle.hir_per_ns.specs.declared.imports.ImportOrExternCrate.{ImportOrExternCrate}
 use Rattle.hir_def_map_rules.proofs.Fails.{Fails-nowhere}
 use Rattle.hir_def_map_rules.specs.Macros.{helpers_at}
 use Rattle.hir_def_map_rules.specs.Overlay.{Maps, overlay}

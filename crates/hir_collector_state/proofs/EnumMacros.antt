@@ -13,10 +13,10 @@ use Rattle.hir_ids.specs.declared.macro_kind.MacroId.{MacroId as AnyMacro}
 use Rattle.hir_base.specs.declared.mod_path.PathKind.TheVariants as kinds
 use Rattle.hir_base.specs.Shape.{has_constructor}
 use Rattle.hir_scope.specs.Bindings.{first_of}
-use Rattle.hir_scope.specs.ModuleTree.{same_block, same_crate}
-use Rattle.hir_scope.specs.PerNs.{Item, with_constructor}
-use Rattle.hir_scope.specs.declared.imports.ImportOrExternCrate.{ImportOrExternCrate}
-use Rattle.hir_scope.specs.declared.per_ns.PerNs.{PerNs}
+use Rattle.hir_per_ns.specs.ModuleTree.{same_block, same_crate}
+use Rattle.hir_per_ns.specs.PerNs.{Item, with_constructor}
+use Rattle.hir_per_ns.specs.declared.imports.ImportOrExternCrate.{ImportOrExternCrate}
+use Rattle.hir_per_ns.specs.declared.per_ns.PerNs.{PerNs}
 use Rattle.hir_def_map_rules.specs.Ancestors.{holders_in}
 use Rattle.hir_def_map_rules.specs.Overlay.{Maps, map_in, overlay}
 use Rattle.hir_def_map_rules.specs.Scoping.Asking.{Asking}

@@ -7,9 +7,9 @@ use Rattle.hir_ids.specs.declared.macro_kind.MacroId.{MacroId}
 use Rattle.hir_ids.specs.declared.ids.ModuleDefId.{ModuleDefId}
 use Rattle.hir_ids.specs.declared.ids.ModuleId.{ModuleId}
 use Rattle.hir_item_tree.specs.KeptForest.{Head}
-use Rattle.hir_scope.specs.PerNs.{macros_only}
+use Rattle.hir_per_ns.specs.PerNs.{macros_only}
 use Rattle.hir_scope.specs.Scope.{ScopeValue}
-use Rattle.hir_scope.specs.declared.visibility.Visibility.TheVariants as visibilities
+use Rattle.hir_per_ns.specs.declared.visibility.Visibility.TheVariants as visibilities
 use Rattle.hir_def_map_rules.specs.Declaration.{listed}
 use Rattle.hir_def_map_rules.specs.State.{Map, ModuleValue, changed_at, module_at, new_id, new_module, numbered, with_child, with_module, with_module_scope}
 use Rattle.hir_def_map_rules.specs.State.{with_scope}

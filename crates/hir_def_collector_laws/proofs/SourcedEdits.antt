@@ -16,17 +16,17 @@ use Rattle.hir_ids.specs.declared.ids.ModuleDefId.TheVariants as definitions
 use Rattle.hir_base.specs.Shape.{has_constructor}
 use Rattle.hir_ids.specs.declared.explicitness.VisibilityExplicitness.{VisibilityExplicitness}
 use Rattle.hir_scope.specs.Bindings.{with_item_definition, with_item_visibility}
-use Rattle.hir_scope.specs.ModuleTree.{is_at_or_above, same_crate, same_module}
-use Rattle.hir_scope.specs.PerNs.{Item, with_constructor}
-use Rattle.hir_scope.specs.Visibility.{both_in, either_written, upper_of}
-use Rattle.hir_scope.specs.declared.imports.ImportOrExternCrate.{ImportOrExternCrate}
-use Rattle.hir_scope.specs.declared.imports.ImportOrGlob.{ImportOrGlob}
-use Rattle.hir_scope.specs.declared.item_in_ns.ItemInNs.{ItemInNs}
-use Rattle.hir_scope.specs.declared.per_ns.PerNs.{PerNs}
-use Rattle.hir_scope.specs.declared.visibility.Visibility.{Visibility}
-use Rattle.hir_scope.specs.declared.imports.ImportOrExternCrate.TheVariants as ways
-use Rattle.hir_scope.specs.declared.item_in_ns.ItemInNs.TheVariants as in_ns
-use Rattle.hir_scope.specs.declared.visibility.Visibility.TheVariants as visibilities
+use Rattle.hir_per_ns.specs.ModuleTree.{is_at_or_above, same_crate, same_module}
+use Rattle.hir_per_ns.specs.PerNs.{Item, with_constructor}
+use Rattle.hir_per_ns.specs.Visibility.{both_in, either_written, upper_of}
+use Rattle.hir_per_ns.specs.declared.imports.ImportOrExternCrate.{ImportOrExternCrate}
+use Rattle.hir_per_ns.specs.declared.imports.ImportOrGlob.{ImportOrGlob}
+use Rattle.hir_per_ns.specs.declared.item_in_ns.ItemInNs.{ItemInNs}
+use Rattle.hir_per_ns.specs.declared.per_ns.PerNs.{PerNs}
+use Rattle.hir_per_ns.specs.declared.visibility.Visibility.{Visibility}
+use Rattle.hir_per_ns.specs.declared.imports.ImportOrExternCrate.TheVariants as ways
+use Rattle.hir_per_ns.specs.declared.item_in_ns.ItemInNs.TheVariants as in_ns
+use Rattle.hir_per_ns.specs.declared.visibility.Visibility.TheVariants as visibilities
 use Rattle.hir_def_map_rules.proofs.NoneOf.{neither, none_at, none_found, none_more, not_first, not_second}
 use Rattle.hir_def_map_rules.proofs.StaysSourced.{HoldsNowhereIn-pushed, HoldsNowhereIn-scope, KeepsScope}
 use Rattle.hir_def_map_rules.specs.Ancestors.{above_in}

@@ -12,13 +12,13 @@ use Rattle.hir_ids.specs.declared.ids.ModuleId.{ModuleId}
 use Rattle.hir_ids.specs.declared.ids.ModuleDefId.TheVariants as definitions
 use Rattle.hir_ids.specs.contracts.ids.ModuleDefIdPartialEq.TheImpl as module_def
 use Rattle.hir_ids.specs.declared.macro_kind.MacroId.TheVariants as macros
-use Rattle.hir_scope.specs.PerNs.{Item}
+use Rattle.hir_per_ns.specs.PerNs.{Item}
 use Rattle.hir_scope.specs.Scope.{ScopeValue}
 use Rattle.hir_scope.specs.Scope.Updates.{censored, censored_macros, censored_vis, is_definition}
 use Rattle.hir_scope_table.specs.Entries.{item_at}
-use Rattle.hir_scope.specs.declared.imports.ImportOrExternCrate.{ImportOrExternCrate}
-use Rattle.hir_scope.specs.declared.visibility.Visibility.{Visibility}
-use Rattle.hir_scope.specs.declared.visibility.Visibility.TheVariants.{PubCrate}
+use Rattle.hir_per_ns.specs.declared.imports.ImportOrExternCrate.{ImportOrExternCrate}
+use Rattle.hir_per_ns.specs.declared.visibility.Visibility.{Visibility}
+use Rattle.hir_per_ns.specs.declared.visibility.Visibility.TheVariants.{PubCrate}
 use Rattle.hir_def_map_rules.specs.Closed.{ModuleIsThere}
 use Rattle.hir_def_map_rules.specs.Overlay.{Maps, overlay}
 use Rattle.hir_def_map_rules.specs.Sources.{HoldsNowhereIn, SourceTest, on_def, on_import, on_item, on_macro, on_macro_item, on_some, on_value, on_value_def}

@@ -17,14 +17,14 @@ use Rattle.hir_item_tree.specs.declared.side_lists.VariantItem.{VariantItem}
 use Rattle.hir_ids.specs.declared.explicitness.VisibilityExplicitness.{VisibilityExplicitness}
 use Rattle.hir_base.specs.declared.shape.FieldsShape.TheVariants.{Record, Tuple, Unit as UnitShape}
 use Rattle.hir_use_tree.specs.declared.imports.ImportKind.TheVariants as import_kinds
-use Rattle.hir_scope.specs.ModuleTree.{is_at_or_above, same_crate, same_module}
-use Rattle.hir_scope.specs.PerNs.{keep_item, Item}
-use Rattle.hir_scope.specs.Visibility.{both_in, either_written, lower_of}
-use Rattle.hir_scope.specs.declared.imports.ImportOrExternCrate.{ImportOrExternCrate}
-use Rattle.hir_scope.specs.declared.imports.ImportOrGlob.{ImportOrGlob}
-use Rattle.hir_scope.specs.declared.per_ns.PerNs.{PerNs}
-use Rattle.hir_scope.specs.declared.visibility.Visibility.{Visibility}
-use Rattle.hir_scope.specs.declared.visibility.Visibility.TheVariants as visibilities
+use Rattle.hir_per_ns.specs.ModuleTree.{is_at_or_above, same_crate, same_module}
+use Rattle.hir_per_ns.specs.PerNs.{keep_item, Item}
+use Rattle.hir_per_ns.specs.Visibility.{both_in, either_written, lower_of}
+use Rattle.hir_per_ns.specs.declared.imports.ImportOrExternCrate.{ImportOrExternCrate}
+use Rattle.hir_per_ns.specs.declared.imports.ImportOrGlob.{ImportOrGlob}
+use Rattle.hir_per_ns.specs.declared.per_ns.PerNs.{PerNs}
+use Rattle.hir_per_ns.specs.declared.visibility.Visibility.{Visibility}
+use Rattle.hir_per_ns.specs.declared.visibility.Visibility.TheVariants as visibilities
 use Rattle.hir_def_map_rules.specs.Ancestors.{above_in}
 use Rattle.hir_def_map_rules.proofs.NoneOf.{neither, none_inserted, not_first, not_second}
 use Rattle.hir_def_map_rules.specs.Scoping.{Resolution}

@@ -12,13 +12,13 @@ use Rattle.hir_raw_visibility.specs.declared.raw_visibility.RawVisibility.{RawVi
 use Rattle.hir_ids.specs.declared.explicitness.VisibilityExplicitness.{VisibilityExplicitness}
 use Rattle.hir_raw_visibility.specs.declared.raw_visibility.RawVisibility.TheVariants as raws
 use Rattle.hir_base.specs.declared.shape.FieldsShape.TheVariants.{Record, Tuple, Unit as UnitShape}
-use Rattle.hir_scope.specs.ModuleTree.{is_at_or_above, same_crate, same_map, same_module}
-use Rattle.hir_scope.specs.PerNs.{Item}
-use Rattle.hir_scope.specs.Visibility.{both_in, either_written, lower_of, upper_of}
-use Rattle.hir_scope.specs.declared.imports.ImportOrExternCrate.{ImportOrExternCrate}
-use Rattle.hir_scope.specs.declared.per_ns.PerNs.{PerNs}
-use Rattle.hir_scope.specs.declared.visibility.Visibility.{Visibility}
-use Rattle.hir_scope.specs.declared.visibility.Visibility.TheVariants as visibilities
+use Rattle.hir_per_ns.specs.ModuleTree.{is_at_or_above, same_crate, same_map, same_module}
+use Rattle.hir_per_ns.specs.PerNs.{Item}
+use Rattle.hir_per_ns.specs.Visibility.{both_in, either_written, lower_of, upper_of}
+use Rattle.hir_per_ns.specs.declared.imports.ImportOrExternCrate.{ImportOrExternCrate}
+use Rattle.hir_per_ns.specs.declared.per_ns.PerNs.{PerNs}
+use Rattle.hir_per_ns.specs.declared.visibility.Visibility.{Visibility}
+use Rattle.hir_per_ns.specs.declared.visibility.Visibility.TheVariants as visibilities
 use Rattle.hir_def_map.proofs.Joined.{there_in}
 use Rattle.hir_def_map_rules.proofs.NoneOf.{neither, none_at, none_more, not_first, not_second}
 use Rattle.hir_def_map_rules.specs.Ancestors.{above_in}

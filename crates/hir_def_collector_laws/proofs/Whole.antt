@@ -28,16 +28,16 @@ use Rattle.hir_item_tree.specs.Imports.{imports_of}
 use Rattle.hir_base.specs.declared.shape.ExternCrateName.{ExternCrateName}
 use Rattle.hir_raw_visibility.specs.declared.raw_visibility.RawVisibility.{RawVisibility}
 use Rattle.hir_base.specs.declared.shape.ExternCrateName.TheVariants.{SelfCrate, Name}
-use Rattle.hir_scope.specs.declared.imports.GlobId.{GlobId}
-use Rattle.hir_scope.specs.declared.imports.ImportId.{ImportId}
-use Rattle.hir_scope.specs.declared.imports.ImportOrExternCrate.{ImportOrExternCrate}
-use Rattle.hir_scope.specs.declared.item_in_ns.ItemInNs.{ItemInNs}
-use Rattle.hir_scope.specs.declared.per_ns.PerNs.{PerNs}
-use Rattle.hir_scope.specs.declared.visibility.Visibility.{Visibility}
-use Rattle.hir_scope.specs.declared.item_in_ns.ItemInNs.TheVariants as in_ns
-use Rattle.hir_scope.specs.PerNs.{Item, with_constructor, item_of, macros_only}
-use Rattle.hir_scope.specs.ModuleTree.{same_crate}
-use Rattle.hir_scope.specs.declared.visibility.Visibility.TheVariants as visibilities
+use Rattle.hir_per_ns.specs.declared.imports.GlobId.{GlobId}
+use Rattle.hir_per_ns.specs.declared.imports.ImportId.{ImportId}
+use Rattle.hir_per_ns.specs.declared.imports.ImportOrExternCrate.{ImportOrExternCrate}
+use Rattle.hir_per_ns.specs.declared.item_in_ns.ItemInNs.{ItemInNs}
+use Rattle.hir_per_ns.specs.declared.per_ns.PerNs.{PerNs}
+use Rattle.hir_per_ns.specs.declared.visibility.Visibility.{Visibility}
+use Rattle.hir_per_ns.specs.declared.item_in_ns.ItemInNs.TheVariants as in_ns
+use Rattle.hir_per_ns.specs.PerNs.{Item, with_constructor, item_of, macros_only}
+use Rattle.hir_per_ns.specs.ModuleTree.{same_crate}
+use Rattle.hir_per_ns.specs.declared.visibility.Visibility.TheVariants as visibilities
 use Rattle.hir_def_map_rules.specs.declared.declaration.Declaration.TheVariants as listings
 use Rattle.hir_def_map_rules.specs.declared.declaration.Declaration.{Declaration as Listing}
 use Rattle.hir_def_map_rules.specs.declared.diagnostics.DefDiagnostic.{DefDiagnostic}

@@ -21,13 +21,13 @@ use Rattle.hir_use_tree.specs.declared.imports.Import.{Import}
 use Rattle.hir_use_tree.specs.declared.imports.ImportKind.{ImportKind}
 use Rattle.hir_use_tree.specs.declared.imports.ImportKind.TheVariants as import_kinds
 use Rattle.hir_raw_visibility.specs.declared.raw_visibility.RawVisibility.{RawVisibility}
-use Rattle.hir_scope.specs.declared.imports.ImportId.{ImportId}
-use Rattle.hir_scope.specs.declared.per_ns.PerNs.{PerNs}
-use Rattle.hir_scope.specs.declared.visibility.Visibility.{Visibility}
+use Rattle.hir_per_ns.specs.declared.imports.ImportId.{ImportId}
+use Rattle.hir_per_ns.specs.declared.per_ns.PerNs.{PerNs}
+use Rattle.hir_per_ns.specs.declared.visibility.Visibility.{Visibility}
 use Rattle.hir_textual_scope.specs.Macros.{with_macro}
 use Rattle.hir_textual_scope.specs.declared.textual_scope.TextualMacro.{TextualMacro}
 use Rattle.hir_scope.specs.Scope.{ScopeValue}
-use Rattle.hir_scope.specs.PerNs.{Item, macros_only}
+use Rattle.hir_per_ns.specs.PerNs.{Item, macros_only}
 use Rattle.hir_def_map_rules.specs.declared.diagnostics.DefDiagnostic.{DefDiagnostic}
 use Rattle.hir_def_map_rules.specs.declared.reference.Reference.{Reference}
 use Rattle.hir_def_map_rules.specs.declared.reference.Reference.TheVariants as named

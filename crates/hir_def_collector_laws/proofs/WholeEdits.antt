@@ -1,9 +1,9 @@
 -- Changes of imports leave a map that names only what is there.
 use Rattle.std.specs.Prelude.{ℕ, Bool, List, [], Option, None, Some}
 use Rattle.hir_scope.specs.Scope.{ScopeValue}
-use Rattle.hir_scope.specs.declared.item_in_ns.ItemInNs.{ItemInNs}
-use Rattle.hir_scope.specs.declared.visibility.Visibility.{Visibility}
-use Rattle.hir_scope.specs.declared.item_in_ns.ItemInNs.TheVariants as in_ns
+use Rattle.hir_per_ns.specs.declared.item_in_ns.ItemInNs.{ItemInNs}
+use Rattle.hir_per_ns.specs.declared.visibility.Visibility.{Visibility}
+use Rattle.hir_per_ns.specs.declared.item_in_ns.ItemInNs.TheVariants as in_ns
 use Rattle.hir_def_map_rules.proofs.StaysWellFormed.{HasNoDanglingReference-pushed, HasNoDanglingReference-scope}
 use Rattle.hir_def_map_rules.specs.Closed.{AreThere, IsThere, VisibilityIsThere}
 use Rattle.hir_def_map_rules.specs.Overlay.{Maps, overlay}

@@ -13,14 +13,14 @@ use Rattle.hir_ids.specs.declared.ids.TraitId.{TraitId}
 use Rattle.hir_ids.specs.declared.ids.ModuleDefId.TheVariants as definitions
 use Rattle.hir_ids.specs.contracts.ids.ModuleDefIdPartialEq.TheImpl as module_def
 use Rattle.hir_ids.specs.declared.macro_kind.MacroId.TheVariants as macros
-use Rattle.hir_scope.specs.PerNs.{Item}
+use Rattle.hir_per_ns.specs.PerNs.{Item}
 use Rattle.hir_scope.specs.Scope.{ScopeValue}
 use Rattle.hir_scope.specs.Scope.Updates.{censored, censored_item, censored_macro, censored_macros, censored_scope, censored_vis, is_definition}
 use Rattle.hir_scope_table.specs.Entries.{item_at}
-use Rattle.hir_scope.specs.declared.imports.ImportId.{ImportId}
-use Rattle.hir_scope.specs.declared.imports.ImportOrExternCrate.{ImportOrExternCrate}
-use Rattle.hir_scope.specs.declared.imports.ImportOrGlob.{ImportOrGlob}
-use Rattle.hir_scope.specs.declared.visibility.Visibility.{Visibility}
+use Rattle.hir_per_ns.specs.declared.imports.ImportId.{ImportId}
+use Rattle.hir_per_ns.specs.declared.imports.ImportOrExternCrate.{ImportOrExternCrate}
+use Rattle.hir_per_ns.specs.declared.imports.ImportOrGlob.{ImportOrGlob}
+use Rattle.hir_per_ns.specs.declared.visibility.Visibility.{Visibility}
 use Rattle.hir_def_map_rules.specs.References.{any_reference_in_scope, is_missing, reference_to, test_item, test_macro, test_of, test_trait, test_visibility}
 use Rattle.hir_def_map_rules.specs.Overlay.{Maps, overlay}
 use Rattle.hir_def_map_rules.specs.State.{with_scope}

@@ -8,7 +8,7 @@ use Rattle.std.specs.Ordering.{nat_cmp}
 use Rattle.hir_scope.specs.Bindings.{Candidate, taken, takes as takes_slot, written_items}
 use Rattle.hir_scope.specs.Entries.{item_at, with_entry}
 use Rattle.hir_scope.specs.Globs.{Place, has_place}
-use Rattle.hir_scope.specs.PerNs.{Item}
+use Rattle.hir_per_ns.specs.PerNs.{Item}
 use Rattle.hir_scope.proofs.AfterPush.{item_at-with_entry, item_at-with_entry_other}
 use Rattle.hir_scope_table.specs.Table.{rewritten}
 use Rattle.hir_glob_imports.specs.Keys.{same_slot, slot_at}

@@ -14,7 +14,7 @@ use Rattle.hir_def_map_rules.specs.declared.reference.Reference.TheVariants as n
 use Rattle.hir_def_map.specs.WorldParts.{among}
 use Rattle.hir_def_map.specs.Inner.PartLaws.{among-only}
 use Rattle.hir_def_map_rules.specs.Inner.OverlayLaws.{exact_map}
-use Rattle.hir_scope.specs.ModuleTree.{same_crate}
+use Rattle.hir_per_ns.specs.ModuleTree.{same_crate}
 use Rattle.hir_def_map_rules.specs.WellFormed.{HasNoDanglingExtern, Extends, HasNoDanglingReference, is_held_outside}
 use Rattle.hir_def_map_rules.specs.References.{is_well_formed, is_holder_for, is_missing, is_there, lies_in, map_of_reference, refers_to, any_reference}
 use Rattle.hir_def_map_rules.specs.State.{Local, Map, module_at, variants_at}

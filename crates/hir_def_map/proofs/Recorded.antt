@@ -23,7 +23,7 @@ use Rattle.hir_def_map.specs.Inner.Recorded.{AreCovered, GainsOnly, IsCovered, I
 use Rattle.hir_def_map_rules.specs.Inner.ReferenceLists.{any_listed}
 use Rattle.hir_def_map_rules.proofs.References.{any-append, any_is}
 use Rattle.hir_def_map.proofs.Depending.{falls_itself}
-use Rattle.hir_scope.specs.ModuleTree.{same_crate}
+use Rattle.hir_per_ns.specs.ModuleTree.{same_crate}
 use Rattle.hir_def_map_rules.specs.Inner.OverlayLaws.{exact_crate, exact_map}
 use Rattle.hir_def_map.proofs.Joined.{both, crate_named, equal_id, own_crate_named, own_id, same_id}
 use Rattle.hir_def_map_rules.proofs.NoneOf.{not_first}

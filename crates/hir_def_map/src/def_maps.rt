@@ -1,6 +1,6 @@
 //! The finished maps with the current one on top.
 ghost use Rattle.std.specs.Prelude.{◌≡◌, option_map};
-ghost use Rattle.hir_scope.specs.ModuleTree.{chain_from};
+ghost use Rattle.hir_per_ns.specs.ModuleTree.{chain_from};
 ghost use Rattle.hir_def_map_rules.specs.Overlay.{overlay, entry_in, holders_under, map_in, module_in, parent_in, placed_in};
 ghost use Rattle.hir_def_map_rules.specs.Ancestors.{above_in, head_of, holder_in, holders_in, up_in};
 ghost use Rattle.hir_def_map_rules.specs.Inner.AncestorLaws.{above_in_crate, above_up, holders_up, same_holder};

@@ -1,6 +1,6 @@
 //! What written visibilities mean in a map.
 ghost use Rattle.std.specs.Prelude.{◌≡◌, IfSome, option_copied};
-ghost use Rattle.hir_scope.specs.Visibility.{is_visible, lesser_of, IsMeet};
+ghost use Rattle.hir_per_ns.specs.Visibility.{is_visible, lesser_of, IsMeet};
 ghost use Rattle.hir_def_map_rules.specs.Overlay.{overlay};
 ghost use Rattle.hir_def_map_rules.specs.Ancestors.{above_in, holders_in};
 ghost use Rattle.hir_def_map.specs.World.{finished_in};

@@ -15,11 +15,11 @@ use Rattle.hir_ids.specs.declared.ids.ModuleId.{ModuleId as AnyModule}
 use Rattle.hir_ids.specs.declared.ids.ModuleDefId.TheVariants.{ModuleId, FunctionId, AdtId as AnyAdt, EnumVariantId, ConstId, StaticId, TraitId, TypeAliasId}
 use Rattle.hir_ids.specs.declared.ids.ModuleDefId.TheVariants.{BuiltinType, MacroId}
 use Rattle.hir_base.specs.declared.mod_path.PathKind.TheVariants as kinds
-use Rattle.hir_scope.specs.declared.imports.ImportOrExternCrate.{ImportOrExternCrate}
-use Rattle.hir_scope.specs.declared.per_ns.PerNs.{PerNs}
-use Rattle.hir_scope.specs.PerNs.{Item, keep_of, nothing, or_of}
-use Rattle.hir_scope.specs.ModuleTree.{same_block, same_crate}
-use Rattle.hir_scope.specs.Visibility.{is_visible}
+use Rattle.hir_per_ns.specs.declared.imports.ImportOrExternCrate.{ImportOrExternCrate}
+use Rattle.hir_per_ns.specs.declared.per_ns.PerNs.{PerNs}
+use Rattle.hir_per_ns.specs.PerNs.{Item, keep_of, nothing, or_of}
+use Rattle.hir_per_ns.specs.ModuleTree.{same_block, same_crate}
+use Rattle.hir_per_ns.specs.Visibility.{is_visible}
 use Rattle.hir_def_map_rules.specs.State.{CrateData, Map, module_at, parent_of, root_of, crate_root}
 use Rattle.hir_def_map_rules.specs.Overlay.{Maps, Placed, entry_in, map_in, parent_in}
 use Rattle.hir_def_map_rules.proofs.WellFormed.{parent_listed}

@@ -10,11 +10,11 @@ use Rattle.hir_ids.specs.declared.ids.EnumId.{EnumId}
 use Rattle.hir_ids.specs.declared.ids.MapId.{MapId}
 use Rattle.hir_ids.specs.declared.ids.ModuleId.{ModuleId as AnyModule}
 use Rattle.hir_ids.specs.contracts.ids.MapIdPartialEq.TheImpl as map_id
-use Rattle.hir_scope.specs.ModuleTree.{same_crate, same_module}
-use Rattle.hir_scope.specs.PerNs.{keep_of}
-use Rattle.hir_scope.specs.Visibility.{is_visible, stands_for}
-use Rattle.hir_scope.specs.declared.visibility.Visibility.{Visibility}
-use Rattle.hir_scope.specs.declared.visibility.Visibility.TheVariants.{Module, PubCrate, Public}
+use Rattle.hir_per_ns.specs.ModuleTree.{same_crate, same_module}
+use Rattle.hir_per_ns.specs.PerNs.{keep_of}
+use Rattle.hir_per_ns.specs.Visibility.{is_visible, stands_for}
+use Rattle.hir_per_ns.specs.declared.visibility.Visibility.{Visibility}
+use Rattle.hir_per_ns.specs.declared.visibility.Visibility.TheVariants.{Module, PubCrate, Public}
 use Rattle.hir_def_map_rules.specs.Inner.OverlayLaws.{exact_map}
 use Rattle.hir_def_map_rules.specs.Ancestors.{above_in, above_inside, above_under, frame_of, frames_of, holders_in, holders_of_frame, numbers_above, numbers_of}
 use Rattle.hir_def_map_rules.specs.Scoping.FirstSegment.{is_block_root, legacy_of}

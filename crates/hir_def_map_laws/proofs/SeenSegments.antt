@@ -1,10 +1,10 @@
 -- What a segment takes from a module.
 use Rattle.std.proofs.Common.{◌≡◌, ap, refl, ℕ, List, Bool, true, false, cond, Option, None, Some}
 use Rattle.hir_ids.specs.declared.ids.ModuleId.{ModuleId}
-use Rattle.hir_scope.specs.PerNs.{Item, keep_item, keep_of}
-use Rattle.hir_scope.specs.declared.per_ns.PerNs.{PerNs}
-use Rattle.hir_scope.specs.declared.visibility.Visibility.{Visibility}
-use Rattle.hir_scope.specs.ModuleTree.{same_crate}
+use Rattle.hir_per_ns.specs.PerNs.{Item, keep_item, keep_of}
+use Rattle.hir_per_ns.specs.declared.per_ns.PerNs.{PerNs}
+use Rattle.hir_per_ns.specs.declared.visibility.Visibility.{Visibility}
+use Rattle.hir_per_ns.specs.ModuleTree.{same_crate}
 use Rattle.hir_def_map_rules.specs.Overlay.{Maps, entry_in}
 use Rattle.hir_def_map_rules.specs.Scoping.Segments.{crossing, nearest_non_block_module, seen}
 use Rattle.hir_def_map_rules.specs.declared.path_result.ResolvePathResult.{ResolvePathResult}

@@ -4,8 +4,8 @@ use Rattle.hir_ids.specs.declared.macro_kind.MacroId.{MacroId}
 use Rattle.hir_ids.specs.declared.ids.ModuleDefId.{ModuleDefId}
 use Rattle.hir_ids.specs.declared.ids.TraitId.{TraitId}
 use Rattle.hir_scope.specs.Scope.{ScopeValue}
-use Rattle.hir_scope.specs.declared.imports.ImportId.{ImportId}
-use Rattle.hir_scope.specs.declared.visibility.Visibility.{Visibility}
+use Rattle.hir_per_ns.specs.declared.imports.ImportId.{ImportId}
+use Rattle.hir_per_ns.specs.declared.visibility.Visibility.{Visibility}
 use Rattle.hir_def_map_rules.specs.Overlay.{Maps, overlay}
 use Rattle.hir_def_map_rules.specs.References.{any_reference_in_scope, is_missing, reference_to, test_of, test_visibility}
 use Rattle.hir_def_map_rules.specs.State.{Map}

@@ -5,11 +5,11 @@ use Rattle.hir_base.specs.ModPath.{Path}
 use Rattle.hir_ids.specs.declared.ids.EnumId.{EnumId}
 use Rattle.hir_ids.specs.declared.ids.MapId.{MapId}
 use Rattle.hir_ids.specs.declared.ids.ModuleId.{ModuleId}
-use Rattle.hir_scope.specs.ModuleTree.{same_crate}
-use Rattle.hir_scope.specs.Visibility.{is_visible}
-use Rattle.hir_scope.specs.PerNs.{Item}
-use Rattle.hir_scope.specs.declared.per_ns.PerNs.{PerNs}
-use Rattle.hir_scope.specs.declared.visibility.Visibility.{Visibility}
+use Rattle.hir_per_ns.specs.ModuleTree.{same_crate}
+use Rattle.hir_per_ns.specs.Visibility.{is_visible}
+use Rattle.hir_per_ns.specs.PerNs.{Item}
+use Rattle.hir_per_ns.specs.declared.per_ns.PerNs.{PerNs}
+use Rattle.hir_per_ns.specs.declared.visibility.Visibility.{Visibility}
 use Rattle.hir_def_map_rules.specs.Ancestors.{frames_of, above_in, holders_in, holder_in, IsPlaced, frame_of, leads_to_root, up_in}
 use Rattle.hir_def_map_rules.specs.Overlay.{Maps, entry_in, map_in, module_in, Placed, parent_in, alone}
 use Rattle.hir_def_map_rules.specs.Scoping.{resolution_of}

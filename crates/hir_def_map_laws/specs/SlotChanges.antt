@@ -12,10 +12,10 @@ use Rattle.hir_textual_scope.specs.Macros.{with_macro as with_more}
 use Rattle.hir_scope.specs.Globs.{GlobNames}
 use Rattle.hir_scope.specs.Scope.{ScopeValue}
 use Rattle.hir_scope.specs.Scope.Updates.{with_definition, with_unnamed_trait, with_visibility}
-use Rattle.hir_scope.specs.declared.imports.ImportId.{ImportId}
-use Rattle.hir_scope.specs.declared.imports.ImportOrExternCrate.{ImportOrExternCrate}
-use Rattle.hir_scope.specs.declared.per_ns.PerNs.{PerNs}
-use Rattle.hir_scope.specs.declared.visibility.Visibility.{Visibility}
+use Rattle.hir_per_ns.specs.declared.imports.ImportId.{ImportId}
+use Rattle.hir_per_ns.specs.declared.imports.ImportOrExternCrate.{ImportOrExternCrate}
+use Rattle.hir_per_ns.specs.declared.per_ns.PerNs.{PerNs}
+use Rattle.hir_per_ns.specs.declared.visibility.Visibility.{Visibility}
 use Rattle.hir_def_map_rules.specs.Declaration.{listed}
 use Rattle.hir_def_map_rules.specs.Scoping.Asking.{Asking}
 use Rattle.hir_def_map_rules.specs.State.{Local, Map, Variants, new_module, numbered, pushed, variants_at, with_enum, with_extern, with_macro_use, with_module}

@@ -19,13 +19,13 @@ use Rattle.hir_ids.specs.declared.ids.ModuleDefId.TheVariants.{ModuleId, Functio
 use Rattle.hir_ids.specs.declared.ids.ModuleDefId.TheVariants.{BuiltinType, MacroId}
 use Rattle.hir_base.specs.declared.mod_path.PathKind.TheVariants as kinds
 use Rattle.hir_base.specs.Shape.{has_constructor}
-use Rattle.hir_scope.specs.declared.imports.ImportOrExternCrate.{ImportOrExternCrate}
-use Rattle.hir_scope.specs.declared.per_ns.PerNs.{PerNs}
-use Rattle.hir_scope.specs.declared.visibility.Visibility.{Visibility}
-use Rattle.hir_scope.specs.declared.imports.ImportOrExternCrate.TheVariants as ways
-use Rattle.hir_scope.specs.PerNs.{Item, item_of, nothing, or_of, with_constructor}
-use Rattle.hir_scope.specs.ModuleTree.{same_block, same_crate}
-use Rattle.hir_scope.specs.Visibility.{is_visible}
+use Rattle.hir_per_ns.specs.declared.imports.ImportOrExternCrate.{ImportOrExternCrate}
+use Rattle.hir_per_ns.specs.declared.per_ns.PerNs.{PerNs}
+use Rattle.hir_per_ns.specs.declared.visibility.Visibility.{Visibility}
+use Rattle.hir_per_ns.specs.declared.imports.ImportOrExternCrate.TheVariants as ways
+use Rattle.hir_per_ns.specs.PerNs.{Item, item_of, nothing, or_of, with_constructor}
+use Rattle.hir_per_ns.specs.ModuleTree.{same_block, same_crate}
+use Rattle.hir_per_ns.specs.Visibility.{is_visible}
 use Rattle.hir_def_map_rules.specs.Overlay.{Maps, entry_in, map_in, module_in, parent_in}
 use Rattle.hir_def_map_rules.specs.State.{at_name}
 use Rattle.hir_def_map_rules.specs.Inner.OverlayLaws.{exact_crate}

@@ -25,15 +25,15 @@ use Rattle.hir_ids.specs.declared.ids.ModuleDefId.TheVariants.{BuiltinType, Macr
 use Rattle.hir_ids.specs.declared.macro_kind.MacroId.{MacroId as AnyMacro}
 use Rattle.hir_base.specs.declared.mod_path.PathKind.TheVariants as kinds
 use Rattle.hir_base.specs.Shape.{has_constructor}
-use Rattle.hir_scope.specs.declared.imports.ImportOrExternCrate.{ImportOrExternCrate}
-use Rattle.hir_scope.specs.declared.per_ns.PerNs.{PerNs}
-use Rattle.hir_scope.specs.declared.visibility.Visibility.{Visibility}
-use Rattle.hir_scope.specs.PerNs.{Item, keep_item, keep_of, nothing, or_of, with_constructor}
-use Rattle.hir_scope.specs.ModuleTree.{same_block, same_crate}
+use Rattle.hir_per_ns.specs.declared.imports.ImportOrExternCrate.{ImportOrExternCrate}
+use Rattle.hir_per_ns.specs.declared.per_ns.PerNs.{PerNs}
+use Rattle.hir_per_ns.specs.declared.visibility.Visibility.{Visibility}
+use Rattle.hir_per_ns.specs.PerNs.{Item, keep_item, keep_of, nothing, or_of, with_constructor}
+use Rattle.hir_per_ns.specs.ModuleTree.{same_block, same_crate}
 use Rattle.hir_scope.specs.Bindings.{first_of}
 use Rattle.hir_textual_scope.specs.Macros.{has_name, macros_of}
 use Rattle.hir_textual_scope.specs.declared.textual_scope.TextualMacro.{TextualMacro}
-use Rattle.hir_scope.specs.Visibility.{is_visible}
+use Rattle.hir_per_ns.specs.Visibility.{is_visible}
 use Rattle.hir_def_map_rules.specs.Overlay.{Maps, Placed, entry_in, map_in, module_in}
 use Rattle.hir_def_map_rules.specs.State.{ModuleValue, Variants, at_name, entry_of, module_at, variants_at}
 use Rattle.hir_def_map_rules.specs.Ancestors.{above_in, holders_in}

@@ -17,7 +17,7 @@ use Rattle.hir_ids.specs.declared.ids.Crate.{Crate}
 use Rattle.hir_ids.specs.declared.ids.EnumId.{EnumId}
 use Rattle.hir_ids.specs.declared.ids.MapId.{MapId}
 use Rattle.hir_ids.specs.declared.ids.ModuleId.{ModuleId}
-use Rattle.hir_scope.specs.ModuleTree.{same_crate}
+use Rattle.hir_per_ns.specs.ModuleTree.{same_crate}
 use Rattle.hir_def_map_rules.specs.Inner.OverlayLaws.{same_id, exact_crate, frame_holders}
 use Rattle.hir_def_map_rules.specs.Ancestors.{ends_from, ends_within, leads_to_root, number_in, own_frame, parent_number, frames_of}
 use Rattle.hir_def_map_rules.specs.Closed.{AreThere, IsClosed, MapIsThere, ModuleIsThere}

@@ -31,8 +31,8 @@ use Rattle.hir_ids.specs.contracts.macro_kind.MacroIdEq.TheImpl.Laws.{laws-law a
 use Rattle.hir_ids.specs.contracts.macro_kind.ProcMacroIdPartialEq.TheImpl as proc_macro
 use Rattle.hir_ids.specs.contracts.macro_kind.ProcMacroIdEq.TheImpl.Laws.{laws-law as proc_macro_laws}
 use Rattle.hir_scope.specs.Inner.Equality.{same_scope, same_scope_equiv}
-use Rattle.hir_scope.specs.contracts.visibility.VisibilityPartialEq.TheImpl as visibility
-use Rattle.hir_scope.specs.contracts.visibility.VisibilityEq.TheImpl.Laws.{laws-law as visibility_laws}
+use Rattle.hir_per_ns.specs.contracts.visibility.VisibilityPartialEq.TheImpl as visibility
+use Rattle.hir_per_ns.specs.contracts.visibility.VisibilityEq.TheImpl.Laws.{laws-law as visibility_laws}
 use Rattle.hir_def_map_rules.specs.contracts.enum_variants.EnumVariantPartialEq.TheImpl as enum_variant
 use Rattle.hir_def_map_rules.specs.contracts.enum_variants.EnumVariantEq.TheImpl.Laws.{laws-law as enum_variant_laws}
 use Rattle.hir_def_map_rules.specs.contracts.origin.ModuleOriginPartialEq.TheImpl as origin

@@ -4,8 +4,8 @@ use Rattle.hir_ids.specs.declared.ids.EnumId.{EnumId}
 use Rattle.hir_ids.specs.declared.ids.MapId.{MapId}
 use Rattle.hir_ids.specs.declared.ids.ModuleId.{ModuleId}
 use Rattle.hir_ids.specs.contracts.ids.MapIdPartialEq.TheImpl as map_id
-use Rattle.hir_scope.specs.ModuleTree.{same_crate}
-use Rattle.hir_scope.specs.declared.per_ns.PerNs.{PerNs}
+use Rattle.hir_per_ns.specs.ModuleTree.{same_crate}
+use Rattle.hir_per_ns.specs.declared.per_ns.PerNs.{PerNs}
 use Rattle.hir_def_map_rules.specs.State.{Local, Map, ModuleValue, Variants, child_of, entry_of, module_at, parent_of, variants_at}
 
 -- a map, what its paths may begin with, and the modules that hold it: that of its block, that of this one's block, and so on; none holds a crate's map

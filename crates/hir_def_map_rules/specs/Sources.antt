@@ -14,14 +14,14 @@ use Rattle.hir_ids.specs.declared.ids.AdtId.TheVariants as adt
 use Rattle.hir_ids.specs.declared.ids.ModuleDefId.TheVariants as def
 use Rattle.hir_ids.specs.declared.macro_kind.MacroId.TheVariants as macro
 use Rattle.hir_textual_scope.specs.declared.textual_scope.TextualMacro.{TextualMacro}
-use Rattle.hir_scope.specs.declared.imports.ImportOrExternCrate.{ImportOrExternCrate}
-use Rattle.hir_scope.specs.declared.imports.ImportOrGlob.{ImportOrGlob}
-use Rattle.hir_scope.specs.declared.per_ns.PerNs.{PerNs}
-use Rattle.hir_scope.specs.declared.visibility.Visibility.{Visibility}
-use Rattle.hir_scope.specs.declared.imports.ImportOrExternCrate.TheVariants as import
-use Rattle.hir_scope.specs.declared.imports.ImportOrGlob.TheVariants as value_import
-use Rattle.hir_scope.specs.PerNs.{Item}
-use Rattle.hir_scope.specs.declared.visibility.Visibility.TheVariants as vis
+use Rattle.hir_per_ns.specs.declared.imports.ImportOrExternCrate.{ImportOrExternCrate}
+use Rattle.hir_per_ns.specs.declared.imports.ImportOrGlob.{ImportOrGlob}
+use Rattle.hir_per_ns.specs.declared.per_ns.PerNs.{PerNs}
+use Rattle.hir_per_ns.specs.declared.visibility.Visibility.{Visibility}
+use Rattle.hir_per_ns.specs.declared.imports.ImportOrExternCrate.TheVariants as import
+use Rattle.hir_per_ns.specs.declared.imports.ImportOrGlob.TheVariants as value_import
+use Rattle.hir_per_ns.specs.PerNs.{Item}
+use Rattle.hir_per_ns.specs.declared.visibility.Visibility.TheVariants as vis
 use Rattle.hir_def_map_rules.specs.State.{Local, Map, ModuleValue, Variants}
 use Rattle.hir_def_map_rules.specs.Overlay.{Maps, Placed}
 use Rattle.hir_def_map_rules.specs.Scoping.{resolution_of}

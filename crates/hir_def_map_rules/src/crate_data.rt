@@ -5,7 +5,7 @@ ghost use Rattle.std.specs.Cmp.Lexicographic.{slice_cmp};
 ghost use Rattle.std.specs.List.{list_any};
 ghost use Rattle.std.specs.List.Sorted.{IsStrictlySortedBy};
 ghost use Rattle.std.specs.BTreeSet.{insert_key};
-ghost use Rattle.hir_scope.specs.ModuleTree.{same_crate};
+ghost use Rattle.hir_per_ns.specs.ModuleTree.{same_crate};
 ghost use Rattle.hir_def_map_rules.specs.State.{new_data};
 ghost use Rattle.hir_def_map_rules.specs.Reads.{feature_in};
 

@@ -6,10 +6,10 @@ use Rattle.std.specs.List.{list_any}
 use Rattle.std.specs.Prelude.{nat_lt, unwrap_or, if◌then◌else◌}
 use Rattle.hir_ids.specs.declared.ids.ModuleId.{ModuleId}
 use Rattle.hir_scope.specs.Globs.{GlobNames}
-use Rattle.hir_scope.specs.ModuleTree.{same_crate, same_module}
-use Rattle.hir_scope.specs.Visibility.{both_in, greater_of, is_visible, lesser_of}
-use Rattle.hir_scope.specs.declared.visibility.Visibility.{Visibility}
-use Rattle.hir_scope.specs.declared.visibility.Visibility.TheVariants.{Module, PubCrate, Public}
+use Rattle.hir_per_ns.specs.ModuleTree.{same_crate, same_module}
+use Rattle.hir_per_ns.specs.Visibility.{both_in, greater_of, is_visible, lesser_of}
+use Rattle.hir_per_ns.specs.declared.visibility.Visibility.{Visibility}
+use Rattle.hir_per_ns.specs.declared.visibility.Visibility.TheVariants.{Module, PubCrate, Public}
 use Rattle.hir_def_map_rules.specs.Ancestors.{above_in, holders_in}
 use Rattle.hir_def_map_rules.specs.Inner.OverlayLaws.{same_id}
 use Rattle.hir_def_map_rules.specs.Overlay.{Maps, entry_in, module_in, overlay}

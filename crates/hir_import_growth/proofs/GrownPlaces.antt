@@ -12,10 +12,10 @@ use Rattle.hir_ids.specs.declared.ids.EnumId.{EnumId}
 use Rattle.hir_ids.specs.declared.ids.MapId.{MapId}
 use Rattle.hir_ids.specs.declared.ids.ModuleId.{ModuleId as AnyModule}
 use Rattle.hir_ids.specs.declared.explicitness.VisibilityExplicitness.{VisibilityExplicitness}
-use Rattle.hir_scope.specs.ModuleTree.{same_crate, same_map, same_module}
-use Rattle.hir_scope.specs.Visibility.{both_in, either_written, greater_of, is_visible, lesser_of, lower_of, stands_for, upper_of}
-use Rattle.hir_scope.specs.declared.visibility.Visibility.{Visibility}
-use Rattle.hir_scope.specs.declared.visibility.Visibility.TheVariants.{Module, PubCrate, Public}
+use Rattle.hir_per_ns.specs.ModuleTree.{same_crate, same_map, same_module}
+use Rattle.hir_per_ns.specs.Visibility.{both_in, either_written, greater_of, is_visible, lesser_of, lower_of, stands_for, upper_of}
+use Rattle.hir_per_ns.specs.declared.visibility.Visibility.{Visibility}
+use Rattle.hir_per_ns.specs.declared.visibility.Visibility.TheVariants.{Module, PubCrate, Public}
 use Rattle.hir_def_map_rules.specs.Ancestors.{above_in, above_inside, above_under, frame_of, frames_of, holders_in, numbers_of}
 use Rattle.hir_def_map_rules.specs.Inner.OverlayLaws.{frame_holders}
 use Rattle.hir_def_map_rules.specs.Overlay.{Maps, Placed, holders_of, holders_or, holders_under, overlay, placed_in}

@@ -13,12 +13,12 @@ use Rattle.hir_ids.specs.contracts.ids.MapIdPartialEq.TheImpl as map_id
 use Rattle.hir_ids.specs.declared.ast_id.BlockId.{BlockId}
 use Rattle.hir_ids.specs.declared.ids.MapId.{MapId}
 use Rattle.hir_ids.specs.declared.ids.ModuleId.{ModuleId as AnyModule}
-use Rattle.hir_scope.proofs.Wider.{exact_module}
+use Rattle.hir_per_ns.proofs.Wider.{exact_module}
 use Rattle.hir_scope.specs.Globs.{GlobNames}
-use Rattle.hir_scope.specs.ModuleTree.{is_at_or_above, same_block, same_crate, same_module}
-use Rattle.hir_scope.specs.Visibility.{both_in, greater_of, is_visible, stands_for}
-use Rattle.hir_scope.specs.declared.visibility.Visibility.{Visibility}
-use Rattle.hir_scope.specs.declared.visibility.Visibility.TheVariants.{Module, PubCrate, Public}
+use Rattle.hir_per_ns.specs.ModuleTree.{is_at_or_above, same_block, same_crate, same_module}
+use Rattle.hir_per_ns.specs.Visibility.{both_in, greater_of, is_visible, stands_for}
+use Rattle.hir_per_ns.specs.declared.visibility.Visibility.{Visibility}
+use Rattle.hir_per_ns.specs.declared.visibility.Visibility.TheVariants.{Module, PubCrate, Public}
 use Rattle.hir_def_map_rules.specs.Ancestors.{above_in, above_inside, above_under, frame_of, frames_of, holders_in, leads_to_root, number_in, numbers_above}
 use Rattle.hir_def_map_rules.specs.Ancestors.{numbers_of, step_in, step_to, steps_by, steps_from}
 use Rattle.hir_def_map_rules.specs.Inner.OverlayLaws.{exact_map, frame_holders, same_id}

@@ -9,8 +9,8 @@ use Rattle.hir_ids.specs.declared.ids.EnumId.{EnumId}
 use Rattle.hir_ids.specs.declared.ids.MapId.{MapId}
 use Rattle.hir_scope.specs.Globs.{GlobNames}
 use Rattle.hir_scope.specs.Scope.{ScopeValue}
-use Rattle.hir_scope.specs.Visibility.{greater_of, is_visible, lesser_of}
-use Rattle.hir_scope.specs.declared.visibility.Visibility.{Visibility}
+use Rattle.hir_per_ns.specs.Visibility.{greater_of, is_visible, lesser_of}
+use Rattle.hir_per_ns.specs.declared.visibility.Visibility.{Visibility}
 use Rattle.hir_def_map_rules.specs.Ancestors.{Frame, above_by, above_in, frame_of, frames_of, holders_by, holders_in}
 use Rattle.hir_def_map_rules.specs.Overlay.{Maps, Placed, entry_in, holders_or, holders_under, module_in, overlay, placed_in, variants_in}
 use Rattle.hir_def_map_rules.specs.Scoping.Segments.{variant_in}

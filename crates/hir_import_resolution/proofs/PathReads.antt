@@ -4,7 +4,7 @@ use Rattle.std.proofs.lemmas.Option.{slice_get-get_or}
 use Rattle.std.specs.Prelude.{slice_get}
 use Rattle.hir_base.specs.ModPath.{Path}
 use Rattle.hir_ids.specs.declared.ids.ModuleId.{ModuleId}
-use Rattle.hir_scope.specs.declared.imports.ImportId.{ImportId}
+use Rattle.hir_per_ns.specs.declared.imports.ImportId.{ImportId}
 use Rattle.hir_use_tree.specs.declared.imports.ImportKind.{ImportKind}
 use Rattle.hir_def_map_rules.specs.Overlay.{Maps}
 use Rattle.hir_def_map_rules.specs.Reaches.{by_import}

@@ -7,8 +7,8 @@ use Rattle.std.proofs.lemmas.List.Elements.{All-contains_itself, Contains-append
 use Rattle.std.specs.List.{All}
 use Rattle.hir_ids.specs.declared.ids.Crate.{Crate}
 use Rattle.hir_ids.specs.declared.ids.ExternCrateId.{ExternCrateId}
-use Rattle.hir_scope.specs.declared.imports.GlobId.{GlobId}
-use Rattle.hir_scope.specs.declared.per_ns.PerNs.{PerNs}
+use Rattle.hir_per_ns.specs.declared.imports.GlobId.{GlobId}
+use Rattle.hir_per_ns.specs.declared.per_ns.PerNs.{PerNs}
 use Rattle.hir_use_tree.specs.declared.imports.ImportKind.TheVariants as kinds
 use Rattle.hir_def_map_rules.specs.Overlay.{Maps, overlay}
 use Rattle.hir_def_map_rules.specs.Reaches.{by_import}

@@ -3,7 +3,7 @@ ghost use Rattle.std.specs.Prelude.{◌≡◌, ℕ, true, Some, slice_get};
 ghost use Rattle.hir_def_map_rules.specs.State.{IsInOrder, module_at};
 ghost use Rattle.hir_def_map.specs.WorldParts.{part_of};
 ghost use Rattle.hir_ids.specs.declared.ids.TraitId.{TraitId};
-ghost use Rattle.hir_scope.specs.declared.visibility.Visibility.{Visibility};
+ghost use Rattle.hir_per_ns.specs.declared.visibility.Visibility.{Visibility};
 ghost use Rattle.hir_def_map_laws.specs.ReadLaw.{has_no_variants, is_bare, is_bare_def, stops_bare};
 ghost use Rattle.hir_def_map.specs.Scoping.Slots.{slot_of};
 ghost use Rattle.hir_def_map_rules.specs.declared.reference.Reference.TheVariants as named;

@@ -1,7 +1,7 @@
 //! The names that globs read and write: those of a map that is built, and of what its globs reach elsewhere.
 ghost use Rattle.std.specs.Prelude.{◌≡◌, OnOk};
 ghost use Rattle.hir_scope.specs.Entries.{item_at};
-ghost use Rattle.hir_scope.specs.declared.item_in_ns.ItemInNs.TheVariants as in_ns;
+ghost use Rattle.hir_per_ns.specs.declared.item_in_ns.ItemInNs.TheVariants as in_ns;
 ghost use Rattle.hir_def_map_rules.specs.Overlay.{entry_in, module_in};
 ghost use Rattle.hir_def_map_rules.specs.State.{module_at, with_scope};
 ghost use Rattle.hir_def_map.specs.WorldParts.{part_of};

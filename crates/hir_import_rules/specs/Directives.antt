@@ -17,13 +17,13 @@ use Rattle.hir_use_tree.specs.declared.imports.ImportAlias.{ImportAlias}
 use Rattle.hir_use_tree.specs.declared.imports.ImportKind.{ImportKind}
 use Rattle.hir_use_tree.specs.declared.imports.ImportAlias.TheVariants.{Underscore, Alias}
 use Rattle.hir_use_tree.specs.declared.imports.ImportKind.TheVariants as kinds
-use Rattle.hir_scope.specs.PerNs.{keep_of, Item}
-use Rattle.hir_scope.specs.declared.imports.GlobId.{GlobId}
-use Rattle.hir_scope.specs.declared.imports.ImportId.{ImportId}
-use Rattle.hir_scope.specs.declared.imports.ImportOrExternCrate.{ImportOrExternCrate}
-use Rattle.hir_scope.specs.declared.per_ns.PerNs.{PerNs}
-use Rattle.hir_scope.specs.declared.visibility.Visibility.{Visibility}
-use Rattle.hir_scope.specs.declared.imports.ImportOrExternCrate.TheVariants as ways
+use Rattle.hir_per_ns.specs.PerNs.{keep_of, Item}
+use Rattle.hir_per_ns.specs.declared.imports.GlobId.{GlobId}
+use Rattle.hir_per_ns.specs.declared.imports.ImportId.{ImportId}
+use Rattle.hir_per_ns.specs.declared.imports.ImportOrExternCrate.{ImportOrExternCrate}
+use Rattle.hir_per_ns.specs.declared.per_ns.PerNs.{PerNs}
+use Rattle.hir_per_ns.specs.declared.visibility.Visibility.{Visibility}
+use Rattle.hir_per_ns.specs.declared.imports.ImportOrExternCrate.TheVariants as ways
 use Rattle.hir_def_map_rules.specs.Reaches.{by_import}
 use Rattle.hir_def_map_rules.specs.Scoping.{Resolution, resolution_of}
 use Rattle.hir_def_map_rules.specs.Scoping.Segments.{resolved, unresolved}

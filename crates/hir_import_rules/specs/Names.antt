@@ -5,17 +5,17 @@ use Rattle.hir_ids.specs.declared.ids.ModuleId.{ModuleId}
 use Rattle.hir_ids.specs.declared.ids.TraitId.{TraitId}
 use Rattle.hir_ids.specs.declared.ids.ModuleDefId.TheVariants as definitions
 use Rattle.hir_scope.specs.Globs.{GlobNames}
-use Rattle.hir_scope.specs.ModuleTree.{same_crate}
-use Rattle.hir_scope.specs.PerNs.{Item, macros_only, nothing, types_only, values_only}
+use Rattle.hir_per_ns.specs.ModuleTree.{same_crate}
+use Rattle.hir_per_ns.specs.PerNs.{Item, macros_only, nothing, types_only, values_only}
 use Rattle.hir_scope.specs.Scope.{ScopeValue}
 use Rattle.hir_scope.specs.Scope.Reads.{unnamed_vis}
-use Rattle.hir_scope.specs.declared.imports.GlobId.{GlobId}
-use Rattle.hir_scope.specs.declared.item_in_ns.ItemInNs.{ItemInNs}
-use Rattle.hir_scope.specs.declared.per_ns.PerNs.{PerNs}
-use Rattle.hir_scope.specs.declared.visibility.Visibility.{Visibility}
-use Rattle.hir_scope.specs.declared.imports.ImportOrExternCrate.TheVariants as ways
-use Rattle.hir_scope.specs.declared.item_in_ns.ItemInNs.TheVariants as in_ns
-use Rattle.hir_scope.specs.declared.visibility.Visibility.TheVariants.{Public}
+use Rattle.hir_per_ns.specs.declared.imports.GlobId.{GlobId}
+use Rattle.hir_per_ns.specs.declared.item_in_ns.ItemInNs.{ItemInNs}
+use Rattle.hir_per_ns.specs.declared.per_ns.PerNs.{PerNs}
+use Rattle.hir_per_ns.specs.declared.visibility.Visibility.{Visibility}
+use Rattle.hir_per_ns.specs.declared.imports.ImportOrExternCrate.TheVariants as ways
+use Rattle.hir_per_ns.specs.declared.item_in_ns.ItemInNs.TheVariants as in_ns
+use Rattle.hir_per_ns.specs.declared.visibility.Visibility.TheVariants.{Public}
 use Rattle.hir_def_map_rules.specs.Overlay.{Maps, entry_in, module_in, overlay}
 use Rattle.hir_def_map_rules.specs.Scoping.Segments.{variant_bound, variant_in}
 use Rattle.hir_def_map_rules.specs.State.{Map, ModuleValue, entry_at, globs_after, module_at, numbered, pushed, with_scope}

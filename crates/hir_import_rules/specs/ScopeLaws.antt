@@ -16,20 +16,20 @@ use Rattle.hir_ids.specs.declared.ids.ModuleDefId.TheVariants as definitions
 use Rattle.hir_scope.specs.Bindings.{first_of, with_item_definition, with_item_visibility}
 use Rattle.hir_scope.specs.Entries.{item_at, with_entry}
 use Rattle.hir_scope.specs.Globs.{GlobNames, Place}
-use Rattle.hir_scope.specs.PerNs.{Item}
+use Rattle.hir_per_ns.specs.PerNs.{Item}
 use Rattle.hir_scope.specs.Scope.{ScopeValue, binding_of}
 use Rattle.hir_scope.specs.Scope.Push.{pushed_scope}
 use Rattle.hir_scope.specs.Scope.Reads.{unnamed_vis}
-use Rattle.hir_scope.specs.declared.imports.GlobId.{GlobId}
-use Rattle.hir_scope.specs.declared.imports.ImportId.{ImportId}
-use Rattle.hir_scope.specs.declared.imports.ImportOrExternCrate.{ImportOrExternCrate}
-use Rattle.hir_scope.specs.declared.imports.ImportOrGlob.{ImportOrGlob}
-use Rattle.hir_scope.specs.declared.item_in_ns.ItemInNs.{ItemInNs}
-use Rattle.hir_scope.specs.declared.per_ns.PerNs.{PerNs}
-use Rattle.hir_scope.specs.declared.visibility.Visibility.{Visibility}
-use Rattle.hir_scope.specs.declared.imports.ImportOrExternCrate.TheVariants as ways
-use Rattle.hir_scope.specs.declared.imports.ImportOrGlob.TheVariants as value_ways
-use Rattle.hir_scope.specs.declared.item_in_ns.ItemInNs.TheVariants as in_ns
+use Rattle.hir_per_ns.specs.declared.imports.GlobId.{GlobId}
+use Rattle.hir_per_ns.specs.declared.imports.ImportId.{ImportId}
+use Rattle.hir_per_ns.specs.declared.imports.ImportOrExternCrate.{ImportOrExternCrate}
+use Rattle.hir_per_ns.specs.declared.imports.ImportOrGlob.{ImportOrGlob}
+use Rattle.hir_per_ns.specs.declared.item_in_ns.ItemInNs.{ItemInNs}
+use Rattle.hir_per_ns.specs.declared.per_ns.PerNs.{PerNs}
+use Rattle.hir_per_ns.specs.declared.visibility.Visibility.{Visibility}
+use Rattle.hir_per_ns.specs.declared.imports.ImportOrExternCrate.TheVariants as ways
+use Rattle.hir_per_ns.specs.declared.imports.ImportOrGlob.TheVariants as value_ways
+use Rattle.hir_per_ns.specs.declared.item_in_ns.ItemInNs.TheVariants as in_ns
 use Rattle.hir_scope.proofs.AfterPush.{binding_of-pushed_by_glob, binding_of-pushed_other, item_at-with_entry, item_at-with_entry_other}
 use Rattle.hir_glob_imports.specs.Keys.{slot_at}
 use Rattle.hir_glob_imports.specs.declared.edge.Bound.{Bound}

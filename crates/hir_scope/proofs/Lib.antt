@@ -1,8 +1,6 @@
-pub mod Wider
 pub mod Rewrites
 pub mod Pushes
 pub mod AfterPush
-pub mod FilterLemmas
 pub mod ImportChainLemmas
 pub mod AscendingLemmas
 pub mod WalkLemmas

@@ -2,7 +2,7 @@
 ghost use Rattle.std.specs.Prelude.{List};
 ghost use Rattle.std.specs.Option.{option_copied};
 ghost use Rattle.std.specs.Map.Iter.{deref_pair};
-ghost use Rattle.hir_scope.specs.PerNs.{items_left};
+ghost use Rattle.hir_per_ns.specs.PerNs.{items_left};
 ghost use Rattle.hir_scope.specs.Laws.{BindingsAscend, EntriesAscend, GivesItsList, ImportsAscend};
 
 use crate::imports::{ImportOrExternCrate, ImportOrGlob};

@@ -5,7 +5,7 @@ use Rattle.hir_ids.specs.declared.ast_id.BlockId.{BlockId}
 use Rattle.hir_ids.specs.declared.ids.Crate.{Crate}
 use Rattle.hir_ids.specs.declared.ids.ModuleId.{ModuleId}
 use Rattle.hir_scope.specs.Bindings.{first_of}
-use Rattle.hir_scope.specs.ModuleTree.{chain_from}
+use Rattle.hir_per_ns.specs.ModuleTree.{chain_from}
 
 -- a module by its crate, block and number
 abbrev pub module_at : Crate → Option BlockId → ℕ → ModuleId

@@ -19,13 +19,13 @@ use Rattle.hir_ids.specs.declared.ast_id.HirFileId.TheVariants.{File, Macro}
 use Rattle.hir_ids.specs.declared.ids.AdtId.TheVariants as adt
 use Rattle.hir_ids.specs.declared.ids.ModuleDefId.TheVariants as def
 use Rattle.hir_ids.specs.declared.macro_kind.MacroId.TheVariants as macro
-use Rattle.hir_scope.specs.PerNs.{Item}
-use Rattle.hir_scope.specs.declared.imports.ImportOrExternCrate.{ImportOrExternCrate}
-use Rattle.hir_scope.specs.declared.imports.ImportOrGlob.{ImportOrGlob}
-use Rattle.hir_scope.specs.declared.visibility.Visibility.{Visibility}
-use Rattle.hir_scope.specs.declared.imports.ImportOrExternCrate.TheVariants as import
-use Rattle.hir_scope.specs.declared.imports.ImportOrGlob.TheVariants as value_import
-use Rattle.hir_scope.specs.declared.visibility.Visibility.TheVariants as vis
+use Rattle.hir_per_ns.specs.PerNs.{Item}
+use Rattle.hir_per_ns.specs.declared.imports.ImportOrExternCrate.{ImportOrExternCrate}
+use Rattle.hir_per_ns.specs.declared.imports.ImportOrGlob.{ImportOrGlob}
+use Rattle.hir_per_ns.specs.declared.visibility.Visibility.{Visibility}
+use Rattle.hir_per_ns.specs.declared.imports.ImportOrExternCrate.TheVariants as import
+use Rattle.hir_per_ns.specs.declared.imports.ImportOrGlob.TheVariants as value_import
+use Rattle.hir_per_ns.specs.declared.visibility.Visibility.TheVariants as vis
 use Rattle.hir_tables.specs.Tables.{TablesValue, KeepsTables, block_at, call_at}
 use Rattle.hir_def_map_rules.specs.Diagnostics.{DiagnosticValue, KindValue, call_node, diagnostic_view, node_of}
 use Rattle.hir_def_map_rules.specs.Scoping.{resolution_of}

@@ -12,9 +12,9 @@ use Rattle.hir_ids.specs.declared.macro_kind.MacroId.TheVariants as macros
 use Rattle.hir_base.specs.declared.resolve_mode.MacroSubNs.TheVariants as sub_namespaces
 use Rattle.hir_crate_graph.specs.CrateSet.{has_crate}
 use Rattle.hir_base.specs.declared.tree_id.TreeKey.{TreeKey}
-use Rattle.hir_scope.specs.PerNs.{Item}
-use Rattle.hir_scope.specs.declared.imports.ImportOrExternCrate.{ImportOrExternCrate}
-use Rattle.hir_scope.specs.declared.per_ns.PerNs.{PerNs}
+use Rattle.hir_per_ns.specs.PerNs.{Item}
+use Rattle.hir_per_ns.specs.declared.imports.ImportOrExternCrate.{ImportOrExternCrate}
+use Rattle.hir_per_ns.specs.declared.per_ns.PerNs.{PerNs}
 use Rattle.hir_tables.specs.Tables.{KeepsTables, TablesValue, source_under}
 use Rattle.hir_def_map.specs.Inner.PartLaws.{among-only}
 use Rattle.hir_def_map.specs.WorldParts.{among}

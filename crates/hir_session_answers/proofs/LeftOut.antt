@@ -23,13 +23,13 @@ use Rattle.hir_ids.specs.declared.ids.AdtId.TheVariants as adt
 use Rattle.hir_ids.specs.declared.ids.ModuleDefId.TheVariants as def
 use Rattle.hir_ids.specs.contracts.ids.MapIdPartialEq.TheImpl as map_id
 use Rattle.hir_ids.specs.declared.macro_kind.MacroId.TheVariants as macro
-use Rattle.hir_scope.specs.declared.imports.ImportOrExternCrate.{ImportOrExternCrate}
-use Rattle.hir_scope.specs.declared.imports.ImportOrGlob.{ImportOrGlob}
-use Rattle.hir_scope.specs.declared.visibility.Visibility.{Visibility}
-use Rattle.hir_scope.specs.declared.imports.ImportOrExternCrate.TheVariants as import
-use Rattle.hir_scope.specs.declared.imports.ImportOrGlob.TheVariants as value_import
-use Rattle.hir_scope.specs.PerNs.{Item}
-use Rattle.hir_scope.specs.declared.visibility.Visibility.TheVariants as vis
+use Rattle.hir_per_ns.specs.declared.imports.ImportOrExternCrate.{ImportOrExternCrate}
+use Rattle.hir_per_ns.specs.declared.imports.ImportOrGlob.{ImportOrGlob}
+use Rattle.hir_per_ns.specs.declared.visibility.Visibility.{Visibility}
+use Rattle.hir_per_ns.specs.declared.imports.ImportOrExternCrate.TheVariants as import
+use Rattle.hir_per_ns.specs.declared.imports.ImportOrGlob.TheVariants as value_import
+use Rattle.hir_per_ns.specs.PerNs.{Item}
+use Rattle.hir_per_ns.specs.declared.visibility.Visibility.TheVariants as vis
 use Rattle.hir_def_map_rules.specs.Closed.{AreThere, IsThere, ModuleIsThere, PathsLeadToWhatIsThere}
 use Rattle.hir_def_map_rules.specs.WellFormed.{AreWellFormed}
 use Rattle.hir_def_map_rules.specs.References.{is_missing, reference_to, test_of, test_visibility, FailsAtItem}

@@ -23,7 +23,7 @@ use Rattle.hir_def_map_rules.specs.References.{any_own_crate, is_holder_for, is_
 use Rattle.hir_def_map_rules.specs.State.{crate_map, module_at}
 use Rattle.hir_def_map_rules.specs.WellFormed.{AreWellFormed, Extends}
 use Rattle.hir_session_state.specs.Crates.{transitive_in}
-use Rattle.hir_scope.specs.ModuleTree.{same_crate}
+use Rattle.hir_per_ns.specs.ModuleTree.{same_crate}
 use Rattle.hir_session_state.specs.Kept.{Resolution, collected_of, placed_by}
 use Rattle.hir_session_state.specs.SessionState.{SessionState, finished_of, is_marked, kept_of, read_under, workspace_of, IsResolutionOf, IsSound}
 use Rattle.hir_session_state.proofs.Depending.{depended}

@@ -1,6 +1,6 @@
 -- What may an answer leave out?
 use Rattle.std.specs.Prelude.{◌≡◌, is_some}
-use Rattle.hir_scope.specs.declared.per_ns.PerNs.{PerNs}
+use Rattle.hir_per_ns.specs.declared.per_ns.PerNs.{PerNs}
 use Rattle.hir_wire.specs.declared.answer.Answer.{Answer}
 
 -- nothing: it has a source item in each namespace in which a name stands for something

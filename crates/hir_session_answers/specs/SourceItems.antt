@@ -19,13 +19,13 @@ use Rattle.hir_ids.specs.declared.ids.ModuleDefId.TheVariants as def
 use Rattle.hir_ids.specs.declared.macro_kind.MacroId.TheVariants as macro
 use Rattle.hir_ids.specs.declared.explicitness.VisibilityExplicitness.{VisibilityExplicitness}
 use Rattle.hir_ids.specs.declared.explicitness.VisibilityExplicitness.TheVariants as explicitness
-use Rattle.hir_scope.specs.declared.imports.ImportOrExternCrate.{ImportOrExternCrate}
-use Rattle.hir_scope.specs.declared.imports.ImportOrGlob.{ImportOrGlob}
-use Rattle.hir_scope.specs.declared.visibility.Visibility.{Visibility}
-use Rattle.hir_scope.specs.declared.imports.ImportOrExternCrate.TheVariants as import
-use Rattle.hir_scope.specs.declared.imports.ImportOrGlob.TheVariants as value_import
-use Rattle.hir_scope.specs.PerNs.{Item}
-use Rattle.hir_scope.specs.declared.visibility.Visibility.TheVariants as vis
+use Rattle.hir_per_ns.specs.declared.imports.ImportOrExternCrate.{ImportOrExternCrate}
+use Rattle.hir_per_ns.specs.declared.imports.ImportOrGlob.{ImportOrGlob}
+use Rattle.hir_per_ns.specs.declared.visibility.Visibility.{Visibility}
+use Rattle.hir_per_ns.specs.declared.imports.ImportOrExternCrate.TheVariants as import
+use Rattle.hir_per_ns.specs.declared.imports.ImportOrGlob.TheVariants as value_import
+use Rattle.hir_per_ns.specs.PerNs.{Item}
+use Rattle.hir_per_ns.specs.declared.visibility.Visibility.TheVariants as vis
 use Rattle.hir_def_map_rules.specs.Overlay.{Maps, module_in}
 use Rattle.hir_def_map_rules.specs.declared.origin.ModuleOrigin.{ModuleOrigin}
 use Rattle.hir_def_map_rules.specs.declared.origin.ModuleOrigin.TheVariants as origin

@@ -21,7 +21,7 @@ use Rattle.hir_ids.specs.declared.macro_kind.MacroId.{MacroId}
 use Rattle.hir_base.specs.contracts.tree_id.TreeIdPartialEq.TheImpl as tree_eq
 use Rattle.hir_base.specs.contracts.tree_id.TreeKeyPartialEq.TheImpl as tree_key_eq
 use Rattle.hir_base.specs.declared.tree_id.TreeKey.{TreeKey}
-use Rattle.hir_scope.specs.declared.item_in_ns.ItemInNs.TheVariants as in_ns
+use Rattle.hir_per_ns.specs.declared.item_in_ns.ItemInNs.TheVariants as in_ns
 use Rattle.hir_def_map_rules.proofs.EnumIds.{exact_enum}
 use Rattle.hir_def_map_rules.specs.Inner.OverlayLaws.{exact_map}
 use Rattle.hir_def_collector_laws.proofs.Exact.{exact_item}

@@ -25,7 +25,7 @@ use Rattle.hir_def_map_rules.proofs.NoneOf.{neither, none_of_less}
 use Rattle.hir_def_map_rules.specs.State.{Local, Map, crate_map, module_at, variants_at}
 use Rattle.hir_def_map_rules.specs.Overlay.{Maps, Placed, overlay, holders_of, holders_under, map_in, module_in, placed_in}
 use Rattle.hir_crate_graph.specs.CrateSet.{has_crate}
-use Rattle.hir_scope.specs.ModuleTree.{same_crate}
+use Rattle.hir_per_ns.specs.ModuleTree.{same_crate}
 use Rattle.hir_session_state.specs.Kept.{Resolution, Resolutions, finished_by, kept_in, placed_by}
 use Rattle.hir_session_state.proofs.Ids.{equal_id, own_id}
 use Rattle.hir_session_state.proofs.Truth.{and_left, and_right, both_true, clash, no_value, on_bool, one_value, or_right}

@@ -10,7 +10,7 @@ use Rattle.hir_base.specs.declared.place.BlockPlace.{BlockPlace}
 use Rattle.hir_ids.specs.declared.ids.Crate.{Crate}
 use Rattle.hir_ids.specs.declared.ids.MapId.{MapId}
 use Rattle.hir_ids.specs.declared.ids.ModuleId.{ModuleId}
-use Rattle.hir_scope.specs.ModuleTree.{same_crate}
+use Rattle.hir_per_ns.specs.ModuleTree.{same_crate}
 use Rattle.hir_tables.specs.SourcePlaces.{file}
 use Rattle.hir_tables.specs.Tables.{KeepsTables, TablesValue, file_at}
 use Rattle.hir_def_map.specs.Inner.PartLaws.{among-only, among-there}

@@ -8,7 +8,7 @@ use Rattle.hir_ids.specs.declared.macro_kind.MacroId.{MacroId}
 use Rattle.hir_ids.specs.declared.ids.MapId.{MapId}
 use Rattle.hir_ids.specs.declared.ids.ModuleId.{ModuleId}
 use Rattle.hir_ids.specs.declared.macro_kind.MacroId.TheVariants as macros
-use Rattle.hir_scope.specs.ModuleTree.{same_crate}
+use Rattle.hir_per_ns.specs.ModuleTree.{same_crate}
 use Rattle.hir_tables.specs.Tables.{TablesValue}
 use Rattle.hir_def_map.specs.Inner.PartLaws.{among_agrees}
 use Rattle.hir_def_map_rules.specs.Inner.OverlayLaws.{exact_map}

@@ -1,6 +1,6 @@
 //! What visibilities mean over several maps.
 ghost use Rattle.std.specs.Prelude.{◌≡◌, false, map, IfOk, IfSome, option_copied};
-ghost use Rattle.hir_scope.specs.Visibility.{is_visible, lesser_of, IsMeet};
+ghost use Rattle.hir_per_ns.specs.Visibility.{is_visible, lesser_of, IsMeet};
 ghost use Rattle.hir_def_map_rules.specs.Ancestors.{above_in, holders_in};
 ghost use Rattle.hir_def_map.specs.DefMaps.{maps_of};
 ghost use Rattle.hir_def_map_rules.specs.Scoping.Asking.{local_of};

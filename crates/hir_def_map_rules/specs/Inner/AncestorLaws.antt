@@ -8,7 +8,7 @@ use Rattle.hir_ids.specs.declared.ids.Crate.{Crate}
 use Rattle.hir_ids.specs.declared.ids.MapId.{MapId}
 use Rattle.hir_ids.specs.declared.ids.ModuleId.{ModuleId}
 use Rattle.hir_scope.specs.Bindings.{first_of}
-use Rattle.hir_scope.specs.ModuleTree.{chain_from, up_of, IsInOneCrate}
+use Rattle.hir_per_ns.specs.ModuleTree.{chain_from, up_of, IsInOneCrate}
 use Rattle.hir_def_map_rules.specs.Overlay.{Maps}
 use Rattle.hir_def_map_rules.specs.State.{numbered}
 use Rattle.hir_def_map_rules.specs.Ancestors.{Frame, Frames, above_by, above_in, above_inside, above_under, ends_from, ends_within, frames_of, head_of}

@@ -3,7 +3,7 @@ use Rattle.std.specs.Prelude.{ℕ, List, [], ◌∷◌, max, ◌&&◌, ◌||◌,
 use Rattle.hir_ids.specs.declared.ids.ModuleId.{ModuleId}
 use Rattle.hir_base.specs.declared.mod_path.PathKind.{PathKind}
 use Rattle.hir_base.specs.declared.mod_path.PathKind.TheVariants as kinds
-use Rattle.hir_scope.specs.PerNs.{or_of}
+use Rattle.hir_per_ns.specs.PerNs.{or_of}
 use Rattle.hir_def_map_rules.specs.Overlay.{Maps, map_in}
 use Rattle.hir_def_map_rules.specs.Ancestors.{holders_in}
 use Rattle.hir_def_map_rules.specs.Scoping.Asking.{Asking}

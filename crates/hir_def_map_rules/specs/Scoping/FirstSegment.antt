@@ -12,11 +12,11 @@ use Rattle.hir_ids.specs.declared.ids.ModuleDefId.{ModuleDefId}
 use Rattle.hir_ids.specs.declared.ids.UseId.{UseId}
 use Rattle.hir_ids.specs.declared.ids.ModuleId.{ModuleId as AnyModule}
 use Rattle.hir_ids.specs.declared.ids.ModuleDefId.TheVariants.{ModuleId, BuiltinType}
-use Rattle.hir_scope.specs.declared.imports.ImportOrExternCrate.{ImportOrExternCrate}
-use Rattle.hir_scope.specs.declared.per_ns.PerNs.{PerNs}
-use Rattle.hir_scope.specs.declared.imports.ImportOrExternCrate.TheVariants as ways
-use Rattle.hir_scope.specs.PerNs.{Item, nothing, types_only, macros_only, or_of}
-use Rattle.hir_scope.specs.declared.visibility.Visibility.TheVariants.{Public}
+use Rattle.hir_per_ns.specs.declared.imports.ImportOrExternCrate.{ImportOrExternCrate}
+use Rattle.hir_per_ns.specs.declared.per_ns.PerNs.{PerNs}
+use Rattle.hir_per_ns.specs.declared.imports.ImportOrExternCrate.TheVariants as ways
+use Rattle.hir_per_ns.specs.PerNs.{Item, nothing, types_only, macros_only, or_of}
+use Rattle.hir_per_ns.specs.declared.visibility.Visibility.TheVariants.{Public}
 use Rattle.hir_scope.specs.Scope.Reads.{last_legacy_at}
 use Rattle.hir_def_map_rules.specs.State.{Local, Map, ModuleValue, at_name, crate_root}
 use Rattle.hir_def_map_rules.specs.Overlay.{Maps, entry_in, map_in, module_in}

@@ -7,12 +7,12 @@ use Rattle.hir_ids.specs.declared.ids.ModuleDefId.{ModuleDefId}
 use Rattle.hir_ids.specs.declared.ids.ModuleDefId.TheVariants as definitions
 use Rattle.hir_ids.specs.declared.ids.AdtId.TheVariants as adts
 use Rattle.hir_base.specs.Shape.{has_constructor}
-use Rattle.hir_scope.specs.declared.imports.ImportOrExternCrate.{ImportOrExternCrate}
-use Rattle.hir_scope.specs.declared.per_ns.PerNs.{PerNs}
-use Rattle.hir_scope.specs.declared.visibility.Visibility.{Visibility}
-use Rattle.hir_scope.specs.PerNs.{Item, nothing, keep_of, with_constructor}
-use Rattle.hir_scope.specs.ModuleTree.{same_crate}
-use Rattle.hir_scope.specs.Visibility.{is_visible}
+use Rattle.hir_per_ns.specs.declared.imports.ImportOrExternCrate.{ImportOrExternCrate}
+use Rattle.hir_per_ns.specs.declared.per_ns.PerNs.{PerNs}
+use Rattle.hir_per_ns.specs.declared.visibility.Visibility.{Visibility}
+use Rattle.hir_per_ns.specs.PerNs.{Item, nothing, keep_of, with_constructor}
+use Rattle.hir_per_ns.specs.ModuleTree.{same_crate}
+use Rattle.hir_per_ns.specs.Visibility.{is_visible}
 use Rattle.hir_def_map_rules.specs.Overlay.{Maps, entry_in, variants_in}
 use Rattle.hir_def_map_rules.specs.State.{Variants, at_name}
 use Rattle.hir_def_map_rules.specs.Ancestors.{above_in, holders_in}

@@ -8,10 +8,10 @@ use Rattle.hir_ids.specs.declared.edition.Edition.TheVariants as editions
 use Rattle.hir_ids.specs.declared.ids.ModuleId.{ModuleId as AnyModule}
 use Rattle.hir_ids.specs.declared.ids.ModuleDefId.TheVariants.{ModuleId}
 use Rattle.hir_base.specs.declared.mod_path.PathKind.TheVariants as kinds
-use Rattle.hir_scope.specs.declared.per_ns.PerNs.{PerNs}
-use Rattle.hir_scope.specs.declared.visibility.Visibility.TheVariants.{Public}
-use Rattle.hir_scope.specs.ModuleTree.{same_block, same_crate}
-use Rattle.hir_scope.specs.PerNs.{types_only}
+use Rattle.hir_per_ns.specs.declared.per_ns.PerNs.{PerNs}
+use Rattle.hir_per_ns.specs.declared.visibility.Visibility.TheVariants.{Public}
+use Rattle.hir_per_ns.specs.ModuleTree.{same_block, same_crate}
+use Rattle.hir_per_ns.specs.PerNs.{types_only}
 pub use Rattle.hir_def_map_rules.specs.State.{crate_root}
 use Rattle.hir_def_map_rules.specs.State.{Map}
 use Rattle.hir_def_map_rules.specs.Overlay.{Maps, map_in, parent_in}

@@ -8,14 +8,14 @@ use Rattle.hir_ids.specs.declared.ids.TraitId.{TraitId}
 use Rattle.hir_ids.specs.declared.ids.ModuleDefId.TheVariants as definitions
 use Rattle.hir_scope.specs.Entries.{item_at}
 use Rattle.hir_scope.specs.Globs.{GlobNames}
-use Rattle.hir_scope.specs.PerNs.{Item}
+use Rattle.hir_per_ns.specs.PerNs.{Item}
 use Rattle.hir_scope.specs.Scope.{ScopeValue}
-use Rattle.hir_scope.specs.declared.imports.GlobId.{GlobId}
-use Rattle.hir_scope.specs.declared.imports.ImportOrExternCrate.{ImportOrExternCrate}
-use Rattle.hir_scope.specs.declared.imports.ImportOrGlob.{ImportOrGlob}
-use Rattle.hir_scope.specs.declared.item_in_ns.ItemInNs.{ItemInNs}
-use Rattle.hir_scope.specs.declared.visibility.Visibility.{Visibility}
-use Rattle.hir_scope.specs.declared.item_in_ns.ItemInNs.TheVariants as in_ns
+use Rattle.hir_per_ns.specs.declared.imports.GlobId.{GlobId}
+use Rattle.hir_per_ns.specs.declared.imports.ImportOrExternCrate.{ImportOrExternCrate}
+use Rattle.hir_per_ns.specs.declared.imports.ImportOrGlob.{ImportOrGlob}
+use Rattle.hir_per_ns.specs.declared.item_in_ns.ItemInNs.{ItemInNs}
+use Rattle.hir_per_ns.specs.declared.visibility.Visibility.{Visibility}
+use Rattle.hir_per_ns.specs.declared.item_in_ns.ItemInNs.TheVariants as in_ns
 use Rattle.hir_def_map_rules.specs.State.{ModuleValue, module_at, place_at, with_scope}
 use Rattle.hir_glob_imports.specs.Keys.{slot_at}
 use Rattle.hir_glob_imports.specs.View.{Binds, IsNameTable, with_vis}

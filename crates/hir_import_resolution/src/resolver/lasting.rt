@@ -1,7 +1,7 @@
 //! Whether what was found out lasts as the map grows.
 ghost use Rattle.std.specs.Prelude.{◌≡◌, true, false, Some};
 ghost use Rattle.hir_ids.specs.declared.ids.TraitId.{TraitId};
-ghost use Rattle.hir_scope.specs.declared.visibility.Visibility.{Visibility};
+ghost use Rattle.hir_per_ns.specs.declared.visibility.Visibility.{Visibility};
 ghost use Rattle.hir_def_map_rules.specs.State.{module_at};
 ghost use Rattle.hir_def_map_laws.specs.ReadLaw.{stops_bare};
 ghost use Rattle.hir_import_resolution.specs.Inner.State.{with_lasting};

@@ -35,17 +35,17 @@ use Rattle.hir_ids.specs.contracts.macro_kind.MacroIdPartialEq.TheImpl as makro
 use Rattle.hir_ids.specs.contracts.macro_kind.MacroIdEq.TheImpl.Laws.{laws-law as makro_laws}
 use Rattle.hir_textual_scope.specs.contracts.textual_scope.TextualMacroPartialEq.TheImpl as textual_macro
 use Rattle.hir_textual_scope.specs.contracts.textual_scope.TextualMacroEq.TheImpl.Laws.{laws-law as textual_macro_laws}
-use Rattle.hir_scope.specs.contracts.imports.ImportIdPartialEq.TheImpl as import_id
-use Rattle.hir_scope.specs.contracts.imports.ImportIdEq.TheImpl.Laws.{laws-law as import_id_laws}
-use Rattle.hir_scope.specs.contracts.imports.ImportOrDefPartialEq.TheImpl as import_or_def
-use Rattle.hir_scope.specs.contracts.imports.ImportOrDefEq.TheImpl.Laws.{laws-law as import_or_def_laws}
-use Rattle.hir_scope.specs.contracts.imports.ImportOrExternCratePartialEq.TheImpl as import_or_extern_crate
-use Rattle.hir_scope.specs.contracts.imports.ImportOrExternCrateEq.TheImpl.Laws.{laws-law as import_or_extern_crate_laws}
-use Rattle.hir_scope.specs.contracts.imports.ImportOrGlobPartialEq.TheImpl as import_or_glob
-use Rattle.hir_scope.specs.contracts.imports.ImportOrGlobEq.TheImpl.Laws.{laws-law as import_or_glob_laws}
-use Rattle.hir_scope.specs.contracts.visibility.VisibilityPartialEq.TheImpl as visibility
-use Rattle.hir_scope.specs.contracts.visibility.VisibilityEq.TheImpl.Laws.{laws-law as visibility_laws}
-use Rattle.hir_scope.specs.PerNs.{Item}
+use Rattle.hir_per_ns.specs.contracts.imports.ImportIdPartialEq.TheImpl as import_id
+use Rattle.hir_per_ns.specs.contracts.imports.ImportIdEq.TheImpl.Laws.{laws-law as import_id_laws}
+use Rattle.hir_per_ns.specs.contracts.imports.ImportOrDefPartialEq.TheImpl as import_or_def
+use Rattle.hir_per_ns.specs.contracts.imports.ImportOrDefEq.TheImpl.Laws.{laws-law as import_or_def_laws}
+use Rattle.hir_per_ns.specs.contracts.imports.ImportOrExternCratePartialEq.TheImpl as import_or_extern_crate
+use Rattle.hir_per_ns.specs.contracts.imports.ImportOrExternCrateEq.TheImpl.Laws.{laws-law as import_or_extern_crate_laws}
+use Rattle.hir_per_ns.specs.contracts.imports.ImportOrGlobPartialEq.TheImpl as import_or_glob
+use Rattle.hir_per_ns.specs.contracts.imports.ImportOrGlobEq.TheImpl.Laws.{laws-law as import_or_glob_laws}
+use Rattle.hir_per_ns.specs.contracts.visibility.VisibilityPartialEq.TheImpl as visibility
+use Rattle.hir_per_ns.specs.contracts.visibility.VisibilityEq.TheImpl.Laws.{laws-law as visibility_laws}
+use Rattle.hir_per_ns.specs.PerNs.{Item}
 use Rattle.hir_scope.specs.Scope.{ScopeValue, DeriveCall, DeriveCalls}
 
 -- a test of two values

@@ -2,7 +2,7 @@
 ghost use Rattle.std.specs.Prelude.{◌≡◌, ◌≢◌, true, false, not, OnOk, OnErr, IfOk};
 ghost use Rattle.hir_scope.specs.Bindings.{type_candidate, value_candidate, macro_candidate};
 ghost use Rattle.hir_scope.specs.ImportRecords.{is_glob, reached_by, value_reached_by};
-ghost use Rattle.hir_scope.specs.PerNs.{is_nothing};
+ghost use Rattle.hir_per_ns.specs.PerNs.{is_nothing};
 ghost use Rattle.hir_scope.specs.Scope.Push.{taken_candidates, written_scope, written_globs, is_unresolved, with_unresolved, pushed_scope, pushed_globs, push_changes, PushesType, PushesValue, PushesMacro, RecordsType, RecordsValue, RecordsMacro, IsNewlyUnresolved, slots_of};
 
 use crate::glob_imports::PerNsGlobImports;

@@ -1,7 +1,7 @@
 //! The further segments of a path.
 ghost use Rattle.std.specs.Prelude.{◌≡◌, ℕ, ◌+◌, ◌<◌, ◌^◌, length};
-ghost use Rattle.hir_scope.specs.PerNs.{keep_item};
-ghost use Rattle.hir_scope.specs.Visibility.{is_visible};
+ghost use Rattle.hir_per_ns.specs.PerNs.{keep_item};
+ghost use Rattle.hir_per_ns.specs.Visibility.{is_visible};
 ghost use Rattle.hir_def_map_rules.specs.Ancestors.{above_in, holders_in};
 ghost use Rattle.hir_def_map.specs.DefMaps.{maps_of};
 ghost use Rattle.hir_def_map_rules.specs.Scoping.Segments.{after_enum, after_variant, nearest_non_block_module, resolved, rest, seen, stopped, through_adt, unresolved, variant_bound};

@@ -2,7 +2,7 @@
 ghost use Rattle.std.specs.Prelude.{◌≡◌, ℕ, List};
 ghost use Rattle.std.specs.Iterator.{YieldsFirstBy, item_count};
 ghost use Rattle.std.specs.Map.Iter.{deref_pair};
-ghost use Rattle.hir_scope.specs.PerNs.{Item};
+ghost use Rattle.hir_per_ns.specs.PerNs.{Item};
 
 use crate::imports::{ImportOrExternCrate, ImportOrGlob};
 use crate::item_scope::ItemScope;
@@ -21,7 +21,7 @@ pub struct Bindings<'a, Def, Import> {
 
 impl<'a, Def, Import> Model for Bindings<'a, Def, Import> {
     ghost use Rattle.std.specs.Prelude.{ℕ, List};
-    ghost use Rattle.hir_scope.specs.PerNs.{Item};
+    ghost use Rattle.hir_per_ns.specs.PerNs.{Item};
 
     ghost Value = { List (List ℕ × Item Def Import) };
 

@@ -26,7 +26,7 @@ pub struct ModulesInScope<'a> {
 impl<'a> Model for ModulesInScope<'a> {
     ghost use Rattle.std.specs.Prelude.{List};
     ghost use Rattle.hir_ids.specs.declared.ids.ModuleId.{ModuleId};
-    ghost use Rattle.hir_scope.specs.declared.visibility.Visibility.{Visibility};
+    ghost use Rattle.hir_per_ns.specs.declared.visibility.Visibility.{Visibility};
     ghost use Rattle.std.specs.Map.{values_of};
     ghost use Rattle.hir_scope.specs.Scope.Reads.{modules_among};
 

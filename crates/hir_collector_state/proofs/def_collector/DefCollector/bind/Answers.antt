@@ -1,7 +1,7 @@
 -- What is bound explicitly no glob has brought, and its slot is noted where the push changes anything.
 use Rattle.std.proofs.Common.{rules, ◌≡◌, ◌∙◌, ℕ, List, None, ap, refl, subst, sym}
 use Rattle.hir_scope.specs.Globs.{GlobNames}
-use Rattle.hir_scope.specs.declared.per_ns.PerNs.{PerNs}
+use Rattle.hir_per_ns.specs.declared.per_ns.PerNs.{PerNs}
 use Rattle.hir_import_rules.specs.Changed.{ChangedValue, with_slot}
 use Rattle.hir_def_map_rules.specs.State.{Map, globs_after, pushed}
 use Rattle.hir_glob_imports.specs.Waves.{GlobsValue, brought_of}

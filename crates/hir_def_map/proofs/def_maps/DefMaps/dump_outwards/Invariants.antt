@@ -2,7 +2,7 @@
 use Rattle.std.proofs.Common.{◌≡◌, length}
 use Rattle.std.specs.List.{flat_map}
 use Rattle.std.specs.String.{string_bytes}
-use Rattle.hir_scope.specs.ModuleTree.{chain_from}
+use Rattle.hir_per_ns.specs.ModuleTree.{chain_from}
 use Rattle.hir_def_map_rules.specs.Ancestors.{holders_in}
 use Rattle.hir_def_map.specs.DefMaps.{maps_of}
 use Rattle.hir_def_map_rules.specs.Dump.{pages_around, pages_outwards}

@@ -1,6 +1,6 @@
 -- The holders of a module are its holder and that one's.
 use Rattle.std.proofs.Common.{◌∙◌, ap, sym}
-use Rattle.hir_scope.specs.ModuleTree.{chain_from}
+use Rattle.hir_per_ns.specs.ModuleTree.{chain_from}
 use Rattle.hir_def_map_rules.specs.Ancestors.{holders_in}
 use Rattle.hir_def_map_rules.specs.Inner.AncestorLaws.{holders_up}
 use Rattle.hir_def_map.specs.DefMaps.{maps_of, maps_placed}

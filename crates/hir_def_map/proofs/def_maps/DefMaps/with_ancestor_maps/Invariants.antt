@@ -1,6 +1,6 @@
 -- What is left to be asked about decides.
 use Rattle.std.proofs.Common.{◌∷◌, length}
-use Rattle.hir_scope.specs.ModuleTree.{chain_from}
+use Rattle.hir_per_ns.specs.ModuleTree.{chain_from}
 use Rattle.hir_def_map_rules.specs.AskMaps.{AsksMaps, with_maps}
 use Rattle.hir_def_map_rules.specs.Ancestors.{holders_in}
 use Rattle.hir_def_map.specs.DefMaps.{maps_of}
