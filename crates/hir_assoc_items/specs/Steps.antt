@@ -8,7 +8,7 @@ use Rattle.hir_ids.specs.declared.macro_kind.MacroId.{MacroId}
 use Rattle.hir_base.specs.declared.locations.LocationsError.TheVariants as numbers
 use Rattle.hir_item_tree.specs.SourceTree.{SourceTreeValue}
 use Rattle.hir_tables.specs.Tables.{TablesValue, source_of}
-use Rattle.hir_def_map.specs.DefMaps.{maps_of}
+use Rattle.hir_nameres.specs.DefMaps.{maps_of}
 use Rattle.hir_collector_rules.specs.Calls.{call_tree}
 use Rattle.hir_collector_rules.specs.Keys.{Environment, IsMeant}
 use Rattle.hir_collector_rules.specs.Moves.{OnceGrown}

@@ -2,7 +2,7 @@
 ghost use Rattle.std.specs.Prelude.{◌≡◌, [], IfOk, IsSome, unwrap_or};
 ghost use Rattle.hir_tables.specs.SourcePlaces.{expansion_value};
 ghost use Rattle.hir_tables.specs.Tables.{KeepsTables, source_of};
-ghost use Rattle.hir_def_map.specs.DefMaps.{maps_of};
+ghost use Rattle.hir_nameres.specs.DefMaps.{maps_of};
 ghost use Rattle.hir_collector_rules.specs.Calls.{AreCallsPlaced, call_tree, error_of, expansion_of_call};
 ghost use Rattle.hir_collector_rules.specs.Keys.{IsMeant, environment, node_tree};
 ghost use Rattle.hir_collector_rules.specs.Workspace.{entry_look};
@@ -20,9 +20,9 @@ use hir_base::macro_kind::{
 use hir_base::text::Text;
 use hir_collector_rules::source_database::{ExpansionLook, SourceDatabase};
 use hir_collector_start::sources::source_at;
-use hir_def_map::def_maps::DefMaps;
 use hir_item_tree::source_tree::SourceTree;
 use hir_item_tree::tree_id::{TreeId, TreeKey};
+use hir_nameres::def_maps::DefMaps;
 use hir_tables::Tables;
 use std::alloc::{AllocError, Global};
 use std::rc::Rc;

@@ -24,7 +24,7 @@ use hir_base::name::Name;
 use hir_base::text::Text;
 use hir_collector_rules::source_database::SourceDatabase;
 use hir_collector_rules::start::STEP_LIMIT;
-use hir_def_map::nameres::diagnostics::DefDiagnostic;
+use hir_nameres::nameres::diagnostics::DefDiagnostic;
 use hir_tables::Tables;
 use std::alloc::{AllocError, Global};
 

@@ -1,9 +1,9 @@
 //! What a run of the collector begins with: the root module with what all modules find, and the items to which its tree leads.
 ghost use Rattle.std.specs.Prelude.{◌≡◌, ◌<◌, ◌&&◌, IfOk, IsSome, None, OnOk, false, is_none, is_some, length, not, option_map, unwrap_or, []};
 ghost use Rattle.hir_tables.specs.Tables.{KeepsTables, source_of};
-ghost use Rattle.hir_def_map.specs.WorldParts.{part_of};
+ghost use Rattle.hir_nameres.specs.WorldParts.{part_of};
 ghost use Rattle.hir_def_map_rules.specs.Overlay.{map_in};
-ghost use Rattle.hir_def_map.specs.World.{finished_in};
+ghost use Rattle.hir_nameres.specs.World.{finished_in};
 ghost use Rattle.hir_collector_rules.specs.Workspace.{config_view, dependencies_of, options_of};
 ghost use Rattle.hir_collector_rules.specs.Keys.{Environment, environment};
 ghost use Rattle.hir_collector_rules.specs.ModuleFiles.{IsFileMeant, file_of_tree, is_file_meant};
@@ -57,7 +57,7 @@ pub fn lacks_its_file(locations: &Tables, tree: TreeId) -> bool
 }
 
 /// The modules that hold a block, the innermost first; none holds a crate.
-#[tactic(auto, unfolding(hir_def_map::specs::World::finished_in))]
+#[tactic(auto, unfolding(hir_nameres::specs::World::finished_in))]
 pub fn holders_by(alloc: Global, world: &World, start: Start) -> Result<Vec<ModuleId>, AllocError>
     ensures value { IfOk result (λ holders. holders.items ≡ holders_by (finished_in world.now.maps) start) }
 {

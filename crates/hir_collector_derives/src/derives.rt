@@ -1,6 +1,6 @@
 //! What derives bring, and what is dropped.
 ghost use Rattle.std.specs.Prelude.{◌≡◌, ◌<◌, ◌≤◌, IfOk, OnOk, Some, length, map, slice_get};
-ghost use Rattle.hir_def_map.specs.WorldParts.{part_of};
+ghost use Rattle.hir_nameres.specs.WorldParts.{part_of};
 ghost use Rattle.hir_collector_rules.specs.Calls.{DerivedCall, builtin_impl, helper_by, helpers_brought};
 ghost use Rattle.hir_collector_rules.specs.Derivation.{IsSpent};
 ghost use Rattle.hir_collector_rules.specs.Keys.{Environment};
@@ -17,8 +17,8 @@ use hir_collector_rules::macro_directive::{Fate, MacroDirective, MacroDirectiveK
 use hir_collector_rules::names::cloned;
 use hir_collector_rules::start::{STEP_LIMIT, StepError};
 use hir_collector_state::def_collector::DefCollector;
-use hir_def_map::nameres::derive_helpers::DeriveHelper;
-use hir_def_map::world::part::WorldPart;
+use hir_nameres::nameres::derive_helpers::DeriveHelper;
+use hir_nameres::world::part::WorldPart;
 use std::alloc::AllocError;
 
 /// The names of the helpers that come into scope with a macro: none but those of a derive.

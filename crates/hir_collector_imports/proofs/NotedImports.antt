@@ -1,7 +1,7 @@
 -- What imports change is noted.
 use Rattle.std.proofs.Common.{◌≡◌, ◌≢◌, ◌⊎◌, inl, inr, ap, refl, Bool, true, false, List, arith}
 use Rattle.hir_def_map_rules.specs.Overlay.{Maps}
-use Rattle.hir_def_map.specs.declared.nameres.path_resolution.slots.Slot.{Slot as PathSlot}
+use Rattle.hir_nameres.specs.declared.nameres.path_resolution.slots.Slot.{Slot as PathSlot}
 use Rattle.hir_def_map_laws.specs.SlotChanges.{ScopesChangeAmong}
 use Rattle.hir_import_rules.specs.Changed.{everything, with_slots}
 use Rattle.hir_import_resolution.proofs.Counting.{step_count, steps_count}

@@ -9,7 +9,7 @@ use Rattle.hir_ids.specs.declared.ast_id.BlockId.{BlockId}
 use Rattle.hir_ids.specs.declared.ids.ExternCrateId.{ExternCrateId}
 use Rattle.hir_ids.specs.declared.ids.MapId.{MapId}
 use Rattle.hir_ids.specs.declared.ids.ModuleId.{ModuleId}
-use Rattle.hir_def_map.specs.Scoping.Slots.{is_in}
+use Rattle.hir_nameres.specs.Scoping.Slots.{is_in}
 use Rattle.hir_def_map_laws.specs.ReadLaw.{BeginsOutside, KeepApart}
 use Rattle.hir_def_map_rules.specs.Overlay.{Maps}
 use Rattle.hir_def_map_rules.specs.State.{Local, at_name}

@@ -4,7 +4,7 @@ use Rattle.std.specs.List.{list_any}
 use Rattle.hir_ids.specs.declared.ids.ExternCrateId.{ExternCrateId}
 use Rattle.hir_ids.specs.declared.ids.MapId.{MapId}
 use Rattle.hir_ids.specs.declared.ids.ModuleId.{ModuleId}
-use Rattle.hir_def_map.specs.Scoping.Slots.{is_in}
+use Rattle.hir_nameres.specs.Scoping.Slots.{is_in}
 use Rattle.hir_def_map_rules.specs.State.{Local}
 
 -- whether one of the crates that paths begin with lies in a map

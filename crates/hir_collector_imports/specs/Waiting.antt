@@ -2,7 +2,7 @@
 use Rattle.std.specs.Prelude.{◌≡◌, ◌≢◌, ℕ, ◌<◌, ◌≤◌, true, false, [], ◌∷◌, List, Option, None, Some, length, option_map}
 use Rattle.hir_ids.specs.declared.ast_id.AstId.{AstId}
 use Rattle.hir_def_map_rules.specs.Overlay.{Maps}
-use Rattle.hir_def_map.specs.declared.nameres.path_resolution.slots.Slot.{Slot as PathSlot}
+use Rattle.hir_nameres.specs.declared.nameres.path_resolution.slots.Slot.{Slot as PathSlot}
 use Rattle.hir_def_map_laws.specs.ReadLaw.{BeginsOutside}
 use Rattle.hir_glob_imports.specs.Keys.{name_of}
 use Rattle.hir_glob_imports.specs.declared.edge.Slot.{Slot as GlobSlot}

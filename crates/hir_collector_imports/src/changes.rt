@@ -2,8 +2,8 @@
 ghost use Rattle.std.specs.Prelude.{◌≡◌, ◌≢◌, true, false, IfOk};
 ghost use Rattle.hir_import_rules.specs.Changed.{everything, with_slots};
 
-use hir_def_map::nameres::path_resolution::slots::Slot;
 use hir_import_growth::Changed;
+use hir_nameres::nameres::path_resolution::slots::Slot;
 use std::alloc::AllocError;
 
 /// What may have changed once steps were counted: anything, where any was.

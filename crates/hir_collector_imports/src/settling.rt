@@ -3,7 +3,7 @@
 
 ghost use Rattle.std.specs.Prelude.{◌≡◌, ◌<◌, ◌≤◌, ℕ, true, false, Some, length, slice_get, IfOk};
 ghost use Rattle.hir_def_map_rules.specs.State.{IsInOrder};
-ghost use Rattle.hir_def_map.specs.WorldParts.{part_of};
+ghost use Rattle.hir_nameres.specs.WorldParts.{part_of};
 ghost use Rattle.hir_def_map_laws.specs.SlotChanges.{ScopesChangeAmong};
 ghost use Rattle.hir_import_resolution.specs.Inner.State.{IsApart, state_in};
 ghost use Rattle.hir_import_rules.specs.Rest.{IsAtRest, IsClosed, IsSound, IsSpent as ImportsAreSpent};
@@ -19,12 +19,12 @@ ghost use Rattle.hir_collector_state.specs.Waiting.{NotesSlots};
 use crate::changes::{changed_by, changed_by_imports};
 use hir_collector_rules::start::{STEP_LIMIT, StepError};
 use hir_collector_state::def_collector::DefCollector;
-use hir_def_map::world::part::WorldPart;
 use hir_import_growth::Changed;
 use hir_import_resolution::{
     ImportDirective, ImportError, ImportQueue, Imports, Resting, begin_imports, resume_imports,
     spread_globs,
 };
+use hir_nameres::world::part::WorldPart;
 use std::alloc::Global;
 
 /// Takes imports until no more comes of them: all, or where what was found out lasts and not all slots count as changed, those

@@ -2,7 +2,7 @@
 ghost use Rattle.std.specs.Prelude.{◌≡◌, ◌≤◌, true, [], map, OnOk};
 ghost use Rattle.hir_item_tree.specs.Collected.{is_enabled};
 ghost use Rattle.hir_item_tree.specs.KeptForest.{leaf, function, structure, union_structure, constant, static_item, trait_item, type_alias};
-ghost use Rattle.hir_def_map.specs.WorldParts.{part_of};
+ghost use Rattle.hir_nameres.specs.WorldParts.{part_of};
 ghost use Rattle.hir_collector_rules.specs.Keys.{Environment};
 ghost use Rattle.hir_collector_rules.specs.State.{core_in, counted};
 ghost use Rattle.hir_collector_rules.specs.ItemIds.{module_id};
@@ -24,11 +24,11 @@ use hir_collector_rules::site::{ItemHead, Site};
 use hir_collector_rules::start::{STEP_LIMIT, StepError};
 use hir_collector_state::declare::declare;
 use hir_collector_state::def_collector::DefCollector;
-use hir_def_map::world::part::WorldPart;
 use hir_import_growth::visibilities::lesser;
 use hir_item_tree::kinds::Struct;
 use hir_item_tree::raw_visibility::RawVisibility;
 use hir_item_tree::shape::FieldsShape;
+use hir_nameres::world::part::WorldPart;
 use hir_scope::per_ns::{Item, PerNs};
 use hir_scope::visibility::Visibility;
 

@@ -9,8 +9,8 @@ use Rattle.hir_ids.specs.declared.ids.MapId.{MapId}
 use Rattle.hir_ids.specs.declared.ids.ModuleId.{ModuleId}
 use Rattle.hir_ids.specs.contracts.ids.MapIdPartialEq.TheImpl as map_id
 use Rattle.hir_per_ns.specs.ModuleTree.{same_crate}
-use Rattle.hir_def_map.specs.WorldParts.{among, is_of_some}
-use Rattle.hir_def_map.specs.Inner.PartLaws.{among_agrees}
+use Rattle.hir_nameres.specs.WorldParts.{among, is_of_some}
+use Rattle.hir_nameres.specs.Inner.PartLaws.{among_agrees}
 use Rattle.hir_def_map_rules.specs.Inner.OverlayLaws.{exact_crate, exact_map}
 use Rattle.hir_def_map_rules.specs.References.{crate_map}
 use Rattle.hir_def_map_rules.specs.Overlay.{Maps, Placed, holders_of}

@@ -10,7 +10,7 @@ use Rattle.hir_ids.specs.declared.ids.Crate.{Crate}
 use Rattle.hir_ids.specs.declared.ids.ModuleId.{ModuleId}
 use Rattle.hir_item_tree.specs.ItemTree.{Tree}
 use Rattle.hir_tables.specs.Tables.{KeepsTables, TablesValue}
-use Rattle.hir_def_map.specs.WorldParts.{among}
+use Rattle.hir_nameres.specs.WorldParts.{among}
 use Rattle.hir_def_map_rules.specs.Overlay.{Maps, map_in}
 use Rattle.hir_collector_rules.specs.Types.{CrateRoot, Dependency, Key, MacroDirective, Start, WaitingItem}
 use Rattle.hir_collector_rules.specs.declared.start.Start.TheVariants as starts

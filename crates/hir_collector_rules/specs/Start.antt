@@ -16,7 +16,7 @@ use Rattle.hir_mod_dir.specs.ModuleFiles.{root as root_directory}
 use Rattle.hir_per_ns.specs.declared.visibility.Visibility.{Visibility}
 use Rattle.hir_per_ns.specs.declared.visibility.Visibility.TheVariants as visibilities
 use Rattle.hir_tables.specs.Tables.{TablesValue}
-use Rattle.hir_def_map.specs.WorldParts.{among}
+use Rattle.hir_nameres.specs.WorldParts.{among}
 use Rattle.hir_def_map_rules.specs.References.{crate_map}
 use Rattle.hir_def_map_rules.specs.State.{CrateData, Local, Map, empty_map, map_id_of, new_module, with_prelude}
 use Rattle.hir_def_map_rules.specs.Overlay.{Maps, Placed, holders_of, map_in}

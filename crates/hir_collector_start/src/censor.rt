@@ -5,7 +5,7 @@ ghost use Rattle.hir_collector_rules.specs.Ended.{exporting_scope, without_funct
 
 use hir_base::ids::{Crate, ModuleDefId};
 use hir_collector_rules::exported::ExportedFunction;
-use hir_def_map::nameres::DefMap;
+use hir_nameres::nameres::DefMap;
 use hir_scope::item_scope::ItemScope;
 
 /// Lets the names of functions stand for them no more.

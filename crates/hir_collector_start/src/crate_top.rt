@@ -9,9 +9,9 @@ use hir_base::name::Name;
 use hir_collector_rules::crate_attrs::{is_keyed, listed, says};
 use hir_collector_rules::names::known_name;
 use hir_crate_graph::crate_set::CrateSet;
-use hir_def_map::nameres::crate_data::DefMapCrateData;
 use hir_item_tree::attrs::{Attr, AttrsOrCfg};
 use hir_item_tree::raw_attr::{AttrInput, TokenTree};
+use hir_nameres::nameres::crate_data::DefMapCrateData;
 use std::alloc::{AllocError, Global};
 use std::rc::Rc;
 

@@ -12,11 +12,11 @@ use hir_base::mod_path::PathKind;
 use hir_base::name::Name;
 use hir_base::text::Text;
 use hir_collector_rules::macro_directive::{Fate, MacroDirective};
-use hir_def_map::nameres::DefMap;
-use hir_def_map::nameres::diagnostics::DefDiagnostic;
 use hir_import_rules::{ImportDirective, ImportSource, Taken};
 use hir_item_tree::shared_path::SharedPath;
 use hir_mod_dir::Candidate;
+use hir_nameres::nameres::DefMap;
+use hir_nameres::nameres::diagnostics::DefDiagnostic;
 use std::alloc::{AllocError, Global};
 use std::collections::BTreeSet;
 

@@ -4,7 +4,7 @@ ghost use Rattle.hir_collector_rules.specs.Macros.{textual_at, with_textual_macr
 
 use hir_base::macro_kind::MacroId;
 use hir_base::name::Name;
-use hir_def_map::nameres::DefMap;
+use hir_nameres::nameres::DefMap;
 use hir_textual_scope::TextualScope;
 use std::alloc::{AllocError, Global};
 

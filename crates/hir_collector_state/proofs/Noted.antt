@@ -36,8 +36,8 @@ use Rattle.hir_def_map_rules.specs.declared.declaration.Declaration.{Declaration
 use Rattle.hir_def_map_rules.specs.declared.diagnostics.DefDiagnostic.{DefDiagnostic}
 use Rattle.hir_def_map_rules.specs.declared.derive_helpers.DeriveHelper.{DeriveHelper}
 use Rattle.hir_def_map_rules.specs.declared.origin.ModuleOrigin.{ModuleOrigin}
-use Rattle.hir_def_map.specs.declared.nameres.path_resolution.slots.Slot.{Slot as PathSlot}
-use Rattle.hir_def_map.specs.declared.nameres.path_resolution.slots.Slot.TheVariants.{Module as of_module, Preludes as of_preludes}
+use Rattle.hir_nameres.specs.declared.nameres.path_resolution.slots.Slot.{Slot as PathSlot}
+use Rattle.hir_nameres.specs.declared.nameres.path_resolution.slots.Slot.TheVariants.{Module as of_module, Preludes as of_preludes}
 use Rattle.hir_def_map_rules.specs.Scoping.FirstSegment.{legacy_of}
 use Rattle.hir_def_map_laws.proofs.SameAbove.{found-below}
 use Rattle.hir_def_map_laws.proofs.SlotChanges.{Grows-itself, changes-crate, changes-listed, changes-made, changes-pushed}

@@ -5,9 +5,9 @@ use Rattle.hir_ids.specs.declared.ast_id.AstId.{AstId}
 use Rattle.hir_ids.specs.declared.ids.EnumId.{EnumId}
 use Rattle.hir_def_map_rules.specs.Macros.{helpers_at}
 use Rattle.hir_def_map_rules.specs.Overlay.{Maps}
-use Rattle.hir_def_map.specs.Scoping.Slots.{reads}
+use Rattle.hir_nameres.specs.Scoping.Slots.{reads}
 use Rattle.hir_def_map_rules.specs.State.{IsInOrder, Local, Map, ModuleValue, Variants, module_at, numbered, parent_at, variants_at}
-use Rattle.hir_def_map.specs.declared.nameres.path_resolution.slots.Slot.{Slot as PathSlot}
+use Rattle.hir_nameres.specs.declared.nameres.path_resolution.slots.Slot.{Slot as PathSlot}
 use Rattle.hir_def_map_laws.specs.ReadLaw.{AgreeAt, BeginsOutside}
 use Rattle.hir_import_growth.specs.Growth.{GlobsLast}
 use Rattle.hir_import_rules.specs.Changed.{IsThere, IsUnhelped, IsUntouched}

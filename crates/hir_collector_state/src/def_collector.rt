@@ -3,7 +3,7 @@
 
 ghost use Rattle.std.specs.Prelude.{◌≡◌, ◌<◌, ◌≤◌, true, false, ◌∷◌, [], Some, length, option_map, slice_get, slice_set, IfNone, IfOk, IfSome, None, OnOk};
 ghost use Rattle.hir_def_map_rules.specs.State.{with_enum, new_id, new_module, with_declared, with_use, with_impl, with_extern_block, with_extern_crate, with_unnamed_const};
-ghost use Rattle.hir_def_map.specs.WorldParts.{part_of};
+ghost use Rattle.hir_nameres.specs.WorldParts.{part_of};
 ghost use Rattle.hir_def_map_rules.specs.Macros.{with_diagnostic, with_macro_def};
 ghost use Rattle.hir_import_rules.specs.Visibilities.{visibility_in};
 ghost use Rattle.hir_import_rules.specs.Changed.{nothing};
@@ -45,14 +45,6 @@ use hir_collector_start::macro_use::{root_scope, use_prelude_macros, use_wanted}
 use hir_collector_start::preludes::own_prelude;
 use hir_collector_start::textual;
 use hir_crate_graph::crate_set::CrateSet;
-use hir_def_map::nameres::DefMap;
-use hir_def_map::nameres::crate_data::DefMapCrateData;
-use hir_def_map::nameres::diagnostics::DefDiagnostic;
-use hir_def_map::nameres::enum_variants::EnumVariants;
-use hir_def_map::nameres::local_def_map::LocalDefMap;
-use hir_def_map::nameres::module_data::ModuleData;
-use hir_def_map::nameres::origin::ModuleOrigin;
-use hir_def_map::world::part::WorldPart;
 use hir_glob_imports::GlobImports;
 use hir_import_growth::visibilities::visibility;
 use hir_import_growth::{Changed, forget};
@@ -60,6 +52,14 @@ use hir_import_rules::{ImportDirective, ImportSource, Taken};
 use hir_item_tree::raw_visibility::RawVisibility;
 use hir_item_tree::shape::ExternCrateName;
 use hir_item_tree::tree_id::{TreeId, TreeKey};
+use hir_nameres::nameres::DefMap;
+use hir_nameres::nameres::crate_data::DefMapCrateData;
+use hir_nameres::nameres::diagnostics::DefDiagnostic;
+use hir_nameres::nameres::enum_variants::EnumVariants;
+use hir_nameres::nameres::local_def_map::LocalDefMap;
+use hir_nameres::nameres::module_data::ModuleData;
+use hir_nameres::nameres::origin::ModuleOrigin;
+use hir_nameres::world::part::WorldPart;
 use hir_scope::glob_imports::PerNsGlobImports;
 use hir_scope::item_scope::ItemScope;
 use hir_scope::per_ns::PerNs;

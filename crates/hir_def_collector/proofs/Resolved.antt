@@ -9,9 +9,9 @@ use Rattle.hir_ids.specs.declared.ids.ModuleId.{ModuleId}
 use Rattle.hir_tables.specs.Tables.{TablesValue, file_at}
 use Rattle.hir_def_map_rules.specs.Overlay.{Maps, Placed}
 use Rattle.hir_def_map_rules.specs.State.{Local}
-use Rattle.hir_def_map.specs.World.{IsChecked, finished_in}
-use Rattle.hir_def_map.specs.WorldParts.{among}
-use Rattle.hir_def_map.specs.declared.world.finished.Finished.{Finished}
+use Rattle.hir_nameres.specs.World.{IsChecked, finished_in}
+use Rattle.hir_nameres.specs.WorldParts.{among}
+use Rattle.hir_nameres.specs.declared.world.finished.Finished.{Finished}
 use Rattle.hir_collector_rules.specs.ModuleFiles.{IsFileMeant, is_file_meant}
 use Rattle.hir_def_map_laws.specs.ReadLaw.{KeepApart}
 use Rattle.hir_def_map_laws.proofs.Apart.{some_apart, worlds_apart}

@@ -38,7 +38,7 @@
 ghost use Rattle.std.specs.Prelude.{◌≡◌, ◌<◌, IfOk, false, is_none, option_map};
 ghost use Rattle.hir_tables.specs.Tables.{KeepsTables, source_of};
 ghost use Rattle.hir_def_map_rules.specs.Overlay.{Maps};
-ghost use Rattle.hir_def_map.specs.World.{finished_in};
+ghost use Rattle.hir_nameres.specs.World.{finished_in};
 ghost use Rattle.hir_collector_rules.specs.Workspace.{Workspace};
 ghost use Rattle.hir_collector_rules.specs.Keys.{AgreeOn};
 ghost use Rattle.hir_collector_rules.specs.Start.{beginning, holders_by};

@@ -12,7 +12,7 @@ use Rattle.hir_ids.specs.declared.ids.MapId.{MapId}
 use Rattle.hir_ids.specs.contracts.ids.MapIdOrd.TheImpl as map_order
 use Rattle.hir_def_map.specs.Types.{Dependents, Finished}
 use Rattle.hir_def_map.specs.Inner.Dependents.{HasRoom, is_dependent, IsIndexed}
-use Rattle.hir_def_map.specs.Removal.{IsClosed, IsFalling, lacks_some, lists_in, lists_of}
+use Rattle.hir_nameres.specs.Removal.{IsClosed, IsFalling, lacks_some, lists_in, lists_of}
 use Rattle.hir_def_map.proofs.Falling.{Store, at, falling-start, falling-step, lacks_from, which_lacks}
 use Rattle.hir_def_map.proofs.Joined.{own_id, same_id}
 

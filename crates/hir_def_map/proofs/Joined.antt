@@ -30,8 +30,8 @@ use Rattle.hir_def_map_rules.specs.References.{each_leads_to_root, has_its_paren
 use Rattle.hir_def_map_rules.specs.References.{lies_in, map_of_reference, reference_to, any_reference_in, any_reference_in_scope, any_own_crate, any_reference}
 use Rattle.hir_def_map_rules.specs.References.{prelude_reference, test_child, test_crate, test_extern, test_item, test_macro, test_of, test_trait, test_type}
 use Rattle.hir_def_map_rules.specs.References.{test_value, test_visibility, visibility_reference}
-use Rattle.hir_def_map.specs.World.{IsChecked, IsFinished, finished_in, placed_of}
-use Rattle.hir_def_map.specs.Removal.{FallsWith, lists_in, lists_of, refers_in, refers_of}
+use Rattle.hir_nameres.specs.World.{IsChecked, IsFinished, finished_in, placed_of}
+use Rattle.hir_nameres.specs.Removal.{FallsWith, lists_in, lists_of, refers_in, refers_of}
 use Rattle.hir_def_map.specs.Inner.Recorded.{IsRecordedFor}
 use Rattle.hir_def_map.specs.Insertion.{may_join}
 use Rattle.hir_def_map.proofs.Depending.{falls_in_step, falls_on, falls_still}

@@ -11,8 +11,8 @@ use Rattle.hir_ids.specs.contracts.ids.MapIdOrd.TheImpl as map_order
 use Rattle.hir_ids.specs.contracts.ids.MapIdPartialEq.TheImpl as map_id
 use Rattle.hir_def_map_rules.specs.declared.reference.Reference.{Reference}
 use Rattle.hir_def_map_rules.specs.declared.reference.Reference.TheVariants as named
-use Rattle.hir_def_map.specs.WorldParts.{among}
-use Rattle.hir_def_map.specs.Inner.PartLaws.{among-only}
+use Rattle.hir_nameres.specs.WorldParts.{among}
+use Rattle.hir_nameres.specs.Inner.PartLaws.{among-only}
 use Rattle.hir_def_map_rules.specs.Inner.OverlayLaws.{exact_map}
 use Rattle.hir_per_ns.specs.ModuleTree.{same_crate}
 use Rattle.hir_def_map_rules.specs.WellFormed.{HasNoDanglingExtern, Extends, HasNoDanglingReference, is_held_outside}

@@ -17,8 +17,8 @@ use Rattle.hir_def_map.specs.Types.{Finished}
 use Rattle.hir_def_map_rules.specs.State.{Local, Map, crate_map}
 use Rattle.hir_def_map.specs.Insertion.{Gains}
 use Rattle.hir_def_map_rules.specs.References.{any_own_crate, any_reference, lies_in, test_crate}
-use Rattle.hir_def_map.specs.Removal.{lists_in, refers_in, refers_of}
-use Rattle.hir_def_map.specs.World.{IsChecked}
+use Rattle.hir_nameres.specs.Removal.{lists_in, refers_in, refers_of}
+use Rattle.hir_nameres.specs.World.{IsChecked}
 use Rattle.hir_def_map.specs.Inner.Recorded.{AreCovered, GainsOnly, IsCovered, IsRecordedFor, Records, is_left_out, is_other}
 use Rattle.hir_def_map_rules.specs.Inner.ReferenceLists.{any_listed}
 use Rattle.hir_def_map_rules.proofs.References.{any-append, any_is}

@@ -1,8 +1,8 @@
 -- The types of the crate, under their names.
-pub use Rattle.hir_def_map.specs.declared.def_maps.DefMaps.{DefMaps}
+pub use Rattle.hir_nameres.specs.declared.def_maps.DefMaps.{DefMaps}
 pub use Rattle.hir_def_map_rules.specs.declared.add_module_error.AddModuleError.{AddModuleError}
 pub use Rattle.hir_def_map_rules.specs.declared.block_info.BlockInfo.{BlockInfo}
-pub use Rattle.hir_def_map.specs.declared.nameres.DefMap.{DefMap}
+pub use Rattle.hir_nameres.specs.declared.nameres.DefMap.{DefMap}
 pub use Rattle.hir_def_map_rules.specs.declared.crate_data.DefMapCrateData.{DefMapCrateData}
 pub use Rattle.hir_def_map_rules.specs.declared.declaration.Declaration.{Declaration}
 pub use Rattle.hir_def_map_rules.specs.declared.derive_helpers.DeriveHelper.{DeriveHelper}
@@ -16,10 +16,10 @@ pub use Rattle.hir_def_map_rules.specs.declared.path_result.ResolveMode.{Resolve
 pub use Rattle.hir_def_map_rules.specs.declared.path_result.ResolvePathResult.{ResolvePathResult}
 pub use Rattle.hir_def_map_rules.specs.declared.path_result.ResolvePathResultPrefixInfo.{ResolvePathResultPrefixInfo}
 pub use Rattle.hir_def_map.specs.declared.world.World.{World}
-pub use Rattle.hir_def_map.specs.declared.world.finished.Finished.{Finished}
+pub use Rattle.hir_nameres.specs.declared.world.finished.Finished.{Finished}
 pub use Rattle.hir_def_map.specs.declared.world.insert.InsertError.{InsertError}
 pub use Rattle.hir_def_map.specs.declared.world.insert.Refused.{Refused}
 pub use Rattle.hir_def_map_rules.specs.declared.reference.Reference.{Reference}
-pub use Rattle.hir_def_map.specs.declared.world.part.WorldPart.{WorldPart}
-pub use Rattle.hir_def_map.specs.declared.nameres.path_resolution.slots.Slot.{Slot}
+pub use Rattle.hir_nameres.specs.declared.world.part.WorldPart.{WorldPart}
+pub use Rattle.hir_nameres.specs.declared.nameres.path_resolution.slots.Slot.{Slot}
 pub use Rattle.hir_def_map.specs.declared.world.dependents.Dependents.{Dependents}

@@ -36,7 +36,7 @@ use Rattle.hir_def_map_rules.specs.Scoping.Start.{is_in_edition_2015, settled_in
 use Rattle.hir_def_map_rules.specs.declared.path_result.ReachedFixedPoint.TheVariants.{No}
 use Rattle.hir_def_map_rules.specs.declared.path_result.ResolvePathResult.{ResolvePathResult}
 use Rattle.hir_def_map_laws.specs.Paths.{data_of, AgreeOnName}
-use Rattle.hir_def_map.specs.Scoping.Slots.{prelude_module_of}
+use Rattle.hir_nameres.specs.Scoping.Slots.{prelude_module_of}
 
 -- ---- parents, read off frames
 

@@ -27,7 +27,7 @@ use Rattle.hir_def_map_rules.specs.declared.reference.Reference.TheVariants as n
 use Rattle.hir_def_map_rules.specs.References.{any_reference_in, test_of, Fails}
 use Rattle.hir_def_map_rules.proofs.Referred.{entry_fails, module_parts}
 use Rattle.hir_def_map_laws.specs.ReadLaw.{KeepApart, is_named_in}
-use Rattle.hir_def_map.specs.Scoping.Slots.{is_in, prelude_module_of}
+use Rattle.hir_nameres.specs.Scoping.Slots.{is_in, prelude_module_of}
 
 pub either-false : {P : Type 0} (b : Bool) → b ≡ true → b ≡ false → P
 either-false b e f = absurd (true≢false (sym e ∙ f))

@@ -28,16 +28,16 @@ use Rattle.hir_def_map_rules.specs.Scoping.Blocks.{from_blocks}
 use Rattle.hir_def_map_rules.specs.Scoping.FirstSegment.{extern_name, is_block_root, name_in_crate_root_or_extern_prelude, name_in_module, shadow_before}
 use Rattle.hir_def_map_rules.specs.Scoping.Segments.{after_enum, crossing, nearest_non_block_module, rest, seen, through, through_adt, through_type, unresolved}
 use Rattle.hir_def_map_rules.specs.Scoping.Segments.{variant_in}
-use Rattle.hir_def_map.specs.Scoping.Slots.{further_slots, kept_in, module_among, prelude_module_of, reads, slots_after, slots_from_crates, slots_from_module}
-use Rattle.hir_def_map.specs.Scoping.Slots.{slots_from_root, slots_of, with_prelude_slot, with_slot}
+use Rattle.hir_nameres.specs.Scoping.Slots.{further_slots, kept_in, module_among, prelude_module_of, reads, slots_after, slots_from_crates, slots_from_module}
+use Rattle.hir_nameres.specs.Scoping.Slots.{slots_from_root, slots_of, with_prelude_slot, with_slot}
 use Rattle.hir_def_map_rules.specs.Scoping.Start.{abs_from, climb, from_start, is_import, is_in_edition_2015, is_in_reach, module_bound, settled_in_block}
 use Rattle.hir_def_map_rules.specs.Scoping.Start.{super_from}
 use Rattle.hir_def_map_rules.specs.State.{IsInOrder, Local, Map, Variants, at_name, crate_root, entry_at, numbered, variants_at}
 use Rattle.hir_def_map_rules.specs.declared.enum_variants.EnumVariant.{EnumVariant}
 use Rattle.hir_def_map_rules.specs.declared.path_result.ResolvePathResult.{ResolvePathResult}
 use Rattle.hir_def_map_rules.specs.declared.path_result.ReachedFixedPoint.TheVariants.{No, Yes}
-use Rattle.hir_def_map.specs.declared.nameres.path_resolution.slots.Slot.{Slot}
-use Rattle.hir_def_map.specs.declared.nameres.path_resolution.slots.Slot.TheVariants.{Module as of_module, Preludes as of_preludes}
+use Rattle.hir_nameres.specs.declared.nameres.path_resolution.slots.Slot.{Slot}
+use Rattle.hir_nameres.specs.declared.nameres.path_resolution.slots.Slot.TheVariants.{Module as of_module, Preludes as of_preludes}
 use Rattle.hir_def_map_laws.proofs.Changed.{Change, has_others}
 use Rattle.hir_def_map_laws.proofs.EnumsApart.{same_2015, same_climb, same_in_module, same_in_root, same_nearest, same_prelude_of, same_reach, same_seen}
 use Rattle.hir_def_map_laws.proofs.Holders.{start-of_crate}

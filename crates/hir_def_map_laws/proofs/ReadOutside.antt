@@ -40,7 +40,7 @@ use Rattle.hir_def_map_rules.proofs.NoneOf.{not_first}
 use Rattle.hir_def_map_laws.proofs.Changed.{Change, Here, Out, climb_out, entry_out, here_out, is_own, legacy_out, map_in-out, names_out, nearest_out, new, old}
 use Rattle.hir_def_map_laws.proofs.Changed.{own, prelude_out, same_2015, same_climb, same_nearest, same_prelude_module, same_reach, same_seen, variant_out}
 use Rattle.hir_def_map_laws.specs.ReadLaw.{BeginsOutside, SameInPreludes, is_named_in, with_crates}
-use Rattle.hir_def_map.specs.Scoping.Slots.{is_in, prelude_module_of}
+use Rattle.hir_nameres.specs.Scoping.Slots.{is_in, prelude_module_of}
 
 module _ (t : Change) where
   -- nothing among the items lies in the map

@@ -38,9 +38,9 @@ use Rattle.hir_def_map_rules.proofs.Listed.{KeepsNames-listed}
 use Rattle.hir_def_map_laws.specs.ReadLaw.{AgreeAt, Grows}
 use Rattle.hir_def_map_laws.proofs.ReadLaw.{reads_decide}
 use Rattle.hir_def_map_laws.specs.SlotChanges.{ChangesOnly, OtherSlotsDoNotMatter}
-use Rattle.hir_def_map.specs.declared.nameres.path_resolution.slots.Slot.{Slot}
-use Rattle.hir_def_map.specs.declared.nameres.path_resolution.slots.Slot.TheVariants.{Module as of_module, Preludes as of_preludes}
-use Rattle.hir_def_map.specs.Scoping.Slots.{reads}
+use Rattle.hir_nameres.specs.declared.nameres.path_resolution.slots.Slot.{Slot}
+use Rattle.hir_nameres.specs.declared.nameres.path_resolution.slots.Slot.TheVariants.{Module as of_module, Preludes as of_preludes}
+use Rattle.hir_nameres.specs.Scoping.Slots.{reads}
 
 -- a change of modules that leaves what each is in lets a map grow
 pub Grows-changed : (map : Map) (at : ℕ) (change : ModuleValue → ModuleValue) → ((m : ModuleValue) → (change m).parent ≡ m.parent)

@@ -31,9 +31,9 @@ use Rattle.hir_def_map_laws.specs.SlotChanges.{OneChangeIsAmongItsSlot, OneScope
 use Rattle.hir_def_map_laws.specs.SlotChanges.{TextualMacrosChangeTheirSlot, TraitsChangeNoScope, TraitsChangeNoSlot, UnreadScopesDoNotMatter}
 use Rattle.hir_def_map_laws.specs.SlotChanges.{UnreadSlotsDoNotMatter, UpdatesChangeTheirScope, UpdatesChangeTheirSlot, with_macro, with_macro_vis}
 use Rattle.hir_def_map_laws.specs.SlotChanges.{with_textual_macro, with_trait, with_type, with_type_vis, with_value, with_value_vis}
-use Rattle.hir_def_map.specs.declared.nameres.path_resolution.slots.Slot.{Slot}
-use Rattle.hir_def_map.specs.declared.nameres.path_resolution.slots.Slot.TheVariants.{Module as of_module, Preludes as of_preludes}
-use Rattle.hir_def_map.specs.Scoping.Slots.{reads}
+use Rattle.hir_nameres.specs.declared.nameres.path_resolution.slots.Slot.{Slot}
+use Rattle.hir_nameres.specs.declared.nameres.path_resolution.slots.Slot.TheVariants.{Module as of_module, Preludes as of_preludes}
+use Rattle.hir_nameres.specs.Scoping.Slots.{reads}
 
 -- ---- one after another
 

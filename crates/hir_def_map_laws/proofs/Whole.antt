@@ -23,7 +23,7 @@ use Rattle.hir_def_map_rules.proofs.Fails.{Fails-weaker}
 use Rattle.hir_def_map_rules.proofs.NoneOf.{none_at}
 use Rattle.hir_def_map_rules.proofs.Referred.{module_less}
 use Rattle.hir_def_map_laws.specs.ReadLaw.{KeepApart, StandsBeside, has_no_variants, is_named_in}
-use Rattle.hir_def_map.specs.Scoping.Slots.{is_in, prelude_module_of}
+use Rattle.hir_nameres.specs.Scoping.Slots.{is_in, prelude_module_of}
 
 missing-not : (b : Bool) → not b ≡ false → b ≡ true
 missing-not true e = refl

@@ -17,7 +17,7 @@ use Rattle.hir_def_map_rules.specs.Scoping.Asking.{Asking}
 use Rattle.hir_def_map_rules.specs.Scoping.Blocks.{joined, in_preludes}
 use Rattle.hir_def_map_rules.specs.Scoping.FirstSegment.{legacy_of, macro_use_of, is_block_root}
 use Rattle.hir_def_map_rules.specs.Scoping.Segments.{variant_in, seen, through_module, crossing, nearest_non_block_module}
-use Rattle.hir_def_map.specs.Scoping.Slots.{prelude_module_of}
+use Rattle.hir_nameres.specs.Scoping.Slots.{prelude_module_of}
 use Rattle.hir_def_map_rules.specs.Scoping.Start.{from_start}
 use Rattle.hir_def_map_rules.specs.State.{CrateData, Map, crate_root, IsInOrder}
 use Rattle.hir_def_map_rules.specs.declared.path_result.ResolvePathResult.{ResolvePathResult}

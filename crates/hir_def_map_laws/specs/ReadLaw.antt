@@ -25,15 +25,15 @@ use Rattle.hir_def_map_rules.specs.Scoping.FirstSegment.{legacy_of}
 use Rattle.hir_def_map_rules.specs.State.{IsInOrder, Local, Map, ModuleValue, Variants, at_name, changed_at, entry_at, module_at, numbered, parent_at}
 use Rattle.hir_def_map_rules.specs.State.{variants_at}
 use Rattle.hir_def_map_rules.specs.Overlay.{Maps, overlay, map_in, module_in}
-use Rattle.hir_def_map.specs.World.{IsChecked, finished_in}
-use Rattle.hir_def_map.specs.WorldParts.{among, part_of}
-use Rattle.hir_def_map.specs.declared.world.finished.Finished.{Finished}
-use Rattle.hir_def_map.specs.declared.nameres.path_resolution.slots.Slot.{Slot}
-use Rattle.hir_def_map.specs.declared.world.part.WorldPart.{WorldPart}
+use Rattle.hir_nameres.specs.World.{IsChecked, finished_in}
+use Rattle.hir_nameres.specs.WorldParts.{among, part_of}
+use Rattle.hir_nameres.specs.declared.world.finished.Finished.{Finished}
+use Rattle.hir_nameres.specs.declared.nameres.path_resolution.slots.Slot.{Slot}
+use Rattle.hir_nameres.specs.declared.world.part.WorldPart.{WorldPart}
 use Rattle.hir_def_map_rules.specs.declared.reference.Reference.{Reference}
 use Rattle.hir_def_map_rules.specs.declared.reference.Reference.TheVariants as named
-use Rattle.hir_def_map.specs.declared.nameres.path_resolution.slots.Slot.TheVariants.{Module as of_module, Preludes as of_preludes}
-use Rattle.hir_def_map.specs.Scoping.Slots.{is_in, prelude_module_of, reads}
+use Rattle.hir_nameres.specs.declared.nameres.path_resolution.slots.Slot.TheVariants.{Module as of_module, Preludes as of_preludes}
+use Rattle.hir_nameres.specs.Scoping.Slots.{is_in, prelude_module_of, reads}
 
 -- ---- a map beside finished ones
 
@@ -203,4 +203,4 @@ SomeMapsKeepApart =
 
 -- nor those of a part of a world
 abbrev pub PartsKeepApart : Type 0
-PartsKeepApart = (part : WorldPart) (own : MapId) → finished_in part.world.now.maps own ≡ None → KeepApart (part_of part) own
+PartsKeepApart = (part : WorldPart) (own : MapId) → finished_in part.maps.now own ≡ None → KeepApart (part_of part) own

@@ -24,9 +24,9 @@ use Rattle.hir_def_map_rules.specs.Overlay.{Maps}
 use Rattle.hir_def_map_rules.specs.declared.declaration.Declaration.{Declaration}
 use Rattle.hir_def_map_rules.specs.declared.origin.ModuleOrigin.{ModuleOrigin}
 use Rattle.hir_def_map_laws.specs.ReadLaw.{AgreeAt, BeginsOutside, BeginsWithCrates, DiffersInScopes, Grows, IsReadAlike, KeepApart, StandsBeside}
-use Rattle.hir_def_map.specs.declared.nameres.path_resolution.slots.Slot.{Slot}
-use Rattle.hir_def_map.specs.declared.nameres.path_resolution.slots.Slot.TheVariants.{Module as of_module, Preludes as of_preludes}
-use Rattle.hir_def_map.specs.Scoping.Slots.{reads}
+use Rattle.hir_nameres.specs.declared.nameres.path_resolution.slots.Slot.{Slot}
+use Rattle.hir_nameres.specs.declared.nameres.path_resolution.slots.Slot.TheVariants.{Module as of_module, Preludes as of_preludes}
+use Rattle.hir_nameres.specs.Scoping.Slots.{reads}
 
 -- a map grows, and each slot but one holds what it held; where none is named, each does
 pub record ChangesOnly (old : Map) (old_local : Local) (new : Map) (new_local : Local) (changed : Option Slot) : Type 0 where

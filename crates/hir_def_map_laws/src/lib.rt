@@ -14,8 +14,8 @@ ghost use Rattle.hir_def_map_laws.specs.ReadLaw.{ChangedModulesDifferInScopes, C
 ghost use Rattle.hir_def_map_laws.specs.SlotChanges.{ChangedScopesChangeTheirSlot, ChangesFollowOneAnother, CratesChangeTheirSlot, EnumsChangeNoSlot, ListsChangeNoSlot, MacroUsesChangeTheirSlot, ModulesChangeNoSlot, NothingChangesNoScope, NothingChangesNoSlot, OneChangeIsAmongItsSlot, OneScopeChangeIsAmongItsSlot, OtherSlotsDoNotMatter, PushesChangeTheirScope, PushesChangeTheirSlot, ScopeChangesFollowOneAnother, TextualMacrosChangeTheirSlot, TraitsChangeNoScope, TraitsChangeNoSlot, UnreadScopesDoNotMatter, UnreadSlotsDoNotMatter, UpdatesChangeTheirScope, UpdatesChangeTheirSlot};
 ghost use Rattle.hir_def_map_laws.specs.Paths.{BlocksAskHolders, CratesAskThemselves, InnerModulesAskPreludes, LaterSegmentsAreSeen, RootedStepsLeadToParents, SegmentsAreSeen, StepsLeadToParents, UnnamedBindingsDoNotMatter};
 
-use hir_def_map::nameres::local_def_map::LocalDefMap;
-use hir_def_map::nameres::module_ids::ModuleIds;
+use hir_nameres::nameres::local_def_map::LocalDefMap;
+use hir_nameres::nameres::module_ids::ModuleIds;
 use std::hash::Hash;
 
 /// A path means the same over maps that agree on its names.

@@ -6,7 +6,7 @@ use Rattle.hir_ids.specs.declared.ids.MapId.{MapId}
 use Rattle.hir_per_ns.specs.declared.visibility.Visibility.{Visibility}
 use Rattle.hir_per_ns.specs.declared.visibility.Visibility.TheVariants.{Module, PubCrate, Public}
 use Rattle.hir_def_map_rules.specs.Overlay.{Maps}
-use Rattle.hir_def_map.specs.Scoping.Slots.{is_in}
+use Rattle.hir_nameres.specs.Scoping.Slots.{is_in}
 use Rattle.hir_def_map_rules.specs.State.{Map, pushed}
 use Rattle.hir_def_map_laws.proofs.SlotLists.{scope_pushed}
 use Rattle.hir_def_map_laws.specs.ReadLaw.{DiffersInScopes}

@@ -9,7 +9,7 @@ use Rattle.hir_def_map_rules.specs.Declaration.{listed}
 use Rattle.hir_def_map_rules.specs.State.{ModuleValue, changed_at, entry_of, new_id, new_module, with_child, with_module_scope}
 use Rattle.hir_def_map_rules.specs.declared.declaration.Declaration.{Declaration}
 use Rattle.hir_def_map_rules.specs.declared.declaration.Declaration.TheVariants as declaration
-use Rattle.hir_def_map.specs.declared.nameres.path_resolution.slots.Slot.TheVariants.{Module as of_module}
+use Rattle.hir_nameres.specs.declared.nameres.path_resolution.slots.Slot.TheVariants.{Module as of_module}
 use Rattle.hir_def_map_laws.proofs.SlotChanges.{Grows-changed, changes-enum, changes-macro_use, changes-made}
 use Rattle.hir_import_rules.specs.Names.{trait_vis}
 use Rattle.hir_import_growth.specs.Growth.{EnumsGrowAround, ListsGrowAround, MacroUsesGrowAround, ModulesGrowAround, ScopesGrowAround}

@@ -20,7 +20,7 @@ use Rattle.hir_def_map_rules.specs.Ancestors.{above_in, above_inside, above_unde
 use Rattle.hir_def_map_rules.specs.Inner.OverlayLaws.{frame_holders}
 use Rattle.hir_def_map_rules.specs.Overlay.{Maps, Placed, holders_of, holders_or, holders_under, overlay, placed_in}
 use Rattle.hir_def_map_rules.specs.Scoping.Segments.{variant_in}
-use Rattle.hir_def_map.specs.Scoping.Slots.{is_in}
+use Rattle.hir_nameres.specs.Scoping.Slots.{is_in}
 use Rattle.hir_def_map_rules.specs.State.{Map, Variants, at_name, numbered, variants_at}
 use Rattle.hir_def_map_laws.proofs.SameAbove.{same_numbers_above}
 use Rattle.hir_def_map_laws.specs.ReadLaw.{Grows}

@@ -6,7 +6,7 @@ use Rattle.hir_ids.specs.declared.ids.TraitId.{TraitId}
 use Rattle.hir_per_ns.specs.declared.per_ns.PerNs.{PerNs}
 use Rattle.hir_per_ns.specs.declared.visibility.Visibility.{Visibility}
 use Rattle.hir_per_ns.specs.declared.visibility.Visibility.TheVariants.{Module, PubCrate, Public}
-use Rattle.hir_def_map.specs.Scoping.Slots.{is_in}
+use Rattle.hir_nameres.specs.Scoping.Slots.{is_in}
 use Rattle.hir_def_map_rules.specs.State.{Map}
 use Rattle.hir_glob_imports.proofs.Exact.{exact_slot}
 use Rattle.hir_glob_imports.specs.Keys.{is_unnamed, same_slot, slot_at}

@@ -23,7 +23,7 @@ use Rattle.hir_def_map_rules.specs.Ancestors.{above_in, above_inside, above_unde
 use Rattle.hir_def_map_rules.specs.Ancestors.{numbers_of, step_in, step_to, steps_by, steps_from}
 use Rattle.hir_def_map_rules.specs.Inner.OverlayLaws.{exact_map, frame_holders, same_id}
 use Rattle.hir_def_map_rules.specs.Overlay.{Maps, Placed, holders_of, overlay, placed_in}
-use Rattle.hir_def_map.specs.Scoping.Slots.{is_in}
+use Rattle.hir_nameres.specs.Scoping.Slots.{is_in}
 use Rattle.hir_def_map_rules.specs.State.{IsBefore, Map, numbered, parent_at}
 use Rattle.hir_def_map_laws.proofs.SameAbove.{before_at}
 use Rattle.hir_def_map_laws.proofs.SlotChanges.{Grows-itself}

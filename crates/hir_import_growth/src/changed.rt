@@ -4,7 +4,7 @@ ghost use Rattle.hir_import_rules.specs.Changed.{everything, joined, nothing, wi
 
 use hir_base::ast_id::AstId;
 use hir_base::name::Name;
-use hir_def_map::nameres::path_resolution::slots::Slot;
+use hir_nameres::nameres::path_resolution::slots::Slot;
 use std::alloc::{AllocError, Global};
 use std::marker::Model;
 

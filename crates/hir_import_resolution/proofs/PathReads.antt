@@ -9,9 +9,9 @@ use Rattle.hir_use_tree.specs.declared.imports.ImportKind.{ImportKind}
 use Rattle.hir_def_map_rules.specs.Overlay.{Maps}
 use Rattle.hir_def_map_rules.specs.Reaches.{by_import}
 use Rattle.hir_def_map_rules.specs.Scoping.Asking.{Asking}
-use Rattle.hir_def_map.specs.Scoping.Slots.{reads, slots_of}
+use Rattle.hir_nameres.specs.Scoping.Slots.{reads, slots_of}
 use Rattle.hir_def_map_rules.specs.State.{Map, numbered}
-use Rattle.hir_def_map.specs.declared.nameres.path_resolution.slots.Slot.{Slot}
+use Rattle.hir_nameres.specs.declared.nameres.path_resolution.slots.Slot.{Slot}
 use Rattle.hir_import_rules.specs.declared.directive.ImportDirective.{ImportDirective}
 use Rattle.hir_import_rules.specs.declared.directive.ImportSource.TheVariants as sources
 use Rattle.hir_import_resolution.specs.Inner.Queue.{path_reads, reads_at, reads_by}

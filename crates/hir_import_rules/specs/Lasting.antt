@@ -6,10 +6,10 @@ use Rattle.hir_scope.specs.Globs.{GlobNames}
 use Rattle.hir_per_ns.specs.declared.visibility.Visibility.{Visibility}
 use Rattle.hir_per_ns.specs.declared.visibility.Visibility.TheVariants as visibilities
 use Rattle.hir_def_map_rules.specs.Overlay.{Maps, placed_in}
-use Rattle.hir_def_map.specs.Scoping.Slots.{is_in}
+use Rattle.hir_nameres.specs.Scoping.Slots.{is_in}
 use Rattle.hir_def_map_rules.specs.State.{IsInOrder, Map}
-use Rattle.hir_def_map.specs.declared.nameres.path_resolution.slots.Slot.{Slot as PathSlot}
-use Rattle.hir_def_map.specs.declared.nameres.path_resolution.slots.Slot.TheVariants.{Module as of_module, Preludes as of_preludes}
+use Rattle.hir_nameres.specs.declared.nameres.path_resolution.slots.Slot.{Slot as PathSlot}
+use Rattle.hir_nameres.specs.declared.nameres.path_resolution.slots.Slot.TheVariants.{Module as of_module, Preludes as of_preludes}
 use Rattle.hir_def_map_rules.specs.declared.reference.Reference.TheVariants as named
 use Rattle.hir_def_map_laws.specs.ReadLaw.{has_no_variants, stops_bare}
 use Rattle.hir_glob_imports.specs.Waves.{AreOfKind}

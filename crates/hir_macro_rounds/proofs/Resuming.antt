@@ -4,7 +4,7 @@ use Rattle.std.proofs.Common.{Contains, Some, cond, append-nil, arith}
 use Rattle.std.proofs.lemmas.List.Elements.{Contains-append_cases, Contains-append_left, Contains-append_right}
 use Rattle.hir_ids.specs.declared.ids.MapId.{MapId}
 use Rattle.hir_def_map_rules.specs.Overlay.{Maps}
-use Rattle.hir_def_map.specs.declared.nameres.path_resolution.slots.Slot.{Slot as PathSlot}
+use Rattle.hir_nameres.specs.declared.nameres.path_resolution.slots.Slot.{Slot as PathSlot}
 use Rattle.hir_def_map_laws.specs.ReadLaw.{BeginsOutside, KeepApart}
 use Rattle.hir_import_growth.specs.Growth.{GlobsLast, HaveGlobs}
 use Rattle.hir_import_resolution.specs.Rounds.{Grew, IsResumable, IsUpToDate as AreUpToDate, is_apart, is_lasting}

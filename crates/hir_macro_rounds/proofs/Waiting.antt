@@ -9,7 +9,7 @@ use Rattle.hir_ids.specs.declared.ast_id.AstId.{AstId}
 use Rattle.hir_def_map_laws.specs.ReadLaw.{BeginsOutside}
 use Rattle.hir_def_map_rules.specs.Overlay.{Maps}
 use Rattle.hir_def_map_rules.specs.State.{CrateData, IsInOrder}
-use Rattle.hir_def_map.specs.declared.nameres.path_resolution.slots.Slot.{Slot as PathSlot}
+use Rattle.hir_nameres.specs.declared.nameres.path_resolution.slots.Slot.{Slot as PathSlot}
 use Rattle.hir_worklist.proofs.Idle.{idle-closed, idle-opened, idle-taken}
 use Rattle.hir_worklist.specs.Moves.{Takes, closed, empty_queue, opened}
 use Rattle.hir_worklist.specs.Queue.{IsIdle, Queue, count_of, is_unfinished}

@@ -2,7 +2,7 @@
 ghost use Rattle.std.specs.Prelude.{◌≡◌, ◌<◌, ◌≤◌, ℕ, cond, true, false, IfOk, None, OnOk, Some, length, slice_get};
 ghost use Rattle.hir_tables.specs.Tables.{KeepsTables};
 ghost use Rattle.hir_def_map_rules.specs.State.{IsInOrder};
-ghost use Rattle.hir_def_map.specs.WorldParts.{part_of};
+ghost use Rattle.hir_nameres.specs.WorldParts.{part_of};
 ghost use Rattle.hir_import_rules.specs.Rest.{IsAtRest, IsSound};
 ghost use Rattle.hir_import_growth.specs.Growth.{GlobsLast};
 ghost use Rattle.hir_import_resolution.specs.Rounds.{IsResumable, is_apart as are_apart, is_lasting};
@@ -38,9 +38,9 @@ use hir_collector_rules::macro_directive::{Fate, MacroDirective};
 use hir_collector_rules::source_database::SourceDatabase;
 use hir_collector_rules::start::{CollectError, STEP_LIMIT, StepError};
 use hir_collector_state::def_collector::DefCollector;
-use hir_def_map::world::part::WorldPart;
 use hir_import_resolution::ImportQueue;
 use hir_mod_collector::mod_collector::walk_all;
+use hir_nameres::world::part::WorldPart;
 use hir_tables::Tables;
 use std::alloc::AllocError;
 

@@ -1,7 +1,7 @@
 //! Items that go on behind an attribute for which they waited.
 ghost use Rattle.std.specs.Prelude.{◌≡◌, ◌+◌, ◌<◌, ℕ, IfOk, IfSome, None, OnOk, Some, slice_get};
 ghost use Rattle.hir_tables.specs.Tables.{KeepsTables};
-ghost use Rattle.hir_def_map.specs.WorldParts.{part_of};
+ghost use Rattle.hir_nameres.specs.WorldParts.{part_of};
 ghost use Rattle.hir_import_rules.specs.Rest.{IsAtRest};
 ghost use Rattle.hir_collector_rules.specs.CallMoves.{IsFirstWaiting, IsGivenUp, IsReady, NoneWaits, NoneWaitsBefore};
 ghost use Rattle.hir_collector_rules.specs.Calls.{AreCallsPlaced, IsWaiting, LeadsNowhere, waiting_item};
@@ -16,9 +16,9 @@ use hir_collector_rules::site::Site;
 use hir_collector_rules::source_database::SourceDatabase;
 use hir_collector_rules::start::StepError;
 use hir_collector_state::def_collector::DefCollector;
-use hir_def_map::nameres::diagnostics::DefDiagnostic;
-use hir_def_map::world::part::WorldPart;
 use hir_mod_collector::mod_collector::walk_item;
+use hir_nameres::nameres::diagnostics::DefDiagnostic;
+use hir_nameres::world::part::WorldPart;
 use hir_tables::Tables;
 use hir_use_tree::use_tree::place_after;
 use std::alloc::AllocError;

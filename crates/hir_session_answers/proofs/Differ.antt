@@ -15,8 +15,8 @@ use Rattle.hir_base.specs.declared.place.PlaceElement.{PlaceElement}
 use Rattle.hir_base.specs.declared.place.PlaceElement.TheVariants as element
 use Rattle.hir_tables.specs.Tables.{KeepsTables, TablesValue, block_at}
 use Rattle.hir_tables.proofs.Growth.{KeepsTables-refl, KeepsTables-trans}
-use Rattle.hir_def_map.specs.WorldParts.{among, is_of_some}
-use Rattle.hir_def_map.specs.Inner.PartLaws.{among_agrees}
+use Rattle.hir_nameres.specs.WorldParts.{among, is_of_some}
+use Rattle.hir_nameres.specs.Inner.PartLaws.{among_agrees}
 use Rattle.hir_def_map_rules.specs.Closed.{PathsLeadToWhatIsThere}
 use Rattle.hir_def_map_rules.specs.Inner.OverlayLaws.{exact_map}
 use Rattle.hir_def_map_rules.specs.Sources.{PathsAnswerFromSources}

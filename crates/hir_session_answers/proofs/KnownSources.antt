@@ -16,8 +16,8 @@ use Rattle.hir_per_ns.specs.PerNs.{Item}
 use Rattle.hir_per_ns.specs.declared.imports.ImportOrExternCrate.{ImportOrExternCrate}
 use Rattle.hir_per_ns.specs.declared.per_ns.PerNs.{PerNs}
 use Rattle.hir_tables.specs.Tables.{KeepsTables, TablesValue, source_under}
-use Rattle.hir_def_map.specs.Inner.PartLaws.{among-only}
-use Rattle.hir_def_map.specs.WorldParts.{among}
+use Rattle.hir_nameres.specs.Inner.PartLaws.{among-only}
+use Rattle.hir_nameres.specs.WorldParts.{among}
 use Rattle.hir_def_map_rules.specs.Overlay.{Maps, Placed, overlay}
 use Rattle.hir_def_map_rules.specs.Scoping.{resolution_of}
 use Rattle.hir_def_map_rules.specs.Scoping.Asking.{local_of}

@@ -80,7 +80,7 @@ use Rattle.hir_session_state.proofs.Holding.{start_holders}
 use Rattle.hir_session_state.proofs.Standing.{at_module, block_begun, kept_gives, module_there}
 use Rattle.hir_session_state.proofs.Truth.{one_value}
 use Rattle.hir_session_state.proofs.Worlds.{AgreeOn-refl}
-use Rattle.hir_def_map.specs.WorldParts.{among}
+use Rattle.hir_nameres.specs.WorldParts.{among}
 use Rattle.hir_base.specs.Place.{PlaceValue}
 use Rattle.hir_session_state.specs.Crates.{transitive_in}
 use Rattle.hir_session_answers.proofs.ReadMaps.{krate_is, own_apart, rank, read_whole, reads, stood_on_whole}

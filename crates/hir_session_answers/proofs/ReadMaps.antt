@@ -15,8 +15,8 @@ use Rattle.hir_collector_rules.specs.Start.{id_of as start_id, krate_of}
 use Rattle.hir_collector_rules.specs.Workspace.{dependencies_in}
 use Rattle.hir_collector_rules.specs.declared.source_database.Dependency.{Dependency}
 use Rattle.hir_def_collector_laws.specs.Whole.{StandsOnWhole}
-use Rattle.hir_def_map.specs.Inner.PartLaws.{among-only, among-there}
-use Rattle.hir_def_map.specs.WorldParts.{are_of_some, is_of_some}
+use Rattle.hir_nameres.specs.Inner.PartLaws.{among-only, among-there}
+use Rattle.hir_nameres.specs.WorldParts.{are_of_some, is_of_some}
 use Rattle.hir_def_map_rules.specs.Inner.OverlayLaws.{exact_map}
 use Rattle.hir_def_map_rules.specs.Overlay.{Maps, Placed, module_in, overlay}
 use Rattle.hir_def_map_rules.specs.References.{any_own_crate, is_holder_for, is_missing, test_crate}

@@ -9,7 +9,7 @@ use Rattle.hir_def_map_rules.specs.Closed.{PathsLeadToWhatIsThere}
 use Rattle.hir_def_map_rules.specs.Scoping.{resolution_of}
 use Rattle.hir_def_map_rules.specs.Sources.{PathsAnswerFromSources}
 use Rattle.hir_def_map_rules.specs.Overlay.{Maps, overlay}
-use Rattle.hir_def_map.specs.WorldParts.{among}
+use Rattle.hir_nameres.specs.WorldParts.{among}
 use Rattle.hir_def_collector_laws.specs.Sources.{RunsBindFromSources}
 use Rattle.hir_wire.specs.declared.answer.Answer.{Answer}
 use Rattle.hir_wire.specs.declared.command.MacroStyle.{MacroStyle}

@@ -1,7 +1,7 @@
 //! Answers to tables, in source items.
 ghost use Rattle.std.specs.Prelude.{◌≡◌, IfOk};
 ghost use Rattle.std.specs.Option.{option_and_then};
-ghost use Rattle.hir_def_map.specs.DefMaps.{maps_of};
+ghost use Rattle.hir_nameres.specs.DefMaps.{maps_of};
 ghost use Rattle.hir_session_answers.specs.SourceItems.{import_source, value_import_source, maybe_source, together, answered_type, answered_value, answered_macro};
 ghost use Rattle.hir_session_answers.specs.Answers.{shadow_mode_of, sub_ns_of, answer_in};
 

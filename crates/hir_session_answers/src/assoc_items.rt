@@ -1,7 +1,7 @@
 //! The traits and impls whose items are asked for, and these items in source items.
 ghost use Rattle.std.specs.Prelude.{◌≡◌, IfOk, Some, None, slice_get};
 ghost use Rattle.std.specs.List.{filter_map};
-ghost use Rattle.hir_def_map.specs.DefMaps.{maps_of};
+ghost use Rattle.hir_nameres.specs.DefMaps.{maps_of};
 ghost use Rattle.hir_scope.specs.Scope.Reads.{impls_of_kind};
 ghost use Rattle.hir_scope.specs.declared.item_scope.iter.impls.ImplKind.TheVariants.{Any};
 ghost use Rattle.hir_def_map_rules.specs.Scoping.{resolution_of};

@@ -1,7 +1,7 @@
 //! Diagnostics of a map, in source items.
 ghost use Rattle.std.specs.Prelude.{◌≡◌, IfOk};
 ghost use Rattle.hir_base.specs.Cfg.{cfg_text, cfg_view};
-ghost use Rattle.hir_def_map.specs.DefMaps.{maps_of};
+ghost use Rattle.hir_nameres.specs.DefMaps.{maps_of};
 ghost use Rattle.hir_def_map_rules.specs.Diagnostics.{diagnostic_view, kind_view};
 ghost use Rattle.hir_session_answers.specs.Diagnostics.{diagnostic_source, diagnostic_with, diagnostics_in, kind_about, node_source};
 

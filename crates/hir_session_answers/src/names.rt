@@ -1,7 +1,7 @@
 //! What the names of a module stand for, in source items.
 ghost use Rattle.std.specs.Prelude.{◌≡◌, IfOk, option_map};
 ghost use Rattle.std.specs.Option.{option_copied};
-ghost use Rattle.hir_def_map.specs.DefMaps.{maps_of};
+ghost use Rattle.hir_nameres.specs.DefMaps.{maps_of};
 ghost use Rattle.hir_session_answers.specs.Names.{named_in, names_in};
 
 use crate::answers::{macro_item_at, type_at, value_at};

@@ -15,8 +15,8 @@ use Rattle.hir_tables.specs.Tables.{TablesValue, block_at}
 use Rattle.hir_tables.proofs.Growth.{KeepsTables-refl}
 use Rattle.hir_def_map_rules.specs.Inner.OverlayLaws.{exact_map}
 use Rattle.hir_def_map_rules.specs.References.{refers_to}
-use Rattle.hir_def_map.specs.Removal.{Depends}
-use Rattle.hir_def_map.specs.Removal.Depends.{itself, through}
+use Rattle.hir_nameres.specs.Removal.{Depends}
+use Rattle.hir_nameres.specs.Removal.Depends.{itself, through}
 use Rattle.hir_def_map_rules.specs.State.{crate_map}
 use Rattle.hir_def_map_rules.specs.Overlay.{holders_under, no_maps}
 use Rattle.hir_collector_rules.specs.Keys.{AgreeOn, Look, look, of_entry, of_input, of_map, of_text, of_tree, of_variants, source_under}

@@ -4,7 +4,7 @@ ghost use Rattle.hir_item_tree.specs.Source.{source_view};
 ghost use Rattle.hir_tables.specs.SourcePlaces.{expansion_value, file, source_value};
 ghost use Rattle.hir_tables.specs.Tables.{KeepsTables};
 ghost use Rattle.hir_wire.specs.Edits.{entry_view};
-ghost use Rattle.hir_def_map.specs.World.{finished_in};
+ghost use Rattle.hir_nameres.specs.World.{finished_in};
 ghost use Rattle.hir_collector_rules.specs.Calls.{AreCallsPlaced};
 ghost use Rattle.hir_collector_rules.specs.Derivation.{IsOverlong, collected_view};
 ghost use Rattle.hir_collector_rules.specs.UnknownSources.{MeetsUnknownSource};

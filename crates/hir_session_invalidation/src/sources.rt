@@ -2,7 +2,7 @@
 ghost use Rattle.std.specs.Prelude.{◌≡◌, ◌<◌, length, Err, IfOk};
 ghost use Rattle.hir_tables.specs.SourcePlaces.{source_value};
 ghost use Rattle.hir_tables.specs.Tables.{KeepsTables};
-ghost use Rattle.hir_def_map.specs.World.{finished_in};
+ghost use Rattle.hir_nameres.specs.World.{finished_in};
 ghost use Rattle.hir_collector_rules.specs.Calls.{AreCallsPlaced};
 ghost use Rattle.hir_collector_rules.specs.Derivation.{IsOverlong, collected_view};
 ghost use Rattle.hir_collector_rules.specs.Start.{beginning};

@@ -21,7 +21,7 @@ use Rattle.hir_tables.specs.SourcePlaces.{ExpansionValue, SourcePlaceValue, bloc
 use Rattle.hir_tables.specs.Tables as numbers
 use Rattle.hir_tables.specs.Tables.{KeepsTables, TablesValue, source_of}
 use Rattle.hir_tables.proofs.Growth.{KeepsTables-refl}
-use Rattle.hir_def_map.specs.WorldParts.{among}
+use Rattle.hir_nameres.specs.WorldParts.{among}
 use Rattle.hir_def_map_rules.specs.Closed.{PathsLeadToWhatIsThere}
 use Rattle.hir_def_map_rules.specs.Overlay.{holders_of, no_maps}
 use Rattle.hir_def_map_rules.specs.Sources.{PathsAnswerFromSources}

@@ -8,8 +8,8 @@ use Rattle.std.specs.BTreeMap.{is_at}
 use Rattle.std.proofs.lemmas.List.Sums.{sum_by-cons}
 use Rattle.hir_ids.specs.declared.ids.MapId.{MapId}
 use Rattle.hir_ids.specs.contracts.ids.MapIdOrd.TheImpl as map_order
-use Rattle.hir_def_map.specs.declared.world.finished.Finished.{Finished}
-use Rattle.hir_def_map.specs.Removal.{Depends, GainsRemoved, is_removed, refers_in as names_between}
+use Rattle.hir_nameres.specs.declared.world.finished.Finished.{Finished}
+use Rattle.hir_nameres.specs.Removal.{Depends, GainsRemoved, is_removed, refers_in as names_between}
 use Rattle.hir_tables.specs.Tables.{TablesValue}
 use Rattle.hir_collector_rules.specs.declared.source_database.Key.{Key}
 use Rattle.hir_session_state.specs.Askers.{AreDropped, HoldsExactly, asked_by, is_asked, is_asker, is_one}

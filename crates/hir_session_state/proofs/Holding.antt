@@ -8,7 +8,7 @@ use Rattle.hir_ids.specs.declared.ids.Crate.{Crate}
 use Rattle.hir_ids.specs.declared.ids.MapId.{MapId}
 use Rattle.hir_ids.specs.declared.ids.ModuleId.{ModuleId}
 use Rattle.hir_per_ns.specs.ModuleTree.{same_crate}
-use Rattle.hir_def_map.specs.Inner.PartLaws.{among-only}
+use Rattle.hir_nameres.specs.Inner.PartLaws.{among-only}
 use Rattle.hir_def_map_rules.specs.Inner.OverlayLaws.{exact_crate, exact_map, same_id}
 use Rattle.hir_def_map_rules.specs.Overlay.{Maps, Placed, holders_of, holders_under, module_in, overlay, placed_in}
 use Rattle.hir_def_map_rules.specs.References.{is_holder_for}

@@ -10,17 +10,17 @@ use Rattle.hir_ids.specs.declared.ids.MapId.{MapId}
 use Rattle.hir_ids.specs.declared.ids.ModuleId.{ModuleId}
 use Rattle.hir_ids.specs.contracts.ids.MapIdOrd.TheImpl as map_order
 use Rattle.hir_ids.specs.contracts.ids.MapIdPartialEq.TheImpl as map_id
-use Rattle.hir_def_map.specs.declared.world.finished.Finished.{Finished}
+use Rattle.hir_nameres.specs.declared.world.finished.Finished.{Finished}
 use Rattle.hir_def_map.specs.declared.world.insert.InsertError.{InsertError}
 use Rattle.hir_def_map_rules.specs.Inner.OverlayLaws.{exact_map, same_id}
 use Rattle.hir_def_map.specs.declared.world.insert.InsertError.TheVariants.{Unchecked, Memory}
 use Rattle.hir_def_map.specs.Insertion.{may_join, IsReason}
 use Rattle.hir_def_map_rules.specs.References.{is_well_formed}
-use Rattle.hir_def_map.specs.Removal.{Depends, refers_in as names_between, refers_of as between_of}
-use Rattle.hir_def_map.specs.Removal.Depends.{itself, through}
+use Rattle.hir_nameres.specs.Removal.{Depends, refers_in as names_between, refers_of as between_of}
+use Rattle.hir_nameres.specs.Removal.Depends.{itself, through}
 use Rattle.hir_def_map_rules.specs.State.{Local, Map}
 use Rattle.hir_def_map_rules.specs.Overlay.{Maps, Placed, holders_or, holders_under, no_maps, placed_with, with_map}
-use Rattle.hir_def_map.specs.World.{finished_in, placed_of}
+use Rattle.hir_nameres.specs.World.{finished_in, placed_of}
 use Rattle.hir_session_state.specs.Types.{KeptRun}
 use Rattle.hir_session_state.specs.Kept.{Resolution, Resolutions, finished_by, held, kept_in, names_in, names_of, entry_with, placed_by, resolution_at}
 use Rattle.hir_session_state.specs.Kept.{resolution_from, resolutions_in, AreForgotten}

@@ -12,8 +12,8 @@ use Rattle.hir_ids.specs.contracts.ids.MapIdOrd.TheImpl as map_order
 use Rattle.hir_ids.specs.contracts.ids.MapIdPartialEq.TheImpl as map_id
 use Rattle.hir_def_map_rules.specs.declared.reference.Reference.{Reference}
 use Rattle.hir_def_map_rules.specs.declared.reference.Reference.TheVariants as named
-use Rattle.hir_def_map.specs.WorldParts.{among, are_of_some, is_of_some}
-use Rattle.hir_def_map.specs.Inner.PartLaws.{among-only, among-there}
+use Rattle.hir_nameres.specs.WorldParts.{among, are_of_some, is_of_some}
+use Rattle.hir_nameres.specs.Inner.PartLaws.{among-only, among-there}
 use Rattle.hir_def_map_rules.specs.Inner.OverlayLaws.{exact_map}
 use Rattle.hir_def_map_rules.proofs.WellFormed.{complete, HasNoDanglingExtern-more, HasNoDanglingReference-more}
 use Rattle.hir_def_map_rules.specs.WellFormed.{AreWellFormed, HasNoDanglingExtern, Extends, IsWellFormed, HasNoDanglingReference}

@@ -13,8 +13,8 @@ use Rattle.hir_ids.specs.declared.ids.ModuleId.{ModuleId}
 use Rattle.hir_per_ns.specs.ModuleTree.{same_crate}
 use Rattle.hir_tables.specs.SourcePlaces.{file}
 use Rattle.hir_tables.specs.Tables.{KeepsTables, TablesValue, file_at}
-use Rattle.hir_def_map.specs.Inner.PartLaws.{among-only, among-there}
-use Rattle.hir_def_map.specs.WorldParts.{among, are_of_some, is_of_some}
+use Rattle.hir_nameres.specs.Inner.PartLaws.{among-only, among-there}
+use Rattle.hir_nameres.specs.WorldParts.{among, are_of_some, is_of_some}
 use Rattle.hir_def_map_rules.specs.Inner.OverlayLaws.{same_id}
 use Rattle.hir_def_map_rules.specs.Overlay.{Maps, Placed, holders_of, holders_under, module_in, overlay}
 use Rattle.hir_def_map_rules.specs.References.{is_missing, is_well_formed, test_crate}

@@ -6,9 +6,9 @@ use Rattle.hir_ids.specs.declared.ids.MapId.{MapId}
 use Rattle.hir_ids.specs.declared.ids.ModuleId.{ModuleId}
 use Rattle.hir_ids.specs.contracts.ids.MapIdOrd.TheImpl as map_order
 use Rattle.hir_per_ns.specs.declared.imports.ImportOrExternCrate.{ImportOrExternCrate}
-use Rattle.hir_def_map.specs.declared.world.finished.Finished.{Finished}
+use Rattle.hir_nameres.specs.declared.world.finished.Finished.{Finished}
 use Rattle.hir_def_map_rules.specs.References.{refers_to}
-use Rattle.hir_def_map.specs.Removal.{Depends}
+use Rattle.hir_nameres.specs.Removal.{Depends}
 use Rattle.hir_def_map_rules.specs.State.{Local, Map}
 use Rattle.hir_def_map_rules.specs.Overlay.{Maps, Placed}
 use Rattle.hir_collector_rules.specs.Derivation.{CollectedValue}

@@ -8,7 +8,7 @@ use Rattle.hir_ids.specs.declared.ids.Crate.{Crate}
 use Rattle.hir_ids.specs.declared.ids.MapId.{MapId}
 use Rattle.hir_ids.specs.declared.ids.ModuleId.{ModuleId}
 use Rattle.hir_ids.specs.declared.ast_id.SyntaxId.{SyntaxId}
-use Rattle.hir_def_map.specs.WorldParts.{among}
+use Rattle.hir_nameres.specs.WorldParts.{among}
 use Rattle.hir_def_map_rules.specs.WellFormed.{HasNoDanglingExtern, HasNoDanglingReference}
 use Rattle.hir_def_map_rules.specs.Overlay.{Maps, holders_of, holders_under, overlay}
 use Rattle.hir_def_map_rules.specs.State.{crate_map}

@@ -4,8 +4,8 @@ ghost use Rattle.hir_def_map_rules.specs.State.{variants_at};
 ghost use Rattle.hir_import_rules.specs.Changed.{everything};
 
 use hir_base::ids::EnumId;
-use hir_def_map::nameres::DefMap;
 use hir_import_growth::Changed;
+use hir_nameres::nameres::DefMap;
 
 /// All slots may have changed where an enum gets variants that has some.
 pub fn note_variants(changed: &mut Changed, map: &DefMap, id: EnumId)

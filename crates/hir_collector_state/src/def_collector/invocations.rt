@@ -12,7 +12,7 @@ use hir_base::ast_id::{AstId, AttrId, MacroCallId};
 use hir_base::macro_kind::BuiltinDeriveImplId;
 use hir_base::mod_path::ModPath;
 use hir_collector_rules::macro_directive::{MacroDirective, MacroDirectiveKind};
-use hir_def_map::nameres::DefMap;
+use hir_nameres::nameres::DefMap;
 use hir_scope::item_scope::ItemScope;
 use std::alloc::{AllocError, Global};
 

@@ -2,7 +2,7 @@
 #![tactic(auto, unfolding(hir_collector_rules::specs::State::core_in))]
 
 ghost use Rattle.std.specs.Prelude.{◌≡◌, ◌<◌, true, false, length, option_map, OnOk};
-ghost use Rattle.hir_def_map.specs.WorldParts.{part_of};
+ghost use Rattle.hir_nameres.specs.WorldParts.{part_of};
 ghost use Rattle.hir_def_map_rules.specs.Macros.{with_derive_helper, with_exported, with_macro_data};
 ghost use Rattle.hir_collector_rules.specs.State.{core_in, with_exported_function, with_map};
 ghost use Rattle.hir_collector_rules.specs.Attributes.{exports_from};
@@ -18,14 +18,14 @@ use hir_base::macro_kind::{BuiltinDeriveImplId, MacroId, ProcMacroId};
 use hir_collector_rules::exported::ExportedFunction;
 use hir_collector_rules::macro_directive::{MacroDirective, MacroDirectiveKind};
 use hir_collector_start::helpers::is_helper;
-use hir_def_map::def_maps::DefMaps;
-use hir_def_map::nameres::DefMap;
-use hir_def_map::nameres::derive_helpers::DeriveHelper;
-use hir_def_map::nameres::macro_data::MacroData;
-use hir_def_map::nameres::path_resolution::query::Query;
-use hir_def_map::nameres::path_resolution::slots::PathSlots;
-use hir_def_map::nameres::path_resolution::{BuiltinShadowMode, ResolveMode};
-use hir_def_map::world::part::WorldPart;
+use hir_nameres::def_maps::DefMaps;
+use hir_nameres::nameres::DefMap;
+use hir_nameres::nameres::derive_helpers::DeriveHelper;
+use hir_nameres::nameres::macro_data::MacroData;
+use hir_nameres::nameres::path_resolution::query::Query;
+use hir_nameres::nameres::path_resolution::slots::PathSlots;
+use hir_nameres::nameres::path_resolution::{BuiltinShadowMode, ResolveMode};
+use hir_nameres::world::part::WorldPart;
 use hir_scope::per_ns::PerNs;
 use std::alloc::AllocError;
 

@@ -8,7 +8,7 @@ ghost use Rattle.hir_def_map_rules.specs.Overlay.{holders_under, with_map};
 ghost use Rattle.hir_def_map.specs.Inner.Dependents.{HasRoom, IsEntered, IsIndexed};
 ghost use Rattle.hir_def_map.specs.Insertion.{may_join, Inserts};
 ghost use Rattle.hir_def_map.specs.Inner.Recorded.{IsRecordedFor};
-ghost use Rattle.hir_def_map.specs.World.{finished_in, local_in};
+ghost use Rattle.hir_nameres.specs.World.{finished_in, local_in};
 
 use crate::nameres::DefMap;
 use crate::world::World;
@@ -111,7 +111,7 @@ fn add_with_room(
 
 impl World {
     /// The modules that hold a map: that of its block, that of this one's block, and so on.
-    #[tactic(auto, unfolding(crate::specs::World::finished_in))]
+    #[tactic(auto, unfolding(hir_nameres::specs::World::finished_in))]
     fn holders_under(
         &self,
         id: MapId,

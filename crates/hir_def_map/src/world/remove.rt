@@ -5,7 +5,7 @@ ghost use Rattle.std.specs.BTreeMap.{btree_map_len, get, IsUnchanged, Updates};
 ghost use Rattle.hir_ids.specs.declared.ids.MapId.{MapId};
 ghost use Rattle.hir_ids.specs.contracts.ids.MapIdOrd.TheImpl as map_order;
 ghost use Rattle.hir_def_map.specs.Inner.Dependents.{HasRoom, IsIndexed};
-ghost use Rattle.hir_def_map.specs.Removal.{refers_in, Depends, GainsRemoved, IsClosed, IsFalling};
+ghost use Rattle.hir_nameres.specs.Removal.{refers_in, Depends, GainsRemoved, IsClosed, IsFalling};
 
 use crate::world::World;
 use crate::world::dependents::Dependents;

@@ -11,8 +11,8 @@ ghost use Rattle.hir_import_rules.specs.Names.{trait_vis};
 use crate::lasting::{has_variants, is_placed, is_trait_placed, stops_bare};
 use crate::resolver::Resolver;
 use hir_base::ids::TraitId;
-use hir_def_map::nameres::path_resolution::ResolvePathResult;
 use hir_glob_imports::Edge;
+use hir_nameres::nameres::path_resolution::ResolvePathResult;
 
 impl Resolver<'_> {
     /// Notes whether a path stops at an enum that has no variants yet.

@@ -1,7 +1,7 @@
 //! What types, values and macros stand for.
 ghost use Rattle.std.specs.Prelude.{◌≡◌, IfOk, option_map};
 ghost use Rattle.hir_tables.specs.Tables.{block_at};
-ghost use Rattle.hir_def_map.specs.DefMaps.{maps_of};
+ghost use Rattle.hir_nameres.specs.DefMaps.{maps_of};
 ghost use Rattle.hir_def_map_rules.specs.Overlay.{module_in};
 ghost use Rattle.hir_session_answers.specs.SourceItems.{block_definition, item_of, crate_of, module_by, module_definition, adt_definition, macro_definition, definition_of};
 

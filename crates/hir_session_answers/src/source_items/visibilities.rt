@@ -1,6 +1,6 @@
 //! From where bindings are visible.
 ghost use Rattle.std.specs.Prelude.{◌≡◌, IfOk};
-ghost use Rattle.hir_def_map.specs.DefMaps.{maps_of};
+ghost use Rattle.hir_nameres.specs.DefMaps.{maps_of};
 ghost use Rattle.hir_session_answers.specs.SourceItems.{is_explicit, visibility_source};
 
 use super::definitions::module_at;

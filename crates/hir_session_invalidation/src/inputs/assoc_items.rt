@@ -3,7 +3,7 @@ ghost use Rattle.std.specs.Prelude.{◌≡◌, IfOk, Err};
 ghost use Rattle.hir_ids.specs.declared.ast_id.AstKind.TheVariants as kind;
 ghost use Rattle.hir_ids.specs.declared.ids.ItemContainerId.TheVariants as container;
 ghost use Rattle.hir_tables.specs.Tables.{KeepsTables};
-ghost use Rattle.hir_def_map.specs.DefMaps.{maps_of};
+ghost use Rattle.hir_nameres.specs.DefMaps.{maps_of};
 ghost use Rattle.hir_collector_rules.specs.Calls.{AreCallsPlaced};
 ghost use Rattle.hir_collector_rules.specs.Keys.{environment};
 ghost use Rattle.hir_assoc_items.specs.AssocItems.{FlattensTo, IsTooMany, ReachesUnknown, container_of, items_written, listing_of};

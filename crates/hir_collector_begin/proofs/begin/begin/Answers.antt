@@ -7,7 +7,7 @@ use Rattle.hir_tables.specs.SourcePlaces.{source_value}
 use Rattle.hir_tables.specs.Tables.{source_of}
 use Rattle.hir_tables.proofs.Growth.{KeepsTables-trans}
 use Rattle.hir_def_map_rules.specs.State.{IsInOrder, new_module}
-use Rattle.hir_def_map.specs.WorldParts.{part_of}
+use Rattle.hir_nameres.specs.WorldParts.{part_of}
 use Rattle.hir_collector_rules.specs.Workspace.{ConfigValue, Workspace, config_view, crate_in}
 use Rattle.hir_collector_rules.specs.Calls.{IsMeantAt}
 use Rattle.hir_collector_rules.specs.Keys.{environment, source_in}

@@ -8,7 +8,7 @@ use Rattle.hir_item_tree.specs.KeptForest.{all_items}
 use Rattle.hir_item_tree.specs.Rows.{items_at, numbers_of}
 use Rattle.hir_item_tree.specs.declared.rows.ModItemId.{ModItemId}
 use Rattle.hir_mod_dir.specs.Directory.{Directory}
-use Rattle.hir_def_map.specs.WorldParts.{part_of}
+use Rattle.hir_nameres.specs.WorldParts.{part_of}
 use Rattle.hir_collector_rules.specs.Keys.{environment}
 use Rattle.hir_collector_rules.specs.ModuleFiles.{IsFileMeant, file_of_tree}
 use Rattle.hir_collector_rules.specs.Moves.{Walks, WalksTooFar}

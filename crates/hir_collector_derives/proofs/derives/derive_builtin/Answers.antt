@@ -1,7 +1,7 @@
 -- A path of a derive that reaches a builtin macro is handled: an impl is listed, and its helpers are brought.
 use Rattle.std.proofs.Common.{rules, ◌≡◌, ◌∙◌, ◌<◌, ◌≤◌, ℕ, List, Some, ap, length, map, subst, sym}
 use Rattle.either.specs.declared.Either.TheVariants as either
-use Rattle.hir_def_map.specs.WorldParts.{part_of}
+use Rattle.hir_nameres.specs.WorldParts.{part_of}
 use Rattle.hir_def_map_rules.proofs.Grown.{length-changed}
 use Rattle.hir_def_map_rules.specs.State.{with_module_scope}
 use Rattle.hir_def_map_rules.specs.declared.derive_helpers.DeriveHelper.{DeriveHelper}

@@ -1,8 +1,8 @@
 -- Imports that are taken are so in the run.
 use Rattle.std.proofs.Common.{rules, ◌≡◌, ◌<◌, ℕ, List, Some, length, slice_get, refl, sym, subst}
 use Rattle.hir_def_map_rules.specs.State.{IsInOrder}
-use Rattle.hir_def_map.specs.WorldParts.{part_of}
-use Rattle.hir_def_map.specs.declared.nameres.path_resolution.slots.Slot.{Slot}
+use Rattle.hir_nameres.specs.WorldParts.{part_of}
+use Rattle.hir_nameres.specs.declared.nameres.path_resolution.slots.Slot.{Slot}
 use Rattle.hir_import_rules.specs.declared.directive.ImportDirective.{ImportDirective}
 use Rattle.hir_import_resolution.specs.Inner.State.{state_in}
 use Rattle.hir_import_growth.specs.Growth.{GlobsLast}

@@ -1,5 +1,5 @@
 use Rattle.std.proofs.Common.{◌≡◌, drop, map}
-use Rattle.hir_def_map.specs.WorldParts.{part_of}
+use Rattle.hir_nameres.specs.WorldParts.{part_of}
 use Rattle.hir_collector_rules.specs.Items.{meet_of}
 use Rattle.hir_import_rules.specs.Visibilities.{visibility_in}
 use Rattle.hir_collector_rules.specs.State.{core_in}

@@ -3,7 +3,7 @@ use Rattle.hir_item_tree.specs.SourceTree.{SourceTreeValue, variants_of}
 use Rattle.hir_item_tree.specs.declared.side_lists.VariantItem.{VariantItem}
 use Rattle.hir_ids.specs.declared.ids.MapId.{MapId}
 use Rattle.hir_def_map_rules.specs.State.{Map}
-use Rattle.hir_def_map.specs.WorldParts.{part_of}
+use Rattle.hir_nameres.specs.WorldParts.{part_of}
 use Rattle.hir_collector_rules.specs.ItemIds.{enum_id}
 use Rattle.hir_collector_rules.specs.Keys.{look, of_variants, source_in}
 use Rattle.hir_collector_rules.specs.State.{core_in}

@@ -5,9 +5,9 @@ use Rattle.hir_ids.specs.declared.ids.Crate.{Crate}
 use Rattle.hir_tables.specs.SourcePlaces.{source_value}
 use Rattle.hir_tables.specs.Tables.{source_of}
 use Rattle.hir_tables.proofs.Growth.{KeepsTables-trans}
-use Rattle.hir_def_map.specs.WorldParts.{among, part_of}
+use Rattle.hir_nameres.specs.WorldParts.{among, part_of}
 use Rattle.hir_def_map_rules.specs.Overlay.{map_in}
-use Rattle.hir_def_map.specs.World.{finished_in}
+use Rattle.hir_nameres.specs.World.{finished_in}
 use Rattle.hir_collector_rules.specs.CallMoves.{ComesToRest}
 use Rattle.hir_collector_rules.specs.Derivation.{IsSpent, collected_view}
 use Rattle.hir_collector_rules.specs.Keys.{environment}

@@ -1,6 +1,6 @@
 -- What is due is done about what waits.
 use Rattle.std.proofs.Common.{rules, ◌≡◌, ◌∙◌, Some, None, ap, refl, slice_get, subst, sym}
-use Rattle.hir_def_map.specs.WorldParts.{part_of}
+use Rattle.hir_nameres.specs.WorldParts.{part_of}
 use Rattle.hir_macro_rounds.specs.declared.calls.Due.TheVariants.{Derives, Drops, Nothing, Reaches, Skips, TooDeep}
 use Rattle.hir_collector_rules.specs.declared.macro_directive.Fate.TheVariants.{Handled, Waits}
 use Rattle.hir_collector_rules.specs.CallMoves.{handled, left}

@@ -1,6 +1,6 @@
 -- An attribute that is inert by now, and what reaches a macro without an expansion.
 use Rattle.std.proofs.Common.{◌≡◌, ◌∙◌, true, sym}
-use Rattle.hir_def_map.specs.WorldParts.{part_of}
+use Rattle.hir_nameres.specs.WorldParts.{part_of}
 use Rattle.hir_collector_rules.specs.Calls.{is_inert_now}
 use Rattle.hir_collector_rules.specs.CallMoves.{FindsBuiltin}
 use Rattle.hir_collector_rules.specs.State.{core_in}

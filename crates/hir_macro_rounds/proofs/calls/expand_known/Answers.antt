@@ -8,7 +8,7 @@ use Rattle.hir_item_tree.specs.Rows.{items_at, numbers_of}
 use Rattle.hir_item_tree.specs.SourceTree.{SourceTreeValue}
 use Rattle.hir_item_tree.specs.declared.rows.ModItemId.{ModItemId}
 use Rattle.hir_tables.proofs.Growth.{KeepsTables-trans}
-use Rattle.hir_def_map.specs.WorldParts.{part_of}
+use Rattle.hir_nameres.specs.WorldParts.{part_of}
 use Rattle.hir_collector_rules.specs.Moves.{OnceGrown, Walks, WalksTooFar}
 use Rattle.hir_collector_rules.specs.State.{Core, core_in}
 use Rattle.hir_collector_rules.specs.TreeReads.{visits_at}

@@ -1,6 +1,6 @@
 -- What has read what has changed is queued, and what came besides.
 use Rattle.std.proofs.Common.{◌≡◌, ◌∙◌, ◌≤◌, ap, refl, sym, subst, length, Bool, List, None, arith}
-use Rattle.hir_def_map.specs.WorldParts.{part_of}
+use Rattle.hir_nameres.specs.WorldParts.{part_of}
 use Rattle.hir_worklist.specs.Queue.{count_of}
 use Rattle.hir_call_queue.specs.Waking.{is_apart, worklist_of}
 use Rattle.hir_collector_rules.specs.State.{Core, core_in}

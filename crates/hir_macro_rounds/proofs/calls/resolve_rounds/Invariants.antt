@@ -1,6 +1,6 @@
 use Rattle.std.proofs.Common.{◌≡◌, ◌-◌, true}
 use Rattle.hir_tables.specs.Tables.{KeepsTables}
-use Rattle.hir_def_map.specs.WorldParts.{part_of}
+use Rattle.hir_nameres.specs.WorldParts.{part_of}
 use Rattle.hir_import_resolution.specs.Rounds.{is_apart as are_apart, is_lasting}
 use Rattle.hir_import_rules.specs.Changed.{joined}
 use Rattle.hir_call_queue.specs.Waking.{is_apart}

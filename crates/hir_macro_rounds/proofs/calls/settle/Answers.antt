@@ -1,6 +1,6 @@
 -- Imports rest, and then calls may be expanded.
 use Rattle.std.proofs.Common.{rules, ◌≡◌, ◌∙◌, ◌+◌, ◌<◌, ◌≤◌, ap, arith, length, subst, sym}
-use Rattle.hir_def_map.specs.WorldParts.{part_of}
+use Rattle.hir_nameres.specs.WorldParts.{part_of}
 use Rattle.hir_import_rules.specs.Rest.{IsAtRest}
 use Rattle.hir_collector_rules.specs.declared.start.TheConstants.{STEP_LIMIT}
 use Rattle.hir_collector_rules.specs.State.{Core, at_rest, core_in, import_state}

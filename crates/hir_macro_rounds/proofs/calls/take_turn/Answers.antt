@@ -1,7 +1,7 @@
 -- One turn: imports rest, and then what waits is tried.
 use Rattle.std.proofs.lemmas.Result.{err_from_is_err_and}
 use Rattle.std.proofs.Common.{Err, ◌≡◌, ◌∙◌, ap, subst, sym}
-use Rattle.hir_def_map.specs.WorldParts.{part_of}
+use Rattle.hir_nameres.specs.WorldParts.{part_of}
 use Rattle.hir_import_rules.specs.Changed.{ChangedValue, joined}
 use Rattle.hir_collector_rules.specs.Keys.{environment}
 use Rattle.hir_collector_rules.specs.State.{core_in}

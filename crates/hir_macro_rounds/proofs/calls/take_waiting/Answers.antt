@@ -2,7 +2,7 @@
 use Rattle.std.proofs.lemmas.Result.{err_from_is_err_and}
 use Rattle.std.proofs.Common.{Err, ◌≡◌, ◌∙◌, ◌<◌, None, Some, ap, false, length, subst, sym, true, arith}
 use Rattle.hir_tables.proofs.Growth.{KeepsTables-trans}
-use Rattle.hir_def_map.specs.WorldParts.{part_of}
+use Rattle.hir_nameres.specs.WorldParts.{part_of}
 use Rattle.hir_import_rules.specs.Rest.{IsAtRest}
 use Rattle.hir_collector_rules.specs.CallMoves.{IsGivenUp, IsReady}
 use Rattle.hir_collector_rules.specs.Calls.{LeadsNowhere}

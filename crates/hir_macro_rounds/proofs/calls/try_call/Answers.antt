@@ -1,7 +1,7 @@
 -- What waits at a place is handled, or left to wait where nothing is to be done about it.
 use Rattle.std.proofs.Common.{◌≡◌, ◌<◌, None, Some, false, refl, slice_get, subst, sym, true}
 use Rattle.hir_ids.specs.declared.macro_kind.MacroId.{MacroId}
-use Rattle.hir_def_map.specs.WorldParts.{part_of}
+use Rattle.hir_nameres.specs.WorldParts.{part_of}
 use Rattle.hir_macro_rounds.specs.declared.calls.Due.{Due}
 use Rattle.hir_macro_rounds.specs.declared.calls.Due.TheVariants.{Nothing, Reaches}
 use Rattle.hir_collector_rules.specs.declared.macro_directive.MacroDirective.{MacroDirective}

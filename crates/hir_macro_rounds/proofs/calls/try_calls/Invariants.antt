@@ -1,6 +1,6 @@
 use Rattle.std.proofs.Common.{◌≡◌, ◌-◌, ◌≤◌, None, length}
 use Rattle.hir_tables.specs.Tables.{KeepsTables}
-use Rattle.hir_def_map.specs.WorldParts.{part_of}
+use Rattle.hir_nameres.specs.WorldParts.{part_of}
 use Rattle.hir_call_queue.specs.Waking.{is_apart, worklist_of}
 use Rattle.hir_collector_rules.specs.CallMoves.{IsReady}
 use Rattle.hir_collector_rules.specs.Calls.{AreCallsPlaced}

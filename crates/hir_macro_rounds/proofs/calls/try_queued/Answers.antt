@@ -1,7 +1,7 @@
 -- A call is tried, and then what has read what has changed is queued, or it watches what it has read.
 use Rattle.std.proofs.Common.{◌≡◌, ◌∙◌, ◌<◌, ap, subst, sym, true, None, Some, length, slice_get}
 use Rattle.hir_def_map_rules.specs.State.{IsInOrder}
-use Rattle.hir_def_map.specs.WorldParts.{part_of}
+use Rattle.hir_nameres.specs.WorldParts.{part_of}
 use Rattle.hir_import_rules.specs.Changed.{joined}
 use Rattle.hir_collector_rules.specs.CallMoves.{TriesCall}
 use Rattle.hir_collector_rules.specs.Calls.{LeadsNowhere}

@@ -2,8 +2,8 @@
 use Rattle.std.proofs.Common.{◌∙◌, ◌≡◌, ℕ, ap, subst, List, Option, length}
 use Rattle.hir_ids.specs.declared.ast_id.AstId.{AstId}
 use Rattle.hir_def_map_rules.specs.State.{Map}
-use Rattle.hir_def_map.specs.WorldParts.{part_of}
-use Rattle.hir_def_map.specs.declared.nameres.path_resolution.slots.Slot.{Slot}
+use Rattle.hir_nameres.specs.WorldParts.{part_of}
+use Rattle.hir_nameres.specs.declared.nameres.path_resolution.slots.Slot.{Slot}
 use Rattle.hir_call_queue.proofs.Woken.{goes_on_itself}
 use Rattle.hir_call_queue.specs.Waking.{IsWatching}
 use Rattle.hir_collector_rules.specs.Calls.{IsWaiting}

@@ -3,7 +3,7 @@ use Rattle.std.proofs.Common.{rules, [], ◌≡◌, ◌∙◌, ◌<◌, ◌≤�
 use Rattle.std.specs.Prelude.{IsSome}
 use Rattle.hir_item_tree.specs.KeptForest.{KeptItem, all_items}
 use Rattle.hir_item_tree.specs.SourceTree.{SourceTreeValue}
-use Rattle.hir_def_map.specs.WorldParts.{part_of}
+use Rattle.hir_nameres.specs.WorldParts.{part_of}
 use Rattle.hir_collector_rules.specs.declared.start.TheConstants.{STEP_LIMIT}
 use Rattle.hir_collector_rules.specs.declared.macro_directive.Fate.TheVariants.{Handled, Waits}
 use Rattle.hir_collector_rules.specs.declared.site.Site.{Site}

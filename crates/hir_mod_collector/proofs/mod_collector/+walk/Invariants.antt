@@ -1,7 +1,7 @@
 use Rattle.std.proofs.Common.{◌≡◌, ◌<◌, ◌+◌, ◌-◌, ◌*◌, length, min}
 use Rattle.hir_item_tree.specs.Rows.{numbers_of}
 use Rattle.hir_tables.specs.Tables.{KeepsTables}
-use Rattle.hir_def_map.specs.WorldParts.{part_of}
+use Rattle.hir_nameres.specs.WorldParts.{part_of}
 use Rattle.hir_collector_rules.specs.Calls.{AreCallsPlaced}
 use Rattle.hir_collector_rules.specs.Moves.{OnceGrown}
 use Rattle.hir_collector_rules.specs.TreeReads.{above}

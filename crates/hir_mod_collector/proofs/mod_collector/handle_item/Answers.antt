@@ -1,5 +1,5 @@
 use Rattle.std.proofs.Common.{rules, ◌≡◌, true, inl}
-use Rattle.hir_def_map.specs.WorldParts.{part_of}
+use Rattle.hir_nameres.specs.WorldParts.{part_of}
 use Rattle.hir_collector_rules.specs.Keys.{environment}
 use Rattle.hir_collector_rules.specs.Moves.{is_single}
 use Rattle.hir_collector_rules.specs.TreeReads.{head_of}

@@ -4,7 +4,7 @@ use Rattle.hir_item_tree.specs.Rows.{items_at, numbers_of}
 use Rattle.hir_item_tree.specs.declared.attrs.Attr.{Attr}
 use Rattle.hir_mod_dir.specs.Directory.{Directory}
 use Rattle.hir_mod_dir.specs.ModuleFiles.{inline_directory}
-use Rattle.hir_def_map.specs.WorldParts.{part_of}
+use Rattle.hir_nameres.specs.WorldParts.{part_of}
 use Rattle.hir_collector_rules.specs.ModuleFiles.{path_attribute}
 use Rattle.hir_collector_rules.specs.State.{core_in, visits_over}
 use Rattle.hir_collector_rules.specs.Steps.{closing, inside_module, path_of, visits_inside}

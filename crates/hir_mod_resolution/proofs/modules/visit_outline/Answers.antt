@@ -6,7 +6,7 @@ use Rattle.hir_mod_dir.specs.ModuleFiles.{candidates_of}
 use Rattle.hir_mod_dir.specs.declared.candidate.Candidate.{Candidate}
 use Rattle.hir_tables.specs.Tables.{KeepsTables, TablesValue}
 use Rattle.hir_tables.proofs.Growth.{KeepsTables-trans}
-use Rattle.hir_def_map.specs.WorldParts.{part_of}
+use Rattle.hir_nameres.specs.WorldParts.{part_of}
 use Rattle.hir_mod_resolution.specs.Types.{FoundFile}
 use Rattle.hir_collector_rules.specs.ModuleFiles.{IsNumberOf, file_tree, path_attribute}
 use Rattle.hir_collector_rules.specs.Moves.{Finds, IsHeld}

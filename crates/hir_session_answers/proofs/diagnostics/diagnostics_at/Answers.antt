@@ -1,6 +1,6 @@
 -- The next diagnostic is told where it has a source.
 use Rattle.std.proofs.Common.{◌<◌, ◌∙◌, sym, length, arith}
-use Rattle.hir_def_map.specs.DefMaps.{maps_of}
+use Rattle.hir_nameres.specs.DefMaps.{maps_of}
 use Rattle.hir_def_map_rules.specs.Diagnostics.{diagnostic_view}
 use Rattle.hir_def_map_rules.specs.declared.diagnostics.DefDiagnostic.{DefDiagnostic}
 use Rattle.hir_session_answers.specs.Diagnostics.{diagnostic_source}

@@ -2,7 +2,7 @@
 use Rattle.std.proofs.Common.{◌≡◌, ap, false, rules, subst, sym}
 use Rattle.std.specs.Prelude.{ℕ, List, codes, Some}
 use Rattle.hir_ids.specs.declared.macro_kind.MacroId.{MacroId}
-use Rattle.hir_def_map.specs.WorldParts.{part_of}
+use Rattle.hir_nameres.specs.WorldParts.{part_of}
 use Rattle.hir_collector_rules.specs.CrateTop.{says}
 use Rattle.hir_collector_rules.specs.Macros.{with_macros_used}
 use Rattle.hir_collector_rules.specs.TreeReads.{head_of}

@@ -1,7 +1,7 @@
 use Rattle.std.proofs.Common.{List, ℕ, rules, sym, subst, ◌∙◌}
 use Rattle.std.specs.List.{All}
 use Rattle.hir_def_map_rules.specs.Reaches.{by_import}
-use Rattle.hir_def_map.specs.declared.nameres.path_resolution.slots.Slot.{Slot}
+use Rattle.hir_nameres.specs.declared.nameres.path_resolution.slots.Slot.{Slot}
 use Rattle.hir_worklist.specs.Settling.{WatchesEach}
 use Rattle.hir_import_resolution.specs.Inner.Queue.{reads_at, slot_cmp}
 use Rattle.hir_import_rules.specs.Lasting.{IsThere}

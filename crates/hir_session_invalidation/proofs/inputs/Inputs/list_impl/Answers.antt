@@ -2,7 +2,7 @@
 use Rattle.std.proofs.Common.{◌≡◌, subst, Err}
 use Rattle.hir_ids.specs.declared.ast_id.AstKind.TheVariants as kind
 use Rattle.hir_ids.specs.declared.ids.ItemContainerId.TheVariants as container
-use Rattle.hir_def_map.specs.DefMaps.{maps_of}
+use Rattle.hir_nameres.specs.DefMaps.{maps_of}
 use Rattle.hir_collector_rules.specs.Keys.{environment}
 use Rattle.hir_assoc_items.specs.AssocItems.{IsTooMany, container_of, items_written}
 use Rattle.hir_assoc_items.specs.declared.error.AssocItemsError.TheVariants as assoc_error

@@ -1,6 +1,6 @@
 -- A run that is too long, or meets an unknown source, over the parts does so over the inputs.
 use Rattle.std.proofs.Common.{◌≡◌, subst, Err}
-use Rattle.hir_def_map.specs.World.{finished_in}
+use Rattle.hir_nameres.specs.World.{finished_in}
 use Rattle.hir_collector_rules.specs.Derivation.{IsOverlong}
 use Rattle.hir_collector_rules.specs.UnknownSources.{MeetsUnknownSource}
 use Rattle.hir_collector_rules.specs.declared.start.CollectError.TheVariants as collect_error

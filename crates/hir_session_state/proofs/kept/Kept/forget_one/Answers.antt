@@ -2,7 +2,7 @@
 use Rattle.std.proofs.Common.{◌≡◌, ◌∙◌, ap, length, sym, subst, arith, List}
 use Rattle.std.specs.Vec.{vec_len}
 use Rattle.hir_ids.specs.declared.ids.MapId.{MapId}
-use Rattle.hir_def_map.specs.Removal.{Depends, GainsRemoved}
+use Rattle.hir_nameres.specs.Removal.{Depends, GainsRemoved}
 use Rattle.hir_session_state.specs.Askers.{HoldsExactly}
 use Rattle.hir_session_state.specs.Kept.{Resolutions, kept_in, names_in}
 use Rattle.hir_session_state.proofs.Falling.{fallen_gone, fallen_held, fallen_stays}
