@@ -24,9 +24,9 @@ use Rattle.hir_collector_rules.proofs.Moves.{Steps-append, spent_after, unknown_
 use Rattle.hir_collector_rules.proofs.Numbers.{known_step, refused_step, tables_stay}
 use Rattle.hir_collector_imports.proofs.Ready.{ready_after, ready_grown}
 use Rattle.hir_collector_imports.proofs.Outside.{apart-Steps}
-use Rattle.hir_macro_rounds.proofs.Queued.{has_rounds_steps, rounds_next, rounds_then}
-use Rattle.hir_macro_rounds.proofs.Resuming.{behind_first}
-use Rattle.hir_macro_rounds.proofs.Waiting.{stale_now, up_to_date_first}
+use Rattle.hir_macro_calls.proofs.Queued.{has_rounds_steps, rounds_next, rounds_then}
+use Rattle.hir_macro_calls.proofs.Resuming.{behind_first}
+use Rattle.hir_macro_calls.proofs.Waiting.{stale_now, up_to_date_first}
 use Rattle.hir_macro_rounds.proofs.calls.resolve_rounds.Goals as goal
 
 pub rounds-init : goal.rounds-init

@@ -10,7 +10,7 @@ use Rattle.hir_collector_rules.specs.Calls.{AreCallsPlaced}
 use Rattle.hir_collector_rules.specs.Moves.{OnceGrown}
 use Rattle.hir_collector_rules.specs.State.{at_rest, core_in}
 use Rattle.hir_collector_imports.specs.Waiting.{IsBehind, IsBetweenPasses, IsStale, KeepsApart}
-use Rattle.hir_macro_rounds.proofs.Queued.{HasRounds}
+use Rattle.hir_macro_calls.proofs.Queued.{HasRounds}
 use Rattle.hir_macro_rounds.proofs.calls.resolve_rounds.Given as goal
 
 abbrev pub invariant-rounds : goal.invariant-rounds

@@ -9,7 +9,7 @@ use Rattle.hir_collector_derives.proofs.CallSteps.{count_rested, rest_rested, re
 use Rattle.hir_collector_rules.proofs.Moves.{Steps-append, spent_after}
 use Rattle.hir_collector_state.proofs.Noted.{slots_follow}
 use Rattle.hir_collector_imports.proofs.Outside.{outside-Steps}
-use Rattle.hir_macro_rounds.proofs.Resuming.{behind_settled}
+use Rattle.hir_macro_calls.proofs.Resuming.{behind_settled}
 use Rattle.hir_mod_collector.proofs.Walked.{nowhere}
 use Rattle.hir_macro_rounds.proofs.calls.settle.Goals as goal
 

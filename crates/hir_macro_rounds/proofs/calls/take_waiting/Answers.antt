@@ -14,13 +14,13 @@ use Rattle.hir_collector_rules.specs.Steps.{Steps}
 use Rattle.hir_collector_imports.specs.Waiting.{KeepsApart}
 use Rattle.hir_collector_rules.specs.Workspace.{Workspace}
 use Rattle.hir_collector_rules.proofs.Changes.{count-Steps, counts_on}
-use Rattle.hir_macro_rounds.proofs.GivingUp.{none_waits_later}
+use Rattle.hir_macro_calls.proofs.GivingUp.{none_waits_later}
 use Rattle.hir_collector_rules.proofs.Moves.{Steps-append, spent_after, unknown_after}
 use Rattle.hir_collector_rules.proofs.Numbers.{known_step, refused_step, tables_stay}
-use Rattle.hir_macro_rounds.proofs.Queued.{none_handled, of_round, requeued_steps, rests_idle, rises_on}
+use Rattle.hir_macro_calls.proofs.Queued.{none_handled, of_round, requeued_steps, rests_idle, rises_on}
 use Rattle.hir_collector_imports.proofs.Ready.{ready_after, ready_grown}
-use Rattle.hir_macro_rounds.proofs.Resuming.{behind_later, behind_tried, one_error}
-use Rattle.hir_macro_rounds.proofs.Waiting.{keeps_waiting, stale_later, stale_now}
+use Rattle.hir_macro_calls.proofs.Resuming.{behind_later, behind_tried, one_error}
+use Rattle.hir_macro_calls.proofs.Waiting.{keeps_waiting, stale_later, stale_now}
 use Rattle.hir_collector_rules.specs.declared.start.CollectError.TheVariants.{TooMany, UnknownSource}
 use Rattle.hir_macro_rounds.proofs.calls.take_waiting.Goals as goal
 

@@ -2,14 +2,14 @@
 use Rattle.std.proofs.Common.{◌≡◌, ◌<◌, None, Some, false, refl, slice_get, subst, sym, true}
 use Rattle.hir_ids.specs.declared.macro_kind.MacroId.{MacroId}
 use Rattle.hir_nameres.specs.WorldParts.{part_of}
-use Rattle.hir_macro_rounds.specs.declared.calls.Due.{Due}
-use Rattle.hir_macro_rounds.specs.declared.calls.Due.TheVariants.{Nothing, Reaches}
+use Rattle.hir_macro_calls.specs.declared.due.Due.{Due}
+use Rattle.hir_macro_calls.specs.declared.due.Due.TheVariants.{Nothing, Reaches}
 use Rattle.hir_collector_rules.specs.declared.macro_directive.MacroDirective.{MacroDirective}
 use Rattle.hir_collector_rules.specs.CallMoves.{left}
-use Rattle.hir_macro_rounds.specs.Turns.{IsDueOf}
+use Rattle.hir_macro_calls.specs.Due.{IsDueOf}
 use Rattle.hir_collector_rules.specs.State.{Core, at_rest, core_in}
 use Rattle.hir_collector_rules.specs.Steps.{IsDue, none}
-use Rattle.hir_macro_rounds.proofs.GivingUp.{nothing_due, nothing_waits}
+use Rattle.hir_macro_calls.proofs.GivingUp.{nothing_due, nothing_waits}
 use Rattle.hir_collector_state.proofs.Noted.{noted_beside, noted_itself}
 use Rattle.hir_macro_rounds.proofs.calls.try_call.Goals as goal
 

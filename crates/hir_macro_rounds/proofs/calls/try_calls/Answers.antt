@@ -16,10 +16,10 @@ use Rattle.hir_collector_rules.specs.Workspace.{Workspace}
 use Rattle.hir_collector_rules.proofs.Changes.{id-Steps}
 use Rattle.hir_collector_rules.proofs.Moves.{Steps-append, spent_after, unknown_after}
 use Rattle.hir_collector_rules.proofs.Numbers.{tables_stay}
-use Rattle.hir_macro_rounds.proofs.Queued.{AreTried, left_or_tried, tried_all, tried_first, tried_next}
+use Rattle.hir_macro_calls.proofs.Queued.{AreTried, left_or_tried, tried_all, tried_first, tried_next}
 use Rattle.hir_collector_imports.proofs.Ready.{ready_after, ready_grown}
 use Rattle.hir_collector_rules.proofs.Tried.{settled_bounded, settled_more}
-use Rattle.hir_macro_rounds.proofs.Waiting.{apart_later, up_to_date_closed, up_to_date_opened, up_to_date_taken}
+use Rattle.hir_macro_calls.proofs.Waiting.{apart_later, up_to_date_closed, up_to_date_opened, up_to_date_taken}
 use Rattle.hir_macro_rounds.proofs.calls.try_calls.Goals as goal
 
 -- what is taken of a pass lies before its end

@@ -8,7 +8,7 @@ use Rattle.hir_collector_rules.specs.Moves.{OnceGrown}
 use Rattle.hir_collector_rules.specs.State.{at_rest, core_in}
 use Rattle.hir_collector_rules.specs.Steps.{Steps}
 use Rattle.hir_collector_imports.specs.Waiting.{IsGathered, IsUpToDate}
-use Rattle.hir_macro_rounds.proofs.Queued.{AreTried}
+use Rattle.hir_macro_calls.proofs.Queued.{AreTried}
 use Rattle.hir_macro_rounds.proofs.calls.try_calls.Given as goal
 
 abbrev pub invariant-tries : goal.invariant-tries

@@ -11,9 +11,9 @@ use Rattle.hir_collector_rules.specs.Steps.{Steps}
 use Rattle.hir_collector_imports.specs.Waiting.{IsUpToDate, LiesApart}
 use Rattle.hir_collector_rules.specs.declared.macro_directive.MacroDirective.{MacroDirective}
 use Rattle.hir_collector_rules.proofs.Numbers.{tables_stay}
-use Rattle.hir_macro_rounds.proofs.Queued.{was_handled, was_left}
-use Rattle.hir_macro_rounds.proofs.Resuming.{behind_gathered, behind_later}
-use Rattle.hir_macro_rounds.proofs.Waiting.{apart_later, keeps_waiting, up_to_date_handled, waits_no_more}
+use Rattle.hir_macro_calls.proofs.Queued.{was_handled, was_left}
+use Rattle.hir_macro_calls.proofs.Resuming.{behind_gathered, behind_later}
+use Rattle.hir_macro_calls.proofs.Waiting.{apart_later, keeps_waiting, up_to_date_handled, waits_no_more}
 use Rattle.hir_macro_rounds.proofs.calls.try_queued.Goals as goal
 
 -- ---- where it was handled

@@ -5,7 +5,7 @@ use Rattle.hir_collector_rules.specs.CallMoves.{IsAttributeWaiting}
 use Rattle.hir_collector_rules.specs.Calls.{IsWaiting, waiting_item}
 use Rattle.hir_collector_rules.specs.State.{Core, at_rest, core_in}
 use Rattle.hir_collector_rules.specs.Steps.{none}
-use Rattle.hir_macro_rounds.proofs.GivingUp.{has_item}
+use Rattle.hir_macro_calls.proofs.GivingUp.{has_item}
 use Rattle.hir_collector_state.proofs.Noted.{noted_beside, noted_itself}
 use Rattle.hir_macro_rounds.proofs.resume.give_up.Goals as goal
 

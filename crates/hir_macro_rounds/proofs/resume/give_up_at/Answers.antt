@@ -17,7 +17,7 @@ use Rattle.hir_collector_rules.specs.State.{Core, at_rest, core_in, counted, wit
 use Rattle.hir_collector_rules.specs.Steps.{FallsBack, falls_back}
 use Rattle.hir_collector_rules.specs.TreeReads.{visits_behind}
 use Rattle.hir_collector_derives.proofs.CallSteps.{falls_back_at, given_up, kept_inside, kept_item, past_rule, went_on, went_too_far}
-use Rattle.hir_macro_rounds.proofs.GivingUp.{none_before}
+use Rattle.hir_macro_calls.proofs.GivingUp.{none_before}
 use Rattle.hir_collector_rules.proofs.Lists.{get_inside}
 use Rattle.hir_collector_rules.proofs.Numbers.{tables_stay}
 use Rattle.hir_collector_state.proofs.Noted.{beside_follow, noted_beside, noted_follow}

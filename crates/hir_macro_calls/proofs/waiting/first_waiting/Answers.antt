@@ -1,8 +1,8 @@
 -- One place after another, up to the first where an attribute waits.
 use Rattle.std.proofs.Common.{◌<◌, ◌≤◌, length, arith}
 use Rattle.hir_collector_rules.specs.State.{core_in}
-use Rattle.hir_macro_rounds.proofs.GivingUp.{none_waits_anywhere, none_waits_past}
-use Rattle.hir_macro_rounds.proofs.resume.first_waiting.Goals as goal
+use Rattle.hir_macro_calls.proofs.GivingUp.{none_waits_anywhere, none_waits_past}
+use Rattle.hir_macro_calls.proofs.waiting.first_waiting.Goals as goal
 
 pub places-preserved : goal.places-preserved
 places-preserved c =

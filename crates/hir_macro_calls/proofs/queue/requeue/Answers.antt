@@ -5,8 +5,8 @@ use Rattle.hir_worklist.specs.Queue.{count_of}
 use Rattle.hir_call_queue.specs.Waking.{is_apart, worklist_of}
 use Rattle.hir_collector_rules.specs.State.{Core, core_in}
 use Rattle.hir_collector_imports.specs.Waiting.{IsUpToDate}
-use Rattle.hir_macro_rounds.proofs.Waiting.{up_to_date_again, up_to_date_appended}
-use Rattle.hir_macro_rounds.proofs.calls.requeue.Goals as goal
+use Rattle.hir_macro_calls.proofs.Waiting.{up_to_date_again, up_to_date_appended}
+use Rattle.hir_macro_calls.proofs.queue.requeue.Goals as goal
 
 pub returns-clause-up_to_date : goal.returns-clause-up_to_date
 returns-clause-up_to_date c =

@@ -1,7 +1,7 @@
 use Rattle.std.proofs.Common.{◌-◌, length}
 use Rattle.hir_collector_rules.specs.CallMoves.{NoneWaitsBefore}
 use Rattle.hir_collector_rules.specs.State.{core_in}
-use Rattle.hir_macro_rounds.proofs.resume.first_waiting.Given as goal
+use Rattle.hir_macro_calls.proofs.waiting.first_waiting.Given as goal
 
 -- none waits before this place
 abbrev pub invariant-places : goal.invariant-places

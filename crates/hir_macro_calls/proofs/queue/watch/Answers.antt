@@ -10,8 +10,8 @@ use Rattle.hir_collector_rules.specs.Calls.{IsWaiting}
 use Rattle.hir_collector_rules.specs.State.{at_rest, core_in}
 use Rattle.hir_collector_state.specs.Waiting.{call_reads}
 use Rattle.hir_collector_imports.specs.Waiting.{item_of}
-use Rattle.hir_macro_rounds.proofs.Waiting.{up_to_date_over, up_to_date_watched}
-use Rattle.hir_macro_rounds.proofs.calls.watch.Goals as goal
+use Rattle.hir_macro_calls.proofs.Waiting.{up_to_date_over, up_to_date_watched}
+use Rattle.hir_macro_calls.proofs.queue.watch.Goals as goal
 
 pub returns-in_default-clause-up_to_date : goal.returns-in_default-clause-up_to_date
 returns-in_default-clause-up_to_date c =

@@ -5,8 +5,8 @@ use Rattle.hir_collector_rules.specs.Calls.{is_inert_now}
 use Rattle.hir_collector_rules.specs.CallMoves.{FindsBuiltin}
 use Rattle.hir_collector_rules.specs.State.{core_in}
 use Rattle.hir_collector_rules.specs.Steps.{by_helper}
-use Rattle.hir_macro_rounds.proofs.GivingUp.{due_builtin, inert_item}
-use Rattle.hir_macro_rounds.proofs.calls.due_of.Goals as goal
+use Rattle.hir_macro_calls.proofs.GivingUp.{due_builtin, inert_item}
+use Rattle.hir_macro_calls.proofs.due.due_of.Goals as goal
 
 pub returns-then-is_inert_now-clause-value : goal.returns-then-is_inert_now-clause-value
 returns-then-is_inert_now-clause-value c =

@@ -13,10 +13,10 @@ use Rattle.hir_collector_rules.specs.declared.macro_directive.MacroDirectiveKind
 use Rattle.hir_collector_rules.specs.declared.macro_directive.WaitingItem.{WaitingItem}
 use Rattle.hir_collector_rules.specs.declared.macro_directive.Fate.TheVariants.{GivenUp, Waits}
 use Rattle.hir_collector_rules.specs.declared.macro_directive.MacroDirectiveKind.TheVariants.{Attr, Derive, FnLike}
-use Rattle.hir_macro_rounds.specs.declared.calls.Due.{Due}
-use Rattle.hir_macro_rounds.specs.declared.calls.Due.TheVariants.{Derives, Nothing, Reaches, Skips}
+use Rattle.hir_macro_calls.specs.declared.due.Due.{Due}
+use Rattle.hir_macro_calls.specs.declared.due.Due.TheVariants.{Derives, Nothing, Reaches, Skips}
 use Rattle.hir_collector_rules.specs.CallMoves.{FindsBuiltin, IsAttributeWaiting, IsFirstWaiting, NoneWaits, NoneWaitsBefore}
-use Rattle.hir_macro_rounds.specs.Turns.{IsDueOf}
+use Rattle.hir_macro_calls.specs.Due.{IsDueOf}
 use Rattle.hir_collector_rules.specs.Calls.{IsWaiting, LeadsNowhere, builtin_impl, called_macro, expands_by, is_call, is_inert_by, is_inert_now, item_in}
 use Rattle.hir_collector_rules.specs.Calls.{waiting_item}
 use Rattle.hir_collector_rules.specs.Keys.{Environment}

@@ -1,0 +1,4 @@
+pub mod Resuming
+pub mod Waiting
+pub mod Queued
+pub mod GivingUp
