@@ -25,7 +25,8 @@ use Rattle.hir_def_collector_laws.specs.Sources.{RunsBindFromSources}
 use Rattle.hir_def_map_rules.specs.Closed.{PathsLeadToWhatIsThere}
 use Rattle.hir_def_map_rules.specs.Sources.{PathsAnswerFromSources}
 use Rattle.hir_session_state.specs.Due.{IsAskedBehind}
-use Rattle.hir_session_machine.specs.Machine.{MachineState, first_state, query_reply, Moves, AnswersCommand, AnswersLine}
+use Rattle.hir_session_replies.specs.Replies.{query_reply}
+use Rattle.hir_session_machine.specs.Machine.{MachineState, first_state, Moves, AnswersCommand, AnswersLine}
 use Rattle.hir_session_machine.specs.Machine.Moves.{applies, refuses, refreshes, refreshes_partly, resolves, tells, shows, shows_none, dumps, dumps_none}
 use Rattle.hir_session_machine.specs.Machine.Moves.{asks_for_trait, asks_for_impl, lists, names_all, lists_modules, lists_file_modules}
 use Rattle.hir_session_machine.specs.Machine.AnswersCommand.{finds_no_memory, begins, refuses_session, comes_too_soon, comes_too_late, calls}

@@ -15,7 +15,8 @@ use Rattle.hir_session_state.specs.declared.error.TraitItemsError.{TraitItemsErr
 use Rattle.hir_session_state.specs.declared.error.ImplItemsError.TheVariants as impl_error
 use Rattle.hir_session_state.specs.declared.error.TraitItemsError.TheVariants as trait_error
 use Rattle.hir_session_answers.specs.AssocItems.{ListsImpl, ListsTrait, impl_at, trait_at}
-use Rattle.hir_session_machine.specs.Machine.{MachineState, AnswersCommand, AnswersImpl, AnswersLine, AnswersTrait, Moves, impl_items_reply, trait_items_reply}
+use Rattle.hir_session_replies.specs.Replies.{impl_items_reply, trait_items_reply}
+use Rattle.hir_session_machine.specs.Machine.{MachineState, AnswersCommand, AnswersImpl, AnswersLine, AnswersTrait, Moves}
 use Rattle.hir_session_machine.specs.Machine.{AnswersImpl as of_impl}
 use Rattle.hir_session_machine.specs.Machine.{AnswersTrait as of_trait}
 use Rattle.hir_session_machine.specs.Machine.Moves.{applies, refuses, refreshes, refreshes_partly, resolves, tells, shows, shows_none, dumps, dumps_none}
