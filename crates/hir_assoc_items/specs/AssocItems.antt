@@ -37,7 +37,7 @@ use Rattle.hir_def_map_rules.specs.Macros.{macro_data_at}
 use Rattle.hir_def_map_rules.specs.Overlay.{Maps, map_in}
 use Rattle.hir_def_map_rules.specs.Scoping.{resolution_of}
 use Rattle.hir_def_map_rules.specs.State.{Local, MacroDataValue, Map}
-use Rattle.hir_def_map_rules.specs.declared.diagnostics.DefDiagnostic.{DefDiagnostic}
+use Rattle.hir_map_parts.specs.declared.diagnostics.DefDiagnostic.{DefDiagnostic}
 use Rattle.hir_collector_rules.specs.Calls.{by_style, call_key, call_tree, error_of, expansion_of_call, macro_among}
 use Rattle.hir_collector_rules.specs.Keys.{Environment, IsMeant, input_at, source_in, text_at}
 use Rattle.hir_collector_rules.specs.NumberedOut.{IsNumberedOut}

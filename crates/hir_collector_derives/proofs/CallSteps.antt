@@ -21,7 +21,7 @@ use Rattle.hir_tables.proofs.Growth.{KeepsTables-trans}
 use Rattle.hir_def_map_rules.specs.Macros.{macro_data_at, with_diagnostic}
 use Rattle.hir_def_map_rules.specs.Overlay.{Maps, Placed, placed_in}
 use Rattle.hir_def_map_rules.specs.State.{MacroDataValue, Map, numbered}
-use Rattle.hir_def_map_rules.specs.declared.derive_helpers.DeriveHelper.{DeriveHelper}
+use Rattle.hir_map_parts.specs.declared.derive_helpers.DeriveHelper.{DeriveHelper}
 use Rattle.hir_import_rules.specs.Rest.{IsAtRest}
 use Rattle.hir_collector_rules.specs.declared.start.TheConstants.{STEP_LIMIT}
 use Rattle.hir_collector_rules.specs.declared.macro_directive.Fate.{Fate}

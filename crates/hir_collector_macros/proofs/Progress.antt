@@ -3,7 +3,7 @@
 use Rattle.std.proofs.Common.{◌≡◌, ℕ, Bool, true, false, List, ◌∷◌, Option, None, Some, refl}
 use Rattle.hir_item_tree.specs.Collected.{is_enabled}
 use Rattle.hir_base.specs.Cfg.{Cfg}
-use Rattle.hir_def_map_rules.specs.declared.diagnostics.DefDiagnostic.{DefDiagnostic}
+use Rattle.hir_map_parts.specs.declared.diagnostics.DefDiagnostic.{DefDiagnostic}
 use Rattle.hir_item_tree.specs.Kinds.{item_head, item_kind}
 use mathlib.Core.Bool.{true≢false}
 use Rattle.hir_item_tree.specs.KeptForest.{Head, Leaf, KeptItem, extern_block, inline_module, leaf, holder, import, extern_crate, function, structure}

@@ -10,7 +10,7 @@ use Rattle.hir_per_ns.specs.PerNs.{macros_only}
 use Rattle.hir_per_ns.specs.declared.visibility.Visibility.TheVariants as visibilities
 use Rattle.hir_def_map_rules.specs.Overlay.{Maps}
 use Rattle.hir_def_map_rules.specs.State.{Map}
-use Rattle.hir_def_map_rules.specs.declared.derive_helpers.DeriveHelper.{DeriveHelper}
+use Rattle.hir_map_parts.specs.declared.derive_helpers.DeriveHelper.{DeriveHelper}
 use Rattle.hir_import_rules.specs.Changes.{Change as ImportChange, pushes}
 use Rattle.hir_import_rules.specs.State.{ImportState}
 use Rattle.hir_collector_rules.specs.Types.{Key, MacroDirective}

@@ -27,9 +27,9 @@ use Rattle.hir_def_map_rules.proofs.StaysWellFormed.{length-made}
 use Rattle.hir_def_map_rules.specs.declared.declaration.Declaration.{Declaration as Listing}
 use Rattle.hir_def_map_rules.specs.declared.declaration.Declaration.TheVariants as declaration
 use Rattle.hir_def_map_rules.specs.Macros.{with_derive_helper, with_diagnostic, with_exported, with_macro_data, with_macro_def}
-use Rattle.hir_def_map_rules.specs.declared.diagnostics.DefDiagnostic.{DefDiagnostic}
-use Rattle.hir_def_map_rules.specs.declared.derive_helpers.DeriveHelper.{DeriveHelper}
-use Rattle.hir_def_map_rules.specs.declared.origin.ModuleOrigin.{ModuleOrigin}
+use Rattle.hir_map_parts.specs.declared.diagnostics.DefDiagnostic.{DefDiagnostic}
+use Rattle.hir_map_parts.specs.declared.derive_helpers.DeriveHelper.{DeriveHelper}
+use Rattle.hir_map_parts.specs.declared.origin.ModuleOrigin.{ModuleOrigin}
 use Rattle.hir_collector_rules.specs.Types.{Declaration}
 use Rattle.hir_collector_rules.specs.Keys.{Environment}
 use Rattle.hir_collector_rules.specs.State.{Core, State, counted, import_state, with_map}

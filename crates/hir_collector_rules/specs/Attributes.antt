@@ -19,7 +19,7 @@ use Rattle.hir_item_tree.specs.KeptForest.{Head, KeptItem, Leaf, enumeration, fu
 use Rattle.hir_item_tree.specs.Kinds.{item_head, item_kind}
 use Rattle.hir_def_map_rules.specs.Macros.{helpers_at}
 use Rattle.hir_def_map_rules.specs.State.{Map}
-use Rattle.hir_def_map_rules.specs.declared.derive_helpers.DeriveHelper.{DeriveHelper}
+use Rattle.hir_map_parts.specs.declared.derive_helpers.DeriveHelper.{DeriveHelper}
 use Rattle.hir_collector_rules.specs.declared.exported.Export.{Export}
 use Rattle.hir_collector_rules.specs.declared.site.Site.{Site}
 use Rattle.hir_collector_rules.specs.BuiltinAttributes.{is_inert}

@@ -39,7 +39,7 @@ use Rattle.hir_def_map_rules.specs.Overlay.{Maps, map_in, overlay}
 use Rattle.hir_def_map_rules.specs.Scoping.{resolution_of}
 use Rattle.hir_def_map_rules.specs.Scoping.Asking.{Asking}
 use Rattle.hir_def_map_rules.specs.State.{Local, MacroDataValue, Map, numbered}
-use Rattle.hir_def_map_rules.specs.declared.derive_helpers.DeriveHelper.{DeriveHelper}
+use Rattle.hir_map_parts.specs.declared.derive_helpers.DeriveHelper.{DeriveHelper}
 use Rattle.hir_item_tree.specs.KeptForest.{KeptItem, all_items}
 use Rattle.hir_collector_rules.specs.declared.macro_directive.Fate.TheVariants as fates
 use Rattle.hir_collector_rules.specs.declared.macro_directive.MacroDirective.{MacroDirective}

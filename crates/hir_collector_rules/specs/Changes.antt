@@ -12,9 +12,9 @@ use Rattle.hir_def_map_rules.specs.Declaration.{listed}
 use Rattle.hir_def_map_rules.specs.Macros.{with_derive_helper, with_diagnostic, with_exported, with_macro_data, with_macro_def}
 use Rattle.hir_def_map_rules.specs.State.{MacroDataValue, Map, Variants, new_module, with_enum, with_module, with_scope}
 use Rattle.hir_def_map_rules.specs.declared.declaration.Declaration.{Declaration as Listing}
-use Rattle.hir_def_map_rules.specs.declared.diagnostics.DefDiagnostic.{DefDiagnostic}
-use Rattle.hir_def_map_rules.specs.declared.derive_helpers.DeriveHelper.{DeriveHelper}
-use Rattle.hir_def_map_rules.specs.declared.origin.ModuleOrigin.{ModuleOrigin}
+use Rattle.hir_map_parts.specs.declared.diagnostics.DefDiagnostic.{DefDiagnostic}
+use Rattle.hir_map_parts.specs.declared.derive_helpers.DeriveHelper.{DeriveHelper}
+use Rattle.hir_map_parts.specs.declared.origin.ModuleOrigin.{ModuleOrigin}
 use Rattle.hir_import_rules.specs.declared.directive.ImportDirective.{ImportDirective}
 use Rattle.hir_import_rules.specs.Changes.{Change as ImportChange, act as act_on_imports}
 use Rattle.hir_collector_rules.specs.declared.exported.ExportedFunction.{ExportedFunction}

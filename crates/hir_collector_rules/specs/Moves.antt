@@ -17,9 +17,9 @@ use Rattle.hir_base.specs.declared.tree_id.TreeId.{TreeId}
 use Rattle.hir_item_tree.specs.declared.kinds.ModItemKind.TheVariants as kinds
 use Rattle.hir_mod_dir.specs.declared.candidate.Candidate.{Candidate}
 use Rattle.hir_def_map_rules.specs.Macros.{with_diagnostic, with_exported, with_macro_data}
-use Rattle.hir_def_map_rules.specs.declared.add_module_error.AddModuleError.{AddModuleError}
-use Rattle.hir_def_map_rules.specs.declared.diagnostics.DefDiagnostic.{DefDiagnostic}
-use Rattle.hir_def_map_rules.specs.declared.origin.ModuleOrigin.{ModuleOrigin}
+use Rattle.hir_map_parts.specs.declared.add_module_error.AddModuleError.{AddModuleError}
+use Rattle.hir_map_parts.specs.declared.diagnostics.DefDiagnostic.{DefDiagnostic}
+use Rattle.hir_map_parts.specs.declared.origin.ModuleOrigin.{ModuleOrigin}
 use Rattle.hir_ids.specs.declared.macro_kind.MacroId.TheVariants.{ProcMacroId}
 use Rattle.hir_collector_rules.specs.declared.declaration.Declaration.{Declaration}
 use Rattle.hir_collector_rules.specs.declared.exported.Export.{Export}
@@ -28,7 +28,7 @@ use Rattle.hir_per_ns.specs.declared.visibility.Visibility.TheVariants.{Public}
 use Rattle.hir_def_map_rules.specs.Overlay.{Maps}
 use Rattle.hir_def_map_rules.specs.State.{Map, ModuleValue, new_module, with_module}
 use Rattle.hir_collector_rules.specs.declared.site.Site.{Site}
-use Rattle.hir_def_map_rules.specs.declared.add_module_error.AddModuleError.TheVariants as refusals
+use Rattle.hir_map_parts.specs.declared.add_module_error.AddModuleError.TheVariants as refusals
 use Rattle.hir_import_rules.specs.declared.error.ImportError.{ImportError}
 use Rattle.hir_import_rules.specs.declared.error.ImportError.TheVariants as imports
 use Rattle.hir_collector_rules.specs.declared.start.CollectError.{CollectError}

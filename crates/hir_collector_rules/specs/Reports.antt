@@ -20,8 +20,8 @@ use Rattle.hir_ids.specs.declared.ast_id.AstKind.TheVariants as nodes
 use Rattle.hir_ids.specs.declared.macro_kind.MacroExpander.TheVariants as expanders
 use Rattle.hir_base.specs.declared.mod_path.PathKind.TheVariants as roots
 use Rattle.hir_def_map_rules.specs.State.{Map, numbered}
-use Rattle.hir_def_map_rules.specs.declared.diagnostics.DefDiagnostic.{DefDiagnostic}
-use Rattle.hir_def_map_rules.specs.declared.diagnostics.DefDiagnosticKind.TheVariants as kinds
+use Rattle.hir_map_parts.specs.declared.diagnostics.DefDiagnostic.{DefDiagnostic}
+use Rattle.hir_map_parts.specs.declared.diagnostics.DefDiagnosticKind.TheVariants as kinds
 use Rattle.hir_import_rules.specs.declared.directive.ImportDirective.{ImportDirective}
 use Rattle.hir_import_rules.specs.declared.directive.ImportSource.{ImportSource}
 use Rattle.hir_import_rules.specs.declared.directive.ImportSource.TheVariants as sources

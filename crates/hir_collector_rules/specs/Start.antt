@@ -21,9 +21,9 @@ use Rattle.hir_def_map_rules.specs.References.{crate_map}
 use Rattle.hir_def_map_rules.specs.State.{CrateData, Local, Map, empty_map, map_id_of, new_module, with_prelude}
 use Rattle.hir_def_map_rules.specs.Overlay.{Maps, Placed, holders_of, map_in}
 use Rattle.hir_def_map_rules.specs.Scoping.Asking.{local_of}
-use Rattle.hir_def_map_rules.specs.declared.block_info.BlockInfo.{BlockInfo}
-use Rattle.hir_def_map_rules.specs.declared.origin.ModuleOrigin.{ModuleOrigin}
-use Rattle.hir_def_map_rules.specs.declared.origin.ModuleOrigin.TheVariants as origins
+use Rattle.hir_map_parts.specs.declared.block_info.BlockInfo.{BlockInfo}
+use Rattle.hir_map_parts.specs.declared.origin.ModuleOrigin.{ModuleOrigin}
+use Rattle.hir_map_parts.specs.declared.origin.ModuleOrigin.TheVariants as origins
 use Rattle.hir_collector_rules.specs.declared.start.Start.{Start}
 use Rattle.hir_collector_rules.specs.declared.start.Start.TheVariants as starts
 use Rattle.hir_collector_rules.specs.declared.site.Site.{Site}

@@ -28,7 +28,7 @@ use Rattle.hir_def_map_rules.specs.Scoping.Segments.{variant_in}
 use Rattle.hir_def_map_rules.specs.Scoping.Start.{abs_from, climb, from_start, is_import, is_in_edition_2015, is_in_reach, module_bound, settled_in_block}
 use Rattle.hir_def_map_rules.specs.Scoping.Start.{super_from}
 use Rattle.hir_def_map_rules.specs.State.{Map, Variants, crate_root}
-use Rattle.hir_def_map_rules.specs.declared.enum_variants.EnumVariant.{EnumVariant}
+use Rattle.hir_map_parts.specs.declared.enum_variants.EnumVariant.{EnumVariant}
 use Rattle.hir_def_map_rules.specs.declared.path_result.ResolvePathResult.{ResolvePathResult}
 use Rattle.hir_def_map_rules.specs.declared.path_result.ReachedFixedPoint.TheVariants.{No, Yes}
 use Rattle.hir_def_map_laws.proofs.EnumsApart.{same_2015, same_climb, same_holders, same_in_module, same_in_preludes, same_in_root, same_nearest, same_reach}

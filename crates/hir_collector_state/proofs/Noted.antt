@@ -33,9 +33,9 @@ use Rattle.hir_def_map_rules.specs.State.{IsInOrder, Local, MacroDataValue, Map,
 use Rattle.hir_def_map_rules.specs.State.{numbered, parent_at, parent_of, push_changes, pushed, pushed_module, place_at, Variants, variants_at, with_enum}
 use Rattle.hir_def_map_rules.specs.State.{with_extern, with_module, with_module_scope, with_scope}
 use Rattle.hir_def_map_rules.specs.declared.declaration.Declaration.{Declaration as Listing}
-use Rattle.hir_def_map_rules.specs.declared.diagnostics.DefDiagnostic.{DefDiagnostic}
-use Rattle.hir_def_map_rules.specs.declared.derive_helpers.DeriveHelper.{DeriveHelper}
-use Rattle.hir_def_map_rules.specs.declared.origin.ModuleOrigin.{ModuleOrigin}
+use Rattle.hir_map_parts.specs.declared.diagnostics.DefDiagnostic.{DefDiagnostic}
+use Rattle.hir_map_parts.specs.declared.derive_helpers.DeriveHelper.{DeriveHelper}
+use Rattle.hir_map_parts.specs.declared.origin.ModuleOrigin.{ModuleOrigin}
 use Rattle.hir_nameres.specs.declared.nameres.path_resolution.slots.Slot.{Slot as PathSlot}
 use Rattle.hir_nameres.specs.declared.nameres.path_resolution.slots.Slot.TheVariants.{Module as of_module, Preludes as of_preludes}
 use Rattle.hir_def_map_rules.specs.Scoping.FirstSegment.{legacy_of}

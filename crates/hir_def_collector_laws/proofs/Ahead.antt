@@ -12,7 +12,7 @@ use Rattle.hir_tables.specs.Tables.{TablesValue}
 use Rattle.hir_def_map_rules.specs.Overlay.{Maps}
 use Rattle.hir_def_map_rules.specs.State.{Map, ModuleValue, module_at, new_id, new_module, numbered}
 use Rattle.hir_def_map_rules.proofs.StaysWellFormed.{length-made}
-use Rattle.hir_def_map_rules.specs.declared.origin.ModuleOrigin.{ModuleOrigin}
+use Rattle.hir_map_parts.specs.declared.origin.ModuleOrigin.{ModuleOrigin}
 use Rattle.hir_collector_rules.specs.declared.site.Site.{Site}
 use Rattle.hir_collector_rules.specs.Causes.{declarations_of}
 use Rattle.hir_collector_rules.specs.Changes.{Change, makes, act, perform}

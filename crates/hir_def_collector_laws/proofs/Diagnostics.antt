@@ -15,8 +15,8 @@ use Rattle.hir_tables.specs.Tables.{TablesValue}
 use Rattle.hir_def_map_rules.specs.Diagnostics.{call_node, diagnostic_view, node_of as node_told}
 use Rattle.hir_def_map_rules.specs.Overlay.{Maps}
 use Rattle.hir_def_map_rules.specs.State.{Map, numbered}
-use Rattle.hir_def_map_rules.specs.declared.diagnostics.DefDiagnostic.{DefDiagnostic}
-use Rattle.hir_def_map_rules.specs.declared.diagnostics.DefDiagnosticKind.TheVariants as kinds
+use Rattle.hir_map_parts.specs.declared.diagnostics.DefDiagnostic.{DefDiagnostic}
+use Rattle.hir_map_parts.specs.declared.diagnostics.DefDiagnosticKind.TheVariants as kinds
 use Rattle.hir_import_rules.specs.Directives.{TakenValue, is_untaken}
 use Rattle.hir_import_rules.specs.Rules.{acts as import_acts}
 use Rattle.hir_import_rules.specs.declared.directive.ImportDirective.{ImportDirective}

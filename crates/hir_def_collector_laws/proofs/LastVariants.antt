@@ -11,7 +11,7 @@ use Rattle.hir_ids.specs.declared.ids.EnumId.{EnumId}
 use Rattle.hir_item_tree.specs.declared.side_lists.VariantItem.{VariantItem}
 use Rattle.hir_def_map_rules.proofs.Grown.{at_name-with_name, at_name-with_name_other}
 use Rattle.hir_def_map_rules.specs.State.{Variants, at_name, with_name}
-use Rattle.hir_def_map_rules.specs.declared.enum_variants.EnumVariant.{EnumVariant}
+use Rattle.hir_map_parts.specs.declared.enum_variants.EnumVariant.{EnumVariant}
 use Rattle.hir_collector_rules.specs.Enums.{last_named, variant_of, with_variant}
 use Rattle.hir_collector_rules.proofs.Bound.{cmp_itself}
 

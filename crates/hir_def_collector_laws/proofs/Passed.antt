@@ -18,7 +18,7 @@ use Rattle.hir_base.specs.declared.mod_path.PathKind.TheVariants as roots
 use Rattle.hir_item_tree.specs.Collected.{Numbered}
 use Rattle.hir_def_map_rules.specs.Macros.{helpers_at, with_derive_helper, with_helper}
 use Rattle.hir_def_map_rules.specs.State.{CrateData, Map}
-use Rattle.hir_def_map_rules.specs.declared.derive_helpers.DeriveHelper.{DeriveHelper}
+use Rattle.hir_map_parts.specs.declared.derive_helpers.DeriveHelper.{DeriveHelper}
 use Rattle.hir_collector_rules.specs.Attributes.{first_looked_up, is_always_passed, is_helper, is_helper_among, is_named_by, is_passed, is_tool, next_among}
 use Rattle.hir_collector_rules.specs.BuiltinAttributes.{is_inert}
 use Rattle.hir_collector_rules.specs.Changes.{Change, lists, makes, gives_variants, begins_paths, reaches, awaits, ends, settles, changes_imports, adds_textual}

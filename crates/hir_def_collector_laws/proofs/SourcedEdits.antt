@@ -36,7 +36,7 @@ use Rattle.hir_def_map_rules.specs.Sources.{HoldsNowhere, HoldsNowhereIn, HoldsO
 use Rattle.hir_def_map_rules.specs.Sources.{on_some, on_type, on_types_in, on_value, on_value_def, on_value_import, on_values, on_values_in, on_variant}
 use Rattle.hir_def_map_rules.specs.Sources.{on_visibility}
 use Rattle.hir_def_map_rules.specs.State.{Map, ModuleValue, Variants, at_name, entry_of, module_at, numbered, variants_at, with_scope}
-use Rattle.hir_def_map_rules.specs.declared.enum_variants.EnumVariant.{EnumVariant}
+use Rattle.hir_map_parts.specs.declared.enum_variants.EnumVariant.{EnumVariant}
 use Rattle.hir_glob_imports.specs.Moves.{same_vis, seen_by}
 use Rattle.hir_glob_imports.specs.View.{View}
 use Rattle.hir_glob_imports.specs.Waves.{Records, adds, edge_with_vis, stays, widens, wider_of}

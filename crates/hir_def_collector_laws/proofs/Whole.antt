@@ -40,9 +40,9 @@ use Rattle.hir_per_ns.specs.ModuleTree.{same_crate}
 use Rattle.hir_per_ns.specs.declared.visibility.Visibility.TheVariants as visibilities
 use Rattle.hir_def_map_rules.specs.declared.declaration.Declaration.TheVariants as listings
 use Rattle.hir_def_map_rules.specs.declared.declaration.Declaration.{Declaration as Listing}
-use Rattle.hir_def_map_rules.specs.declared.diagnostics.DefDiagnostic.{DefDiagnostic}
-use Rattle.hir_def_map_rules.specs.declared.enum_variants.EnumVariant.{EnumVariant}
-use Rattle.hir_def_map_rules.specs.declared.origin.ModuleOrigin.{ModuleOrigin}
+use Rattle.hir_map_parts.specs.declared.diagnostics.DefDiagnostic.{DefDiagnostic}
+use Rattle.hir_map_parts.specs.declared.enum_variants.EnumVariant.{EnumVariant}
+use Rattle.hir_map_parts.specs.declared.origin.ModuleOrigin.{ModuleOrigin}
 use Rattle.hir_def_map_rules.specs.declared.reference.Reference.{Reference}
 use Rattle.hir_def_map_rules.specs.declared.reference.Reference.TheVariants as named
 use Rattle.hir_ids.specs.contracts.ids.MapIdPartialEq.TheImpl as map_id

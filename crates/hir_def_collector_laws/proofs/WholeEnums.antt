@@ -19,7 +19,7 @@ use Rattle.hir_def_map.proofs.Joined.{both}
 use Rattle.hir_def_map_rules.specs.References.{are_variants_of, is_missing}
 use Rattle.hir_def_map_rules.specs.State.{Map, Variants, variants_at, with_enum}
 use Rattle.hir_def_map_rules.specs.Overlay.{Maps, Placed, overlay, placed_in}
-use Rattle.hir_def_map_rules.specs.declared.enum_variants.EnumVariant.{EnumVariant}
+use Rattle.hir_map_parts.specs.declared.enum_variants.EnumVariant.{EnumVariant}
 use Rattle.hir_def_map_rules.specs.declared.reference.Reference.TheVariants as named
 use Rattle.hir_collector_rules.proofs.Entries.{there_or}
 use Rattle.hir_collector_rules.specs.Enums.{variant_of, variants_of, with_variant}

@@ -7,7 +7,7 @@ use Rattle.hir_tables.specs.Tables.{TablesValue}
 use Rattle.hir_def_map_rules.specs.Diagnostics.{DiagnosticValue, diagnostic_view, node_of}
 use Rattle.hir_def_map_rules.specs.Overlay.{Maps}
 use Rattle.hir_def_map_rules.specs.State.{numbered}
-use Rattle.hir_def_map_rules.specs.declared.diagnostics.DefDiagnostic.{DefDiagnostic}
+use Rattle.hir_map_parts.specs.declared.diagnostics.DefDiagnostic.{DefDiagnostic}
 use Rattle.hir_collector_rules.specs.Derivation.{CollectedValue, Ends}
 use Rattle.hir_collector_rules.specs.Start.{Beginning}
 use Rattle.hir_collector_rules.specs.Workspace.{Workspace}

@@ -12,8 +12,8 @@ use Rattle.hir_base.specs.declared.tree_id.TreeKey.{TreeKey}
 use Rattle.hir_tables.specs.Tables.{TablesValue}
 use Rattle.hir_def_map_rules.specs.Overlay.{Maps}
 use Rattle.hir_def_map_rules.specs.State.{CrateData, Map, ModuleValue, module_at, new_module}
-use Rattle.hir_def_map_rules.specs.declared.diagnostics.DefDiagnostic.{DefDiagnostic}
-use Rattle.hir_def_map_rules.specs.declared.origin.ModuleOrigin.TheVariants as origins
+use Rattle.hir_map_parts.specs.declared.diagnostics.DefDiagnostic.{DefDiagnostic}
+use Rattle.hir_map_parts.specs.declared.origin.ModuleOrigin.TheVariants as origins
 use Rattle.hir_import_rules.specs.declared.directive.ImportDirective.{ImportDirective}
 use Rattle.hir_collector_rules.specs.declared.macro_directive.Fate.{Fate}
 use Rattle.hir_collector_rules.specs.declared.source_database.Key.{Key}

@@ -33,7 +33,7 @@ use Rattle.hir_nameres.specs.Scoping.Slots.{slots_from_root, slots_of, with_prel
 use Rattle.hir_def_map_rules.specs.Scoping.Start.{abs_from, climb, from_start, is_import, is_in_edition_2015, is_in_reach, module_bound, settled_in_block}
 use Rattle.hir_def_map_rules.specs.Scoping.Start.{super_from}
 use Rattle.hir_def_map_rules.specs.State.{IsInOrder, Local, Map, Variants, at_name, crate_root, entry_at, numbered, variants_at}
-use Rattle.hir_def_map_rules.specs.declared.enum_variants.EnumVariant.{EnumVariant}
+use Rattle.hir_map_parts.specs.declared.enum_variants.EnumVariant.{EnumVariant}
 use Rattle.hir_def_map_rules.specs.declared.path_result.ResolvePathResult.{ResolvePathResult}
 use Rattle.hir_def_map_rules.specs.declared.path_result.ReachedFixedPoint.TheVariants.{No, Yes}
 use Rattle.hir_nameres.specs.declared.nameres.path_resolution.slots.Slot.{Slot}

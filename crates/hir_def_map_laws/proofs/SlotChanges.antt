@@ -30,9 +30,9 @@ use Rattle.hir_def_map_rules.specs.State.{Local, Map, ModuleValue, Variants, cha
 use Rattle.hir_def_map_rules.specs.State.{parent_of, place_at, pushed, pushed_module, variants_at, with_child, with_enum, with_extern, with_macro_use}
 use Rattle.hir_def_map_rules.specs.State.{with_module, with_module_scope, with_scope}
 use Rattle.hir_def_map_rules.specs.declared.declaration.Declaration.{Declaration}
-use Rattle.hir_def_map_rules.specs.declared.origin.ModuleOrigin.{ModuleOrigin}
+use Rattle.hir_map_parts.specs.declared.origin.ModuleOrigin.{ModuleOrigin}
 use Rattle.hir_def_map_rules.specs.declared.declaration.Declaration.TheVariants as declaration
-use Rattle.hir_def_map_rules.proofs.Externs.{at_name-with_extern_other}
+use Rattle.hir_map_parts.proofs.Externs.{at_name-with_extern_other}
 use Rattle.hir_def_map_rules.proofs.Grown.{at_name-with_name_other, entry_at-pushed_elsewhere, entry_at-pushed_other, entry_at-with_module, kept}
 use Rattle.hir_def_map_rules.proofs.Listed.{KeepsNames-listed}
 use Rattle.hir_def_map_laws.specs.ReadLaw.{AgreeAt, Grows}

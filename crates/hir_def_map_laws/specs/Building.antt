@@ -21,7 +21,7 @@ use Rattle.hir_def_map_rules.specs.Sources.{SourceTest, HoldsOfNone, HoldsNowher
 use Rattle.hir_def_map_rules.specs.State.{Map, pushed, with_scope, new_module, numbered, with_module, Variants, with_enum}
 use Rattle.hir_def_map_rules.specs.Declaration.{listed}
 use Rattle.hir_def_map_rules.specs.declared.declaration.Declaration.{Declaration}
-use Rattle.hir_def_map_rules.specs.declared.origin.ModuleOrigin.{ModuleOrigin}
+use Rattle.hir_map_parts.specs.declared.origin.ModuleOrigin.{ModuleOrigin}
 use Rattle.hir_def_map_laws.specs.SlotChanges.{with_macro, with_macro_vis, with_trait, with_type, with_type_vis, with_value, with_value_vis}
 
 -- the same lies above each module, and the same modules hold its map

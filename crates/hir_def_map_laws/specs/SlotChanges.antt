@@ -22,7 +22,7 @@ use Rattle.hir_def_map_rules.specs.State.{Local, Map, Variants, new_module, numb
 use Rattle.hir_def_map_rules.specs.State.{with_scope}
 use Rattle.hir_def_map_rules.specs.Overlay.{Maps}
 use Rattle.hir_def_map_rules.specs.declared.declaration.Declaration.{Declaration}
-use Rattle.hir_def_map_rules.specs.declared.origin.ModuleOrigin.{ModuleOrigin}
+use Rattle.hir_map_parts.specs.declared.origin.ModuleOrigin.{ModuleOrigin}
 use Rattle.hir_def_map_laws.specs.ReadLaw.{AgreeAt, BeginsOutside, BeginsWithCrates, DiffersInScopes, Grows, IsReadAlike, KeepApart, StandsBeside}
 use Rattle.hir_nameres.specs.declared.nameres.path_resolution.slots.Slot.{Slot}
 use Rattle.hir_nameres.specs.declared.nameres.path_resolution.slots.Slot.TheVariants.{Module as of_module, Preludes as of_preludes}

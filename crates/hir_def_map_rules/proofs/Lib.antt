@@ -5,7 +5,6 @@ pub mod Referred
 pub mod EnumIds
 pub mod Grown
 pub mod Listed
-pub mod Externs
 pub mod WellFormed
 pub mod ScopeChanges
 pub mod StaysWellFormed
@@ -20,7 +19,5 @@ pub mod Sourced
 -- single functions
 pub mod Branches
 pub mod Modules
-pub mod Rewrites
-pub mod Copies
 -- worlds
 pub mod References

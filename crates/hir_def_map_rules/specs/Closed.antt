@@ -18,7 +18,7 @@ use Rattle.hir_def_map_rules.specs.Scoping.{resolution_of}
 use Rattle.hir_def_map_rules.specs.Scoping.Asking.{Asking}
 use Rattle.hir_def_map_rules.specs.Scoping.Segments.{variant_in}
 use Rattle.hir_def_map_rules.specs.Scoping.Start.{is_dependency}
-use Rattle.hir_def_map_rules.specs.declared.enum_variants.EnumVariant.{EnumVariant}
+use Rattle.hir_map_parts.specs.declared.enum_variants.EnumVariant.{EnumVariant}
 
 -- the module is there
 abbrev pub ModuleIsThere : Maps → ModuleId → Type 0

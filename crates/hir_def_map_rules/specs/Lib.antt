@@ -1,10 +1,10 @@
 -- ---- what a def map is, and what each building call makes of it
 pub mod State
 pub mod Declaration
-pub mod Origins
+pub use Rattle.hir_map_parts.specs.Origins
 pub mod Building
 pub mod Macros
-pub mod Diagnostics
+pub use Rattle.hir_map_parts.specs.Diagnostics
 -- what is read of a map
 pub mod Reads
 -- what a module keeps once it declares one thing more

@@ -13,7 +13,6 @@ use Rattle.hir_ids.specs.declared.ids.ModuleId.{ModuleId}
 use Rattle.hir_ids.specs.declared.ids.TraitId.{TraitId}
 use Rattle.hir_ids.specs.declared.ids.UseId.{UseId}
 use Rattle.hir_ids.specs.declared.ids.ModuleDefId.TheVariants as def
-use Rattle.hir_ids.specs.contracts.ids.EnumIdPartialEq.TheImpl as enum_id
 use Rattle.hir_ids.specs.contracts.ids.MapIdOrd.TheImpl as map_order
 use Rattle.hir_ids.specs.contracts.ids.MapIdPartialEq.TheImpl as map_id
 use Rattle.hir_per_ns.specs.ModuleTree.{same_crate}
@@ -25,13 +24,13 @@ use Rattle.hir_per_ns.specs.declared.per_ns.PerNs.{PerNs}
 use Rattle.hir_per_ns.specs.declared.visibility.Visibility.{Visibility}
 use Rattle.hir_per_ns.specs.declared.visibility.Visibility.TheVariants as visibility
 use Rattle.hir_per_ns.specs.PerNs.{Item}
-use Rattle.hir_def_map_rules.specs.declared.enum_variants.EnumVariant.{EnumVariant}
 use Rattle.hir_def_map_rules.specs.declared.reference.Reference.{Reference}
 use Rattle.hir_def_map_rules.specs.declared.reference.Reference.TheVariants as named
 pub use Rattle.hir_def_map_rules.specs.State.{crate_map}
 use Rattle.hir_def_map_rules.specs.State.{Local, Map, ModuleValue, Variants}
 use Rattle.hir_def_map_rules.specs.Overlay.{Maps, overlay, module_in, variants_in}
 use Rattle.hir_def_map_rules.specs.Ancestors.{leads_to_root, own_frame}
+pub use Rattle.hir_map_parts.specs.References.{are_variants_of}
 
 -- ---- one reference
 
@@ -177,10 +176,6 @@ is_parent_in id (Some p) = map_id.ghosts.eq p.map id
 -- whether each parent lies in the map itself
 abbrev pub has_its_parents : Map → Bool
 has_its_parents map = list_all (λ (m : ModuleValue). is_parent_in map.id m.parent) map.modules
-
--- whether variants are those of an enum
-abbrev pub are_variants_of : EnumId → Variants → Bool
-are_variants_of id variants = list_all (λ (v : List ℕ × EnumVariant). enum_id.ghosts.eq v.1.id.parent id) variants
 
 -- whether each enum has its own variants
 abbrev pub has_its_variants : Map → Bool

@@ -26,9 +26,9 @@ use Rattle.hir_def_map_rules.specs.State.{Local, Map, ModuleValue, Variants}
 use Rattle.hir_def_map_rules.specs.Overlay.{Maps, Placed}
 use Rattle.hir_def_map_rules.specs.Scoping.{resolution_of}
 use Rattle.hir_def_map_rules.specs.Scoping.Asking.{Asking}
-use Rattle.hir_def_map_rules.specs.declared.enum_variants.EnumVariant.{EnumVariant}
-use Rattle.hir_def_map_rules.specs.declared.origin.ModuleOrigin.{ModuleOrigin}
-use Rattle.hir_def_map_rules.specs.declared.origin.ModuleOrigin.TheVariants as origin
+use Rattle.hir_map_parts.specs.declared.enum_variants.EnumVariant.{EnumVariant}
+use Rattle.hir_map_parts.specs.declared.origin.ModuleOrigin.{ModuleOrigin}
+use Rattle.hir_map_parts.specs.declared.origin.ModuleOrigin.TheVariants as origin
 
 -- a test of sources: of what holds the syntax of an item, and of a module that a visibility names
 pub record SourceTest : Type 0 where

@@ -29,7 +29,7 @@ use Rattle.hir_per_ns.specs.declared.per_ns.Namespace.TheVariants as namespaces
 use Rattle.hir_per_ns.specs.declared.visibility.Visibility.TheVariants.{Public}
 use Rattle.hir_def_map_rules.specs.Overlay.{module_in, overlay, variants_in}
 use Rattle.hir_def_map_rules.specs.State.{ModuleValue, Variants, at_name, entry_of, module_at}
-use Rattle.hir_def_map_rules.specs.declared.enum_variants.EnumVariant.{EnumVariant}
+use Rattle.hir_map_parts.specs.declared.enum_variants.EnumVariant.{EnumVariant}
 use Rattle.hir_glob_imports.specs.declared.edge.Key.{Key}
 use Rattle.hir_glob_imports.specs.declared.edge.Target.{Target}
 use Rattle.hir_glob_imports.specs.declared.edge.Key.TheVariants.{Types, Values, Macros, Unnamed}

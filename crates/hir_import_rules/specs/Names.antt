@@ -19,7 +19,7 @@ use Rattle.hir_per_ns.specs.declared.visibility.Visibility.TheVariants.{Public}
 use Rattle.hir_def_map_rules.specs.Overlay.{Maps, entry_in, module_in, overlay}
 use Rattle.hir_def_map_rules.specs.Scoping.Segments.{variant_bound, variant_in}
 use Rattle.hir_def_map_rules.specs.State.{Map, ModuleValue, entry_at, globs_after, module_at, numbered, pushed, with_scope}
-use Rattle.hir_def_map_rules.specs.declared.enum_variants.EnumVariant.{EnumVariant}
+use Rattle.hir_map_parts.specs.declared.enum_variants.EnumVariant.{EnumVariant}
 pub use Rattle.hir_def_map_laws.specs.SlotChanges.{with_macro, with_macro_vis, with_trait, with_type, with_type_vis, with_value, with_value_vis}
 use Rattle.hir_glob_imports.specs.View.{NameTable, View}
 use Rattle.hir_glob_imports.specs.declared.edge.Bound.{Bound}

@@ -8,7 +8,7 @@ use Rattle.std.proofs.lemmas.List.Elements.{All-head, All-tail}
 use Rattle.hir_item_tree.specs.Collected.{is_enabled, numbered}
 use Rattle.hir_item_tree.specs.ItemTree.{Tree}
 use Rattle.hir_base.specs.Cfg.{Cfg}
-use Rattle.hir_def_map_rules.specs.declared.diagnostics.DefDiagnostic.{DefDiagnostic}
+use Rattle.hir_map_parts.specs.declared.diagnostics.DefDiagnostic.{DefDiagnostic}
 use Rattle.hir_ids.specs.declared.ast_id.AstKind.{AstKind}
 use Rattle.hir_ids.specs.declared.ast_id.AstKind.TheVariants as nodes
 use Rattle.hir_item_tree.specs.Kinds.{item_head, item_kind, kind_content, kind_of, module_content}

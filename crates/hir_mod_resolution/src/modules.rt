@@ -6,7 +6,7 @@ ghost use Rattle.hir_item_tree.specs.KeptForest.{KeptItem, extern_block, holder,
 ghost use Rattle.hir_item_tree.specs.Rows.{items_at, numbers_of};
 ghost use Rattle.hir_tables.specs.Tables.{KeepsTables, TablesValue};
 ghost use Rattle.hir_def_map_rules.specs.Overlay.{Maps};
-ghost use Rattle.hir_def_map_rules.specs.declared.diagnostics.DefDiagnostic.{DefDiagnostic};
+ghost use Rattle.hir_map_parts.specs.declared.diagnostics.DefDiagnostic.{DefDiagnostic};
 ghost use Rattle.hir_nameres.specs.WorldParts.{part_of};
 ghost use Rattle.hir_collector_rules.specs.Keys.{Environment};
 ghost use Rattle.hir_collector_rules.specs.ItemIds.{module_id, node_of};

@@ -7,7 +7,7 @@ use Rattle.hir_scope.specs.Scope.{ScopeValue}
 use Rattle.hir_scope.specs.contracts.item_scope.ItemScope as item_scope
 use Rattle.hir_def_map_rules.specs.State.{CrateData, Map, ModuleValue, with_scope}
 use Rattle.hir_nameres.specs.contracts.nameres.DefMap as def_map
-use Rattle.hir_def_map_rules.specs.contracts.crate_data.DefMapCrateData as crate_data
+use Rattle.hir_map_parts.specs.contracts.crate_data.DefMapCrateData as crate_data
 use Rattle.hir_def_map_rules.specs.contracts.module_data.ModuleData as module_data
 
 -- the map has what is left behind the data of its crate, and is as it was besides

@@ -13,8 +13,8 @@ use Rattle.hir_def_map_rules.specs.Origins.{file_of}
 use Rattle.hir_def_map_rules.specs.State.{ModuleValue, numbered}
 use Rattle.hir_nameres.specs.declared.nameres.module_ids.WantedFile.{WantedFile}
 use Rattle.hir_nameres.specs.declared.nameres.module_ids.WantedFile.TheVariants.{Expansion, Own}
-use Rattle.hir_def_map_rules.specs.declared.origin.ModuleOrigin.{ModuleOrigin}
-use Rattle.hir_def_map_rules.specs.declared.origin.ModuleOrigin.TheVariants as origins
+use Rattle.hir_map_parts.specs.declared.origin.ModuleOrigin.{ModuleOrigin}
+use Rattle.hir_map_parts.specs.declared.origin.ModuleOrigin.TheVariants as origins
 
 -- whether a module's own file is this one, whatever its edition
 abbrev pub is_file : FileId → Option EditionedFileId → Bool

@@ -25,7 +25,7 @@ use Rattle.hir_tables.specs.Tables.{TablesValue, call_at, file_at, source_of}
 use Rattle.hir_def_map_rules.specs.Diagnostics.{call_node}
 use Rattle.hir_def_map_rules.specs.Overlay.{Maps}
 use Rattle.hir_def_map_rules.specs.State.{ModuleValue, module_at}
-use Rattle.hir_def_map_rules.specs.declared.origin.ModuleOrigin.{ModuleOrigin}
+use Rattle.hir_map_parts.specs.declared.origin.ModuleOrigin.{ModuleOrigin}
 use Rattle.hir_collector_rules.specs.Calls.{AreCallsPlaced, Expanding, IsMeantAt, IsPlacedBelow, call_key, call_kind, call_loc, expansion_readings, kind_by}
 use Rattle.hir_collector_rules.specs.Calls.{text_readings}
 use Rattle.hir_collector_rules.specs.Causes.{HasCause, IsOfCall, IsPassed}

@@ -31,9 +31,9 @@ use Rattle.hir_def_map_rules.specs.Diagnostics.{DiagnosticValue, KindValue, call
 use Rattle.hir_def_map_rules.specs.Scoping.{resolution_of}
 use Rattle.hir_def_map_rules.specs.State.{Local, ModuleValue}
 use Rattle.hir_def_map_rules.specs.Overlay.{Maps, module_in}
-use Rattle.hir_def_map_rules.specs.declared.diagnostics.DefDiagnostic.{DefDiagnostic}
-use Rattle.hir_def_map_rules.specs.declared.origin.ModuleOrigin.{ModuleOrigin}
-use Rattle.hir_def_map_rules.specs.declared.origin.ModuleOrigin.TheVariants as origin
+use Rattle.hir_map_parts.specs.declared.diagnostics.DefDiagnostic.{DefDiagnostic}
+use Rattle.hir_map_parts.specs.declared.origin.ModuleOrigin.{ModuleOrigin}
+use Rattle.hir_map_parts.specs.declared.origin.ModuleOrigin.TheVariants as origin
 use Rattle.hir_wire.specs.declared.answer.AnswerItem.{AnswerItem}
 use Rattle.hir_wire.specs.declared.answer.AnswerVisibility.{AnswerVisibility}
 use Rattle.hir_wire.specs.declared.answer.Definition.{Definition}

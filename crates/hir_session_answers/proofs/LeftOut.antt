@@ -44,8 +44,8 @@ use Rattle.hir_def_map_rules.specs.State.{ModuleValue, crate_map, module_at}
 use Rattle.hir_def_map_rules.specs.Overlay.{Maps, Placed, holders_of, overlay, module_in, placed_in}
 use Rattle.hir_def_map_rules.proofs.StaysWellFormed.{Extends-overlay, IsClosed-overlay, LocalIsThere-begins}
 use Rattle.hir_def_map_rules.proofs.StaysSourced.{HoldsNowhere-overlay}
-use Rattle.hir_def_map_rules.specs.declared.origin.ModuleOrigin.{ModuleOrigin}
-use Rattle.hir_def_map_rules.specs.declared.origin.ModuleOrigin.TheVariants as origin
+use Rattle.hir_map_parts.specs.declared.origin.ModuleOrigin.{ModuleOrigin}
+use Rattle.hir_map_parts.specs.declared.origin.ModuleOrigin.TheVariants as origin
 use Rattle.hir_def_map_rules.specs.declared.reference.Reference.TheVariants as named
 use Rattle.hir_base.specs.declared.tree_id.TreeId.{TreeId}
 use Rattle.hir_base.specs.declared.tree_id.TreeKey.{TreeKey}

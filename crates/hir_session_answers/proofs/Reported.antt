@@ -11,7 +11,7 @@ use Rattle.hir_base.specs.declared.tree_id.TreeKey.{TreeKey}
 use Rattle.hir_tables.specs.Tables.{TablesValue}
 use Rattle.hir_def_map_rules.specs.Diagnostics.{diagnostic_view, node_of}
 use Rattle.hir_def_map_rules.specs.Overlay.{Maps}
-use Rattle.hir_def_map_rules.specs.declared.diagnostics.DefDiagnostic.{DefDiagnostic}
+use Rattle.hir_map_parts.specs.declared.diagnostics.DefDiagnostic.{DefDiagnostic}
 use Rattle.hir_collector_rules.specs.Derivation.{CollectedValue, Ends}
 use Rattle.hir_collector_rules.specs.Start.{Beginning}
 use Rattle.hir_collector_rules.specs.Workspace.{Workspace}

@@ -9,7 +9,7 @@ use Rattle.hir_def_map_rules.specs.Diagnostics.{DiagnosticValue, KindValue, Unre
 use Rattle.hir_def_map_rules.specs.Diagnostics.{UnresolvedMacroCall, UnimplementedBuiltinMacro, InvalidDeriveTarget, MalformedDerive, MacroDefError, MacroError}
 use Rattle.hir_def_map_rules.specs.Diagnostics.{diagnostic_view, node_of}
 use Rattle.hir_def_map_rules.specs.Overlay.{Maps, overlay}
-use Rattle.hir_def_map_rules.specs.declared.diagnostics.DefDiagnostic.{DefDiagnostic}
+use Rattle.hir_map_parts.specs.declared.diagnostics.DefDiagnostic.{DefDiagnostic}
 use Rattle.hir_wire.specs.declared.answer.Definition.{Definition}
 use Rattle.hir_wire.specs.declared.diagnostic.Diagnostic.{Diagnostic}
 use Rattle.hir_wire.specs.declared.diagnostic.DiagnosticKind.{DiagnosticKind}

@@ -27,8 +27,8 @@ use Rattle.hir_per_ns.specs.declared.imports.ImportOrGlob.TheVariants as value_i
 use Rattle.hir_per_ns.specs.PerNs.{Item}
 use Rattle.hir_per_ns.specs.declared.visibility.Visibility.TheVariants as vis
 use Rattle.hir_def_map_rules.specs.Overlay.{Maps, module_in}
-use Rattle.hir_def_map_rules.specs.declared.origin.ModuleOrigin.{ModuleOrigin}
-use Rattle.hir_def_map_rules.specs.declared.origin.ModuleOrigin.TheVariants as origin
+use Rattle.hir_map_parts.specs.declared.origin.ModuleOrigin.{ModuleOrigin}
+use Rattle.hir_map_parts.specs.declared.origin.ModuleOrigin.TheVariants as origin
 use Rattle.hir_tables.specs.Tables.{TablesValue, block_at}
 use Rattle.hir_session_state.specs.Blocks.{place_of_block}
 use Rattle.hir_wire.specs.declared.answer.AnswerItem.{AnswerItem}

@@ -29,8 +29,8 @@ use Rattle.hir_def_map_rules.specs.declared.reference.Reference.TheVariants as n
 use Rattle.hir_def_map_rules.proofs.NoneOf.{none_at, none_found}
 use Rattle.hir_def_map_rules.proofs.Referred.{module_parts}
 use Rattle.hir_def_map_rules.specs.State.{ModuleValue, child_at, child_of, crate_map, module_at, root_of}
-use Rattle.hir_def_map_rules.specs.declared.origin.ModuleOrigin.{ModuleOrigin}
-use Rattle.hir_def_map_rules.specs.declared.origin.ModuleOrigin.TheVariants as origin
+use Rattle.hir_map_parts.specs.declared.origin.ModuleOrigin.{ModuleOrigin}
+use Rattle.hir_map_parts.specs.declared.origin.ModuleOrigin.TheVariants as origin
 use Rattle.hir_collector_rules.specs.Start.{Beginning, holder_of}
 use Rattle.hir_tables.specs.Tables.{TablesValue, KeepsTables, block_at, call_at}
 use Rattle.hir_session_state.specs.Blocks.{Blocks}

@@ -18,8 +18,8 @@ use Rattle.hir_ids.specs.declared.ast_id.HirFileId.TheVariants.{File, Macro}
 use Rattle.hir_base.specs.declared.place.PlaceElement.TheVariants as element
 use Rattle.hir_def_map_rules.specs.Diagnostics.{call_node}
 use Rattle.hir_def_map_rules.specs.State.{ModuleValue, child_at, crate_map, module_at, root_of}
-use Rattle.hir_def_map_rules.specs.declared.origin.ModuleOrigin.{ModuleOrigin}
-use Rattle.hir_def_map_rules.specs.declared.origin.ModuleOrigin.TheVariants as origin
+use Rattle.hir_map_parts.specs.declared.origin.ModuleOrigin.{ModuleOrigin}
+use Rattle.hir_map_parts.specs.declared.origin.ModuleOrigin.TheVariants as origin
 use Rattle.hir_tables.specs.Tables.{TablesValue, block_at, call_at}
 use Rattle.hir_session_state.specs.Blocks.{Blocks, block_in, place_of_block}
 use Rattle.hir_session_state.specs.Kept.{Resolution, Resolutions, kept_in}

@@ -4,7 +4,7 @@ use Rattle.std.proofs.lemmas.Result.{on_ok_weaker}
 use Rattle.hir_ids.specs.declared.ids.ModuleId.{ModuleId}
 use Rattle.hir_item_tree.specs.Collected.{numbered}
 use Rattle.hir_def_map_rules.specs.Macros.{with_diagnostic}
-use Rattle.hir_def_map_rules.specs.declared.diagnostics.DefDiagnostic.{DefDiagnostic}
+use Rattle.hir_map_parts.specs.declared.diagnostics.DefDiagnostic.{DefDiagnostic}
 use Rattle.hir_collector_rules.specs.Attributes.{attr_id}
 use Rattle.hir_collector_rules.specs.Moves.{listed, no_paths, no_target}
 use Rattle.hir_collector_rules.specs.Reports.{invalid_target, malformed_derive}

@@ -2,7 +2,7 @@
 use Rattle.std.proofs.Common.{rules, ◌≡◌, ◌∙◌, ◌∷◌, [], ◌<◌, ◌≤◌, ◌+◌, List, ap, drop, get_or, length, map, subst, sym, arith, ℕ}
 use Rattle.std.proofs.lemmas.List.{drop_all, drop_more}
 use Rattle.hir_def_map_rules.specs.Macros.{with_derive_helper}
-use Rattle.hir_def_map_rules.specs.declared.derive_helpers.DeriveHelper.{DeriveHelper}
+use Rattle.hir_map_parts.specs.declared.derive_helpers.DeriveHelper.{DeriveHelper}
 use Rattle.hir_collector_rules.specs.Calls.{helper_by}
 use Rattle.hir_collector_rules.specs.State.{Core, core_in, with_map}
 use Rattle.hir_collector_derives.proofs.Helping.{MakesWithLeft, all_brought, none_brought, one_brought}

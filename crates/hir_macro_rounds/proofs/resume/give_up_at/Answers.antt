@@ -5,7 +5,7 @@ use Rattle.hir_item_tree.specs.KeptForest.{all_items}
 use Rattle.hir_item_tree.specs.SourceTree.{SourceTreeValue}
 use Rattle.hir_def_map_rules.specs.Macros.{with_diagnostic}
 use Rattle.hir_nameres.specs.WorldParts.{part_of}
-use Rattle.hir_def_map_rules.specs.declared.diagnostics.DefDiagnostic.{DefDiagnostic}
+use Rattle.hir_map_parts.specs.declared.diagnostics.DefDiagnostic.{DefDiagnostic}
 use Rattle.hir_collector_rules.specs.declared.start.TheConstants.{STEP_LIMIT}
 use Rattle.hir_collector_rules.specs.declared.macro_directive.Fate.TheVariants.{GivenUp, Waits}
 use Rattle.hir_collector_rules.specs.declared.site.Site.{Site}

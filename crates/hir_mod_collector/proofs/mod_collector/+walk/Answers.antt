@@ -14,7 +14,7 @@ use Rattle.hir_item_tree.specs.declared.rows.ModItemId.{ModItemId}
 use Rattle.hir_tables.specs.Tables.{KeepsTables}
 use Rattle.hir_tables.proofs.Growth.{KeepsTables-trans}
 use Rattle.hir_nameres.specs.WorldParts.{part_of}
-use Rattle.hir_def_map_rules.specs.declared.diagnostics.DefDiagnosticKind.TheVariants as diagnostics
+use Rattle.hir_map_parts.specs.declared.diagnostics.DefDiagnosticKind.TheVariants as diagnostics
 use Rattle.hir_collector_rules.specs.ItemIds.{module_id, node_of}
 use Rattle.hir_collector_rules.specs.Workspace.{Workspace}
 use Rattle.hir_collector_rules.specs.Calls.{IsMeantAt}

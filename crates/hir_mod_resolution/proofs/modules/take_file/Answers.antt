@@ -5,7 +5,7 @@ use Rattle.hir_base.specs.declared.cfg.CfgExpr.{CfgExpr}
 use Rattle.hir_item_tree.specs.Collected.{Collected}
 use Rattle.hir_item_tree.specs.ItemTree.{Tree}
 use Rattle.hir_item_tree.specs.SourceTree.{SourceTreeValue}
-use Rattle.hir_def_map_rules.specs.declared.diagnostics.DefDiagnosticKind.TheVariants as kinds
+use Rattle.hir_map_parts.specs.declared.diagnostics.DefDiagnosticKind.TheVariants as kinds
 use Rattle.hir_collector_rules.specs.ItemIds.{module_id, node_of}
 use Rattle.hir_collector_rules.specs.Moves.{may_drop}
 use Rattle.hir_collector_rules.specs.State.{core_in}

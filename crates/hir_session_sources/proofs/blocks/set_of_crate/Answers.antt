@@ -2,7 +2,7 @@
 use Rattle.std.proofs.Common.{◌∙◌, ap, sym, Some}
 use Rattle.std.specs.BTreeMap.{is_at}
 use Rattle.hir_ids.specs.contracts.ids.CrateOrd.TheImpl as crate_order
-use Rattle.hir_def_map_rules.proofs.Rewrites.{on_err, set_value-same}
+use Rattle.hir_map_parts.proofs.Rewrites.{on_err, set_value-same}
 use Rattle.hir_session_sources.proofs.BlockLemmas.{set_first, set_there}
 use Rattle.hir_session_sources.proofs.blocks.set_of_crate.Goals as goal
 

@@ -3,7 +3,7 @@ use Rattle.std.proofs.Common.{◌≡◌, ap, sym, arith, length, ◌<◌, ◌≤
 use Rattle.std.specs.Prelude.{Ok, Err}
 use Rattle.std.proofs.lemmas.Bool.{ltb-true}
 use Rattle.hir_def_map_rules.specs.State.{Map, new_id}
-use Rattle.hir_def_map_rules.specs.declared.add_module_error.AddModuleError.TheVariants as refusals
+use Rattle.hir_map_parts.specs.declared.add_module_error.AddModuleError.TheVariants as refusals
 use Rattle.hir_def_map_rules.proofs.Modules.{IsNumbered-inserted}
 use Rattle.hir_nameres.proofs.nameres.DefMap.add_module.Goals as goal
 
