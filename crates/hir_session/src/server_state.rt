@@ -1,7 +1,7 @@
 //! What answers lines, with the collector that refreshes its session.
 ghost use Rattle.std.specs.Prelude.{◌≡◌, false};
 ghost use Rattle.hir_wire.specs.Replies.{is_fixed};
-ghost use Rattle.hir_wire.specs.declared.reply.Reply.TheVariants as reply;
+ghost use Rattle.hir_messages.specs.declared.reply.Reply.TheVariants as reply;
 ghost use Rattle.hir_session_machine.specs.Machine.{first_state, AnswersLine};
 
 use crate::collector::Collector;

@@ -5,8 +5,8 @@
 ghost use Rattle.std.specs.Prelude.{◌≡◌, ◌≢◌, ◌⊎◌, ◌<◌, ℕ, map, length, false, IfOk, IfErr, OnOk, OnErr, Ok, Err};
 ghost use Rattle.std.specs.Borrow.{sem};
 ghost use Rattle.hir_base.specs.Place.{PlaceValue};
-ghost use Rattle.hir_wire.specs.CommandValue.{crate_input_view};
-ghost use Rattle.hir_wire.specs.declared.reply.Status.TheVariants as status;
+ghost use Rattle.hir_messages.specs.CommandValue.{crate_input_view};
+ghost use Rattle.hir_messages.specs.declared.reply.Status.TheVariants as status;
 ghost use Rattle.hir_session_state.specs.Beginning.{Begins};
 ghost use Rattle.hir_session_state.specs.Changes.{Refreshes, RefreshesPartly};
 ghost use Rattle.hir_session_state.specs.Crates.{id_of};

@@ -34,16 +34,16 @@ use Rattle.hir_def_map_rules.specs.Overlay.{Maps, module_in}
 use Rattle.hir_map_parts.specs.declared.diagnostics.DefDiagnostic.{DefDiagnostic}
 use Rattle.hir_map_parts.specs.declared.origin.ModuleOrigin.{ModuleOrigin}
 use Rattle.hir_map_parts.specs.declared.origin.ModuleOrigin.TheVariants as origin
-use Rattle.hir_wire.specs.declared.answer.AnswerItem.{AnswerItem}
-use Rattle.hir_wire.specs.declared.answer.AnswerVisibility.{AnswerVisibility}
-use Rattle.hir_wire.specs.declared.answer.Definition.{Definition}
-use Rattle.hir_wire.specs.declared.diagnostic.Diagnostic.{Diagnostic}
-use Rattle.hir_wire.specs.declared.answer.ImportSource.{ImportSource}
-use Rattle.hir_wire.specs.declared.answer.ItemSource.{ItemSource}
-use Rattle.hir_wire.specs.declared.command.MacroStyle.{MacroStyle}
-use Rattle.hir_wire.specs.declared.command.Shadow.{Shadow}
-use Rattle.hir_wire.specs.declared.answer.SourceItem.{SourceItem}
-use Rattle.hir_wire.specs.declared.answer.SourceKind.{SourceKind}
+use Rattle.hir_messages.specs.declared.answer.AnswerItem.{AnswerItem}
+use Rattle.hir_messages.specs.declared.answer.AnswerVisibility.{AnswerVisibility}
+use Rattle.hir_messages.specs.declared.answer.Definition.{Definition}
+use Rattle.hir_messages.specs.declared.diagnostic.Diagnostic.{Diagnostic}
+use Rattle.hir_messages.specs.declared.answer.ImportSource.{ImportSource}
+use Rattle.hir_messages.specs.declared.answer.ItemSource.{ItemSource}
+use Rattle.hir_messages.specs.declared.command.MacroStyle.{MacroStyle}
+use Rattle.hir_messages.specs.declared.command.Shadow.{Shadow}
+use Rattle.hir_messages.specs.declared.answer.SourceItem.{SourceItem}
+use Rattle.hir_messages.specs.declared.answer.SourceKind.{SourceKind}
 use Rattle.hir_session_answers.specs.Answers.{answer_in, asking_of}
 use Rattle.hir_session_answers.specs.Diagnostics.{diagnostic_source, diagnostic_with, diagnostics_in, node_in, node_source}
 use Rattle.hir_session_answers.specs.DiagnosticsStand.{AreTold}

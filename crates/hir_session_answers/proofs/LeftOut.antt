@@ -58,13 +58,13 @@ use Rattle.hir_collector_rules.specs.Start.{Beginning, read_by}
 use Rattle.hir_def_collector_laws.specs.Sources.{BeginsClear, IsClearOf, RunsBindFromSources}
 use Rattle.hir_def_collector_laws.specs.Whole.{StandsOnWhole}
 use Rattle.hir_collector_rules.specs.declared.source_database.Key.TheVariants as keys
-use Rattle.hir_wire.specs.declared.answer.AnswerVisibility.{AnswerVisibility}
-use Rattle.hir_wire.specs.declared.answer.Definition.{Definition}
-use Rattle.hir_wire.specs.declared.answer.ImportSource.{ImportSource}
-use Rattle.hir_wire.specs.declared.answer.ItemSource.{ItemSource}
-use Rattle.hir_wire.specs.declared.command.MacroStyle.{MacroStyle}
-use Rattle.hir_wire.specs.declared.command.Shadow.{Shadow}
-use Rattle.hir_wire.specs.declared.answer.SourceKind.{SourceKind}
+use Rattle.hir_messages.specs.declared.answer.AnswerVisibility.{AnswerVisibility}
+use Rattle.hir_messages.specs.declared.answer.Definition.{Definition}
+use Rattle.hir_messages.specs.declared.answer.ImportSource.{ImportSource}
+use Rattle.hir_messages.specs.declared.answer.ItemSource.{ItemSource}
+use Rattle.hir_messages.specs.declared.command.MacroStyle.{MacroStyle}
+use Rattle.hir_messages.specs.declared.command.Shadow.{Shadow}
+use Rattle.hir_messages.specs.declared.answer.SourceKind.{SourceKind}
 use Rattle.hir_session_answers.specs.Answers.{answer_in, asking_of}
 use Rattle.hir_session_answers.specs.LeavesOut.{LeavesNothingOut}
 use Rattle.hir_session_state.specs.Kept.{collected_of, placed_by}

@@ -20,9 +20,9 @@ use Rattle.hir_def_map_rules.specs.State.{ModuleValue, entry_of, module_at, scop
 use Rattle.hir_def_map_rules.proofs.StaysWellFormed.{IsClosed-overlay}
 use Rattle.hir_def_collector_laws.specs.Sources.{RunsBindFromSources}
 use Rattle.hir_def_collector_laws.proofs.SourcedEdits.{entry_clear}
-use Rattle.hir_wire.specs.declared.names.BoundName.{BoundName}
-use Rattle.hir_wire.specs.declared.reply.Status.{Status}
-use Rattle.hir_wire.specs.declared.reply.Status.TheVariants as status
+use Rattle.hir_messages.specs.declared.names.BoundName.{BoundName}
+use Rattle.hir_messages.specs.declared.reply.Status.{Status}
+use Rattle.hir_messages.specs.declared.reply.Status.TheVariants as status
 use Rattle.hir_session_state.specs.declared.error.QueryError.{QueryError}
 use Rattle.hir_session_state.specs.SessionState.{SessionState, Resolution, kept_of, module_of, read_of, read_under, IsSound}
 use Rattle.hir_session_state.proofs.Standing.{kept_gives}

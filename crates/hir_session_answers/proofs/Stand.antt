@@ -11,11 +11,11 @@ use Rattle.hir_def_map_rules.specs.Sources.{PathsAnswerFromSources}
 use Rattle.hir_def_map_rules.specs.Overlay.{Maps, overlay}
 use Rattle.hir_nameres.specs.WorldParts.{among}
 use Rattle.hir_def_collector_laws.specs.Sources.{RunsBindFromSources}
-use Rattle.hir_wire.specs.declared.answer.Answer.{Answer}
-use Rattle.hir_wire.specs.declared.command.MacroStyle.{MacroStyle}
-use Rattle.hir_wire.specs.declared.command.Shadow.{Shadow}
-use Rattle.hir_wire.specs.declared.reply.Status.{Status}
-use Rattle.hir_wire.specs.declared.reply.Status.TheVariants as status
+use Rattle.hir_messages.specs.declared.answer.Answer.{Answer}
+use Rattle.hir_messages.specs.declared.command.MacroStyle.{MacroStyle}
+use Rattle.hir_messages.specs.declared.command.Shadow.{Shadow}
+use Rattle.hir_messages.specs.declared.reply.Status.{Status}
+use Rattle.hir_messages.specs.declared.reply.Status.TheVariants as status
 use Rattle.hir_session_state.specs.SessionState.{SessionState, Resolution, kept_of, module_of, read_of, IsSound}
 use Rattle.hir_session_state.specs.declared.error.QueryError.{QueryError}
 use Rattle.hir_session_answers.specs.Status.{status_of}

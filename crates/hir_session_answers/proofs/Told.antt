@@ -14,9 +14,9 @@ use Rattle.hir_def_map_rules.specs.Overlay.{Maps, overlay}
 use Rattle.hir_def_map_rules.specs.State.{numbered}
 use Rattle.hir_map_parts.specs.declared.diagnostics.DefDiagnostic.{DefDiagnostic}
 use Rattle.hir_def_collector_laws.specs.Sources.{RunsBindFromSources}
-use Rattle.hir_wire.specs.declared.answer.Definition.{Definition}
-use Rattle.hir_wire.specs.declared.diagnostic.Diagnostic.{Diagnostic}
-use Rattle.hir_wire.specs.declared.answer.SourceItem.{SourceItem}
+use Rattle.hir_messages.specs.declared.answer.Definition.{Definition}
+use Rattle.hir_messages.specs.declared.diagnostic.Diagnostic.{Diagnostic}
+use Rattle.hir_messages.specs.declared.answer.SourceItem.{SourceItem}
 use Rattle.hir_session_state.specs.Crates.{id_of}
 use Rattle.hir_session_answers.specs.Diagnostics.{diagnostic_source, diagnostic_with, diagnostics_in, diagnostics_of, node_in}
 use Rattle.hir_session_answers.specs.DiagnosticsStand.{AreTold, DiagnosticsStand}

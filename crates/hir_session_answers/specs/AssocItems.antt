@@ -32,16 +32,16 @@ use Rattle.hir_def_map_rules.specs.declared.path_result.ResolvePathResult.{Resol
 use Rattle.hir_collector_rules.specs.Keys.{environment}
 use Rattle.hir_assoc_items.specs.AssocItems.{FlattensTo, IsTooMany, ListingValue, container_of, items_written}
 use Rattle.hir_assoc_items.specs.Written.{WrittenValue}
-use Rattle.hir_wire.specs.declared.answer.SourceCallKind.TheVariants as call
-use Rattle.hir_wire.specs.declared.items.AssocItem.{AssocItem}
-use Rattle.hir_wire.specs.declared.diagnostic.CalledItem.{CalledItem}
-use Rattle.hir_wire.specs.declared.answer.ItemSource.{ItemSource}
-use Rattle.hir_wire.specs.declared.items.Items.{Items}
-use Rattle.hir_wire.specs.declared.answer.SourceItem.{SourceItem}
-use Rattle.hir_wire.specs.declared.reply.Status.{Status}
-use Rattle.hir_wire.specs.declared.answer.SourceKind.TheVariants as source
-use Rattle.hir_wire.specs.declared.command.Shadow.TheVariants as shadow
-use Rattle.hir_wire.specs.declared.reply.Status.TheVariants as status
+use Rattle.hir_messages.specs.declared.answer.SourceCallKind.TheVariants as call
+use Rattle.hir_messages.specs.declared.items.AssocItem.{AssocItem}
+use Rattle.hir_messages.specs.declared.diagnostic.CalledItem.{CalledItem}
+use Rattle.hir_messages.specs.declared.answer.ItemSource.{ItemSource}
+use Rattle.hir_messages.specs.declared.items.Items.{Items}
+use Rattle.hir_messages.specs.declared.answer.SourceItem.{SourceItem}
+use Rattle.hir_messages.specs.declared.reply.Status.{Status}
+use Rattle.hir_messages.specs.declared.answer.SourceKind.TheVariants as source
+use Rattle.hir_messages.specs.declared.command.Shadow.TheVariants as shadow
+use Rattle.hir_messages.specs.declared.reply.Status.TheVariants as status
 use Rattle.hir_session_state.specs.declared.error.ImplItemsError.{ImplItemsError}
 use Rattle.hir_session_state.specs.declared.error.TraitItemsError.{TraitItemsError}
 use Rattle.hir_session_state.specs.declared.error.ImplItemsError.TheVariants as impl_error

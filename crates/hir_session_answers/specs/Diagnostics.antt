@@ -10,13 +10,13 @@ use Rattle.hir_def_map_rules.specs.Diagnostics.{UnresolvedMacroCall, Unimplement
 use Rattle.hir_def_map_rules.specs.Diagnostics.{diagnostic_view, node_of}
 use Rattle.hir_def_map_rules.specs.Overlay.{Maps, overlay}
 use Rattle.hir_map_parts.specs.declared.diagnostics.DefDiagnostic.{DefDiagnostic}
-use Rattle.hir_wire.specs.declared.answer.Definition.{Definition}
-use Rattle.hir_wire.specs.declared.diagnostic.Diagnostic.{Diagnostic}
-use Rattle.hir_wire.specs.declared.diagnostic.DiagnosticKind.{DiagnosticKind}
-use Rattle.hir_wire.specs.declared.answer.ItemSource.{ItemSource}
-use Rattle.hir_wire.specs.declared.answer.SourceItem.{SourceItem}
-use Rattle.hir_wire.specs.declared.answer.SourceKind.TheVariants as source
-use Rattle.hir_wire.specs.declared.diagnostic.DiagnosticKind.TheVariants as told
+use Rattle.hir_messages.specs.declared.answer.Definition.{Definition}
+use Rattle.hir_messages.specs.declared.diagnostic.Diagnostic.{Diagnostic}
+use Rattle.hir_messages.specs.declared.diagnostic.DiagnosticKind.{DiagnosticKind}
+use Rattle.hir_messages.specs.declared.answer.ItemSource.{ItemSource}
+use Rattle.hir_messages.specs.declared.answer.SourceItem.{SourceItem}
+use Rattle.hir_messages.specs.declared.answer.SourceKind.TheVariants as source
+use Rattle.hir_messages.specs.declared.diagnostic.DiagnosticKind.TheVariants as told
 use Rattle.hir_session_state.specs.declared.error.DiagnosticsError.{DiagnosticsError}
 use Rattle.hir_session_state.specs.declared.error.DiagnosticsError.TheVariants as error
 use Rattle.hir_session_state.specs.Crates.{id_of}

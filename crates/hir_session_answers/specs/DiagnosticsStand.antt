@@ -5,7 +5,7 @@ use Rattle.hir_tables.specs.Tables.{TablesValue}
 use Rattle.hir_def_map_rules.specs.Diagnostics.{diagnostic_view}
 use Rattle.hir_def_map_rules.specs.Overlay.{Maps, overlay}
 use Rattle.hir_map_parts.specs.declared.diagnostics.DefDiagnostic.{DefDiagnostic}
-use Rattle.hir_wire.specs.declared.diagnostic.Diagnostic.{Diagnostic}
+use Rattle.hir_messages.specs.declared.diagnostic.Diagnostic.{Diagnostic}
 use Rattle.hir_session_state.specs.Crates.{id_of}
 use Rattle.hir_session_answers.specs.Diagnostics.{diagnostic_source}
 use Rattle.hir_session_answers.specs.AnswersStand.{StandsAt}

@@ -4,8 +4,8 @@ use Rattle.hir_base.specs.Place.{PlaceValue}
 use Rattle.hir_ids.specs.declared.ids.ModuleId.{ModuleId}
 use Rattle.hir_def_map_rules.specs.Dump.{dump_of}
 use Rattle.hir_def_map_rules.specs.Overlay.{Maps, overlay}
-use Rattle.hir_wire.specs.declared.reply.Status.{Status}
-use Rattle.hir_wire.specs.declared.reply.Status.TheVariants as status
+use Rattle.hir_messages.specs.declared.reply.Status.{Status}
+use Rattle.hir_messages.specs.declared.reply.Status.TheVariants as status
 use Rattle.hir_session_state.specs.declared.error.QueryError.{QueryError}
 use Rattle.hir_session_state.specs.declared.error.QueryError.TheVariants as error
 use Rattle.hir_session_state.specs.SessionState.{SessionState, Resolution, finished_of, kept_of, module_of}

@@ -4,9 +4,9 @@ use Rattle.hir_ids.specs.declared.ids.MapId.{MapId}
 use Rattle.hir_base.specs.ModPath.{Path}
 use Rattle.hir_base.specs.Place.{PlaceValue}
 use Rattle.hir_collector_rules.specs.declared.source_database.Key.{Key}
-use Rattle.hir_wire.specs.Edits.{EditValue}
-use Rattle.hir_wire.specs.declared.command.MacroStyle.{MacroStyle}
-use Rattle.hir_wire.specs.declared.command.Shadow.{Shadow}
+use Rattle.hir_messages.specs.Edits.{EditValue}
+use Rattle.hir_messages.specs.declared.command.MacroStyle.{MacroStyle}
+use Rattle.hir_messages.specs.declared.command.Shadow.{Shadow}
 use Rattle.hir_session_state.specs.SessionState.{SessionState, standing_of, workspace_of, IsSound}
 use Rattle.hir_session_state.specs.Standing.{map_by}
 use Rattle.hir_session_state.specs.Marks.{IsAltered}

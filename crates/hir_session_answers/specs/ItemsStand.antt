@@ -7,8 +7,8 @@ use Rattle.hir_ids.specs.declared.ids.ModuleId.{ModuleId}
 use Rattle.hir_ids.specs.declared.ids.TraitId.{TraitId}
 use Rattle.hir_def_map_rules.specs.Overlay.{overlay}
 use Rattle.hir_def_map_rules.specs.Scoping.{resolution_of}
-use Rattle.hir_wire.specs.declared.command.Shadow.TheVariants as shadow
-use Rattle.hir_wire.specs.declared.items.Items.{Items}
+use Rattle.hir_messages.specs.declared.command.Shadow.TheVariants as shadow
+use Rattle.hir_messages.specs.declared.items.Items.{Items}
 use Rattle.hir_session_state.specs.SessionState.{SessionState, Resolution, module_of, read_of}
 use Rattle.hir_session_answers.specs.Answers.{asking_of}
 use Rattle.hir_session_answers.specs.AnswersStand.{StandsAt}

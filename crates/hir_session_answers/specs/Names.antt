@@ -9,9 +9,9 @@ use Rattle.hir_per_ns.specs.declared.per_ns.PerNs.{PerNs}
 use Rattle.hir_tables.specs.Tables.{TablesValue}
 use Rattle.hir_def_map_rules.specs.Overlay.{Maps, overlay}
 use Rattle.hir_def_map_rules.specs.State.{scope_at}
-use Rattle.hir_wire.specs.declared.names.BoundName.{BoundName}
-use Rattle.hir_wire.specs.declared.reply.Status.{Status}
-use Rattle.hir_wire.specs.declared.reply.Status.TheVariants as status
+use Rattle.hir_messages.specs.declared.names.BoundName.{BoundName}
+use Rattle.hir_messages.specs.declared.reply.Status.{Status}
+use Rattle.hir_messages.specs.declared.reply.Status.TheVariants as status
 use Rattle.hir_session_state.specs.declared.error.QueryError.{QueryError}
 use Rattle.hir_session_state.specs.declared.error.QueryError.TheVariants as error
 use Rattle.hir_session_state.specs.SessionState.{SessionState, Resolution, kept_of, module_of, read_of}

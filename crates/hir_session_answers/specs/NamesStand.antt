@@ -7,7 +7,7 @@ use Rattle.hir_scope.specs.Scope.Entries.{entries_of}
 use Rattle.hir_per_ns.specs.declared.per_ns.PerNs.{PerNs}
 use Rattle.hir_def_map_rules.specs.Overlay.{overlay}
 use Rattle.hir_def_map_rules.specs.State.{scope_at}
-use Rattle.hir_wire.specs.declared.names.BoundName.{BoundName}
+use Rattle.hir_messages.specs.declared.names.BoundName.{BoundName}
 use Rattle.hir_session_state.specs.SessionState.{SessionState, Resolution, module_of, read_of}
 use Rattle.hir_session_answers.specs.AnswersStand.{StandsAt}
 use Rattle.hir_session_answers.specs.Names.{names_in}

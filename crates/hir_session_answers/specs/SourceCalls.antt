@@ -12,12 +12,12 @@ use Rattle.hir_tables.specs.Tables.{TablesValue, block_at, call_at, file_at}
 use Rattle.hir_session_state.specs.Blocks.{place_of_block}
 use Rattle.hir_session_state.specs.Standing.{most_calls}
 use Rattle.hir_def_map_rules.specs.Diagnostics.{call_node}
-use Rattle.hir_wire.specs.declared.answer.ItemSource.{ItemSource}
-use Rattle.hir_wire.specs.declared.answer.SourceCall.{SourceCall}
-use Rattle.hir_wire.specs.declared.answer.SourceCallKind.{SourceCallKind}
-use Rattle.hir_wire.specs.declared.answer.SourceRoot.{SourceRoot}
-use Rattle.hir_wire.specs.declared.answer.SourceCallKind.TheVariants as kind
-use Rattle.hir_wire.specs.declared.answer.SourceRoot.TheVariants as root
+use Rattle.hir_messages.specs.declared.answer.ItemSource.{ItemSource}
+use Rattle.hir_messages.specs.declared.answer.SourceCall.{SourceCall}
+use Rattle.hir_messages.specs.declared.answer.SourceCallKind.{SourceCallKind}
+use Rattle.hir_messages.specs.declared.answer.SourceRoot.{SourceRoot}
+use Rattle.hir_messages.specs.declared.answer.SourceCallKind.TheVariants as kind
+use Rattle.hir_messages.specs.declared.answer.SourceRoot.TheVariants as root
 
 -- how a macro is called
 abbrev pub call_kind : MacroCallKind → SourceCallKind

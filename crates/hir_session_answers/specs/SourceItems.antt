@@ -31,17 +31,17 @@ use Rattle.hir_map_parts.specs.declared.origin.ModuleOrigin.{ModuleOrigin}
 use Rattle.hir_map_parts.specs.declared.origin.ModuleOrigin.TheVariants as origin
 use Rattle.hir_tables.specs.Tables.{TablesValue, block_at}
 use Rattle.hir_session_state.specs.Blocks.{place_of_block}
-use Rattle.hir_wire.specs.declared.answer.AnswerItem.{AnswerItem}
-use Rattle.hir_wire.specs.declared.answer.AnswerVisibility.{AnswerVisibility}
-use Rattle.hir_wire.specs.declared.answer.Definition.{Definition}
-use Rattle.hir_wire.specs.declared.answer.ImportOrigin.{ImportOrigin}
-use Rattle.hir_wire.specs.declared.answer.ImportSource.{ImportSource}
-use Rattle.hir_wire.specs.declared.answer.ItemSource.{ItemSource}
-use Rattle.hir_wire.specs.declared.answer.SourceKind.{SourceKind}
-use Rattle.hir_wire.specs.declared.answer.AnswerVisibility.TheVariants as answer_vis
-use Rattle.hir_wire.specs.declared.answer.Definition.TheVariants as definition
-use Rattle.hir_wire.specs.declared.answer.ImportOrigin.TheVariants as how
-use Rattle.hir_wire.specs.declared.answer.SourceKind.TheVariants as source
+use Rattle.hir_messages.specs.declared.answer.AnswerItem.{AnswerItem}
+use Rattle.hir_messages.specs.declared.answer.AnswerVisibility.{AnswerVisibility}
+use Rattle.hir_messages.specs.declared.answer.Definition.{Definition}
+use Rattle.hir_messages.specs.declared.answer.ImportOrigin.{ImportOrigin}
+use Rattle.hir_messages.specs.declared.answer.ImportSource.{ImportSource}
+use Rattle.hir_messages.specs.declared.answer.ItemSource.{ItemSource}
+use Rattle.hir_messages.specs.declared.answer.SourceKind.{SourceKind}
+use Rattle.hir_messages.specs.declared.answer.AnswerVisibility.TheVariants as answer_vis
+use Rattle.hir_messages.specs.declared.answer.Definition.TheVariants as definition
+use Rattle.hir_messages.specs.declared.answer.ImportOrigin.TheVariants as how
+use Rattle.hir_messages.specs.declared.answer.SourceKind.TheVariants as source
 use Rattle.hir_session_answers.specs.SourceCalls.{source_of}
 
 -- an item of a crate, by what holds it and its node there

@@ -13,11 +13,11 @@ use hir_base::mod_path::ModPath;
 use hir_def_map::def_maps::DefMaps;
 use hir_def_map::nameres::local_def_map::LocalDefMap;
 use hir_def_map::nameres::path_resolution::{BuiltinShadowMode, MacroSubNs, ResolveMode};
+use hir_messages::answer::{Answer, AnswerItem, AnswerVisibility, Definition, ImportSource};
+use hir_messages::command::{MacroStyle, Shadow};
 use hir_scope::imports::{ImportOrExternCrate, ImportOrGlob};
 use hir_scope::per_ns::{MacrosItem, TypesItem, ValuesItem};
 use hir_tables::Tables;
-use hir_wire::answer::{Answer, AnswerItem, AnswerVisibility, Definition, ImportSource};
-use hir_wire::command::{MacroStyle, Shadow};
 use std::alloc::{AllocError, Global};
 
 fn shadow_mode(shadow: Shadow) -> BuiltinShadowMode

@@ -8,7 +8,7 @@ ghost use Rattle.hir_def_map_rules.specs.Scoping.{resolution_of};
 ghost use Rattle.hir_session_answers.specs.Answers.{asking_of};
 ghost use Rattle.hir_session_answers.specs.AssocItems.{assoc_source, called_source, impls_of, items_told, named_source, source_item_of, trait_named, trait_of};
 ghost use Rattle.hir_assoc_items.specs.AssocItems.{listing_of};
-ghost use Rattle.hir_wire.specs.declared.command.Shadow.TheVariants as shadow;
+ghost use Rattle.hir_messages.specs.declared.command.Shadow.TheVariants as shadow;
 
 use crate::diagnostics::{diagnostics_at, node_at};
 use crate::source_items::source_calls::source_at;
@@ -23,11 +23,11 @@ use hir_def_map::nameres::DefMap;
 use hir_def_map::nameres::diagnostics::DefDiagnostics;
 use hir_def_map::nameres::local_def_map::LocalDefMap;
 use hir_def_map::nameres::path_resolution::{BuiltinShadowMode, ResolveMode};
+use hir_messages::answer::{SourceCallKind, SourceItem, SourceKind};
+use hir_messages::diagnostic::{CalledItem, Diagnostics};
+use hir_messages::items::{AssocItem, AssocItems, CalledItems, Items};
 use hir_scope::item_scope::ItemScope;
 use hir_tables::Tables;
-use hir_wire::answer::{SourceCallKind, SourceItem, SourceKind};
-use hir_wire::diagnostic::{CalledItem, Diagnostics};
-use hir_wire::items::{AssocItem, AssocItems, CalledItems, Items};
 use std::alloc::{AllocError, Global};
 
 /// A trait, where a definition is one.

@@ -12,9 +12,9 @@ use hir_base::cfg::CfgExpr;
 use hir_base::text::Text;
 use hir_def_map::def_maps::DefMaps;
 use hir_def_map::nameres::diagnostics::{DefDiagnostic, DefDiagnosticKind};
+use hir_messages::answer::{Definition, SourceItem, SourceKind};
+use hir_messages::diagnostic::{CalledItem, Diagnostic, DiagnosticKind, Texts};
 use hir_tables::Tables;
-use hir_wire::answer::{Definition, SourceItem, SourceKind};
-use hir_wire::diagnostic::{CalledItem, Diagnostic, DiagnosticKind, Texts};
 use std::alloc::{AllocError, Global};
 
 /// The source item of a node.

@@ -7,10 +7,10 @@ ghost use Rattle.hir_session_answers.specs.Names.{named_in, names_in};
 use crate::answers::{macro_item_at, type_at, value_at};
 use hir_base::name::Name;
 use hir_def_map::def_maps::DefMaps;
+use hir_messages::names::BoundName;
 use hir_scope::item_scope::ItemScope;
 use hir_scope::per_ns::PerNs;
 use hir_tables::Tables;
-use hir_wire::names::BoundName;
 use std::alloc::{AllocError, Global};
 
 /// The same name, where there is one; its bytes are shared.

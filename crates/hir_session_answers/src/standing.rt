@@ -9,10 +9,10 @@ ghost use Rattle.hir_session_answers.specs.Walking.{root_kept, standing_value, t
 use hir_base::ids::{Crate, MapId, ModuleId};
 use hir_base::name::Name;
 use hir_base::place::{BlockPlace, PlaceElement};
+use hir_messages::reply::Status;
 use hir_session_sources::blocks::Blocks;
 use hir_session_state::kept::Kept;
 use hir_tables::Tables;
-use hir_wire::reply::Status;
 
 /// Where steps lead.
 #[derive(Clone, Copy)]

@@ -13,8 +13,8 @@ use Rattle.hir_def_map_rules.specs.Scoping.{resolution_of}
 use Rattle.hir_assoc_items.specs.AssocItems.{FlattensTo, IsTooMany, ListingValue, ReachesUnknown, container_of, items_written}
 use Rattle.hir_assoc_items.specs.Written.{WrittenValue}
 use Rattle.hir_collector_rules.specs.Keys.{environment}
-use Rattle.hir_wire.specs.declared.command.Shadow.TheVariants as shadow
-use Rattle.hir_wire.specs.declared.items.Items.{Items}
+use Rattle.hir_messages.specs.declared.command.Shadow.TheVariants as shadow
+use Rattle.hir_messages.specs.declared.items.Items.{Items}
 use Rattle.hir_session_state.specs.SessionState.{SessionState, Resolution, is_marked, kept_of, read_of, read_under, workspace_of, IsPlace, IsSound}
 use Rattle.hir_session_state.specs.SessionState.IsPlace.{of_block, of_crate}
 use Rattle.hir_session_answers.specs.Answers.{asking_of}

@@ -5,7 +5,7 @@ use Rattle.std.proofs.lemmas.List.{length-map}
 use Rattle.hir_ids.specs.declared.ids.Crate.{Crate}
 use Rattle.hir_base.specs.declared.place.PlaceElement.{PlaceElement}
 use Rattle.std.specs.List.{list_any}
-use Rattle.hir_wire.specs.CommandValue.{CrateInputValue}
+use Rattle.hir_messages.specs.CommandValue.{CrateInputValue}
 use Rattle.hir_session_state.specs.Refusals.{IsEditMemory, first_out_of_order, is_too_deep, is_too_long, verdict_of_new, verdict_with_steps}
 use Rattle.hir_session_state.specs.SessionState.{max_crates}
 use Rattle.hir_session_state.specs.declared.error.EditError.{EditError}

@@ -23,7 +23,7 @@ use Rattle.hir_base.specs.declared.place.PlaceElement.{PlaceElement}
 use Rattle.hir_base.specs.declared.place.PlaceElement.TheVariants as element
 use Rattle.hir_def_map_rules.specs.State.{child_at, crate_map, root_of}
 use Rattle.hir_tables.specs.Tables.{block_at}
-use Rattle.hir_wire.specs.declared.reply.Status.TheVariants as status
+use Rattle.hir_messages.specs.declared.reply.Status.TheVariants as status
 use Rattle.hir_session_state.specs.Blocks.{block_cmp, nesting_of, place_of_block}
 use Rattle.hir_session_state.specs.Crates.{CrateValue, id_of}
 use Rattle.hir_session_state.specs.Due.{Grows, HasOverlongRun, IsDueBlock, IsDueCrate, IsNext, IsStuckAt}

@@ -31,8 +31,8 @@ use Rattle.hir_collector_rules.specs.Workspace.{EntryLook, Workspace}
 use Rattle.hir_collector_rules.specs.Keys.{Look, look, of_entry, of_input, of_map, of_text, of_tree, of_variants}
 use Rattle.hir_collector_rules.specs.declared.source_database.Key.{Key}
 use Rattle.hir_collector_rules.specs.declared.source_database.Key.TheVariants as keys
-use Rattle.hir_wire.specs.Edits.{EditValue, EntryValue, set_file, remove_file, set_block, remove_block, set_expansion, remove_expansion}
-use Rattle.hir_wire.specs.declared.reply.Status.TheVariants as status
+use Rattle.hir_messages.specs.Edits.{EditValue, EntryValue, set_file, remove_file, set_block, remove_block, set_expansion, remove_expansion}
+use Rattle.hir_messages.specs.declared.reply.Status.TheVariants as status
 use Rattle.hir_session_answers.specs.Status.{status_by, status_of}
 use Rattle.hir_session_answers.specs.Answers.{answer_at, answer_by, answer_from}
 use Rattle.hir_session_state.specs.Blocks.{block_in, place_of_block}

@@ -10,12 +10,12 @@ use Rattle.hir_def_collector_laws.specs.Sources.{RunsBindFromSources}
 use Rattle.hir_def_map_rules.specs.Closed.{PathsLeadToWhatIsThere}
 use Rattle.hir_def_map_rules.specs.Overlay.{overlay}
 use Rattle.hir_def_map_rules.specs.Sources.{PathsAnswerFromSources}
-use Rattle.hir_wire.specs.declared.answer.Answer.{Answer}
-use Rattle.hir_wire.specs.declared.diagnostic.Diagnostic.{Diagnostic}
-use Rattle.hir_wire.specs.declared.command.MacroStyle.{MacroStyle}
-use Rattle.hir_wire.specs.declared.command.Shadow.{Shadow}
-use Rattle.hir_wire.specs.declared.reply.Status.{Status}
-use Rattle.hir_wire.specs.declared.reply.Status.TheVariants as status
+use Rattle.hir_messages.specs.declared.answer.Answer.{Answer}
+use Rattle.hir_messages.specs.declared.diagnostic.Diagnostic.{Diagnostic}
+use Rattle.hir_messages.specs.declared.command.MacroStyle.{MacroStyle}
+use Rattle.hir_messages.specs.declared.command.Shadow.{Shadow}
+use Rattle.hir_messages.specs.declared.reply.Status.{Status}
+use Rattle.hir_messages.specs.declared.reply.Status.TheVariants as status
 use Rattle.hir_session_state.specs.Crates.{id_of}
 use Rattle.hir_session_state.specs.Due.{Grows}
 use Rattle.hir_session_state.specs.Kept.{finished_by, kept_in}

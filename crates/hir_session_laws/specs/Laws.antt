@@ -14,9 +14,9 @@ use Rattle.hir_tables.specs.Tables as numbers
 use Rattle.hir_tables.specs.Tables.{source_of}
 use Rattle.hir_collector_rules.specs.declared.source_database.Key.{Key}
 use Rattle.hir_collector_rules.specs.declared.source_database.Key.TheVariants.{Tree, Expansion}
-use Rattle.hir_wire.specs.Edits.{EditValue, EntryValue, set_file, remove_file, set_block, remove_block, set_expansion, remove_expansion}
-use Rattle.hir_wire.specs.declared.command.MacroStyle.{MacroStyle}
-use Rattle.hir_wire.specs.declared.command.Shadow.{Shadow}
+use Rattle.hir_messages.specs.Edits.{EditValue, EntryValue, set_file, remove_file, set_block, remove_block, set_expansion, remove_expansion}
+use Rattle.hir_messages.specs.declared.command.MacroStyle.{MacroStyle}
+use Rattle.hir_messages.specs.declared.command.Shadow.{Shadow}
 use Rattle.hir_session_answers.specs.Answers.{answer_of}
 use Rattle.hir_session_answers.specs.AssocItems.{impl_at, trait_at}
 use Rattle.hir_session_answers.specs.Diagnostics.{diagnostics_of}

@@ -6,15 +6,15 @@ use Rattle.hir_base.specs.Place.{PlaceValue}
 use Rattle.hir_ids.specs.declared.ids.Crate.{Crate}
 use Rattle.hir_ids.specs.declared.ids.MapId.{MapId}
 use Rattle.hir_collector_rules.specs.declared.source_database.Key.{Key}
-use Rattle.hir_wire.specs.CommandValue.{CommandValue, diagnostics, impl_items, resolve, trait_items}
+use Rattle.hir_messages.specs.CommandValue.{CommandValue, diagnostics, impl_items, resolve, trait_items}
 use Rattle.hir_wire.specs.Commands.{reading_of}
-use Rattle.hir_wire.specs.declared.answer.Answer.{Answer}
-use Rattle.hir_wire.specs.declared.diagnostic.Diagnostic.{Diagnostic}
-use Rattle.hir_wire.specs.declared.items.Items.{Items}
-use Rattle.hir_wire.specs.declared.command.MacroStyle.{MacroStyle}
-use Rattle.hir_wire.specs.declared.reply.Reply.{Reply}
-use Rattle.hir_wire.specs.declared.command.Shadow.{Shadow}
-use Rattle.hir_wire.specs.declared.reply.Reply.TheVariants as reply
+use Rattle.hir_messages.specs.declared.answer.Answer.{Answer}
+use Rattle.hir_messages.specs.declared.diagnostic.Diagnostic.{Diagnostic}
+use Rattle.hir_messages.specs.declared.items.Items.{Items}
+use Rattle.hir_messages.specs.declared.command.MacroStyle.{MacroStyle}
+use Rattle.hir_messages.specs.declared.reply.Reply.{Reply}
+use Rattle.hir_messages.specs.declared.command.Shadow.{Shadow}
+use Rattle.hir_messages.specs.declared.reply.Reply.TheVariants as reply
 use Rattle.hir_session_state.specs.declared.error.QueryError.{QueryError}
 use Rattle.hir_session_state.specs.declared.error.QueryError.TheVariants as query_error
 use Rattle.hir_lines.specs.declared.open_line.TheConstants.{LINE_LIMIT}

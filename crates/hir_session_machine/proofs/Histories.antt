@@ -3,8 +3,8 @@ use Rattle.std.proofs.Common.{arith}
 use Rattle.std.proofs.lemmas.Bool.Decides.{nat_tests}
 use Rattle.std.specs.List.{list_any}
 use Rattle.hir_ids.specs.declared.ids.Crate.{Crate}
-use Rattle.hir_wire.specs.CommandValue.{CommandValue, CrateInputValue}
-use Rattle.hir_wire.specs.declared.reply.Reply.{Reply}
+use Rattle.hir_messages.specs.CommandValue.{CommandValue, CrateInputValue}
+use Rattle.hir_messages.specs.declared.reply.Reply.{Reply}
 use Rattle.hir_session_state.specs.SessionState.{SessionState, IsSound, max_crates}
 use Rattle.hir_session_state.specs.Refusals.{first_out_of_order, is_too_deep, is_too_long, verdict_of_limits, verdict_of_order, verdict_of_new}
 use Rattle.hir_session_state.proofs.Truth.{on_bool}

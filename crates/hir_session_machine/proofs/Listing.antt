@@ -4,10 +4,10 @@ use Rattle.hir_base.specs.ModPath.{Path}
 use Rattle.hir_base.specs.Place.{PlaceValue}
 use Rattle.hir_ids.specs.declared.ids.ImplId.{ImplId}
 use Rattle.hir_ids.specs.declared.ids.TraitId.{TraitId}
-use Rattle.hir_wire.specs.CommandValue.{CommandValue, impl_items, trait_items}
+use Rattle.hir_messages.specs.CommandValue.{CommandValue, impl_items, trait_items}
 use Rattle.hir_wire.specs.Commands.{reading_of}
-use Rattle.hir_wire.specs.declared.items.Items.{Items}
-use Rattle.hir_wire.specs.declared.reply.Reply.TheVariants as reply
+use Rattle.hir_messages.specs.declared.items.Items.{Items}
+use Rattle.hir_messages.specs.declared.reply.Reply.TheVariants as reply
 use Rattle.hir_session_state.specs.Due.{Grows}
 use Rattle.hir_session_state.specs.SessionState.{SessionState}
 use Rattle.hir_session_state.specs.declared.error.ImplItemsError.{ImplItemsError}

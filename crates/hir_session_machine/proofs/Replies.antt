@@ -1,7 +1,7 @@
 use Rattle.std.proofs.Common.{◌≡◌, ◌≢◌, ℕ, List, Err, refl}
 use Rattle.hir_wire.specs.Commands.{reading_of}
 use Rattle.hir_wire.specs.declared.read_error.ReadError.{ReadError}
-use Rattle.hir_wire.specs.declared.reply.Reply.{Reply}
+use Rattle.hir_messages.specs.declared.reply.Reply.{Reply}
 use Rattle.hir_wire.specs.declared.read_error.ReadError.TheVariants as read_error
 use Rattle.hir_session_replies.specs.Replies.{read_reply}
 use Rattle.hir_session_machine.specs.Machine.{MachineState, AnswersLine}

@@ -1,10 +1,10 @@
 -- What a reply with diagnostics says.
 use Rattle.std.proofs.Common.{◌≡◌, inl, inr, ℕ, Bool, true, false, List, Some, Result, Ok, Err}
 use Rattle.hir_ids.specs.declared.ids.Crate.{Crate}
-use Rattle.hir_wire.specs.CommandValue.{CommandValue, diagnostics}
+use Rattle.hir_messages.specs.CommandValue.{CommandValue, diagnostics}
 use Rattle.hir_wire.specs.Commands.{reading_of}
-use Rattle.hir_wire.specs.declared.diagnostic.Diagnostic.{Diagnostic}
-use Rattle.hir_wire.specs.declared.reply.Reply.TheVariants as reply
+use Rattle.hir_messages.specs.declared.diagnostic.Diagnostic.{Diagnostic}
+use Rattle.hir_messages.specs.declared.reply.Reply.TheVariants as reply
 use Rattle.hir_session_state.specs.declared.error.DiagnosticsError.{DiagnosticsError}
 use Rattle.hir_session_state.specs.declared.error.DiagnosticsError.TheVariants as diagnostics_error
 use Rattle.hir_session_state.specs.SessionState.{SessionState}

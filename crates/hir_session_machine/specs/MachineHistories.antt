@@ -1,7 +1,7 @@
 -- Which sessions stand behind the states of a machine?
 use Rattle.std.specs.Prelude.{◌≡◌, ◌⊎◌, ℕ, List, None, Some, Ok}
-use Rattle.hir_wire.specs.CommandValue.{CrateInputValue}
-use Rattle.hir_wire.specs.declared.reply.Reply.{Reply}
+use Rattle.hir_messages.specs.CommandValue.{CrateInputValue}
+use Rattle.hir_messages.specs.declared.reply.Reply.{Reply}
 use Rattle.hir_session_state.specs.SessionState.{SessionState, IsSound}
 use Rattle.hir_session_state.specs.Beginning.{Begins}
 use Rattle.hir_session_state.specs.Refusals.{verdict_of_new}

@@ -1,9 +1,9 @@
 //! What answers lines: a session, or none before the first that is made.
 ghost use Rattle.std.specs.Prelude.{◌≡◌, map, false, None, Some, Option};
-ghost use Rattle.hir_wire.specs.CommandValue.{command_view, crate_input_view, crates as makes, edit as edits, refresh as refreshes, resolve as resolves, tree as asks_for_tree, diagnostics as asks_for_diagnostics, dump as asks_for_dump, trait_items as asks_for_trait, impl_items as asks_for_impl, names as asks_for_names, crate_modules as asks_for_modules, file_modules as asks_for_file_modules};
-ghost use Rattle.hir_wire.specs.Edits.{edit_view};
+ghost use Rattle.hir_messages.specs.CommandValue.{command_view, crate_input_view, crates as makes, edit as edits, refresh as refreshes, resolve as resolves, tree as asks_for_tree, diagnostics as asks_for_diagnostics, dump as asks_for_dump, trait_items as asks_for_trait, impl_items as asks_for_impl, names as asks_for_names, crate_modules as asks_for_modules, file_modules as asks_for_file_modules};
+ghost use Rattle.hir_messages.specs.Edits.{edit_view};
 ghost use Rattle.hir_wire.specs.Replies.{is_fixed};
-ghost use Rattle.hir_wire.specs.declared.reply.Reply.TheVariants as reply;
+ghost use Rattle.hir_messages.specs.declared.reply.Reply.TheVariants as reply;
 ghost use Rattle.hir_session_machine.specs.Machine.{MachineState, first_state, AnswersCommand, AnswersLine};
 
 use hir_base::file_path::FilePath;

@@ -1,13 +1,13 @@
 -- Which reply is told of what a call answers?
 use Rattle.std.specs.Prelude.{List, Result, Ok, Err}
 use Rattle.hir_base.specs.Place.{PlaceValue}
-use Rattle.hir_wire.specs.declared.answer.Answer.{Answer}
-use Rattle.hir_wire.specs.declared.diagnostic.Diagnostic.{Diagnostic}
-use Rattle.hir_wire.specs.declared.names.BoundName.{BoundName}
+use Rattle.hir_messages.specs.declared.answer.Answer.{Answer}
+use Rattle.hir_messages.specs.declared.diagnostic.Diagnostic.{Diagnostic}
+use Rattle.hir_messages.specs.declared.names.BoundName.{BoundName}
 use Rattle.hir_wire.specs.declared.read_error.ReadError.{ReadError}
-use Rattle.hir_wire.specs.declared.reply.Reply.{Reply}
+use Rattle.hir_messages.specs.declared.reply.Reply.{Reply}
 use Rattle.hir_wire.specs.declared.read_error.ReadError.TheVariants as read_error
-use Rattle.hir_wire.specs.declared.reply.Reply.TheVariants as reply
+use Rattle.hir_messages.specs.declared.reply.Reply.TheVariants as reply
 use Rattle.hir_session_state.specs.declared.error.DiagnosticsError.{DiagnosticsError}
 use Rattle.hir_session_state.specs.declared.error.EditError.{EditError}
 use Rattle.hir_session_state.specs.declared.error.ImplItemsError.{ImplItemsError}

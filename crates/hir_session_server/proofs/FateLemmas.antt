@@ -3,8 +3,8 @@ use Rattle.std.proofs.Common.{◌≡◌, ℕ, ◌≤◌, ◌<◌, List, Bool, le
 use Rattle.std.proofs.lemmas.Bool.{le-leb}
 use Rattle.std.proofs.lemmas.Bool.Decides.{leb_tells}
 use Rattle.hir_base.specs.declared.limit.Limit.TheVariants as limit
-use Rattle.hir_wire.specs.declared.reply.Reply.{Reply}
-use Rattle.hir_wire.specs.declared.reply.Reply.TheVariants as reply
+use Rattle.hir_messages.specs.declared.reply.Reply.{Reply}
+use Rattle.hir_messages.specs.declared.reply.Reply.TheVariants as reply
 use Rattle.hir_lines.specs.declared.open_line.TheConstants.{LINE_LIMIT}
 use Rattle.hir_lines.specs.declared.open_line.Fate.{Fate}
 use Rattle.hir_lines.specs.declared.open_line.Fate.TheVariants as fate

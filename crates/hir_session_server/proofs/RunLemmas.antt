@@ -5,8 +5,8 @@ use Rattle.std.proofs.lemmas.Bool.Decides.{nat_tests}
 use Rattle.std.specs.Io.KnownBytes.{Appends, IsAtEnd}
 use Rattle.std.proofs.KnownBytes.{Appends-nil, Appends-trans}
 use Rattle.hir_wire.specs.Replies.{is_fixed}
-use Rattle.hir_wire.specs.declared.reply.Reply.{Reply}
-use Rattle.hir_wire.specs.declared.reply.Reply.TheVariants as reply
+use Rattle.hir_messages.specs.declared.reply.Reply.{Reply}
+use Rattle.hir_messages.specs.declared.reply.Reply.TheVariants as reply
 use Rattle.hir_lines.specs.declared.output.Fault.{Fault}
 use Rattle.hir_lines.specs.declared.output.Fault.TheVariants as fault
 use Rattle.hir_session_server.specs.declared.server.Server.{Server}

@@ -1,7 +1,7 @@
 -- What does a run write?
 use Rattle.std.specs.Prelude.{◌≡◌, ℕ, List, ◌++◌, flat_map, Option, Result, Ok, Err}
 use Rattle.std.specs.Io.KnownBytes.{Appends, Consumes, IsAtEnd}
-use Rattle.hir_wire.specs.declared.reply.Reply.{Reply}
+use Rattle.hir_messages.specs.declared.reply.Reply.{Reply}
 use Rattle.hir_lines.specs.declared.output.Fault.{Fault}
 use Rattle.hir_lines.specs.declared.output.Fault.TheVariants as fault
 use Rattle.hir_session_machine.specs.Machine.{MachineState, first_state}

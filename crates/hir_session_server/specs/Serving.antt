@@ -1,7 +1,7 @@
 -- In which state is the server between two pieces of the input?
 use Rattle.std.specs.Prelude.{ℕ, List, [], Option}
 use Rattle.std.specs.Io.KnownBytes.{Appends}
-use Rattle.hir_wire.specs.declared.reply.Reply.{Reply}
+use Rattle.hir_messages.specs.declared.reply.Reply.{Reply}
 use Rattle.hir_session_server.specs.declared.server.Server.{Server}
 use Rattle.hir_session_machine.specs.Machine.{MachineState}
 use Rattle.hir_lines.specs.Output.{WritesPart, reply_line}

@@ -26,7 +26,7 @@ pub struct Server {
 impl Server {
     ghost use Rattle.std.specs.Prelude.{◌≡◌, ◌++◌, ◌∷◌, [], List, ℕ, false, OnOk, IfErr};
     ghost use Rattle.hir_wire.specs.Replies.{is_fixed};
-    ghost use Rattle.hir_wire.specs.declared.reply.Reply.TheVariants as reply;
+    ghost use Rattle.hir_messages.specs.declared.reply.Reply.TheVariants as reply;
     ghost use Rattle.hir_session_machine.specs.Machine.{first_state};
     ghost use Rattle.hir_lines.specs.Lines.{HasNoEnd, cut_from, with_last};
     ghost use Rattle.hir_session_machine.specs.AnsweredLines.{AnswersInput};

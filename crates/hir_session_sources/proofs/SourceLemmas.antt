@@ -21,7 +21,7 @@ use Rattle.hir_collector_rules.specs.Workspace.{EntryLook, Workspace, seen_of}
 use Rattle.hir_collector_rules.specs.Keys.{entry_under, input_of, look, of_entry, of_input, of_text, of_tree, of_variants, source_in, source_under, text_of}
 use Rattle.hir_collector_rules.specs.declared.source_database.Key.{Key}
 use Rattle.hir_collector_rules.specs.declared.source_database.Key.TheVariants as keys
-use Rattle.hir_wire.specs.Edits.{EntryValue}
+use Rattle.hir_messages.specs.Edits.{EntryValue}
 use Rattle.hir_session_state.specs.Blocks.{Blocks, block_in, blocks_with, place_of_block}
 use Rattle.hir_session_state.specs.Crates.{CrateValue}
 use Rattle.hir_session_state.specs.Entries.{Entries, entries_with, entry_at, expansion_cmp, look_of, source_of as source_in_entry}

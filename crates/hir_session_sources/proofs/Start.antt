@@ -6,9 +6,9 @@ use Rattle.hir_ids.specs.declared.ast_id.FileId.{FileId}
 use Rattle.hir_ids.specs.declared.ids.MapId.{MapId}
 use Rattle.hir_collector_rules.specs.Calls.{AreCallsPlaced}
 use Rattle.hir_collector_rules.specs.declared.source_database.Dependency.{Dependency}
-use Rattle.hir_wire.specs.CommandValue.{CrateInputValue, crate_input_view}
-use Rattle.hir_wire.specs.declared.command.CrateInput.{CrateInput}
-use Rattle.hir_wire.specs.declared.command.Dependency.{Dependency as HandedIn}
+use Rattle.hir_messages.specs.CommandValue.{CrateInputValue, crate_input_view}
+use Rattle.hir_messages.specs.declared.command.CrateInput.{CrateInput}
+use Rattle.hir_messages.specs.declared.command.Dependency.{Dependency as HandedIn}
 use Rattle.hir_session_state.specs.Crates.{CrateValue, crate_in, dependencies_in, no_crate}
 use Rattle.hir_session_state.specs.SourceTable.{SourceTable}
 use Rattle.hir_session_state.specs.Kept.{Resolutions, kept_in}

@@ -1,7 +1,7 @@
 //! What a session begins with.
 ghost use Rattle.std.specs.Prelude.{◌≡◌, ◌<◌, ◌^◌, map, true, Some, IfOk, OnOk, option_map};
 ghost use Rattle.hir_base.specs.CfgOptions.{SetAlike};
-ghost use Rattle.hir_wire.specs.CommandValue.{crate_input_view};
+ghost use Rattle.hir_messages.specs.CommandValue.{crate_input_view};
 ghost use Rattle.hir_session_state.specs.Refusals.{dependency_crates, has_late, first_out_of_order};
 ghost use Rattle.hir_session_state.specs.Beginning.{dependency_of, IsAdded, IsConfigOf, IsMade, AreMade, AreRooted};
 ghost use Rattle.hir_collector_rules.specs.Workspace.{config_view};
@@ -14,9 +14,9 @@ use hir_base::cfg::CfgAtom;
 use hir_base::cfg_options::CfgOptions;
 use hir_base::file_path::FilePath;
 use hir_collector_rules::source_database::{Config, CrateRoot, Dependency as RunDependency};
+use hir_messages::command::{CrateInput, Dependency};
 use hir_session_state::front::copy_attrs;
 use hir_tables::Tables;
-use hir_wire::command::{CrateInput, Dependency};
 use std::alloc::{AllocError, Global};
 
 /// Dependencies as a run sees them.

@@ -10,8 +10,8 @@ use hir_base::file_path::FilePath;
 use hir_base::macro_kind::ExpansionKey;
 use hir_base::place::BlockPlace;
 use hir_item_tree::source::Source;
+use hir_messages::edit::ExpansionEntry;
 use hir_tables::SourcePlace;
-use hir_wire::edit::ExpansionEntry;
 
 /// An edit of a source: what it gets, or nothing where it is removed.
 #[derive(Clone, Copy)]

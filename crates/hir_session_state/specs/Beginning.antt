@@ -1,8 +1,8 @@
 -- How does a session begin?
 use Rattle.std.specs.Prelude.{◌≡◌, ℕ, ◌<◌, List, [], ◌∷◌, ◌++◌, length, map, None, Some}
 use Rattle.hir_base.specs.CfgOptions.{SetAlike}
-use Rattle.hir_wire.specs.CommandValue.{CrateInputValue}
-use Rattle.hir_wire.specs.declared.command.Dependency.{Dependency as HandedIn}
+use Rattle.hir_messages.specs.CommandValue.{CrateInputValue}
+use Rattle.hir_messages.specs.declared.command.Dependency.{Dependency as HandedIn}
 use Rattle.hir_collector_rules.specs.declared.source_database.Dependency.{Dependency}
 use Rattle.hir_collector_rules.specs.Workspace.{ConfigValue}
 use Rattle.hir_ids.specs.declared.ids.MapId.{MapId}

@@ -2,7 +2,7 @@
 use Rattle.std.specs.Prelude.{◌≡◌, true, false, List}
 use Rattle.hir_base.specs.Place.{PlaceValue}
 use Rattle.hir_ids.specs.declared.ids.MapId.{MapId}
-use Rattle.hir_wire.specs.Edits.{EditValue}
+use Rattle.hir_messages.specs.Edits.{EditValue}
 use Rattle.hir_session_state.specs.SourceEdits.{edit_of, edited}
 use Rattle.hir_session_state.specs.SourceTable.{SourceTable}
 use Rattle.hir_session_state.specs.SessionState.{SessionState, workspace_of, kept_of, is_marked, IsSound}

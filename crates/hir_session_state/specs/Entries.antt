@@ -13,7 +13,7 @@ use Rattle.hir_item_tree.specs.Source.{SourceValue}
 use Rattle.hir_tables.specs.SourcePlaces.{ExpansionValue, expansion_value}
 use Rattle.hir_collector_rules.specs.Workspace.{EntryLook}
 use Rattle.hir_collector_rules.specs.Keys.{absent_entry}
-use Rattle.hir_wire.specs.Edits.{EntryValue}
+use Rattle.hir_messages.specs.Edits.{EntryValue}
 
 -- what one expansion depends on is before what another does by its caller, then by the macro, by how that is called, by
 -- the input, and by the macros that the input reaches

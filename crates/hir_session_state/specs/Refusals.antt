@@ -17,9 +17,9 @@ use Rattle.hir_item_tree.specs.Check.{verdict_of_check}
 use Rattle.hir_item_tree.specs.Limits.{are_deep, have_long_attribute}
 use Rattle.hir_item_tree.specs.declared.check.CheckError.{CheckError}
 use Rattle.hir_item_tree.specs.declared.check.CheckError.TheVariants as check_error
-use Rattle.hir_wire.specs.CommandValue.{CrateInputValue}
-use Rattle.hir_wire.specs.declared.command.Dependency.{Dependency}
-use Rattle.hir_wire.specs.Edits.{EditValue, set_file, remove_file, set_block, remove_block, set_expansion, remove_expansion}
+use Rattle.hir_messages.specs.CommandValue.{CrateInputValue}
+use Rattle.hir_messages.specs.declared.command.Dependency.{Dependency}
+use Rattle.hir_messages.specs.Edits.{EditValue, set_file, remove_file, set_block, remove_block, set_expansion, remove_expansion}
 use Rattle.hir_session_state.specs.declared.error.NewSessionError.{NewSessionError}
 use Rattle.hir_session_state.specs.declared.error.NewSessionError.TheVariants as new_error
 use Rattle.hir_session_state.specs.declared.error.EditError.{EditError}

@@ -11,9 +11,9 @@ use hir_base::ids::{AdtId, Crate, ItemContainerId, ModuleDefId, ModuleId};
 use hir_base::macro_kind::MacroId;
 use hir_def_map::def_maps::DefMaps;
 use hir_def_map::nameres::origin::ModuleOrigin;
+use hir_messages::answer::{Definition, SourceKind};
 use hir_session_sources::blocks::root_of_block;
 use hir_tables::Tables;
-use hir_wire::answer::{Definition, SourceKind};
 use std::alloc::{AllocError, Global};
 
 /// The crate of what holds an item.

@@ -4,9 +4,9 @@ ghost use Rattle.hir_session_answers.specs.SourceItems.{use_source, import_sourc
 
 use super::source_calls::source_at;
 use hir_base::ids::UseId;
+use hir_messages::answer::{ImportOrigin, ImportSource};
 use hir_scope::imports::{ImportOrExternCrate, ImportOrGlob};
 use hir_tables::Tables;
-use hir_wire::answer::{ImportOrigin, ImportSource};
 use std::alloc::{AllocError, Global};
 
 /// A `use` item, with the kind and the place of its leaf.

@@ -6,9 +6,9 @@ ghost use Rattle.hir_session_answers.specs.SourceCalls.{and_calls, call_kind, ro
 
 use hir_base::ast_id::{AstId, BlockId, HirFileId};
 use hir_base::macro_kind::MacroCallKind;
+use hir_messages::answer::{ItemSource, SourceCall, SourceCallKind, SourceCalls, SourceRoot};
 use hir_session_sources::blocks::root_of_block;
 use hir_tables::Tables;
-use hir_wire::answer::{ItemSource, SourceCall, SourceCallKind, SourceCalls, SourceRoot};
 use std::alloc::{AllocError, Global};
 
 /// How a macro is called.

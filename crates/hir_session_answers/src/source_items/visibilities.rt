@@ -6,9 +6,9 @@ ghost use Rattle.hir_session_answers.specs.SourceItems.{is_explicit, visibility_
 use super::definitions::module_at;
 use hir_def_map::def_maps::DefMaps;
 use hir_item_tree::raw_visibility::VisibilityExplicitness;
+use hir_messages::answer::AnswerVisibility;
 use hir_scope::visibility::Visibility;
 use hir_tables::Tables;
-use hir_wire::answer::AnswerVisibility;
 use std::alloc::{AllocError, Global};
 
 fn is_written(explicitness: VisibilityExplicitness) -> bool

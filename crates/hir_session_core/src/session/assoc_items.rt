@@ -25,13 +25,13 @@ use hir_base::place::Place;
 use hir_crate_graph::crate_set::CrateSet;
 use hir_def_map::def_maps::DefMaps;
 use hir_def_map::world::part::WorldPart;
+use hir_messages::items::Items;
+use hir_messages::reply::Status;
 use hir_session_answers::assoc_items::{impl_at, items_at, trait_at};
 use hir_session_invalidation::inputs::AssocList;
 use hir_session_sources::crates::Crates;
 use hir_session_state::error::{ImplItemsError, TraitItemsError};
 use hir_session_state::kept::{Kept, KeptResolution};
-use hir_wire::items::Items;
-use hir_wire::reply::Status;
 use std::alloc::{AllocError, Global};
 use std::rc::Rc;
 

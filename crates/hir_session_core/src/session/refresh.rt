@@ -16,7 +16,7 @@ ghost use Rattle.hir_session_state.specs.SessionState.{SessionState, Resolution,
 ghost use Rattle.hir_session_state.specs.Standing.{block_map, block_number, definition_file, is_set};
 ghost use Rattle.hir_session_core.specs.Progress.{held_in, AreCratesCurrent, AreFollowedCurrent, HasAllPending, HasResolved, IsBlockResolved, IsModuleThere, IsRefreshed};
 ghost use Rattle.hir_session_answers.specs.Status.{status_of};
-ghost use Rattle.hir_wire.specs.declared.reply.Status.TheVariants as status;
+ghost use Rattle.hir_messages.specs.declared.reply.Status.TheVariants as status;
 
 use super::Session;
 use super::pending::PendingBlock;

@@ -1,7 +1,7 @@
 -- The parts are those of a session that begins, and such a session is sound.
 use Rattle.std.proofs.Common.{refl}
 use Rattle.std.proofs.lemmas.List.{length-map}
-use Rattle.hir_wire.specs.CommandValue.{crate_input_view}
+use Rattle.hir_messages.specs.CommandValue.{crate_input_view}
 use Rattle.hir_session_state.proofs.Asking.{none_held}
 use Rattle.hir_session_sources.proofs.Start.{begins_sound, begins_with}
 use Rattle.hir_session_core.proofs.session.begin.Goals as goal

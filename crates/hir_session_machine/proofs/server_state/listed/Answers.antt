@@ -1,6 +1,6 @@
 -- The diagnostics are told, or why there are none; nothing changes.
 use Rattle.std.proofs.Common.{ap, inl, inr, refl, sym, ◌∙◌, List, Result}
-use Rattle.hir_wire.specs.declared.diagnostic.Diagnostic.{Diagnostic}
+use Rattle.hir_messages.specs.declared.diagnostic.Diagnostic.{Diagnostic}
 use Rattle.hir_session_state.specs.declared.error.DiagnosticsError.{DiagnosticsError}
 use Rattle.hir_session_replies.specs.Replies.{diagnostics_reply, diagnostics_error_reply}
 use Rattle.hir_session_machine.specs.Machine.Moves.{lists}

@@ -1,6 +1,6 @@
 -- What the names stand for is told, or why it isn't; nothing changes.
 use Rattle.std.proofs.Common.{ap, inl, inr, refl, sym, ◌∙◌, List, Result}
-use Rattle.hir_wire.specs.declared.names.BoundName.{BoundName}
+use Rattle.hir_messages.specs.declared.names.BoundName.{BoundName}
 use Rattle.hir_session_state.specs.declared.error.QueryError.{QueryError}
 use Rattle.hir_session_replies.specs.Replies.{names_reply, query_error_reply}
 use Rattle.hir_session_machine.specs.Machine.Moves.{names_all}

@@ -1,7 +1,7 @@
 -- It was found which runs asked for something that is altered, and nothing is kept of what depends on those.
 use Rattle.std.proofs.Common.{refl, Some}
 use Rattle.hir_tables.specs.SourcePlaces.{expansion_value}
-use Rattle.hir_wire.specs.Edits.{entry_view}
+use Rattle.hir_messages.specs.Edits.{entry_view}
 use Rattle.hir_session_state.specs.SessionState.{state_of}
 use Rattle.hir_session_state.specs.SourceEdits.{edited, of_expansion}
 use Rattle.hir_session_core.proofs.Awaiting.{known_forgot}

@@ -5,8 +5,8 @@ use Rattle.hir_item_tree.specs.Source.{SourceValue, source_view}
 use Rattle.hir_item_tree.specs.declared.source.Source.{Source}
 use Rattle.hir_tables.specs.SourcePlaces.{expansion, expansion_value, file, source_value}
 use Rattle.hir_tables.specs.declared.source_place.SourcePlace.{SourcePlace}
-use Rattle.hir_wire.specs.Edits.{EntryValue, entry_view}
-use Rattle.hir_wire.specs.declared.edit.ExpansionEntry.{ExpansionEntry}
+use Rattle.hir_messages.specs.Edits.{EntryValue, entry_view}
+use Rattle.hir_messages.specs.declared.edit.ExpansionEntry.{ExpansionEntry}
 use Rattle.hir_session_state.specs.Entries.{source_of}
 use Rattle.hir_session_state.specs.SourceTable.{SourceTable, source_at}
 use Rattle.hir_session_sources.proofs.BlockLemmas.{there_of}

@@ -107,7 +107,7 @@ pub struct Diagnostics {
 
 impl Model for Diagnostics {
     ghost use Rattle.std.specs.Prelude.{List};
-    ghost use Rattle.hir_wire.specs.declared.diagnostic.Diagnostic.{Diagnostic};
+    ghost use Rattle.hir_messages.specs.declared.diagnostic.Diagnostic.{Diagnostic};
 
     ghost Value = { List Diagnostic };
 

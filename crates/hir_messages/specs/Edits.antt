@@ -3,8 +3,8 @@ use Rattle.std.specs.Prelude.{ℕ, List, Option}
 use Rattle.hir_base.specs.declared.place.BlockPlace.{BlockPlace}
 use Rattle.hir_item_tree.specs.Source.{SourceValue, source_view}
 use Rattle.hir_tables.specs.SourcePlaces.{ExpansionValue, expansion_value}
-use Rattle.hir_wire.specs.Types.{Edit, ExpansionEntry}
-use Rattle.hir_wire.specs.Types.edit
+use Rattle.hir_messages.specs.Types.{Edit, ExpansionEntry}
+use Rattle.hir_messages.specs.Types.edit
 
 -- what an expansion gives: its syntax, and why it failed, if it did
 pub record EntryValue : Type 0 where

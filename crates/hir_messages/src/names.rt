@@ -22,7 +22,7 @@ pub struct BoundNames {
 
 impl Model for BoundNames {
     ghost use Rattle.std.specs.Prelude.{List};
-    ghost use Rattle.hir_wire.specs.declared.names.BoundName.{BoundName};
+    ghost use Rattle.hir_messages.specs.declared.names.BoundName.{BoundName};
 
     ghost Value = { List BoundName };
 

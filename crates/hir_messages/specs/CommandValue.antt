@@ -6,9 +6,9 @@ use Rattle.hir_base.specs.declared.cfg.CfgAtom.{CfgAtom}
 use Rattle.hir_ids.specs.declared.ids.Crate.{Crate}
 use Rattle.hir_ids.specs.declared.edition.Edition.{Edition}
 use Rattle.hir_item_tree.specs.Attributes.{Attributes, attributes_view}
-use Rattle.hir_wire.specs.Types.{Command, CrateInput, Dependency, MacroStyle, Shadow}
-use Rattle.hir_wire.specs.Types.command
-use Rattle.hir_wire.specs.Edits.{EditValue, edit_view}
+use Rattle.hir_messages.specs.Types.{Command, CrateInput, Dependency, MacroStyle, Shadow}
+use Rattle.hir_messages.specs.Types.command
+use Rattle.hir_messages.specs.Edits.{EditValue, edit_view}
 
 -- a crate, as plain values
 pub record CrateInputValue : Type 0 where

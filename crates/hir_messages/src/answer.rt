@@ -43,7 +43,7 @@ pub struct SourceCalls {
 
 impl Model for SourceCalls {
     ghost use Rattle.std.specs.Prelude.{List};
-    ghost use Rattle.hir_wire.specs.declared.answer.SourceCall.{SourceCall};
+    ghost use Rattle.hir_messages.specs.declared.answer.SourceCall.{SourceCall};
 
     ghost Value = { List SourceCall };
 

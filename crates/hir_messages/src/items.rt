@@ -21,7 +21,7 @@ pub struct AssocItems {
 
 impl Model for AssocItems {
     ghost use Rattle.std.specs.Prelude.{List};
-    ghost use Rattle.hir_wire.specs.declared.items.AssocItem.{AssocItem};
+    ghost use Rattle.hir_messages.specs.declared.items.AssocItem.{AssocItem};
 
     ghost Value = { List AssocItem };
 
@@ -50,7 +50,7 @@ pub struct CalledItems {
 
 impl Model for CalledItems {
     ghost use Rattle.std.specs.Prelude.{List};
-    ghost use Rattle.hir_wire.specs.declared.diagnostic.CalledItem.{CalledItem};
+    ghost use Rattle.hir_messages.specs.declared.diagnostic.CalledItem.{CalledItem};
 
     ghost Value = { List CalledItem };
 

@@ -31,7 +31,7 @@ pub struct Dependencies {
 
 impl Model for Dependencies {
     ghost use Rattle.std.specs.Prelude.{List};
-    ghost use Rattle.hir_wire.specs.declared.command.Dependency.{Dependency};
+    ghost use Rattle.hir_messages.specs.declared.command.Dependency.{Dependency};
 
     ghost Value = { List Dependency };
 
