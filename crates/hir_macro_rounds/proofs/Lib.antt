@@ -1,5 +1,0 @@
-pub mod Resuming
-pub mod Waiting
-pub mod Queued
-pub mod GivingUp
-pub mod Turning

@@ -1,5 +1,0 @@
-pub mod Machine
-pub mod MachineHistories
-pub mod MachineCodes
-pub mod AnsweredLines
-pub mod Headline

@@ -1,9 +1,0 @@
-pub mod UseTree
-pub mod Imports
-pub mod Calls
-pub mod AliasDisplay
-pub mod Limits
-pub mod Inner
-pub mod Laws
-pub mod Positions
-pub mod Types
