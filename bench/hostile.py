@@ -1,9 +1,10 @@
 #!/usr/bin/env python3
-"""Times refreshes of inputs in which much waits for one name, or much is defined again that is there: seconds of processor at a
-size, at twice and at four times that size, each the least of some runs, and the ratios.
+"""Times refreshes of inputs in which much waits for one name, much is defined again that is there, or long texts and paths are
+kept: seconds of processor and the most memory at a size, at twice and at four times that size, each time the least of some runs,
+and the ratios of the times.
 
 Usage, at the top of the repository: bench/hostile.py [--program FILE] [--model] [NAME [n]..]. Without a name it takes each of
-INPUTS, at the size that stands there. With --model it times nothing: each input, at the sizes given or else 1, 2, 3 and 7, has to be
+INPUTS and LONG_TEXTS, at the size that stands there. With --model it times nothing: each input, at the sizes given or else 1, 2, 3 and 7, has to be
 answered as the plain model (tools/model) answers it, with a dump and the diagnostics of each crate. The program is by default
 crates/hir_session_main/out/hir_session_main, which `rt run < /dev/null` builds there.
 """
@@ -25,9 +26,10 @@ def block(number):
 
 
 class Input:
-    """The sources of a session, and a path that has to lead to a struct once they are resolved."""
+    """The sources of a session, edits of them with refreshes between, and a path that has to lead to a struct in the end."""
 
-    def __init__(self, *nodes, entries=(), crates=None, files=(), blocks=(), at=(0,), path):
+    def __init__(self, *nodes, entries=(), crates=None, files=(), blocks=(), edits=(), at=(0,), path):
+        self.edits = list(edits)
         self.crates = crates or [{**EDITION, "root": "lib.rs"}]
         self.sets = [self.file("lib.rs", nodes), *files]
         self.sets += [{"do": "set block", "at": list(place), "unit": {"nodes": list(inside)}} for place, inside in blocks]
@@ -173,6 +175,53 @@ def block_of_attributes(n):
     return Input(blocks=[([0, block(1)], structs)], at=[0, block(1)], path=f"S{n - 1}")
 
 
+# ---- long texts and paths
+
+def calls_of_a_long_macro(n):
+    """n calls of a macro whose text has a million bytes."""
+    made = Attributes()
+    return Input(made.rules("m", "x" * 1_000_000), *(made.call("m", str(k)) for k in range(n)), made.struct("S"), path="S")
+
+
+def derives_of_a_long_struct(n):
+    """n derives on a struct whose input has a million bytes."""
+    made = Attributes()
+    names = [f"D{k}" for k in range(n)]
+    struct = {**made.under(made.struct("S"), made.derive(*names)), "input": "x" * 1_000_000}
+    return Input(*(made.macro(name, styles=["derive"]) for name in names), struct, path="S")
+
+
+def leaves_of_long_paths(n):
+    """n leaves in 24 lists in one another, each list behind a path of 64 segments."""
+    made = Attributes()
+    tree = {"list": [{"single": f"x{k}"} for k in range(n)]}
+    for k in range(24):
+        tree = {"path": "::".join(f"a{k}_{i}" for i in range(64)), "list": [tree] if k else tree["list"]}
+    return Input(made.make("Use", tree=tree), made.struct("S"), path="S")
+
+
+def edited_inputs(n):
+    """A call of a macro of 20,000 bytes, whose input is edited n times, with a refresh behind each edit."""
+    made = Attributes()
+    macro, call, struct = made.rules("m", "x" * 20_000), made.call("m"), made.struct("S")
+    edits = [Input.file("lib.rs", [macro, {**call, "input": str(k)}, struct]) for k in range(n)]
+    return Input(macro, call, struct, edits=with_refreshes(edits), path="S")
+
+
+def edited_macro_texts(n):
+    """Ten calls of a macro of 20,000 bytes, whose text is edited n times, with a refresh behind each edit."""
+    made = Attributes()
+    macro, struct = made.rules("m", "x" * 20_000), made.struct("S")
+    calls = [made.call("m", str(k)) for k in range(10)]
+    edits = [Input.file("lib.rs", [{**macro, "text": str(k).ljust(20_000, "x")}, *calls, struct]) for k in range(n)]
+    return Input(macro, *calls, struct, edits=with_refreshes(edits), path="S")
+
+
+def with_refreshes(edits):
+    """Edits, with a refresh before each of them."""
+    return [command for edit in edits for command in ({"do": "refresh"}, edit)]
+
+
 INPUTS = {
     helpers_above_derives: 1000,
     helpers_around_derives: 1000,
@@ -188,17 +237,26 @@ INPUTS = {
     block_of_called_calls: 1000,
     block_of_attributes: 1000,
 }
+LONG_TEXTS = {
+    calls_of_a_long_macro: 100,
+    derives_of_a_long_struct: 100,
+    leaves_of_long_paths: 4000,
+    edited_inputs: 1000,
+    edited_macro_texts: 1000,
+}
 
 
 def timed(program, made, n):
     """Prints what an input takes at a size, at twice and at four times that."""
-    seconds = []
+    seconds, memory = [], []
     for size in (n, 2 * n, 4 * n):
         it = made(size)
-        taken, most = refresh(program, it.begin(), it.at, it.path)
+        taken, most = refresh(program, it.begin(), it.at, it.path, it.edits)
         seconds.append(taken)
+        memory.append(most)
     ratios = ", ".join(f"{later / before:.2f}" for before, later in zip(seconds, seconds[1:]))
-    print(f"{made.__name__}: {n}: " + ", ".join(f"{it:.3f} s" for it in seconds) + f"; {most:.0f} MB; ratios {ratios}", flush=True)
+    times, sizes = (", ".join(form.format(it) for it in taken) for form, taken in (("{:.3f} s", seconds), ("{:.0f} MB", memory)))
+    print(f"{made.__name__}: {n}: {times}; {sizes}; ratios {ratios}", flush=True)
 
 
 def alike(program, made, n):
@@ -211,15 +269,16 @@ def alike(program, made, n):
     places = [[number] for number in range(len(it.crates))] + [command["at"] for command in it.sets if command["do"] == "set block"]
     asks = [{"do": "dump", "at": place} for place in places]
     asks += [{"do": "diagnostics", "crate": number} for number in range(len(it.crates))]
-    commands = [*it.begin(), {"do": "refresh"}, {"do": "resolve", "at": it.at, "path": it.path}, *asks]
+    begin = [*it.begin(), *it.edits]
+    commands = [*begin, {"do": "refresh"}, {"do": "resolve", "at": it.at, "path": it.path}, *asks]
     ran = subprocess.run([program], input="".join(dump(command) + "\n" for command in commands), capture_output=True, text=True)
     replies, workspace = ran.stdout.splitlines(), Workspace()
     for command, reply in zip(commands, replies + [""] * len(commands)):
         wanted = workspace.reply(command)
         if reply == "" or json.loads(reply) != json.loads(dump(wanted)):
             sys.exit(f"{made.__name__} {n}: {dump(command)[:300]}\n  answered {reply}\n  wanted   {dump(wanted)}")
-    if '"kind":"Struct"' not in replies[len(it.begin()) + 1]:
-        sys.exit(f"{made.__name__} {n}: {it.path} is {replies[len(it.begin()) + 1]}")
+    if '"kind":"Struct"' not in replies[len(begin) + 1]:
+        sys.exit(f"{made.__name__} {n}: {it.path} is {replies[len(begin) + 1]}")
     print(f"{made.__name__}: {n}: as the model", flush=True)
 
 
@@ -231,7 +290,7 @@ def main():
     parser.add_argument("sizes", nargs="*", type=int)
     options = parser.parse_args()
     sys.setrecursionlimit(100000)
-    for made, usual in INPUTS.items():
+    for made, usual in {**INPUTS, **LONG_TEXTS}.items():
         if options.name in (None, made.__name__):
             for n in options.sizes or ([1, 2, 3, 7] if options.model else [usual]):
                 (alike if options.model else timed)(options.program, made, n)

@@ -65,84 +65,103 @@ fn memory_of(process: u32) -> u64 {
     line.and_then(|it| it.split_whitespace().next()?.parse::<u64>().ok()).unwrap_or_default() / 1024
 }
 
-pub fn measure(cli: &Cli, path: &Path) -> Result<()> {
-    let start = Instant::now();
-    let mut server = Server::start(cli)?;
-    let uri = format!("file://{}", path.display());
-    let root = format!("file://{}", cli.folder.canonicalize()?.display());
-    server.ask("initialize", json!({"processId": null, "rootUri": root, "capabilities": {}}))?;
-    server.notify("initialized", json!({}))?;
-    let text = file(3, 0, 0);
-    let document = json!({"uri": uri, "languageId": "rust", "version": 1, "text": text});
-    server.notify("textDocument/didOpen", json!({"textDocument": document}))?;
-    // A request without a place, so that its answer takes no time of its own.
-    server.ask("textDocument/hover", json!({}))?;
-    println!("opened in {:.2} s", start.elapsed().as_secs_f64());
-    println!("{TABLE}");
-    let program = server.children().first().copied().unwrap_or_default();
-    let processes = [server.child.id(), program];
-    let mut times = |what: &str, change: &dyn Fn(usize) -> Value| -> Result<()> {
+/// A server with a file that is open in it.
+struct Opened<'a> {
+    cli: &'a Cli,
+    server: Server,
+    uri: String,
+    /// The text that was opened.
+    text: String,
+    /// The server, and the program.
+    processes: [u32; 2],
+}
+
+impl Opened<'_> {
+    fn open<'a>(cli: &'a Cli, path: &Path) -> Result<Opened<'a>> {
+        let mut server = Server::start(cli)?;
+        let uri = format!("file://{}", path.display());
+        let root = format!("file://{}", cli.folder.canonicalize()?.display());
+        server.ask("initialize", json!({"processId": null, "rootUri": root, "capabilities": {}}))?;
+        server.notify("initialized", json!({}))?;
+        let text = file(3, 0, 0);
+        let document = json!({"uri": uri, "languageId": "rust", "version": 1, "text": text});
+        server.notify("textDocument/didOpen", json!({"textDocument": document}))?;
+        // A request without a place, so that its answer takes no time of its own.
+        server.ask("textDocument/hover", json!({}))?;
+        let program = server.children().first().copied().unwrap_or_default();
+        let processes = [server.child.id(), program];
+        Ok(Opened { cli, server, uri, text, processes })
+    }
+
+    /// Edits the file time and again. `change` is the edit of each number.
+    fn edits(&mut self, what: &str, change: &dyn Fn(usize) -> Value) -> Result<()> {
         let mut times = Vec::new();
-        let before = processes.map(processor_of);
-        for it in 0..cli.edits {
-            let change = json!({"textDocument": {"uri": uri, "version": it + 2}, "contentChanges": [change(it)]});
+        let before = self.processes.map(processor_of);
+        for it in 0..self.cli.edits {
+            let change = json!({"textDocument": {"uri": self.uri, "version": it + 2}, "contentChanges": [change(it)]});
             let start = Instant::now();
-            server.notify("textDocument/didChange", change)?;
-            server.ask("textDocument/hover", json!({}))?;
+            self.server.notify("textDocument/didChange", change)?;
+            self.server.ask("textDocument/hover", json!({}))?;
             times.push(start.elapsed().as_secs_f64() * 1000.0);
         }
-        let after = processes.map(processor_of);
+        let after = self.processes.map(processor_of);
         told(what, times, [after[0] - before[0], after[1] - before[1]]);
         Ok(())
-    };
+    }
+
+    fn change(&mut self, from: Value, to: Value, text: &str) -> Result<()> {
+        let change = json!({"range": {"start": from, "end": to}, "text": text});
+        let document = json!({"uri": self.uri, "version": 1});
+        self.server.notify("textDocument/didChange", json!({"textDocument": document, "contentChanges": [change]}))
+    }
+
+    /// Types a word behind a path in a body at the end of the file, and asks each time what it may become.
+    fn completions(&mut self, what: &str, path: &str) -> Result<()> {
+        let line = self.text.lines().count() + self.cli.edits;
+        let place = |character: usize| json!({"line": line, "character": character});
+        let before = format!("fn typed() {{ {path}");
+        self.change(place(0), place(0), &format!("{before} }}\n"))?;
+        self.server.ask("textDocument/hover", json!({}))?;
+        let (mut times, mut count) = (Vec::new(), 0);
+        let of_processor = self.processes.map(processor_of);
+        for it in 0..self.cli.edits {
+            let start = Instant::now();
+            self.change(place(before.len() + it), place(before.len() + it), "x")?;
+            let params = json!({"textDocument": {"uri": self.uri}, "position": place(before.len() + it + 1)});
+            count = self.server.ask("textDocument/completion", params)?.as_array().map_or(0, Vec::len);
+            times.push(start.elapsed().as_secs_f64() * 1000.0);
+        }
+        let after = self.processes.map(processor_of);
+        told(&format!("{what}: {count} names"), times, [after[0] - of_processor[0], after[1] - of_processor[1]]);
+        self.change(place(0), json!({"line": line + 1, "character": 0}), "")
+    }
+}
+
+pub fn measure(cli: &Cli, path: &Path) -> Result<()> {
+    let start = Instant::now();
+    let mut opened = Opened::open(cli, path)?;
+    println!("opened in {:.2} s", start.elapsed().as_secs_f64());
+    println!("{TABLE}");
     const BEFORE: &str = "self.second.get(at + ";
+    let text = opened.text.clone();
     let mut bodies = text.lines().enumerate().filter_map(|(line, it)| Some((line, it.find(BEFORE)? + BEFORE.len())));
     let (line, column) = bodies.nth(60).context("the file has the body of a function")?;
-    times("the body of a function", &|it| {
+    opened.edits("the body of a function", &|it| {
         let width = if it == 0 { 1 } else { it.to_string().len() };
         let place = |character: usize| json!({"line": line, "character": character});
         json!({"range": {"start": place(column), "end": place(column + width)}, "text": (it + 1).to_string()})
     })?;
     let end = json!({"line": text.lines().count(), "character": 0});
-    times(
+    opened.edits(
         "an item is added",
         &|it| json!({"range": {"start": end, "end": end}, "text": format!("pub fn added_{it}() {{}}\n")}),
     )?;
-    // A word is typed in a body, and what it may become is asked for.
-    let line = text.lines().count() + cli.edits;
-    for (what, path) in [
-        ("a name is completed", ""),
-        ("behind a type of the package", "Item0In3::"),
-        ("behind a type of the standard library", "Vec::"),
-    ] {
-        let start = json!({"line": line, "character": 0});
-        let before = format!("fn typed() {{ {path}");
-        let change = |from: Value, to: Value, text: String| {
-            json!({
-                "textDocument": {"uri": uri, "version": 1},
-                "contentChanges": [{"range": {"start": from, "end": to}, "text": text}],
-            })
-        };
-        server.notify("textDocument/didChange", change(start.clone(), start.clone(), format!("{before} }}\n")))?;
-        server.ask("textDocument/hover", json!({}))?;
-        let (mut times, mut count) = (Vec::new(), 0);
-        let of_processor = processes.map(processor_of);
-        for it in 0..cli.edits {
-            let place = |by: usize| json!({"line": line, "character": before.len() + by});
-            let start = Instant::now();
-            server.notify("textDocument/didChange", change(place(it), place(it), "x".to_owned()))?;
-            let params = json!({"textDocument": {"uri": uri}, "position": place(it + 1)});
-            count = server.ask("textDocument/completion", params)?.as_array().map_or(0, Vec::len);
-            times.push(start.elapsed().as_secs_f64() * 1000.0);
-        }
-        let after = processes.map(processor_of);
-        told(&format!("{what}: {count} names"), times, [after[0] - of_processor[0], after[1] - of_processor[1]]);
-        server.notify(
-            "textDocument/didChange",
-            change(start.clone(), json!({"line": line + 1, "character": 0}), String::new()),
-        )?;
-    }
-    println!("at most {} MB, the program {} MB", memory_of(processes[0]), memory_of(processes[1]));
+    opened.completions("a name is completed", "")?;
+    opened.completions("behind a type of the package", "Item0In3::")?;
+    opened.completions("behind a type of the standard library", "Vec::")?;
+    let [own, program] = opened.processes.map(memory_of);
+    println!("at most {own} MB, the program {program} MB");
+    let mut server = opened.server;
     server.ask("shutdown", Value::Null)?;
     server.notify("exit", Value::Null)?;
     server.child.wait()?;

@@ -42,6 +42,31 @@ fn plain(definition: &str) -> Option<String> {
     Some(names.join("::"))
 }
 
+/// The file, the line and the column of a span as rustc prints it, FILE:LINE:COLUMN: LINE:COLUMN (#0); none of a macro's.
+fn start_of(span: &str) -> Option<(&str, u32, u32)> {
+    let mut parts = span.strip_suffix("(#0)")?.rsplitn(5, ':').skip(2);
+    let (column, line) = (parts.next()?.trim().parse().ok()?, parts.next()?.trim().parse().ok()?);
+    Some((parts.next()?, line, column))
+}
+
+/// The names of the segments that begin in a line, and the line in which these end.
+fn names_from(text: &str, lines: &[&str], start: usize) -> (Vec<String>, usize) {
+    let mut names = Vec::new();
+    let depth = depth_of(text, lines, start);
+    for (number, it) in lines.iter().enumerate().skip(start + 1) {
+        if depth_of(text, lines, number) == depth && *it == "]," {
+            return (names, number);
+        }
+        if depth_of(text, lines, number) == depth + 8 {
+            if let Some(name) = it.strip_prefix("ident: ") {
+                let name = name.trim_end_matches(',');
+                names.push(name.rsplit_once('#').map_or(name, |it| it.0).to_owned());
+            }
+        }
+    }
+    (names, start)
+}
+
 /// The paths of a tree that rustc printed.
 pub fn read_tree(text: &str) -> Vec<Resolved> {
     let lines: Vec<&str> = text.lines().map(str::trim).collect();
@@ -52,17 +77,7 @@ pub fn read_tree(text: &str) -> Vec<Resolved> {
         let Some(span) = lines.get(at + 1).and_then(|it| it.strip_prefix("span: ")) else {
             continue;
         };
-        let span = span.trim_end_matches(',');
-        if !is_path || !span.ends_with("(#0)") {
-            continue;
-        }
-        let mut parts = span.rsplitn(5, ':');
-        let (_, _, column, line_number, file) = (parts.next(), parts.next(), parts.next(), parts.next(), parts.next());
-        // FILE:LINE:COLUMN: LINE:COLUMN (#0)
-        let (Some(column), Some(line_number), Some(file)) = (column, line_number, file) else {
-            continue;
-        };
-        let (Ok(line_number), Ok(column)) = (line_number.trim().parse(), column.trim().parse()) else {
+        let Some((file, line_number, column)) = start_of(span.trim_end_matches(',')).filter(|_| is_path) else {
             continue;
         };
         let is_import = at > 0 && lines[at - 1].ends_with("Use(");
@@ -70,21 +85,7 @@ pub fn read_tree(text: &str) -> Vec<Resolved> {
             continue;
         };
         let results = &lines[at + 2..end];
-        let mut names = Vec::new();
-        let depth = depth_of(text, &lines, end);
-        let mut close = end;
-        for (number, it) in lines.iter().enumerate().skip(end + 1) {
-            if depth_of(text, &lines, number) == depth && *it == "]," {
-                close = number;
-                break;
-            }
-            if depth_of(text, &lines, number) == depth + 8 {
-                if let Some(name) = it.strip_prefix("ident: ") {
-                    let name = name.trim_end_matches(',');
-                    names.push(name.rsplit_once('#').map_or(name, |it| it.0).to_owned());
-                }
-            }
-        }
+        let (names, close) = names_from(text, &lines, end);
         // A `use` of a glob or of a name; the stem of a list says nothing.
         let kind_of_use = lines.get(close + 2).copied().unwrap_or_default();
         if is_import && kind_of_use.starts_with("ListStem") {

@@ -69,15 +69,22 @@ impl Keeper {
 
     /// What was written by these words.
     fn read<T: DeserializeOwned>(&self, words: &[String]) -> Option<T> {
-        serde_json::from_slice(&std::fs::read(self.path(words)?).ok()?).ok()
+        serde_json::from_str(&self.read_text(words)?).ok()
+    }
+
+    fn read_text(&self, words: &[String]) -> Option<String> {
+        std::fs::read_to_string(self.path(words)?).ok()
     }
 
     fn write(&self, words: &[String], kept: &impl Serialize) {
+        if let Ok(text) = serde_json::to_string(kept) {
+            self.write_text(words, &text);
+        }
+    }
+
+    fn write_text(&self, words: &[String], text: &str) {
         let path = self.path(words);
         let Some((path, folder)) = path.as_ref().and_then(|it| Some((it, it.parent()?))) else {
-            return;
-        };
-        let Ok(text) = serde_json::to_string(kept) else {
             return;
         };
         // Others may read it meanwhile.

@@ -5,7 +5,7 @@ use std::process::ExitCode;
 use std::time::{Duration, Instant};
 
 use anyhow::{bail, Context as _, Result};
-use cargo_nogsimat::kept::told::{Told, ToldKeeper};
+use cargo_nogsimat::kept::told::{Part, Told, ToldKeeper};
 use cargo_nogsimat::package::{Crates, Wanted};
 use cargo_nogsimat::program::{self, VARIABLE};
 use cargo_nogsimat::question::{Context, Question};
@@ -211,8 +211,8 @@ fn time(it: Duration) -> String {
     }
 }
 
-/// What is told besides diagnostics, up to how long it took, and behind that.
-fn summary(space: &Workspace, report: &Report) -> (String, String) {
+/// What is told besides diagnostics.
+fn summary(space: &Workspace, report: &Report) -> Vec<Part> {
     let counts = space.counts();
     let own: Vec<&str> = space.crates.all.iter().filter(|it| it.is_asked).map(|it| &*it.title).take(3).collect();
     let more = space.crates.all.iter().filter(|it| it.is_asked).count() - own.len();
@@ -251,13 +251,45 @@ fn summary(space: &Workspace, report: &Report) -> (String, String) {
         it => text.push_str(&format!("{} in {own} (", plural(it, "error"))),
     }
     let (crates, files) = (plural(counts.crates, "crate"), plural(counts.files, "file"));
-    text.push_str(&format!("{crates}, {files}, {}, ", plural(counts.nodes, "node")));
-    (text, format!("; {})\n", space.crates.std))
+    text.push_str(&format!("{crates}, {files}, "));
+    let behind = format!("; {})\n", space.crates.std);
+    vec![Part::Text(text), Part::Nodes, Part::Text(", ".to_owned()), Part::Time, Part::Text(behind)]
 }
 
 /// Whether text has colors.
 fn is_colored() -> bool {
     std::io::stdout().is_terminal() && std::env::var_os("NO_COLOR").is_none()
+}
+
+/// The same as JSON.
+fn summary_json(space: &Workspace, report: &Report) -> Vec<Part> {
+    let not_run: Vec<_> = report
+        .not_run
+        .iter()
+        .map(|((kind, name), count)| serde_json::json!({"kind": kind, "macro": name, "uses": count}))
+        .collect();
+    let counts = space.counts();
+    let about = serde_json::json!({
+        "errors": report.diagnostics.len(),
+        "unjudged": report.unjudged,
+        "not_run": not_run,
+        "crates": counts.crates,
+        "files": counts.files,
+        "nodes": null,
+        "milliseconds": null,
+        "std": space.crates.std,
+    });
+    let about = format!("{about}\n");
+    let mut parts = Vec::new();
+    let mut rest = &about[..];
+    let open = [("\"nodes\":null", Part::Nodes), ("\"milliseconds\":null", Part::Time)];
+    while let Some((at, it)) = open.iter().filter_map(|it| Some((rest.find(it.0)?, it))).min_by_key(|it| it.0) {
+        let (before, behind) = rest.split_at(at + it.0.len());
+        parts.extend([Part::Text(before.trim_end_matches("null").to_owned()), it.1.clone()]);
+        rest = behind;
+    }
+    parts.push(Part::Text(rest.to_owned()));
+    parts
 }
 
 /// What is told of a package.
@@ -268,44 +300,26 @@ fn told(space: &Workspace, report: &Report, json: bool) -> Result<Told> {
         (false, true) => 2,
     };
     let has_places = !report.diagnostics.is_empty() || !report.elsewhere.is_empty();
-    let mut before = String::new();
-    if json {
-        for it in &report.diagnostics {
-            before.push_str(&format!("{}\n", serde_json::to_string(it)?));
-        }
-        let not_run: Vec<_> = report
-            .not_run
-            .iter()
-            .map(|((kind, name), count)| serde_json::json!({"kind": kind, "macro": name, "uses": count}))
-            .collect();
-        let counts = space.counts();
-        let about = serde_json::json!({
-            "errors": report.diagnostics.len(),
-            "unjudged": report.unjudged,
-            "not_run": not_run,
-            "crates": counts.crates,
-            "files": counts.files,
-            "nodes": counts.nodes,
-            "milliseconds": null,
-            "std": space.crates.std,
-        });
-        let about = about.to_string();
-        let (head, behind) = about.split_once("\"milliseconds\":null").context("it says how long it took")?;
-        before.push_str(&format!("{head}\"milliseconds\":"));
-        return Ok(Told { before, behind: format!("{behind}\n"), status, has_places });
-    }
     let mut texts = Texts::default();
+    let mut before = String::new();
     for it in &report.diagnostics {
-        before.push_str(&format!("{}\n", texts.show(it, is_colored())));
+        let text = if json { serde_json::to_string(it)? } else { texts.show(it, is_colored()) };
+        before.push_str(&format!("{text}\n"));
     }
-    let (text, behind) = summary(space, report);
-    before.push_str(&text);
-    Ok(Told { before, behind, status, has_places })
+    let mut parts = vec![Part::Text(before)];
+    parts.extend(if json { summary_json(space, report) } else { summary(space, report) });
+    Ok(Told { parts, nodes: space.counts().nodes, status, has_places })
 }
 
 fn tell(told: &Told, taken: Duration, json: bool) -> Result<()> {
-    let taken = if json { taken.as_millis().to_string() } else { time(taken) };
-    print(&format!("{}{taken}{}", told.before, told.behind))
+    let part = |it: &Part| match (it, json) {
+        (Part::Text(it), _) => it.clone(),
+        (Part::Nodes, true) => told.nodes.to_string(),
+        (Part::Nodes, false) => plural(told.nodes, "node"),
+        (Part::Time, true) => taken.as_millis().to_string(),
+        (Part::Time, false) => time(taken),
+    };
+    print(&told.parts.iter().map(part).collect::<String>())
 }
 
 fn check(path: &Path, options: &Options) -> Result<ExitCode> {
@@ -316,16 +330,17 @@ fn check(path: &Path, options: &Options) -> Result<ExitCode> {
     let form = ["check".to_owned(), options.json.to_string(), is_colored().to_string()];
     let files = std::iter::once(program.clone()).chain(options.expansions.clone()).collect();
     let keeper = ToldKeeper::of(&wanted, &crates, form.to_vec(), files);
-    if let Some(it) = keeper.find() {
+    if let Some(it) = keeper.find(&crates, &program) {
         bar.finish_and_clear();
         tell(&it, start.elapsed(), options.json)?;
         return Ok(ExitCode::from(it.status));
     }
     let mut space = options.open_crates(crates, &program, &bar)?;
+    space.note_questions();
     let report = space.report()?;
     let told = told(&space, &report, options.json)?;
     tell(&told, start.elapsed(), options.json)?;
-    keeper.keep(&space, &told);
+    keeper.keep(&mut space, &told);
     space.abandon();
     Ok(ExitCode::from(told.status))
 }

@@ -187,6 +187,18 @@ impl Toolchain {
         Ok(Toolchain { sysroot, host, options })
     }
 
+    /// The conditions that are set for the standard library's crates.
+    fn options_of_std(&self, is_stub: bool, keeper: &Keeper) -> Result<Options> {
+        let mut options = self.options.clone();
+        if !is_stub {
+            let text = rustc(&["--print", "cfg"], true, Some(&self.sysroot), keeper)?;
+            text.lines().for_each(|it| options.set(it));
+        }
+        options.set("feature=\"panic-unwind\"");
+        options.set("feature=\"backtrace\"");
+        Ok(options)
+    }
+
     /// The compiler itself, without what else may stand before it.
     fn rustc(&self) -> std::ffi::OsString {
         let own = self.sysroot.join("bin/rustc");
@@ -200,6 +212,27 @@ impl Toolchain {
 /// The folder of the stub.
 fn stub() -> PathBuf {
     Path::new(env!("CARGO_MANIFEST_DIR")).join("stub")
+}
+
+/// The standard library's crates in this folder: each with its root, behind those that it depends on.
+fn crates_of_std(folder: &Path) -> [(&'static str, PathBuf, &'static [&'static str]); 9] {
+    let vendor = ["vendor", "../vendor"].map(|it| folder.join(it));
+    let cfg_if = vendor.iter().map(|it| it.join("cfg-if/src/lib.rs")).find(|it| it.is_file());
+    let cfg_if = cfg_if.unwrap_or_else(|| stub().join("cfg-if/src/lib.rs"));
+    let detect = ["std_detect", "stdarch/crates/std_detect"].map(|it| folder.join(it).join("src/lib.rs"));
+    let detect = detect.iter().find(|it| it.is_file()).cloned().unwrap_or_default();
+    let root = |name: &str| folder.join(name).join("src/lib.rs");
+    [
+        ("core", root("core"), &[]),
+        ("cfg_if", cfg_if, &["core"]),
+        ("alloc", root("alloc"), &["core"]),
+        ("unwind", root("unwind"), &["core", "cfg_if"]),
+        ("panic_unwind", root("panic_unwind"), &["core", "alloc", "cfg_if", "unwind"]),
+        ("std_detect", detect, &["core", "alloc", "cfg_if"]),
+        ("std", root("std"), &["core", "alloc", "cfg_if", "unwind", "panic_unwind", "std_detect"]),
+        ("proc_macro", root("proc_macro"), &["core", "alloc", "std"]),
+        ("test", root("test"), &["core", "alloc", "std", "proc_macro"]),
+    ]
 }
 
 impl Crates {
@@ -278,40 +311,14 @@ impl Crates {
         if !folder.join("core/src/lib.rs").is_file() {
             bail!("{} has no core/src/lib.rs; name the folder `library` of Rust's sources", folder.display());
         }
-        let mut base = toolchain.options.clone();
-        if !is_stub {
-            let text = rustc(&["--print", "cfg"], true, Some(&toolchain.sysroot), keeper)?;
-            text.lines().for_each(|it| base.set(it));
-        }
-        base.set("feature=\"panic-unwind\"");
-        base.set("feature=\"backtrace\"");
+        let base = toolchain.options_of_std(is_stub, keeper)?;
         self.std = match (is_stub, wanted.no_std) {
             (false, _) => format!("std from {}", folder.display()),
             (true, true) => "a stub in place of std".to_owned(),
             (true, false) => "a stub in place of std, since the toolchain has no rust-src".to_owned(),
         };
-        let vendor = ["vendor", "../vendor"].map(|it| folder.join(it));
-        let cfg_if = vendor.iter().map(|it| it.join("cfg-if/src/lib.rs")).find(|it| it.is_file());
-        let cfg_if = cfg_if.unwrap_or_else(|| stub().join("cfg-if/src/lib.rs"));
-        let detect = ["std_detect", "stdarch/crates/std_detect"].map(|it| folder.join(it).join("src/lib.rs"));
-        let root = |name: &str| folder.join(name).join("src/lib.rs");
-        let rows: [(&str, PathBuf, &[&str]); 9] = [
-            ("core", root("core"), &[]),
-            ("cfg_if", cfg_if, &["core"]),
-            ("alloc", root("alloc"), &["core"]),
-            ("unwind", root("unwind"), &["core", "cfg_if"]),
-            ("panic_unwind", root("panic_unwind"), &["core", "alloc", "cfg_if", "unwind"]),
-            (
-                "std_detect",
-                detect.iter().find(|it| it.is_file()).cloned().unwrap_or_default(),
-                &["core", "alloc", "cfg_if"],
-            ),
-            ("std", root("std"), &["core", "alloc", "cfg_if", "unwind", "panic_unwind", "std_detect"]),
-            ("proc_macro", root("proc_macro"), &["core", "alloc", "std"]),
-            ("test", root("test"), &["core", "alloc", "std", "proc_macro"]),
-        ];
         let mut numbers = HashMap::new();
-        for (name, root, dependencies) in rows {
+        for (name, root, dependencies) in crates_of_std(&folder) {
             if !root.is_file() {
                 continue;
             }

@@ -1,17 +1,22 @@
 //! The resolver's program, as a child that reads a command a line and writes a reply a line.
 
-use std::io::{BufRead, BufReader, BufWriter, Write};
+use std::io::{BufRead, BufReader, BufWriter, Read, Write};
 use std::path::{Path, PathBuf};
 use std::process::{Child, ChildStdin, ChildStdout, Command, Stdio};
 
 use anyhow::{anyhow, bail, Context, Result};
 use serde_json::Value;
 
+use crate::token::Hash;
+
 /// The variable of the environment that names the program.
 pub const VARIABLE: &str = "NOGSIMAT_PROGRAM";
 
 /// A line above this isn't taken by the program.
 pub const MOST_BYTES: usize = 16_777_216;
+
+/// A reply above this counts as one that has no end.
+const MOST_OF_REPLY: u64 = 256 << 20;
 
 /// A running process of the program.
 pub struct Program {
@@ -20,6 +25,8 @@ pub struct Program {
     input: BufWriter<ChildStdin>,
     output: BufReader<ChildStdout>,
     answered: usize,
+    /// What was asked, with the hash of each reply, where that is noted.
+    pub(crate) noted: Option<Vec<(String, String)>>,
 }
 
 /// Where the program is: what is named, here or by the variable, else the proved one of the repository that this was built in, else its
@@ -57,7 +64,7 @@ impl Program {
             .with_context(|| format!("the program {} doesn't start", path.display()))?;
         let input = BufWriter::with_capacity(1 << 16, child.stdin.take().expect("its input is a pipe"));
         let output = BufReader::with_capacity(1 << 16, child.stdout.take().expect("its output is a pipe"));
-        Ok(Program { path: path.to_owned(), child, input, output, answered: 0 })
+        Ok(Program { path: path.to_owned(), child, input, output, answered: 0, noted: None })
     }
 
     /// The number of the process.
@@ -78,18 +85,46 @@ impl Program {
 
     /// The replies to the commands, in order.
     pub fn ask_all(&mut self, lines: &[String]) -> Result<Vec<Value>> {
+        let is_noted = self.noted.is_some();
+        let hashed = |text: &str| if is_noted { hash_of(text) } else { String::new() };
+        let replies = self.exchange(lines, |text| Some((reply_in(text)?, hashed(text))))?;
+        let (replies, hashes): (Vec<Value>, Vec<String>) = replies.into_iter().unzip();
+        if let Some(noted) = &mut self.noted {
+            noted.extend(lines.iter().cloned().zip(hashes));
+        }
+        Ok(replies)
+    }
+
+    /// The same as texts, each a line.
+    pub(crate) fn texts(&mut self, lines: &[&str]) -> Result<Vec<String>> {
+        let is_reply = |text: &str| ["{\"ok\":", "{\"error\":"].iter().any(|it| text.starts_with(it));
+        self.exchange(lines, |text| is_reply(text).then(|| text.to_owned()))
+    }
+
+    /// Whether the program takes all of these commands, none of which asks for something.
+    pub(crate) fn takes(&mut self, lines: &[&str]) -> Result<bool> {
+        let replies = self.exchange(lines, |text| Some(text.trim_end() == "{\"ok\":null}"))?;
+        Ok(replies.into_iter().all(|it| it))
+    }
+
+    /// Sends the commands, and answers what `read` makes of the replies. What it makes nothing of is none.
+    fn exchange<T: Send>(
+        &mut self,
+        lines: &[impl AsRef<str> + Sync],
+        read: impl Fn(&str) -> Option<T>,
+    ) -> Result<Vec<T>> {
         let Program { input, output, child, .. } = self;
         let mut replies = Vec::with_capacity(lines.len());
         let fault = std::thread::scope(|scope| {
             scope.spawn(move || {
                 for line in lines {
-                    if input.write_all(line.as_bytes()).and_then(|()| input.write_all(b"\n")).is_err() {
+                    if input.write_all(line.as_ref().as_bytes()).and_then(|()| input.write_all(b"\n")).is_err() {
                         return;
                     }
                 }
                 let _ = input.flush();
             });
-            let fault = lines.iter().find_map(|_| read_reply(output).map(|it| replies.push(it)).err());
+            let fault = lines.iter().find_map(|_| read_reply(output, &read).map(|it| replies.push(it)).err());
             if fault.is_some() {
                 // It may read no further, so that the rest can't be written.
                 let _ = child.kill();
@@ -138,16 +173,29 @@ impl Program {
     }
 }
 
-/// A reply, or the line that is none; without a line nothing comes any more.
-fn read_reply(output: &mut impl BufRead) -> std::result::Result<Value, Option<String>> {
-    let mut text = String::new();
-    match output.read_line(&mut text) {
-        Ok(0) | Err(_) => Err(None),
-        Ok(_) => match serde_json::from_str::<Value>(&text) {
-            Ok(it) if it.get("ok").is_some() || it.get("error").is_some() => Ok(it),
-            _ => Err(Some(text)),
-        },
+/// What is made of the next line, or the line of which nothing is; without a line nothing comes any more.
+fn read_reply<T>(
+    output: &mut impl BufRead,
+    read: impl Fn(&str) -> Option<T>,
+) -> std::result::Result<T, Option<String>> {
+    let mut bytes = Vec::new();
+    match output.take(MOST_OF_REPLY).read_until(b'\n', &mut bytes) {
+        Ok(0) | Err(_) => return Err(None),
+        Ok(_) => {}
     }
+    let text = std::str::from_utf8(&bytes).ok().filter(|it| (it.len() as u64) < MOST_OF_REPLY);
+    text.and_then(read).ok_or_else(|| Some(String::from_utf8_lossy(&bytes[..bytes.len().min(1000)]).into_owned()))
+}
+
+/// Of a reply.
+pub(crate) fn hash_of(reply: &str) -> String {
+    Hash::default().with(reply.trim_end()).text()
+}
+
+/// The reply that a line is, if it is one.
+fn reply_in(text: &str) -> Option<Value> {
+    let reply: Value = serde_json::from_str(text).ok()?;
+    (reply.get("ok").is_some() || reply.get("error").is_some()).then_some(reply)
 }
 
 impl Drop for Program {

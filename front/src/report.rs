@@ -19,6 +19,7 @@ use crate::unit::{numbered, paths_of, place_json, quoted, steps_of};
 use crate::workspace::{bytes_of, path_of_key, Key, Located, NotRun, Workspace};
 pub use answers::{Answer, Meaning};
 pub(crate) use associated::MOST_ALIASES;
+pub(crate) use imports::past_items;
 use imports::{prefixes, Bound, Import};
 
 /// A place in a file.

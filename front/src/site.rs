@@ -141,7 +141,6 @@ impl<'a, 'w> Finder<'a, 'w> {
         };
         let before = |by: usize| number.checked_sub(by).map(|it| &list[it]);
         let next = list.get(number + 1);
-        let is_in_macro = self.is_in_macro();
         if word == "Self" || before(1).is_some_and(|it| it.is(".")) {
             return Word::Local;
         }
@@ -174,36 +173,46 @@ impl<'a, 'w> Finder<'a, 'w> {
             (_, Some(_), _) => Context::Import,
             (_, _, it) => it,
         };
+        if let Some(it) = self.without_site(&path, context, goes_on, in_use.is_some(), is_alias) {
+            return it;
+        }
+        let whole = format!("{path}{}", path_behind(list, number));
+        Word::Site(Site { path, whole, context, span: list[number].span, goes_on })
+    }
+
+    /// What a path is that is none to be asked for: one of a local name, or of a name that isn't known.
+    fn without_site(
+        &self,
+        path: &str,
+        context: Context,
+        goes_on: bool,
+        is_in_use: bool,
+        is_alias: bool,
+    ) -> Option<Word> {
         let first = path.split("::").next().unwrap_or_default();
         let is_single = !path.contains("::") && !goes_on;
-        if is_in_macro && first != "crate" {
-            return Word::None;
+        if self.is_in_macro() && first != "crate" {
+            return Some(Word::None);
         }
         let is_held = !is_single && self.has_around && self.holder(first).is_some();
         if first == "Self" && !is_held {
-            return Word::Local;
+            return Some(Word::Local);
         }
         let in_brackets =
             self.levels.iter().rev().nth(1).is_some_and(|it| it.0[it.1].group(Delimiter::Bracket).is_some());
         if context == Context::Attribute && is_single && is_builtin(first) && in_brackets {
-            return Word::None;
+            return Some(Word::None);
         }
         let locals = self.locals();
         let is_variable = is_single && context == Context::Plain && locals.values.contains(first);
         // What is typed in a `use` is no name of it.
-        let is_known = is_held || self.has_around && in_use.is_some();
-        if is_variable || locals.have_first(first) && !is_known {
-            return Word::Local;
-        }
-        if is_single && first == "self" && in_use.is_none() && locals.is_in_body {
-            return Word::Local;
+        let is_known = is_held || self.has_around && is_in_use;
+        let is_receiver = is_single && first == "self" && !is_in_use && locals.is_in_body;
+        if is_variable || locals.have_first(first) && !is_known || is_receiver {
+            return Some(Word::Local);
         }
         let hides = locals.has_glob && !matches!(first, "crate" | "self" | "super" | "");
-        if hides && !is_alias && !self.has_around {
-            return Word::None;
-        }
-        let whole = format!("{path}{}", path_behind(list, number));
-        Word::Site(Site { path, whole, context, span: list[number].span, goes_on })
+        (hides && !is_alias && !self.has_around).then_some(Word::None)
     }
 
     fn is_in_macro(&self) -> bool {

@@ -7,8 +7,10 @@ mod expansions;
 mod files;
 mod hand_in;
 mod left_out;
+mod looked_at;
 mod names;
 mod places;
+mod recorded;
 mod type_names;
 mod updates;
 mod walk;
@@ -33,6 +35,7 @@ pub use files::{key_of, parse_text, path_of_key};
 use hand_in::{set_block, set_file};
 use names::Names;
 pub(crate) use names::{Bound, ModulePlace, Seen};
+pub(crate) use recorded::Recorded;
 use type_names::TypeNames;
 
 /// The text that the program knows a file by: its absolute path without the first `/`.
@@ -48,7 +51,8 @@ pub struct Parsed {
     pub unit: Arc<Unit>,
     /// Why it can't be read.
     pub error: Option<SyntaxError>,
-    text: Hash,
+    /// Of its text.
+    pub(crate) text: Hash,
     /// What its items have to do with builtin derives.
     given: Given,
     /// Whether a walk passes its items over.
@@ -232,7 +236,7 @@ pub struct Workspace {
     circular: HashMap<Key, Arc<Parsed>>,
     /// Whether the program takes the blocks of bodies.
     takes_blocks: bool,
-    /// Whether impls and the items of traits aren't handed in.
+    /// Whether impls, the items of traits and blocks aren't handed in.
     is_brief: bool,
     /// The blocks that were handed in, by their places as JSON.
     blocks: BTreeMap<String, SentBlock>,
@@ -276,7 +280,7 @@ impl Workspace {
         Workspace::open_as(crates, program, elsewhere, false, Box::new(progress))
     }
 
-    /// The same for reports alone: impls and the items of traits, which no import names, aren't handed in.
+    /// The same for reports alone: impls, the items of traits, which no import names, and blocks aren't handed in.
     pub fn open_brief(
         crates: Crates,
         program: &Path,
@@ -418,6 +422,11 @@ impl Workspace {
         Ok(crates.iter().map(|it| self.told[it].clone()).collect())
     }
 
+    /// Whether blocks are handed in.
+    fn hands_in_blocks(&self) -> bool {
+        self.takes_blocks && !self.is_brief
+    }
+
     fn expanded(&self, krate: u32) -> Expanded<'_> {
         Expanded { krate, state: &self.states[krate as usize], cache: &self.cache, moved: &self.moved }
     }
@@ -435,6 +444,14 @@ impl Workspace {
     /// The replies of the program to these commands, in their order.
     pub fn ask_all(&mut self, lines: &[String]) -> Result<Vec<Value>> {
         self.program.ask_all(lines)
+    }
+
+    /// The same, of which nothing is noted.
+    pub(crate) fn ask_unnoted(&mut self, lines: &[String]) -> Result<Vec<Value>> {
+        let noted = self.program.noted.take();
+        let replies = self.program.ask_all(lines);
+        self.program.noted = noted;
+        replies
     }
 
     /// The commands by which a new process of the program comes to where this one is.

@@ -7,6 +7,7 @@ mod completion;
 mod damage;
 mod derives;
 mod edits;
+mod handed_in;
 mod ids;
 mod kept;
 mod lsp;

@@ -428,35 +428,37 @@ fn an_editor_in_blocks() {
     }
 }
 
+/// What is written at random; `#` stands for a digit, but before `[`.
+const LINES: [&str; 24] = [
+    "fn f() { struct S#; }",
+    "fn f#() { use a::b#; { fn h() { enum E { A# } } } { const C: u8 = #; } }",
+    "macro_rules! mm { ($n:ident) => { struct $n; let x = 1; use a::x#; } }",
+    "macro_rules! mm { ($n:ident) => { $n + # } }",
+    "fn g#() { macro_rules! l { () => { mod q { trait T# {} } } } l!(); mm!(T#); mm! { U } let z = mm!(V); }",
+    "mod m# { fn f() { type T = u8; mm!(W); } }",
+    "impl X { fn f() { static S#: u8 = 1; mm!(W#); } }",
+    "trait T { fn f() { extern crate a#; } const C: u8 = { union U# { a: u8 } 1 }; }",
+    "#[cfg(none)] fn d() { struct S#; } #[cfg(not(none))] fn d() { struct R#; }",
+    "mm!(Q#);",
+    "struct P#;",
+    "// # é",
+    "fn f() { let x = #; unknown!(x); }",
+    "fn g() { m!{ struct S; } mm!(M#); mod deep { mm!(N#); } }",
+    "struct L#([u8; { struct L; mm!(L#); # }]);",
+    "enum K { A = { use a::b#; # }, B([u8; { { fn h() {} } 1 }]) }",
+    "fn f() { m!({ struct I#; mm!(I); 1 }); { m!(#, { use a::b#; 1 }) } m!(=> { struct J; }) }",
+    "m! { fn k() { struct H#; } } extern { static X: [u8; { const H: u8 = #; 1 }]; }",
+    "macro_rules! given { ($($t:tt)*) => { mod given# { fn t() { use a::b; { $($t)* } } fn u() { mm!(U); } } } }",
+    "macro_rules! given { ($($t:tt)*) => { $($t)* fn twice#() { enum T {} $($t)* } } }",
+    "given! { struct G#; }",
+    "mod n { given! { use a::b; fn o() { given! { struct O#; } mm!(O); } } }",
+    "fn f() { given!(struct V#); given! { x; { struct W#; } } }",
+    "given!(=> #);",
+];
+
 /// What a session hands in is the same after edits as what one does that begins with the edited text.
 #[test]
 fn random_edits_beside_a_fresh_session() {
-    const LINES: [&str; 24] = [
-        "fn f() { struct S#; }",
-        "fn f#() { use a::b#; { fn h() { enum E { A# } } } { const C: u8 = #; } }",
-        "macro_rules! mm { ($n:ident) => { struct $n; let x = 1; use a::x#; } }",
-        "macro_rules! mm { ($n:ident) => { $n + # } }",
-        "fn g#() { macro_rules! l { () => { mod q { trait T# {} } } } l!(); mm!(T#); mm! { U } let z = mm!(V); }",
-        "mod m# { fn f() { type T = u8; mm!(W); } }",
-        "impl X { fn f() { static S#: u8 = 1; mm!(W#); } }",
-        "trait T { fn f() { extern crate a#; } const C: u8 = { union U# { a: u8 } 1 }; }",
-        "#[cfg(none)] fn d() { struct S#; } #[cfg(not(none))] fn d() { struct R#; }",
-        "mm!(Q#);",
-        "struct P#;",
-        "// # é",
-        "fn f() { let x = #; unknown!(x); }",
-        "fn g() { m!{ struct S; } mm!(M#); mod deep { mm!(N#); } }",
-        "struct L#([u8; { struct L; mm!(L#); # }]);",
-        "enum K { A = { use a::b#; # }, B([u8; { { fn h() {} } 1 }]) }",
-        "fn f() { m!({ struct I#; mm!(I); 1 }); { m!(#, { use a::b#; 1 }) } m!(=> { struct J; }) }",
-        "m! { fn k() { struct H#; } } extern { static X: [u8; { const H: u8 = #; 1 }]; }",
-        "macro_rules! given { ($($t:tt)*) => { mod given# { fn t() { use a::b; { $($t)* } } fn u() { mm!(U); } } } }",
-        "macro_rules! given { ($($t:tt)*) => { $($t)* fn twice#() { enum T {} $($t)* } } }",
-        "given! { struct G#; }",
-        "mod n { given! { use a::b; fn o() { given! { struct O#; } mm!(O); } } }",
-        "fn f() { given!(struct V#); given! { x; { struct W#; } } }",
-        "given!(=> #);",
-    ];
     let package = Package::new("");
     let mut space = package.open();
     let mut dice = Dice(38);

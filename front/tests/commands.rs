@@ -570,6 +570,11 @@ fn a_program_that_stops() {
             "{name}: {told}"
         );
     }
+    // A reply without an end.
+    write_script(&program, "#!/bin/sh\nread -r line; printf '{\"ok\":'; yes 1 | tr -d '\\n'\n");
+    let made = run(folder.path(), &["check", "--no-std", "--program", "./program"]);
+    assert_eq!(made.status.code(), Some(2));
+    assert!(text(&made.stderr).contains("is at fault: its reply 1 is `{\"ok\":1111"), "{}", text(&made.stderr));
     // One that reads no further: what is left for it is more than a pipe holds.
     let many: String = (0..5000).map(|it| format!("pub fn function_of_this_number{it}() {{}}\n")).collect();
     std::fs::write(folder.path().join("src/a.rs"), many).unwrap();

@@ -114,7 +114,7 @@ fn macros_that_are_exported_further_down() {
     assert_eq!(given.iter().filter(|it| it["do"] == "set expansion").count(), 2);
 }
 
-/// `check` hands in no impls and no items of traits, and tells the same.
+/// `check` hands in no impls, no items of traits and no blocks, and tells the same.
 #[cfg(unix)]
 #[test]
 fn what_check_hands_in() {
@@ -132,8 +132,7 @@ fn what_check_hands_in() {
     };
     let own: Vec<Vec<String>> = given.iter().filter(is_own).map(kinds).collect();
     assert_eq!(own, [&["Use null"][..], &["Trait []", "Struct null", "MacroRules null", "MacroCall null"]]);
-    let blocks = given.iter().filter(|it| it["do"] == "set block" && it["unit"]["nodes"].is_array());
-    assert_eq!(blocks.map(kinds).collect::<Vec<_>>(), [["Use null", "Fn null"]]);
+    assert!(!given.iter().any(|it| it["do"] == "set block" && it["unit"]["nodes"].is_array()));
     let missing = text.replace("T as U", "{T as U, g}");
     for text in [text, &missing, &format!("{text}#[derive(Clone)] #[none] impl S {{}}\n")] {
         std::fs::write(folder.path().join("src/lib.rs"), text).unwrap();
@@ -181,26 +180,8 @@ fn circular_modules_come_and_go() {
     }
 }
 
-#[test]
-fn edits_lead_where_a_fresh_session_begins() {
-    let folder = TempDir::new().unwrap();
-    let root = folder.path().canonicalize().unwrap();
-    let write = |name: &str, text: &str| -> PathBuf {
-        let path = root.join(name);
-        std::fs::create_dir_all(path.parent().unwrap()).unwrap();
-        std::fs::write(&path, text).unwrap();
-        path
-    };
-    write("Cargo.toml", "[package]\nname = \"one\"\nversion = \"0.1.0\"\nedition = \"2021\"\n[workspace]\n");
-    write(
-        "src/lib.rs",
-        "macro_rules! make { ($($n:ident)*) => { $(pub struct $n;)* } }\nmod m;\nmod a;\nmake! { A }\npub use a::T;\n",
-    );
-    write("src/m.rs", "pub struct S;\nmake! { C }\n");
-    write("src/a.rs", "pub struct T;\n");
-    let mut space = open(&root);
-    let before = space.counts().expansions;
-    let edits: [(&str, Option<&str>); 19] = [
+/// What files say one after another; none where a file goes.
+const EDITS: [(&str, Option<&str>); 19] = [
         ("src/m.rs", Some("pub struct S;\nmake! { C D }\n")),
         ("src/m.rs", Some("pub struct S;\nmake! { C E }\npub fn made() { let x = 1; }\n")),
         ("src/m.rs", Some("pub struct S;\nmake! { C E }\npub fn made() { let x = 2; }\n")),
@@ -224,8 +205,28 @@ fn edits_lead_where_a_fresh_session_begins() {
         ),
         ("src/lib.rs", Some("\n\n#[macro_use] mod macros;\nmod m;\nmod a;\nmake! { A }\npub use a::T;\n")),
         ("src/macros.rs", Some("macro_rules! make { ($($n:ident)*) => { $(pub struct $n;)* } }\nmacro_rules! more { () => {} }\n")),
-    ];
-    for (number, (name, text)) in edits.into_iter().enumerate() {
+];
+
+#[test]
+fn edits_lead_where_a_fresh_session_begins() {
+    let folder = TempDir::new().unwrap();
+    let root = folder.path().canonicalize().unwrap();
+    let write = |name: &str, text: &str| -> PathBuf {
+        let path = root.join(name);
+        std::fs::create_dir_all(path.parent().unwrap()).unwrap();
+        std::fs::write(&path, text).unwrap();
+        path
+    };
+    write("Cargo.toml", "[package]\nname = \"one\"\nversion = \"0.1.0\"\nedition = \"2021\"\n[workspace]\n");
+    write(
+        "src/lib.rs",
+        "macro_rules! make { ($($n:ident)*) => { $(pub struct $n;)* } }\nmod m;\nmod a;\nmake! { A }\npub use a::T;\n",
+    );
+    write("src/m.rs", "pub struct S;\nmake! { C }\n");
+    write("src/a.rs", "pub struct T;\n");
+    let mut space = open(&root);
+    let before = space.counts().expansions;
+    for (number, (name, text)) in EDITS.into_iter().enumerate() {
         let path = match text {
             Some(text) => write(name, text),
             None => {

@@ -4,6 +4,8 @@
 use std::path::Path;
 use std::process::Command;
 
+use tempfile::TempDir;
+
 use crate::common::{package, write_script};
 
 /// When a file counts as written: long ago, or so late that what stands on it isn't kept.
@@ -105,48 +107,85 @@ fn answers_of_tools_are_kept() {
     again(&[], "");
 }
 
-/// What `check` told is told again while the items of all files are the same, or their texts where lines of them are told.
-#[test]
-fn what_was_told_is_kept() {
-    let root = "mod a;\npub use a::f;\nmacro_rules! m { () => { pub struct M; } }\nm!();\nfn g() { 1; }\n";
-    let package = package(&[
-        ("src/lib.rs", root),
-        ("src/a.rs", "pub fn f() {}\n"),
-        ("src/more.inc", "pub struct More;\n"),
-        ("tools/log", ""),
-        ("target/CACHEDIR.TAG", ""),
-    ]);
-    let folder = package.path();
-    write_tools(&folder.join("tools"));
-    let script = folder.join("tools/program");
-    let real = crate::common::client::program();
-    let note = format!("echo program >> {}", folder.join("tools/log").display());
-    write_script(&script, &format!("#!/bin/sh\n{note}\nexec {}\n", real.display()));
-    let touch = |name: &str| set_time(&folder.join(name), LONG_AGO);
-    let words = ["--program", script.to_str().unwrap()];
-    let run = |words: &[&str]| {
-        let (told, started) = check(folder, words);
+const ROOT: &str = "mod a;\npub use a::f;\nmacro_rules! m { () => { pub struct M; } }\nm!();\nfn g() { 1; }\n";
+
+fn edited(from: &str, to: &str) -> String {
+    ROOT.replace(from, to)
+}
+
+/// A package in which Cargo has built something, with a script in place of the program that notes that it was started.
+struct Told {
+    package: TempDir,
+}
+
+impl Told {
+    fn new() -> Told {
+        let package = package(&[
+            ("src/lib.rs", ROOT),
+            ("src/a.rs", "pub fn f() {}\n"),
+            ("src/more.inc", "pub struct More;\n"),
+            ("tools/log", ""),
+            ("target/CACHEDIR.TAG", ""),
+        ]);
+        write_tools(&package.path().join("tools"));
+        let told = Told { package };
+        told.write_program("");
+        // The first two answers of Cargo aren't settled.
+        told.run(&[]);
+        settle(told.package.path());
+        told.touch("tools/program");
+        told.touch("src/more.inc");
+        told
+    }
+
+    fn write_program(&self, behind: &str) {
+        let note = format!("echo program >> {}", self.package.path().join("tools/log").display());
+        let real = crate::common::client::program();
+        let text = format!("#!/bin/sh\n{note}\nexec {}{behind}\n", real.display());
+        write_script(&self.package.path().join("tools/program"), &text);
+    }
+
+    fn touch(&self, name: &str) {
+        set_time(&self.package.path().join(name), LONG_AGO);
+    }
+
+    fn write(&self, name: &str, text: &str) {
+        std::fs::write(self.package.path().join(name), text).unwrap();
+    }
+
+    /// What is told, and whether the program was started.
+    fn run(&self, words: &[&str]) -> (String, bool) {
+        let program = self.package.path().join("tools/program");
+        let words = [&["--program", program.to_str().unwrap()], words].concat();
+        let (told, started) = check(self.package.path(), &words);
         (told, started.contains("program"))
-    };
-    // The first two answers of Cargo aren't settled.
-    check(folder, &words);
-    settle(folder);
-    touch("tools/program");
-    touch("src/more.inc");
-    let write = |name: &str, text: &str| std::fs::write(folder.join(name), text).unwrap();
-    let steps = |steps: &[(&str, &str, bool)]| {
+    }
+
+    /// Whether the program was started.
+    fn starts(&self) -> bool {
+        self.run(&[]).1
+    }
+
+    /// Writes texts one after another. Each has the program started or not, and nothing is told; the same again starts
+    /// nothing.
+    fn steps(&self, steps: &[(&str, &str, bool)]) {
         for (name, text, starts) in steps {
             if !text.is_empty() {
-                write(name, text);
+                self.write(name, text);
             }
-            assert_eq!(run(&words), (String::new(), *starts), "{name}: {text}");
-            assert_eq!(run(&words), (String::new(), false), "{name}: {text}");
+            assert_eq!(self.run(&[]), (String::new(), *starts), "{name}: {text}");
+            assert_eq!(self.run(&[]), (String::new(), false), "{name}: {text}");
         }
-    };
-    let edited = |from: &str, to: &str| root.replace(from, to);
-    steps(&[
+    }
+}
+
+/// What `check` told is told again while the items of all files are the same.
+#[test]
+fn what_was_told_is_kept() {
+    let package = Told::new();
+    package.steps(&[
         ("", "", true),
-        ("src/lib.rs", root, false),
+        ("src/lib.rs", ROOT, false),
         // A body, a comment, a line; a signature, which is none of what is handed in.
         ("src/lib.rs", &edited("1;", "let x = [1, 2]; f(x.len());"), false),
         ("src/lib.rs", &edited("mod a;", "// A module.\n\n/// It.\nmod a;"), false),
@@ -161,54 +200,61 @@ fn what_was_told_is_kept() {
         ("src/lib.rs", &edited("m!();", "include!(\"more.inc\");"), true),
     ]);
     // What is included; it is settled later.
-    write("src/more.inc", "pub struct Other;\n");
-    set_time(&folder.join("src/more.inc"), JUST_NOW);
-    assert!(run(&words).1);
-    assert!(run(&words).1);
-    touch("src/more.inc");
-    assert!(run(&words).1);
-    assert!(!run(&words).1);
-    // Where something is told the texts count.
+    package.write("src/more.inc", "pub struct Other;\n");
+    set_time(&package.package.path().join("src/more.inc"), JUST_NOW);
+    assert!(package.starts());
+    assert!(package.starts());
+    package.touch("src/more.inc");
+    assert!(package.starts());
+    assert!(!package.starts());
+}
+
+/// Where something is told the texts count, and all of what is looked for.
+#[test]
+fn what_was_told_of_texts_is_kept() {
+    let package = Told::new();
+    let write = |name: &str, text: &str| package.write(name, text);
     write("src/lib.rs", &edited("a::f", "a::none"));
-    let (told, starts) = run(&words);
+    let (told, starts) = package.run(&[]);
     assert!(told.contains("none") && told.contains("\"line\":2,") && starts, "{told}");
-    assert_eq!(run(&words), (told.clone(), false));
+    assert_eq!(package.run(&[]), (told.clone(), false));
     write("src/lib.rs", &edited("a::f", "a::none"));
-    assert_eq!(run(&words), (told.clone(), false));
+    assert_eq!(package.run(&[]), (told.clone(), false));
     write("src/lib.rs", &format!("\n{}", edited("a::f", "a::none")));
-    let (told, starts) = run(&words);
+    let (told, starts) = package.run(&[]);
     assert!(told.contains("\"line\":3,") && starts, "{told}");
     // A file that comes, and one that is gone.
     write("src/lib.rs", &edited("mod a;", "mod a; mod b;"));
-    assert!(run(&words).0.contains("`b`"));
-    assert!(!run(&words).1);
+    assert!(package.run(&[]).0.contains("`b`"));
+    assert!(!package.starts());
     write("src/b.rs", "");
-    assert_eq!(run(&words), (String::new(), true));
+    assert_eq!(package.run(&[]), (String::new(), true));
+    let folder = package.package.path();
     std::fs::remove_file(folder.join("src/a.rs")).unwrap();
     std::fs::create_dir(folder.join("src/a")).unwrap();
-    assert!(run(&words).0.contains("`a`"));
+    assert!(package.run(&[]).0.contains("`a`"));
     write("src/a/mod.rs", "pub fn f() {}\n");
-    assert_eq!(run(&words), (String::new(), true));
+    assert_eq!(package.run(&[]), (String::new(), true));
     write("src/a.rs", "pub fn f() {}\n");
-    assert!(run(&words).1);
+    assert!(package.starts());
     // What doesn't parse.
     write("src/b.rs", "fn {");
-    assert!(run(&words).0.contains("\"syntax\""));
+    assert!(package.run(&[]).0.contains("\"syntax\""));
     write("src/b.rs", "");
-    assert_eq!(run(&words), (String::new(), true));
+    assert_eq!(package.run(&[]), (String::new(), true));
     // Other options; another program, which is settled later.
-    assert!(run(&[&words[..], &["--cfg", "x"]].concat()).1);
-    assert!(!run(&words).1);
-    write_script(&script, &format!("#!/bin/sh\n{note}\nexec {} \n", real.display()));
-    set_time(&script, JUST_NOW);
-    assert!(run(&words).1);
-    assert!(run(&words).1);
-    touch("tools/program");
-    assert!(run(&words).1);
-    assert!(!run(&words).1);
+    assert!(package.run(&["--cfg", "x"]).1);
+    assert!(!package.starts());
+    package.write_program(" ");
+    set_time(&folder.join("tools/program"), JUST_NOW);
+    assert!(package.starts());
+    assert!(package.starts());
+    package.touch("tools/program");
+    assert!(package.starts());
+    assert!(!package.starts());
     for it in std::fs::read_dir(folder.join("target/nogsimat")).unwrap() {
         std::fs::write(it.unwrap().path(), "{").unwrap();
     }
-    assert!(run(&words).1);
-    assert!(!run(&words).1);
+    assert!(package.starts());
+    assert!(!package.starts());
 }

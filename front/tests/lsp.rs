@@ -322,6 +322,42 @@ fn a_program_that_dies() {
     assert_eq!(client.end(), 1);
 }
 
+/// A program that dies at the same question each time: the request is given up, and what comes behind it is answered.
+#[cfg(unix)]
+#[test]
+fn a_request_at_which_the_program_dies() {
+    let folder = market();
+    let script = folder.path().join("program");
+    let halts = "case $line in *crate::price::Fatal*) exit ;; esac";
+    let passes = format!("while IFS= read -r line; do {halts}; printf '%s\\n' \"$line\"; done");
+    write_script(&script, &format!("#!/bin/sh\n{passes} | {}\n", program().display()));
+    let mut client = Client::start(folder.path(), &["--program", script.to_str().unwrap()]);
+    client.initialize();
+    let name = "shop/src/price.rs";
+    let text = std::fs::read_to_string(folder.path().join(name)).unwrap();
+    let before = client.published.clone();
+    client.open(name, &format!("fn probe() {{ crate::price::Fatal; crate::price::Price; }}\n{text}"));
+    let at = |character: u32| {
+        let position = json!({"line": 0, "character": character});
+        let document = json!({"uri": format!("file://DIR/{name}")});
+        json!({"jsonrpc": "2.0", "id": character, "method": "textDocument/definition",
+            "params": {"textDocument": document, "position": position}})
+    };
+    let told = client.exchange(&[at(30)]);
+    let answers: Vec<&Value> = told.iter().filter(|it| it["id"] == 30).collect();
+    assert!(answers.len() == 1 && answers[0]["result"].is_null(), "{told:?}");
+    let messages: Vec<&str> = told.iter().filter_map(|it| it["params"]["message"].as_str()).collect();
+    let count = |words: &str| messages.iter().filter(|it| it.contains(words)).count();
+    assert_eq!((count("was started again"), count("isn't started again; a save")), (3, 1), "{messages:?}");
+    // A save has it started, and other requests are answered.
+    client.notify("textDocument/didSave", json!({"textDocument": {"uri": format!("file://DIR/{name}")}}));
+    assert_eq!(client.published, before);
+    let told = client.exchange(&[at(52)]);
+    let answer = told.iter().find(|it| it["id"] == 52).unwrap();
+    assert_eq!(answer["result"][0]["uri"], format!("file://DIR/{name}"), "{told:?}");
+    assert_eq!(client.end(), 1);
+}
+
 /// Runs a script in Neovim without a screen, behind a configuration. None where Neovim isn't installed.
 fn in_neovim(folder: &Path, configuration: &str, script: &str) -> Option<(String, String)> {
     let server = Path::new(env!("CARGO_BIN_EXE_cargo-nogsimat"));
@@ -400,19 +436,9 @@ fn completion_in_neovim() {
     }
 }
 
-/// Requests and notes whose parameters are none: each request is answered, and what comes behind it as well.
-#[test]
-fn parameters_without_sense() {
-    let folder = market();
-    let mut client = Client::start(folder.path(), &[]);
-    client.initialize();
-    let name = "shop/src/price.rs";
-    let text = std::fs::read_to_string(folder.path().join(name)).unwrap();
-    client.open(name, &text);
-    let uri = format!("file://DIR/{name}");
-    let methods = ["definition", "hover", "references", "documentSymbol", "completion"];
-    let methods = methods.map(|it| format!("textDocument/{it}"));
-    let documents = [
+/// Documents that are there, that aren't, and what is none; the first has this name.
+fn documents(uri: &str) -> [Value; 12] {
+    [
         json!({"uri": uri}),
         json!({"uri": "file://DIR/shop"}),
         json!({"uri": "file://DIR/no/such.rs"}),
@@ -425,8 +451,12 @@ fn parameters_without_sense() {
         json!({"uri": 1}),
         json!(null),
         json!([]),
-    ];
-    let positions = [
+    ]
+}
+
+/// The first place of a text, those behind its end, and what is none.
+fn positions() -> [Value; 8] {
+    [
         json!({"line": 0, "character": 0}),
         json!({"line": u64::MAX, "character": u64::MAX}),
         json!({"line": 4_294_967_296u64, "character": 1}),
@@ -435,7 +465,23 @@ fn parameters_without_sense() {
         json!({"line": 1}),
         json!("x"),
         json!(null),
-    ];
+    ]
+}
+
+/// Requests and notes whose parameters are none: each request is answered, and what comes behind it as well.
+#[test]
+fn parameters_without_sense() {
+    let folder = market();
+    let mut client = Client::start(folder.path(), &[]);
+    client.initialize();
+    let name = "shop/src/price.rs";
+    let text = std::fs::read_to_string(folder.path().join(name)).unwrap();
+    client.open(name, &text);
+    let uri = format!("file://DIR/{name}");
+    let methods = ["definition", "hover", "references", "documentSymbol", "completion"];
+    let methods = methods.map(|it| format!("textDocument/{it}"));
+    let documents = documents(&uri);
+    let positions = positions();
     let mut sent = Vec::new();
     for (method, (document, position)) in methods.iter().flat_map(|it| {
         documents.iter().flat_map(|one| positions.iter().map(move |two| (one, two))).map(move |both| (it, both))

@@ -273,21 +273,10 @@ fn a_recorded_session() {
         client.open(name, &text);
         texts.push(Text::new(text));
     }
-    let ask = |client: &mut Client, step: &Value| {
-        let place = (step["at"][0].as_u64().unwrap() as u32, step["at"][1].as_u64().unwrap() as u32);
-        let method = format!("textDocument/{}", step["ask"].as_str().unwrap());
-        client.at(&method, step["in"].as_str().unwrap(), place)
-    };
     let mut points = Vec::new();
     let mut before = lines_of(&client.published);
     for (number, step) in steps.iter_mut().enumerate() {
-        let (file, new) = (step["file"].as_str().unwrap().to_owned(), step["text"].as_str().unwrap().to_owned());
-        let place = |it: &Value| (it["line"].as_u64().unwrap() as u32, it["character"].as_u64().unwrap() as u32);
-        let range = [place(&step["range"]["start"]), place(&step["range"]["end"])];
-        texts[FILES.iter().position(|it| *it == file).unwrap()].edit(Some(range), &new);
-        let document = json!({"uri": format!("file://DIR/{file}"), "version": number + 1});
-        let changes = json!([{"range": step["range"], "text": new}]);
-        client.notify("textDocument/didChange", json!({"textDocument": document, "contentChanges": changes}));
+        take_edit(&mut client, step, number + 1, &mut texts);
         let answer = ask(&mut client, step);
         let now = lines_of(&client.published);
         let (came, went): (Vec<&String>, Vec<&String>) = (
@@ -312,16 +301,42 @@ fn a_recorded_session() {
     }
     assert!(points.len() >= 100, "all files parse at {} points", points.len());
     assert!(steps.iter().filter(|it| !it["answer"].is_null()).count() >= 60);
+    compare_afresh(&points);
+}
+
+/// Asks what a step of a session asks.
+fn ask(client: &mut Client, step: &Value) -> Value {
+    let place = (step["at"][0].as_u64().unwrap() as u32, step["at"][1].as_u64().unwrap() as u32);
+    let method = format!("textDocument/{}", step["ask"].as_str().unwrap());
+    client.at(&method, step["in"].as_str().unwrap(), place)
+}
+
+/// Edits a file as a step of a session does.
+fn take_edit(client: &mut Client, step: &Value, version: usize, texts: &mut [Text]) {
+    let (file, new) = (step["file"].as_str().unwrap(), step["text"].as_str().unwrap());
+    let place = |it: &Value| (it["line"].as_u64().unwrap() as u32, it["character"].as_u64().unwrap() as u32);
+    let range = [place(&step["range"]["start"]), place(&step["range"]["end"])];
+    texts[FILES.iter().position(|it| *it == file).unwrap()].edit(Some(range), new);
+    let document = json!({"uri": format!("file://DIR/{file}"), "version": version});
+    let changes = json!([{"range": step["range"], "text": new}]);
+    client.notify("textDocument/didChange", json!({"textDocument": document, "contentChanges": changes}));
+}
+
+/// A step of a session by its number, the texts behind it, what was published, and the step itself.
+type Point = (usize, Vec<Text>, BTreeMap<String, Value>, Value);
+
+/// A fresh server tells and answers the same at each point.
+fn compare_afresh(points: &[Point]) {
     let next = std::sync::atomic::AtomicUsize::new(0);
     let compare = || {
-        let fresh_folder = market();
+        let folder = market();
         while let Some((number, texts, published, step)) =
             points.get(next.fetch_add(1, std::sync::atomic::Ordering::Relaxed))
         {
             for (name, text) in FILES.iter().zip(texts) {
-                std::fs::write(fresh_folder.path().join(name), text.as_str()).unwrap();
+                std::fs::write(folder.path().join(name), text.as_str()).unwrap();
             }
-            let mut fresh = Client::start(fresh_folder.path(), &[]);
+            let mut fresh = Client::start(folder.path(), &[]);
             fresh.initialize();
             assert_eq!(*published, fresh.published, "line {}", number + 1);
             assert_eq!(step["answer"], ask(&mut fresh, step), "line {}", number + 1);

@@ -47,6 +47,38 @@ fn fields(depth: usize, all: &syn::Fields, made: &mut Vec<Row>) {
     made.extend(named.map(|it| row(depth, 8, it)));
 }
 
+fn foreign(depth: usize, item: &syn::ForeignItem, made: &mut Vec<Row>) -> bool {
+    made.push(match item {
+        syn::ForeignItem::Fn(it) => row(depth, 12, &it.sig.ident),
+        syn::ForeignItem::Static(it) => row(depth, 14, &it.ident),
+        syn::ForeignItem::Type(it) => row(depth, 26, &it.ident),
+        _ => return false,
+    });
+    true
+}
+
+fn of_trait(depth: usize, item: &syn::TraitItem, made: &mut Vec<Row>) -> bool {
+    made.extend(match item {
+        syn::TraitItem::Const(it) => Some(row(depth, 14, &it.ident)),
+        syn::TraitItem::Method(it) => Some(row(depth, function(&it.sig), &it.sig.ident)),
+        syn::TraitItem::Type(it) => Some(row(depth, 26, &it.ident)),
+        syn::TraitItem::Macro(_) => None,
+        _ => return false,
+    });
+    true
+}
+
+fn of_impl(depth: usize, item: &syn::ImplItem, made: &mut Vec<Row>) -> bool {
+    made.extend(match item {
+        syn::ImplItem::Const(it) => Some(row(depth, 14, &it.ident)),
+        syn::ImplItem::Method(it) => Some(row(depth, function(&it.sig), &it.sig.ident)),
+        syn::ImplItem::Type(it) => Some(row(depth, 26, &it.ident)),
+        syn::ImplItem::Macro(_) => None,
+        _ => return false,
+    });
+    true
+}
+
 /// What `syn` reads; false where it reads something that it has no name for.
 fn wanted(depth: usize, items: &[syn::Item], made: &mut Vec<Row>) -> bool {
     for item in items {
@@ -82,37 +114,20 @@ fn wanted(depth: usize, items: &[syn::Item], made: &mut Vec<Row>) -> bool {
             }
             syn::Item::ForeignMod(it) => {
                 made.push(unnamed(depth, 2));
-                for it in &it.items {
-                    match it {
-                        syn::ForeignItem::Fn(it) => made.push(row(depth + 1, 12, &it.sig.ident)),
-                        syn::ForeignItem::Static(it) => made.push(row(depth + 1, 14, &it.ident)),
-                        syn::ForeignItem::Type(it) => made.push(row(depth + 1, 26, &it.ident)),
-                        _ => return false,
-                    }
+                if !it.items.iter().all(|it| foreign(depth + 1, it, made)) {
+                    return false;
                 }
             }
             syn::Item::Trait(it) => {
                 made.push(row(depth, 11, &it.ident));
-                for it in &it.items {
-                    match it {
-                        syn::TraitItem::Const(it) => made.push(row(depth + 1, 14, &it.ident)),
-                        syn::TraitItem::Method(it) => made.push(row(depth + 1, function(&it.sig), &it.sig.ident)),
-                        syn::TraitItem::Type(it) => made.push(row(depth + 1, 26, &it.ident)),
-                        syn::TraitItem::Macro(_) => {}
-                        _ => return false,
-                    }
+                if !it.items.iter().all(|it| of_trait(depth + 1, it, made)) {
+                    return false;
                 }
             }
             syn::Item::Impl(it) => {
                 made.push(unnamed(depth, 19));
-                for it in &it.items {
-                    match it {
-                        syn::ImplItem::Const(it) => made.push(row(depth + 1, 14, &it.ident)),
-                        syn::ImplItem::Method(it) => made.push(row(depth + 1, function(&it.sig), &it.sig.ident)),
-                        syn::ImplItem::Type(it) => made.push(row(depth + 1, 26, &it.ident)),
-                        syn::ImplItem::Macro(_) => {}
-                        _ => return false,
-                    }
+                if !it.items.iter().all(|it| of_impl(depth + 1, it, made)) {
+                    return false;
                 }
             }
             syn::Item::Use(_) | syn::Item::ExternCrate(_) => {}

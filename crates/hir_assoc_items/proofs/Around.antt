@@ -1,10 +1,10 @@
 -- What is around syntax is counted outwards.
 use Rattle.std.proofs.Common.{◌≡◌, ◌∙◌, ℕ, zero, suc, ◌+◌, ◌-◌, ◌<◌, Option, None, Some, refl, ap, arith}
 use Rattle.std.specs.Prelude.{option_map}
-use Rattle.hir_base.specs.declared.ast_id.AstId.{AstId}
-use Rattle.hir_base.specs.declared.ast_id.BlockId.{BlockId}
-use Rattle.hir_base.specs.declared.ast_id.HirFileId.{HirFileId}
-use Rattle.hir_tables.specs.Tables.{TablesValue}
+use Rattle.hir_collector_rules.specs.HirIds.declared.ast_id.AstId.{AstId}
+use Rattle.hir_collector_rules.specs.HirIds.declared.ast_id.BlockId.{BlockId}
+use Rattle.hir_collector_rules.specs.HirIds.declared.ast_id.HirFileId.{HirFileId}
+use Rattle.hir_collector_rules.specs.HirTables.Tables.{TablesValue}
 use Rattle.hir_assoc_items.specs.Depth.{and_expansion, call_around, expansions_within}
 
 -- nothing is around what no expansion writes

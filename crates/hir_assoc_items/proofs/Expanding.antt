@@ -2,20 +2,20 @@
 use Rattle.std.proofs.Common.{◌≡◌, ◌∙◌, ℕ, List, Option, Some, Result, Ok, Err, IsErrAnd, refl, sym, ap, subst}
 use Rattle.std.specs.Prelude.{IsSome, option_map}
 use Rattle.std.specs.Option.{option_and_then}
-use Rattle.hir_base.specs.declared.ast_id.AstId.{AstId}
-use Rattle.hir_base.specs.declared.ids.Crate.{Crate}
-use Rattle.hir_base.specs.declared.ast_id.EntryId.{EntryId}
-use Rattle.hir_base.specs.declared.locations.LocationsError.{LocationsError}
-use Rattle.hir_base.specs.declared.ast_id.MacroCallId.{MacroCallId}
-use Rattle.hir_base.specs.declared.macro_kind.MacroCallLoc.{MacroCallLoc}
-use Rattle.hir_base.specs.declared.macro_kind.MacroId.{MacroId}
-use Rattle.hir_base.specs.declared.locations.LocationsError.TheVariants as numbers
-use Rattle.hir_base.specs.declared.macro_kind.CallStyle.TheVariants as styles
-use Rattle.hir_item_tree.specs.SourceTree.{SourceTreeValue}
-use Rattle.hir_tables.specs.Interning.{IsFull}
-use Rattle.hir_tables.specs.SourcePlaces.{ExpansionValue, SourcePlaceValue, expansion}
-use Rattle.hir_tables.specs.Tables.{KeepsTables, TablesValue, call_at, entry_at, source_of}
-use Rattle.hir_tables.proofs.Growth.{KeepsTables-trans}
+use Rattle.hir_collector_rules.specs.HirIds.declared.ast_id.AstId.{AstId}
+use Rattle.hir_collector_rules.specs.HirIds.declared.ids.Crate.{Crate}
+use Rattle.hir_collector_rules.specs.HirIds.declared.ast_id.EntryId.{EntryId}
+use Rattle.hir_collector_rules.specs.HirBase.declared.locations.LocationsError.{LocationsError}
+use Rattle.hir_collector_rules.specs.HirIds.declared.ast_id.MacroCallId.{MacroCallId}
+use Rattle.hir_collector_rules.specs.HirBase.declared.macro_kind.MacroCallLoc.{MacroCallLoc}
+use Rattle.hir_collector_rules.specs.HirIds.declared.macro_kind.MacroId.{MacroId}
+use Rattle.hir_collector_rules.specs.HirBase.declared.locations.LocationsError.TheVariants as numbers
+use Rattle.hir_collector_rules.specs.HirBase.declared.macro_kind.CallStyle.TheVariants as styles
+use Rattle.hir_collector_rules.specs.HirItemTree.SourceTree.{SourceTreeValue}
+use Rattle.hir_collector_rules.specs.HirTables.Interning.{IsFull}
+use Rattle.hir_collector_rules.specs.HirTables.SourcePlaces.{ExpansionValue, SourcePlaceValue, expansion}
+use Rattle.hir_collector_rules.specs.HirTables.Tables.{KeepsTables, TablesValue, call_at, entry_at, source_of}
+use Rattle.hir_collector_rules.proofs.HirTables.Growth.{KeepsTables-trans}
 use Rattle.hir_collector_rules.specs.Calls.{call_key, call_tree, error_of, expansion_of_call}
 use Rattle.hir_collector_rules.specs.Keys.{IsMeant, environment, input_at, node_tree, source_in}
 use Rattle.hir_collector_rules.specs.NumberedOut.{IsNumberedOut}

@@ -1,17 +1,17 @@
 -- What is there stays as tables grow.
 use Rattle.std.proofs.Common.{◌≡◌, ◌∙◌, ℕ, List, Option, Some, None, refl, ap, is_some}
 use Rattle.std.specs.Prelude.{IsSome}
-use Rattle.hir_base.specs.declared.ast_id.AstId.{AstId}
-use Rattle.hir_base.specs.declared.ids.Crate.{Crate}
-use Rattle.hir_base.specs.declared.macro_kind.MacroId.{MacroId}
-use Rattle.hir_base.specs.declared.macro_kind.MacroId.TheVariants as macros
-use Rattle.hir_base.specs.declared.macro_kind.CallStyle.TheVariants as styles
-use Rattle.hir_item_tree.specs.declared.tree_id.TreeId.{TreeId}
-use Rattle.hir_item_tree.specs.declared.tree_id.TreeKey.{TreeKey}
-use Rattle.hir_tables.specs.SourcePlaces.{SourcePlaceValue}
-use Rattle.hir_tables.specs.Tables.{KeepsTables, TablesValue, source_of}
-use Rattle.hir_tables.proofs.Growth.{source_of-kept}
-use Rattle.hir_def_map_rules.specs.Overlay.{Maps, no_maps}
+use Rattle.hir_collector_rules.specs.HirIds.declared.ast_id.AstId.{AstId}
+use Rattle.hir_collector_rules.specs.HirIds.declared.ids.Crate.{Crate}
+use Rattle.hir_collector_rules.specs.HirIds.declared.macro_kind.MacroId.{MacroId}
+use Rattle.hir_collector_rules.specs.HirIds.declared.macro_kind.MacroId.TheVariants as macros
+use Rattle.hir_collector_rules.specs.HirBase.declared.macro_kind.CallStyle.TheVariants as styles
+use Rattle.hir_collector_rules.specs.HirBase.declared.tree_id.TreeId.{TreeId}
+use Rattle.hir_collector_rules.specs.HirBase.declared.tree_id.TreeKey.{TreeKey}
+use Rattle.hir_collector_rules.specs.HirTables.SourcePlaces.{SourcePlaceValue}
+use Rattle.hir_collector_rules.specs.HirTables.Tables.{KeepsTables, TablesValue, source_of}
+use Rattle.hir_collector_rules.proofs.HirTables.Growth.{source_of-kept}
+use Rattle.hir_collector_rules.specs.HirDefMapRules.Overlay.{Maps, no_maps}
 use Rattle.hir_collector_rules.specs.declared.source_database.Key.TheVariants as keys
 use Rattle.hir_collector_rules.specs.Calls.{expansion_of_call}
 use Rattle.hir_collector_rules.specs.Keys.{IsMeant, environment, input_at, node_tree, of_input, of_text, source_in, source_under, text_at}

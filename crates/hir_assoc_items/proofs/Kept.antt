@@ -2,13 +2,13 @@
 use Rattle.std.proofs.Common.{◌≡◌, List, Option, Some, None, refl}
 use Rattle.std.specs.Prelude.{IsSome}
 use Rattle.std.specs.Option.{option_and_then}
-use Rattle.hir_item_tree.specs.KeptForest.{KeptItem}
-use Rattle.hir_item_tree.specs.SideLists.{entry_associated}
-use Rattle.hir_item_tree.specs.SourceTree.{side_of}
-use Rattle.hir_item_tree.specs.declared.check.NodeId.{NodeId}
-use Rattle.hir_item_tree.specs.declared.tree_id.TreeKey.{TreeKey}
-use Rattle.hir_tables.specs.SourcePlaces.{SourcePlaceValue}
-use Rattle.hir_tables.specs.Tables.{TablesValue, source_of}
+use Rattle.hir_collector_rules.specs.HirItemTree.KeptForest.{KeptItem}
+use Rattle.hir_collector_rules.specs.HirItemTree.SideLists.{entry_associated}
+use Rattle.hir_collector_rules.specs.HirItemTree.SourceTree.{side_of}
+use Rattle.hir_collector_rules.specs.HirItemTree.declared.check.NodeId.{NodeId}
+use Rattle.hir_collector_rules.specs.HirBase.declared.tree_id.TreeKey.{TreeKey}
+use Rattle.hir_collector_rules.specs.HirTables.SourcePlaces.{SourcePlaceValue}
+use Rattle.hir_collector_rules.specs.HirTables.Tables.{TablesValue, source_of}
 use Rattle.hir_collector_rules.specs.Keys.{source_in, source_under}
 use Rattle.hir_collector_rules.specs.Workspace.{Workspace}
 

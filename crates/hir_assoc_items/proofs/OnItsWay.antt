@@ -2,12 +2,12 @@
 use Rattle.std.proofs.Common.{◌≡◌, ◌∙◌, ℕ, suc, ◌+◌, ◌≤◌, List, [], ◌∷◌, ◌++◌, map, reverse, sym, ap, subst, append_assoc, arith}
 use Rattle.std.specs.Prelude.{IsSome}
 use Rattle.std.proofs.lemmas.List.{append-nil, map-append, reverse-append, reverse-reverse}
-use Rattle.hir_base.specs.declared.ids.AssocItemId.{AssocItemId}
-use Rattle.hir_base.specs.declared.ast_id.AstId.{AstId}
-use Rattle.hir_base.specs.declared.ast_id.MacroCallId.{MacroCallId}
-use Rattle.hir_tables.specs.Tables.{KeepsTables, TablesValue, source_of}
-use Rattle.hir_tables.proofs.Growth.{KeepsTables-refl, KeepsTables-trans}
-use Rattle.hir_def_map_rules.specs.Diagnostics.{DiagnosticValue}
+use Rattle.hir_collector_rules.specs.HirIds.declared.ids.AssocItemId.{AssocItemId}
+use Rattle.hir_collector_rules.specs.HirIds.declared.ast_id.AstId.{AstId}
+use Rattle.hir_collector_rules.specs.HirIds.declared.ast_id.MacroCallId.{MacroCallId}
+use Rattle.hir_collector_rules.specs.HirTables.Tables.{KeepsTables, TablesValue, source_of}
+use Rattle.hir_collector_rules.proofs.HirTables.Growth.{KeepsTables-refl, KeepsTables-trans}
+use Rattle.hir_collector_rules.specs.HirDefMapRules.Diagnostics.{DiagnosticValue}
 use Rattle.hir_collector_rules.specs.Keys.{environment}
 use Rattle.hir_collector_rules.specs.Workspace.{Workspace}
 use Rattle.hir_collector_rules.specs.declared.start.TheConstants.{STEP_LIMIT}

@@ -2,17 +2,17 @@
 use Rattle.std.proofs.Common.{◌≡◌, ◌∙◌, ◌⊎◌, ◌<◌, ℕ, zero, suc, length, inl, inr, ◌++◌, List, [], ◌∷◌, Option, Some, None, refl, sym, ap, subst, slice_get}
 use Rattle.std.proofs.Common.{option_and_then, option_map}
 use Rattle.std.specs.Prelude.{IsSome}
-use Rattle.hir_base.specs.declared.ast_id.AstId.{AstId}
-use Rattle.hir_base.specs.declared.ast_id.BlockId.{BlockId}
-use Rattle.hir_base.specs.declared.ast_id.EntryId.{EntryId}
-use Rattle.hir_base.specs.declared.ast_id.HirFileId.{HirFileId}
-use Rattle.hir_base.specs.declared.ast_id.MacroCallId.{MacroCallId}
-use Rattle.hir_base.specs.declared.macro_kind.MacroCallLoc.{MacroCallLoc}
-use Rattle.hir_base.specs.declared.ast_id.HirFileId.TheVariants.{Macro}
-use Rattle.hir_tables.specs.Interning.{Interns, gets_next, had_number}
-use Rattle.hir_tables.specs.SourcePlaces.{SourcePlaceValue, expansion}
-use Rattle.hir_tables.specs.Tables.{KeepsTables, TablesValue, call_at, entry_at, source_of, source_under as source_under_file}
-use Rattle.hir_def_map_rules.specs.Diagnostics.{call_node}
+use Rattle.hir_collector_rules.specs.HirIds.declared.ast_id.AstId.{AstId}
+use Rattle.hir_collector_rules.specs.HirIds.declared.ast_id.BlockId.{BlockId}
+use Rattle.hir_collector_rules.specs.HirIds.declared.ast_id.EntryId.{EntryId}
+use Rattle.hir_collector_rules.specs.HirIds.declared.ast_id.HirFileId.{HirFileId}
+use Rattle.hir_collector_rules.specs.HirIds.declared.ast_id.MacroCallId.{MacroCallId}
+use Rattle.hir_collector_rules.specs.HirBase.declared.macro_kind.MacroCallLoc.{MacroCallLoc}
+use Rattle.hir_collector_rules.specs.HirIds.declared.ast_id.HirFileId.TheVariants.{Macro}
+use Rattle.hir_collector_rules.specs.HirTables.Interning.{Interns, gets_next, had_number}
+use Rattle.hir_collector_rules.specs.HirTables.SourcePlaces.{SourcePlaceValue, expansion}
+use Rattle.hir_collector_rules.specs.HirTables.Tables.{KeepsTables, TablesValue, call_at, entry_at, source_of, source_under as source_under_file}
+use Rattle.hir_collector_rules.specs.HirDefMapRules.Diagnostics.{call_node}
 use Rattle.hir_collector_rules.specs.Calls.{AreCallsPlaced, IsPlacedBelow}
 use Rattle.hir_collector_rules.specs.Keys.{node_tree}
 use Rattle.hir_collector_rules.proofs.Lists.{get_inside}

@@ -4,14 +4,14 @@ use Rattle.std.proofs.Common.{append_assoc, add-one, arith}
 use Rattle.std.proofs.Math.Seq.{drop-cons}
 use Rattle.std.proofs.lemmas.Option.{slice_get_cases}
 use Rattle.std.specs.Prelude.{IfSome}
-use Rattle.hir_item_tree.specs.Collected.{Collected}
-use Rattle.hir_base.specs.Cfg.{Cfg}
-use Rattle.hir_base.specs.declared.ast_id.SyntaxId.{SyntaxId}
-use Rattle.hir_item_tree.specs.KeptForest.{KeptItem}
-use Rattle.hir_item_tree.specs.Kinds.{item_head}
-use Rattle.hir_item_tree.specs.Rows.{Content, alone, with_items, item_of, items_at, numbers_of}
-use Rattle.hir_item_tree.specs.declared.rows.ModItemId.{ModItemId}
-use Rattle.hir_item_tree.specs.declared.tree_id.TreeId.{TreeId}
+use Rattle.hir_collector_rules.specs.HirItemTree.Collected.{Collected}
+use Rattle.hir_collector_rules.specs.HirBase.Cfg.{Cfg}
+use Rattle.hir_collector_rules.specs.HirIds.declared.ast_id.SyntaxId.{SyntaxId}
+use Rattle.hir_collector_rules.specs.HirItemTree.KeptForest.{KeptItem}
+use Rattle.hir_collector_rules.specs.HirItemTree.Kinds.{item_head}
+use Rattle.hir_collector_rules.specs.HirItemTree.Rows.{Content, alone, with_items, item_of, items_at, numbers_of}
+use Rattle.hir_collector_rules.specs.HirItemTree.declared.rows.ModItemId.{ModItemId}
+use Rattle.hir_collector_rules.specs.HirBase.declared.tree_id.TreeId.{TreeId}
 use Rattle.hir_assoc_items.specs.Written.{WrittenValue, top_items, written, written_content, written_found, written_item}
 
 -- an item that is put together of its head and what it is

@@ -1,15 +1,15 @@
 -- What becomes of an item that is taken.
 use Rattle.std.proofs.Common.{◌≡◌, ℕ, ◌+◌, List, [], ◌∷◌, ◌++◌, Option, None, Some, Result, Ok, Err, refl, sym, subst}
 use Rattle.std.specs.Prelude.{IfOk, IsSome}
-use Rattle.hir_base.specs.ModPath.{Path}
-use Rattle.hir_base.specs.Cfg.{Cfg}
-use Rattle.hir_base.specs.declared.ast_id.MacroCallId.{MacroCallId}
-use Rattle.hir_base.specs.declared.macro_kind.MacroId.{MacroId}
-use Rattle.hir_base.specs.declared.ast_id.SyntaxId.{SyntaxId}
-use Rattle.hir_item_tree.specs.KeptForest.{KeptItem, leaf, holder}
-use Rattle.hir_item_tree.specs.SourceTree.{SourceTreeValue}
-use Rattle.hir_item_tree.specs.declared.tree_id.TreeId.{TreeId}
-use Rattle.hir_tables.specs.Tables.{TablesValue, source_of}
+use Rattle.hir_collector_rules.specs.HirBase.ModPath.{Path}
+use Rattle.hir_collector_rules.specs.HirBase.Cfg.{Cfg}
+use Rattle.hir_collector_rules.specs.HirIds.declared.ast_id.MacroCallId.{MacroCallId}
+use Rattle.hir_collector_rules.specs.HirIds.declared.macro_kind.MacroId.{MacroId}
+use Rattle.hir_collector_rules.specs.HirIds.declared.ast_id.SyntaxId.{SyntaxId}
+use Rattle.hir_collector_rules.specs.HirItemTree.KeptForest.{KeptItem, leaf, holder}
+use Rattle.hir_collector_rules.specs.HirItemTree.SourceTree.{SourceTreeValue}
+use Rattle.hir_collector_rules.specs.HirBase.declared.tree_id.TreeId.{TreeId}
+use Rattle.hir_collector_rules.specs.HirTables.Tables.{TablesValue, source_of}
 use Rattle.hir_collector_rules.specs.Calls.{call_tree}
 use Rattle.hir_collector_rules.specs.Keys.{environment}
 use Rattle.hir_collector_rules.specs.Moves.{OnceGrown}

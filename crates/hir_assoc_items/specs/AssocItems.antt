@@ -4,40 +4,40 @@
 -- whose path reaches a macro. What a condition leaves out, and a call that reaches no macro, are told instead.
 use Rattle.std.specs.Prelude.{◌≡◌, ◌<◌, ◌≤◌, ℕ, suc, ◌+◌, List, [], ◌∷◌, ◌++◌, map, Option, None, Some, option_map, unwrap_or}
 use Rattle.std.specs.Option.{option_and_then}
-use Rattle.hir_base.specs.Cfg.{Cfg}
-use Rattle.hir_base.specs.Ids.{container_module, macro_module}
-use Rattle.hir_base.specs.ModPath.{Path}
-use Rattle.hir_base.specs.declared.ids.AssocItemId.{AssocItemId}
-use Rattle.hir_base.specs.declared.ast_id.AstId.{AstId}
-use Rattle.hir_base.specs.declared.ast_id.AstKind.{AstKind}
-use Rattle.hir_base.specs.declared.ids.Crate.{Crate}
-use Rattle.hir_base.specs.declared.ast_id.EntryId.{EntryId}
-use Rattle.hir_base.specs.declared.ids.ItemContainerId.{ItemContainerId}
-use Rattle.hir_base.specs.declared.ids.ItemLoc.{ItemLoc}
-use Rattle.hir_base.specs.declared.ast_id.MacroCallId.{MacroCallId}
-use Rattle.hir_base.specs.declared.macro_kind.MacroCallLoc.{MacroCallLoc}
-use Rattle.hir_base.specs.declared.macro_kind.MacroId.{MacroId}
-use Rattle.hir_base.specs.declared.ids.ModuleId.{ModuleId}
-use Rattle.hir_base.specs.declared.ids.AssocItemId.TheVariants as definitions
-use Rattle.hir_base.specs.declared.macro_kind.CallStyle.TheVariants as styles
-use Rattle.hir_base.specs.declared.macro_kind.MacroCallKind.TheVariants as calls
-use Rattle.hir_base.specs.declared.macro_kind.MacroId.TheVariants.{Macro2Id, MacroRulesId, ProcMacroId}
-use Rattle.hir_base.specs.declared.resolve_mode.MacroSubNs.TheVariants as sub_namespaces
-use Rattle.hir_item_tree.specs.KeptForest.{KeptItem}
-use Rattle.hir_item_tree.specs.SideLists.{entry_associated}
-use Rattle.hir_item_tree.specs.SourceTree.{SourceTreeValue, side_of}
-use Rattle.hir_item_tree.specs.SyntaxIds.{node_id}
-use Rattle.hir_item_tree.specs.declared.check.NodeId.{NodeId}
-use Rattle.hir_item_tree.specs.declared.tree_id.TreeId.{TreeId}
-use Rattle.hir_item_tree.specs.declared.tree_id.TreeKey.{TreeKey}
-use Rattle.hir_tables.specs.SourcePlaces.{ExpansionValue}
-use Rattle.hir_tables.specs.Tables.{TablesValue, call_at, entry_at}
-use Rattle.hir_def_map_rules.specs.Diagnostics.{DiagnosticValue, KindValue, UnconfiguredCode, UnresolvedMacroCall, MacroError, diagnostic_view}
-use Rattle.hir_def_map_rules.specs.Macros.{macro_data_at}
-use Rattle.hir_def_map_rules.specs.Overlay.{Maps, map_in}
-use Rattle.hir_def_map_rules.specs.Scoping.{resolution_of}
-use Rattle.hir_def_map_rules.specs.State.{Local, MacroDataValue, Map}
-use Rattle.hir_def_map_rules.specs.declared.diagnostics.DefDiagnostic.{DefDiagnostic}
+use Rattle.hir_collector_rules.specs.HirBase.Cfg.{Cfg}
+use Rattle.hir_collector_rules.specs.HirIds.Ids.{container_module, macro_module}
+use Rattle.hir_collector_rules.specs.HirBase.ModPath.{Path}
+use Rattle.hir_collector_rules.specs.HirIds.declared.ids.AssocItemId.{AssocItemId}
+use Rattle.hir_collector_rules.specs.HirIds.declared.ast_id.AstId.{AstId}
+use Rattle.hir_collector_rules.specs.HirIds.declared.ast_id.AstKind.{AstKind}
+use Rattle.hir_collector_rules.specs.HirIds.declared.ids.Crate.{Crate}
+use Rattle.hir_collector_rules.specs.HirIds.declared.ast_id.EntryId.{EntryId}
+use Rattle.hir_collector_rules.specs.HirIds.declared.ids.ItemContainerId.{ItemContainerId}
+use Rattle.hir_collector_rules.specs.HirIds.declared.ids.ItemLoc.{ItemLoc}
+use Rattle.hir_collector_rules.specs.HirIds.declared.ast_id.MacroCallId.{MacroCallId}
+use Rattle.hir_collector_rules.specs.HirBase.declared.macro_kind.MacroCallLoc.{MacroCallLoc}
+use Rattle.hir_collector_rules.specs.HirIds.declared.macro_kind.MacroId.{MacroId}
+use Rattle.hir_collector_rules.specs.HirIds.declared.ids.ModuleId.{ModuleId}
+use Rattle.hir_collector_rules.specs.HirIds.declared.ids.AssocItemId.TheVariants as definitions
+use Rattle.hir_collector_rules.specs.HirBase.declared.macro_kind.CallStyle.TheVariants as styles
+use Rattle.hir_collector_rules.specs.HirBase.declared.macro_kind.MacroCallKind.TheVariants as calls
+use Rattle.hir_collector_rules.specs.HirIds.declared.macro_kind.MacroId.TheVariants.{Macro2Id, MacroRulesId, ProcMacroId}
+use Rattle.hir_collector_rules.specs.HirBase.declared.resolve_mode.MacroSubNs.TheVariants as sub_namespaces
+use Rattle.hir_collector_rules.specs.HirItemTree.KeptForest.{KeptItem}
+use Rattle.hir_collector_rules.specs.HirItemTree.SideLists.{entry_associated}
+use Rattle.hir_collector_rules.specs.HirItemTree.SourceTree.{SourceTreeValue, side_of}
+use Rattle.hir_collector_rules.specs.HirItemTree.SyntaxIds.{node_id}
+use Rattle.hir_collector_rules.specs.HirItemTree.declared.check.NodeId.{NodeId}
+use Rattle.hir_collector_rules.specs.HirBase.declared.tree_id.TreeId.{TreeId}
+use Rattle.hir_collector_rules.specs.HirBase.declared.tree_id.TreeKey.{TreeKey}
+use Rattle.hir_collector_rules.specs.HirTables.SourcePlaces.{ExpansionValue}
+use Rattle.hir_collector_rules.specs.HirTables.Tables.{TablesValue, call_at, entry_at}
+use Rattle.hir_collector_rules.specs.HirDefMapRules.Diagnostics.{DiagnosticValue, KindValue, UnconfiguredCode, UnresolvedMacroCall, MacroError, diagnostic_view}
+use Rattle.hir_collector_rules.specs.HirDefMapRules.Macros.{macro_data_at}
+use Rattle.hir_collector_rules.specs.HirDefMapRules.Overlay.{Maps, map_in}
+use Rattle.hir_collector_rules.specs.HirDefMapRules.Scoping.{resolution_of}
+use Rattle.hir_collector_rules.specs.HirDefMapRules.State.{Local, MacroDataValue, Map}
+use Rattle.hir_collector_rules.specs.HirMapParts.declared.diagnostics.DefDiagnostic.{DefDiagnostic}
 use Rattle.hir_collector_rules.specs.Calls.{by_style, call_key, call_tree, error_of, expansion_of_call, macro_among}
 use Rattle.hir_collector_rules.specs.Keys.{Environment, IsMeant, input_at, source_in, text_at}
 use Rattle.hir_collector_rules.specs.NumberedOut.{IsNumberedOut}

@@ -1,12 +1,12 @@
 -- How many expansions are around syntax?
 use Rattle.std.specs.Prelude.{ℕ, zero, suc, ◌+◌, Option, None, Some, option_map}
-use Rattle.hir_base.specs.declared.ast_id.AstId.{AstId}
-use Rattle.hir_base.specs.declared.ast_id.BlockId.{BlockId}
-use Rattle.hir_base.specs.declared.ast_id.HirFileId.{HirFileId}
-use Rattle.hir_base.specs.declared.macro_kind.MacroCallLoc.{MacroCallLoc}
-use Rattle.hir_base.specs.declared.ast_id.HirFileId.TheVariants.{File, Macro}
-use Rattle.hir_tables.specs.Tables.{TablesValue, call_at}
-use Rattle.hir_def_map_rules.specs.Diagnostics.{call_node}
+use Rattle.hir_collector_rules.specs.HirIds.declared.ast_id.AstId.{AstId}
+use Rattle.hir_collector_rules.specs.HirIds.declared.ast_id.BlockId.{BlockId}
+use Rattle.hir_collector_rules.specs.HirIds.declared.ast_id.HirFileId.{HirFileId}
+use Rattle.hir_collector_rules.specs.HirBase.declared.macro_kind.MacroCallLoc.{MacroCallLoc}
+use Rattle.hir_collector_rules.specs.HirIds.declared.ast_id.HirFileId.TheVariants.{File, Macro}
+use Rattle.hir_collector_rules.specs.HirTables.Tables.{TablesValue, call_at}
+use Rattle.hir_collector_rules.specs.HirDefMapRules.Diagnostics.{call_node}
 
 -- the node of the call whose expansion writes it; none where a file or a block writes it
 abbrev pub call_around : TablesValue → HirFileId → Option BlockId → Option AstId

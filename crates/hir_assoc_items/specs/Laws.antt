@@ -1,6 +1,6 @@
 -- What holds of all lists of associated items?
 use Rattle.std.specs.Prelude.{◌≡◌, List}
-use Rattle.hir_tables.specs.Tables.{HasEachOnce}
+use Rattle.hir_collector_rules.specs.HirTables.Tables.{HasEachOnce}
 use Rattle.hir_collector_rules.specs.Keys.{Environment}
 use Rattle.hir_assoc_items.specs.AssocItems.{ContainerValue, FlattensTo, ListingValue}
 use Rattle.hir_assoc_items.specs.Written.{WrittenValue}

@@ -1,10 +1,10 @@
 -- Which of the items have a name?
 use Rattle.std.specs.Prelude.{ℕ, List, [], ◌∷◌, Option, None, Some, cond}
 use Rattle.std.specs.Str.{bytes_eq}
-use Rattle.hir_base.specs.declared.ids.AssocItemId.{AssocItemId}
-use Rattle.hir_base.specs.declared.ids.AssocItemId.TheVariants.{FunctionId, ConstId, TypeAliasId}
-use Rattle.hir_base.specs.declared.ids.FunctionId.{FunctionId as Function}
-use Rattle.hir_base.specs.declared.ids.TypeAliasId.{TypeAliasId as TypeAlias}
+use Rattle.hir_collector_rules.specs.HirIds.declared.ids.AssocItemId.{AssocItemId}
+use Rattle.hir_collector_rules.specs.HirIds.declared.ids.AssocItemId.TheVariants.{FunctionId, ConstId, TypeAliasId}
+use Rattle.hir_collector_rules.specs.HirIds.declared.ids.FunctionId.{FunctionId as Function}
+use Rattle.hir_collector_rules.specs.HirIds.declared.ids.TypeAliasId.{TypeAliasId as TypeAlias}
 
 abbrev pub Named : Type 0
 Named = List ℕ × AssocItemId

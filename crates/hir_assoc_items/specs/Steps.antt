@@ -1,14 +1,14 @@
 -- Where a walk over a list stands; no clause of a query speaks of this.
 use Rattle.std.specs.Prelude.{◌≡◌, ℕ, ◌+◌, List, [], ◌∷◌, ◌++◌, IsSome, map, reverse, Option}
-use Rattle.hir_base.specs.ModPath.{Path}
-use Rattle.hir_base.specs.declared.ast_id.AstId.{AstId}
-use Rattle.hir_base.specs.declared.locations.LocationsError.{LocationsError}
-use Rattle.hir_base.specs.declared.ast_id.MacroCallId.{MacroCallId}
-use Rattle.hir_base.specs.declared.macro_kind.MacroId.{MacroId}
-use Rattle.hir_base.specs.declared.locations.LocationsError.TheVariants as numbers
-use Rattle.hir_item_tree.specs.SourceTree.{SourceTreeValue}
-use Rattle.hir_tables.specs.Tables.{TablesValue, source_of}
-use Rattle.hir_def_map.specs.DefMaps.{maps_of}
+use Rattle.hir_collector_rules.specs.HirBase.ModPath.{Path}
+use Rattle.hir_collector_rules.specs.HirIds.declared.ast_id.AstId.{AstId}
+use Rattle.hir_collector_rules.specs.HirBase.declared.locations.LocationsError.{LocationsError}
+use Rattle.hir_collector_rules.specs.HirIds.declared.ast_id.MacroCallId.{MacroCallId}
+use Rattle.hir_collector_rules.specs.HirIds.declared.macro_kind.MacroId.{MacroId}
+use Rattle.hir_collector_rules.specs.HirBase.declared.locations.LocationsError.TheVariants as numbers
+use Rattle.hir_collector_rules.specs.HirItemTree.SourceTree.{SourceTreeValue}
+use Rattle.hir_collector_rules.specs.HirTables.Tables.{TablesValue, source_of}
+use Rattle.hir_collector_rules.specs.HirNameres.DefMaps.{maps_of}
 use Rattle.hir_collector_rules.specs.Calls.{call_tree}
 use Rattle.hir_collector_rules.specs.Keys.{Environment, IsMeant}
 use Rattle.hir_collector_rules.specs.Moves.{OnceGrown}

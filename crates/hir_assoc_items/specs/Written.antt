@@ -1,14 +1,14 @@
 -- Which items of a tree may traits and impls have?
 use Rattle.std.specs.Prelude.{ℕ, List, [], ◌∷◌, ◌++◌, Option, None, Some, option_map}
-use Rattle.hir_base.specs.Cfg.{Cfg, cfg_view}
-use Rattle.hir_base.specs.ModPath.{Path}
-use Rattle.hir_base.specs.declared.ast_id.AstId.{AstId}
-use Rattle.hir_base.specs.declared.ast_id.AstKind.{AstKind}
-use Rattle.hir_base.specs.declared.ast_id.SyntaxId.{SyntaxId}
-use Rattle.hir_base.specs.declared.ast_id.AstKind.TheVariants as nodes
-use Rattle.hir_item_tree.specs.KeptForest.{Leaf, function, constant, type_alias, macro_call, KeptItem, leaf, holder, KeptForest, no_items, item}
-use Rattle.hir_item_tree.specs.Rows.{Content, alone, with_items}
-use Rattle.hir_item_tree.specs.declared.tree_id.TreeId.{TreeId}
+use Rattle.hir_collector_rules.specs.HirBase.Cfg.{Cfg, cfg_view}
+use Rattle.hir_collector_rules.specs.HirBase.ModPath.{Path}
+use Rattle.hir_collector_rules.specs.HirIds.declared.ast_id.AstId.{AstId}
+use Rattle.hir_collector_rules.specs.HirIds.declared.ast_id.AstKind.{AstKind}
+use Rattle.hir_collector_rules.specs.HirIds.declared.ast_id.SyntaxId.{SyntaxId}
+use Rattle.hir_collector_rules.specs.HirIds.declared.ast_id.AstKind.TheVariants as nodes
+use Rattle.hir_collector_rules.specs.HirItemTree.KeptForest.{Leaf, function, constant, type_alias, macro_call, KeptItem, leaf, holder, KeptForest, no_items, item}
+use Rattle.hir_collector_rules.specs.HirItemTree.Rows.{Content, alone, with_items}
+use Rattle.hir_collector_rules.specs.HirBase.declared.tree_id.TreeId.{TreeId}
 use Rattle.hir_assoc_items.specs.declared.written.AssocKind.{AssocKind}
 use Rattle.hir_assoc_items.specs.declared.written.AssocKind.TheVariants as kinds
 use Rattle.hir_assoc_items.specs.declared.written.Written.{Written}

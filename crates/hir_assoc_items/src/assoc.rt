@@ -3,9 +3,9 @@ ghost use Rattle.std.specs.Prelude.{◌≡◌, List};
 ghost use Rattle.std.specs.Iterator.{YieldsFirst, item_count};
 ghost use Rattle.hir_assoc_items.specs.Readers.{as_function, as_item, as_type, first_named, types_among};
 
-use hir_base::ast_id::{AstId, MacroCallId};
-use hir_base::ids::{AssocItemId, FunctionId, TypeAliasId};
-use hir_base::name::Name;
+use hir_collector_rules::hir_base::ast_id::{AstId, MacroCallId};
+use hir_collector_rules::hir_base::ids::{AssocItemId, FunctionId, TypeAliasId};
+use hir_collector_rules::hir_base::name::Name;
 use std::marker::Model;
 
 /// The items of a trait.
@@ -134,7 +134,7 @@ pub struct AssociatedTypes<'a> {
 
 impl<'a> Model for AssociatedTypes<'a> {
     ghost use Rattle.std.specs.Prelude.{List};
-    ghost use Rattle.hir_base.specs.declared.ids.TypeAliasId.{TypeAliasId};
+    ghost use Rattle.hir_collector_rules.specs.HirIds.declared.ids.TypeAliasId.{TypeAliasId};
     ghost use Rattle.hir_assoc_items.specs.Readers.{types_among};
 
     ghost Value = { List TypeAliasId };
@@ -168,8 +168,8 @@ pub struct MacroCalls<'a> {
 
 impl<'a> Model for MacroCalls<'a> {
     ghost use Rattle.std.specs.Prelude.{List};
-    ghost use Rattle.hir_base.specs.declared.ast_id.AstId.{AstId};
-    ghost use Rattle.hir_base.specs.declared.ast_id.MacroCallId.{MacroCallId};
+    ghost use Rattle.hir_collector_rules.specs.HirIds.declared.ast_id.AstId.{AstId};
+    ghost use Rattle.hir_collector_rules.specs.HirIds.declared.ast_id.MacroCallId.{MacroCallId};
 
     ghost Value = { List (AstId × MacroCallId) };
 

@@ -5,16 +5,18 @@ ghost use Rattle.hir_assoc_items.specs.Steps.{container_view};
 ghost use Rattle.hir_assoc_items.specs.Written.{written_view};
 
 use crate::written::{AssocKind, Written};
-use hir_base::ids::{
+use hir_collector_rules::hir_base::ids::{
     AssocItemId, ConstId, Crate, FunctionId, HasModule, ItemContainerId, ItemLoc, ModuleId,
     TypeAliasId,
 };
-use hir_base::macro_kind::MacroId;
-use hir_base::mod_path::ModPath;
-use hir_base::name::Name;
-use hir_def_map::def_maps::DefMaps;
-use hir_def_map::nameres::local_def_map::LocalDefMap;
-use hir_def_map::nameres::path_resolution::{BuiltinShadowMode, MacroSubNs, ResolveMode};
+use hir_collector_rules::hir_base::macro_kind::MacroId;
+use hir_collector_rules::hir_base::mod_path::ModPath;
+use hir_collector_rules::hir_base::name::Name;
+use hir_collector_rules::hir_nameres::def_maps::DefMaps;
+use hir_collector_rules::hir_nameres::nameres::local_def_map::LocalDefMap;
+use hir_collector_rules::hir_nameres::nameres::path_resolution::{
+    BuiltinShadowMode, MacroSubNs, ResolveMode,
+};
 use std::alloc::AllocError;
 
 /// A trait or an impl, the maps in which the paths of its calls are looked up, and the crates that these may begin with.

@@ -1,7 +1,7 @@
 //! Queries for the items of traits and impls.
 ghost use Rattle.std.specs.Prelude.{◌≡◌, IfOk, map};
-ghost use Rattle.hir_tables.specs.Tables.{KeepsTables};
-ghost use Rattle.hir_def_map.specs.DefMaps.{maps_of};
+ghost use Rattle.hir_collector_rules.specs.HirTables.Tables.{KeepsTables};
+ghost use Rattle.hir_collector_rules.specs.HirNameres.DefMaps.{maps_of};
 ghost use Rattle.hir_collector_rules.specs.Calls.{AreCallsPlaced};
 ghost use Rattle.hir_collector_rules.specs.Keys.{environment};
 ghost use Rattle.hir_assoc_items.specs.AssocItems.{FlattensTo, IsTooMany, ReachesUnknown, container_of, items_written, listing_of};
@@ -14,16 +14,16 @@ use crate::depth::expansions_around;
 use crate::error::AssocItemsError;
 use crate::flatten::{Listing, flatten};
 use crate::written::{Written, of_rows};
-use hir_base::ast_id::AstKind;
-use hir_base::ids::{ImplId, ItemContainerId, ItemLoc, ModuleId, TraitId};
+use hir_collector_rules::hir_base::ast_id::AstKind;
+use hir_collector_rules::hir_base::ids::{ImplId, ItemContainerId, ItemLoc, ModuleId, TraitId};
+use hir_collector_rules::hir_item_tree::check::NodeId;
+use hir_collector_rules::hir_item_tree::tree_id::{TreeId, TreeKey};
+use hir_collector_rules::hir_nameres::def_maps::DefMaps;
+use hir_collector_rules::hir_nameres::nameres::diagnostics::DefDiagnostics;
+use hir_collector_rules::hir_nameres::nameres::local_def_map::LocalDefMap;
+use hir_collector_rules::hir_tables::Tables;
 use hir_collector_rules::source_database::SourceDatabase;
 use hir_collector_start::sources::source_at;
-use hir_def_map::def_maps::DefMaps;
-use hir_def_map::nameres::diagnostics::DefDiagnostics;
-use hir_def_map::nameres::local_def_map::LocalDefMap;
-use hir_item_tree::check::NodeId;
-use hir_item_tree::tree_id::{TreeId, TreeKey};
-use hir_tables::Tables;
 use std::alloc::{AllocError, Global};
 
 /// The items that are written for a trait or an impl, in the source as it is now.

@@ -1,25 +1,25 @@
 //! What sources have at the nodes of macros and calls, by the numbers of trees.
 ghost use Rattle.std.specs.Prelude.{◌≡◌, ◌↔◌, IfOk, IsTrue, option_map};
-ghost use Rattle.hir_item_tree.specs.SyntaxIds.{node_id};
+ghost use Rattle.hir_collector_rules.specs.HirItemTree.SyntaxIds.{node_id};
 ghost use Rattle.hir_collector_rules.specs.Keys.{IsMeant, input_at, macro_key, macro_tree, node_tree, source_in, text_at, text_of};
 
-use hir_base::ast_id::{AstId, AstKind};
-use hir_base::ids::Crate;
-use hir_base::macro_kind::{MacroId, MacroLoc};
-use hir_base::text::Text;
+use hir_collector_rules::hir_base::ast_id::{AstId, AstKind};
+use hir_collector_rules::hir_base::ids::Crate;
+use hir_collector_rules::hir_base::macro_kind::{MacroId, MacroLoc};
+use hir_collector_rules::hir_base::text::Text;
+use hir_collector_rules::hir_item_tree::check::NodeId;
+use hir_collector_rules::hir_item_tree::tree_id::{TreeId, TreeKey};
+use hir_collector_rules::hir_tables::Tables;
 use hir_collector_rules::source_database::SourceDatabase;
 use hir_collector_start::sources::source_at;
-use hir_item_tree::check::NodeId;
-use hir_item_tree::tree_id::{TreeId, TreeKey};
-use hir_tables::Tables;
 use std::alloc::{AllocError, Global};
 
-/// The same text, if there is one.
-fn copied(alloc: Global, text: Option<&str>) -> Result<Option<Text>, AllocError>
-    ensures value { IfOk result (λ copy. copy ≡ option_map (λ t. t.now) text.entry) }
+/// The same text without a copy, if there is one.
+fn shared(text: Option<&Text>) -> Result<Option<Text>, AllocError>
+    ensures value { IfOk result (λ same. same ≡ option_map (λ t. t.now) text.entry) }
 {
     match text {
-        Some(text) => Ok(Some(Text::from_str(alloc, text)?)),
+        Some(text) => Ok(Some(text.clone()?)),
         None => Ok(None),
     }
 }
@@ -62,7 +62,7 @@ fn text_in<D: SourceDatabase>(
         id: tree_of(loc),
     };
     let source = source_at(alloc, db, locations, key)?;
-    copied(alloc, source.text(NodeId { kind, id: loc.id }))
+    shared(source.text(NodeId { kind, id: loc.id }))
 }
 
 /// The text of a macro, where a source writes it.
@@ -108,11 +108,8 @@ pub fn input_at<D: SourceDatabase>(
         id: node_tree(ast),
     };
     let source = source_at(alloc, db, locations, key)?;
-    copied(
-        alloc,
-        source.input(NodeId {
-            kind: ast.kind,
-            id: ast.id,
-        }),
-    )
+    shared(source.input(NodeId {
+        kind: ast.kind,
+        id: ast.id,
+    }))
 }

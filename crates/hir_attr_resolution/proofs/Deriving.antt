@@ -1,9 +1,9 @@
 -- Paths of a derive that are listed one after another.
 use Rattle.std.proofs.Common.{◌≡◌, ◌∙◌, List, [], ◌∷◌, ◌++◌, ap, refl}
-use Rattle.hir_collector_rules.specs.declared.macro_directive.Fate.{Fate}
-use Rattle.hir_collector_rules.specs.declared.macro_directive.MacroDirective.{MacroDirective}
-use Rattle.hir_collector_rules.specs.declared.macro_directive.Fate.TheVariants.{Waits}
-use Rattle.hir_collector_rules.specs.State.{Core, all_wait, with_calls}
+use Rattle.hir_collector_state.specs.HirCollectorRules.declared.macro_directive.Fate.{Fate}
+use Rattle.hir_collector_state.specs.HirCollectorRules.declared.macro_directive.MacroDirective.{MacroDirective}
+use Rattle.hir_collector_state.specs.HirCollectorRules.declared.macro_directive.Fate.TheVariants.{Waits}
+use Rattle.hir_collector_state.specs.HirCollectorRules.State.{Core, all_wait, with_calls}
 
 append_one : {A : Type 0} (xs : List A) (y : A) (ys : List A) → (xs ++ y ∷ []) ++ ys ≡ xs ++ y ∷ ys
 append_one [] y ys = refl

@@ -2,44 +2,44 @@
 use Rattle.std.proofs.Common.{◌≡◌, ◌∙◌, ℕ, zero, suc, ◌+◌, ◌<◌, ◌≤◌, Bool, true, false, List, [], ◌∷◌, length, map, drop, get_or, slice_get, Option, Some, None}
 use Rattle.std.proofs.Common.{option_map, cond, inl, refl, sym, ap, subst, arith}
 use Rattle.std.proofs.lemmas.Option.{slice_get-map}
-use Rattle.hir_base.specs.ModPath.{Path}
-use Rattle.hir_base.specs.declared.ids.AdtId.{AdtId}
-use Rattle.hir_base.specs.declared.ast_id.AstId.{AstId}
-use Rattle.hir_base.specs.declared.ids.MapId.{MapId}
-use Rattle.hir_base.specs.declared.ids.AdtId.TheVariants as adts
-use Rattle.hir_item_tree.specs.Collected.{Numbered as Attribute, numbered}
-use Rattle.hir_item_tree.specs.KeptForest.{Head, KeptItem, Leaf, enumeration, holder, leaf, structure, union_structure}
-use Rattle.hir_item_tree.specs.declared.attrs.Attr.{Attr}
-use Rattle.hir_item_tree.specs.Kinds.{item_head}
-use Rattle.hir_tables.specs.Tables.{KeepsTables, TablesValue}
-use Rattle.hir_def_map_rules.specs.Macros.{with_diagnostic}
-use Rattle.hir_def_map_rules.specs.Overlay.{Maps}
-use Rattle.hir_def_map_rules.specs.State.{Map, with_module_scope}
-use Rattle.hir_def_map_rules.proofs.Grown.{length-changed}
+use Rattle.hir_collector_state.specs.HirBase.ModPath.{Path}
+use Rattle.hir_collector_state.specs.HirIds.declared.ids.AdtId.{AdtId}
+use Rattle.hir_collector_state.specs.HirIds.declared.ast_id.AstId.{AstId}
+use Rattle.hir_collector_state.specs.HirIds.declared.ids.MapId.{MapId}
+use Rattle.hir_collector_state.specs.HirIds.declared.ids.AdtId.TheVariants as adts
+use Rattle.hir_collector_state.specs.HirItemTree.Collected.{Numbered as Attribute, numbered}
+use Rattle.hir_collector_state.specs.HirItemTree.KeptForest.{Head, KeptItem, Leaf, enumeration, holder, leaf, structure, union_structure}
+use Rattle.hir_collector_state.specs.HirItemTree.declared.attrs.Attr.{Attr}
+use Rattle.hir_collector_state.specs.HirItemTree.Kinds.{item_head}
+use Rattle.hir_collector_state.specs.HirTables.Tables.{KeepsTables, TablesValue}
+use Rattle.hir_collector_state.specs.HirDefMapRules.Macros.{with_diagnostic}
+use Rattle.hir_collector_state.specs.HirDefMapRules.Overlay.{Maps}
+use Rattle.hir_collector_state.specs.HirDefMapRules.State.{Map, with_module_scope}
+use Rattle.hir_collector_state.proofs.HirDefMapRules.Grown.{length-changed}
 use Rattle.hir_attr_resolution.specs.declared.attributes.Visited.{Visited}
-use Rattle.hir_collector_rules.specs.declared.site.Site.{Site}
-use Rattle.hir_collector_rules.specs.declared.macro_directive.WaitingItem.{WaitingItem}
-use Rattle.hir_collector_rules.specs.declared.start.TheConstants.{STEP_LIMIT}
-use Rattle.hir_collector_rules.specs.Attributes.{adt_by, adt_of, attr_id, first_looked_up, is_derive, is_passed, item_node, next_among, next_attribute}
-use Rattle.hir_collector_rules.specs.Calls.{IsNumberedDerive, item_kept}
-use Rattle.hir_collector_rules.specs.Derivation.{counted_out, numbered_out}
-use Rattle.hir_collector_rules.specs.Invocations.{derive_met, with_invocation, with_noted}
-use Rattle.hir_collector_rules.specs.ItemIds.{enum_id, module_id, struct_id, union_id}
-use Rattle.hir_collector_rules.specs.Keys.{Environment}
-use Rattle.hir_collector_rules.specs.NumberedOut.{IsDeriveNumberedOut, call_out, expansion_out, lacks_derive}
-use Rattle.hir_collector_rules.specs.Moves.{HandlesAttribute, LacksDeriveNumber, ListsDerive, Passes, PassesTooFar, TakesDerive, goes_behind, listed, no_paths}
-use Rattle.hir_collector_rules.specs.Moves.{no_target}
+use Rattle.hir_collector_state.specs.HirCollectorRules.declared.site.Site.{Site}
+use Rattle.hir_collector_state.specs.HirCollectorRules.declared.macro_directive.WaitingItem.{WaitingItem}
+use Rattle.hir_collector_state.specs.HirCollectorRules.declared.start.TheConstants.{STEP_LIMIT}
+use Rattle.hir_collector_state.specs.HirCollectorRules.Attributes.{adt_by, adt_of, attr_id, first_looked_up, is_derive, is_passed, item_node, next_among, next_attribute}
+use Rattle.hir_collector_state.specs.HirCollectorRules.Calls.{IsNumberedDerive, item_kept}
+use Rattle.hir_collector_state.specs.HirCollectorRules.Derivation.{counted_out, numbered_out}
+use Rattle.hir_collector_state.specs.HirCollectorRules.Invocations.{derive_met, with_invocation, with_noted}
+use Rattle.hir_collector_state.specs.HirCollectorRules.ItemIds.{enum_id, module_id, struct_id, union_id}
+use Rattle.hir_collector_state.specs.HirCollectorRules.Keys.{Environment}
+use Rattle.hir_collector_state.specs.HirCollectorRules.NumberedOut.{IsDeriveNumberedOut, call_out, expansion_out, lacks_derive}
+use Rattle.hir_collector_state.specs.HirCollectorRules.Moves.{HandlesAttribute, LacksDeriveNumber, ListsDerive, Passes, PassesTooFar, TakesDerive, goes_behind, listed, no_paths}
+use Rattle.hir_collector_state.specs.HirCollectorRules.Moves.{no_target}
 use Rattle.hir_attr_resolution.specs.Visiting.{IsVisited}
-use Rattle.hir_collector_rules.specs.Reports.{invalid_target, malformed_derive}
-use Rattle.hir_collector_rules.specs.State.{Core, State, Task, Visit, visits, counted, joined, visit, behind, with_calls, with_map}
-use Rattle.hir_collector_rules.specs.Steps.{HasAttribute, Steps, attribute_at, awaits_attribute, derives_from, faults_derive, lists_derives, none}
-use Rattle.hir_collector_rules.specs.Steps.{no_paths as lists_none, no_target as is_no_target}
-use Rattle.hir_collector_rules.proofs.Changes.{id-Steps}
-use Rattle.hir_collector_rules.proofs.Lists.{drop_some}
+use Rattle.hir_collector_state.specs.HirCollectorRules.Reports.{invalid_target, malformed_derive}
+use Rattle.hir_collector_state.specs.HirCollectorRules.State.{Core, State, Task, Visit, visits, counted, joined, visit, behind, with_calls, with_map}
+use Rattle.hir_collector_state.specs.HirCollectorRules.Steps.{HasAttribute, Steps, attribute_at, awaits_attribute, derives_from, faults_derive, lists_derives, none}
+use Rattle.hir_collector_state.specs.HirCollectorRules.Steps.{no_paths as lists_none, no_target as is_no_target}
+use Rattle.hir_collector_state.proofs.HirCollectorRules.Changes.{id-Steps}
+use Rattle.hir_collector_state.proofs.HirCollectorRules.Lists.{drop_some}
 use Rattle.hir_collector_state.proofs.Made.{Goes, goes, made}
-use Rattle.hir_collector_rules.proofs.ModuleFiles.{derive_kept}
-use Rattle.hir_collector_rules.proofs.Moves.{Steps-append, Steps-one, spent_after}
-use Rattle.hir_collector_rules.proofs.Numbers.{still_out}
+use Rattle.hir_collector_state.proofs.HirCollectorRules.ModuleFiles.{derive_kept}
+use Rattle.hir_collector_state.proofs.HirCollectorRules.Moves.{Steps-append, Steps-one, spent_after}
+use Rattle.hir_collector_state.proofs.HirCollectorRules.Numbers.{still_out}
 
 -- ---- which is next
 

@@ -4,5 +4,3 @@ pub mod PathLemmas
 mod NumberLemmas
 mod AtomLemmas
 mod CfgLemmas
-mod BuiltinLemmas
-mod HeadLemmas

@@ -4,7 +4,7 @@ use Rattle.std.specs.Option.{option_map}
 use Rattle.std.specs.List.{list_any}
 use Rattle.hir_base.specs.declared.cfg.CfgAtom.{CfgAtom}
 use Rattle.hir_base.specs.declared.cfg.CfgAtom.TheVariants.{Flag, KeyValue}
-use Rattle.hir_base.specs.NameForm.{same_text}
+use Rattle.hir_ids.specs.NameForm.{same_text}
 use Rattle.hir_base.specs.Cfg.{Cfg, Cfgs, invalid, constant, atom, all, any, unless, no_cfgs, cfg}
 
 -- whether two options are the same

@@ -1,12 +1,7 @@
--- Which text does a value print that is to be printed?
+-- Which text does a path print that is to be printed?
 use Rattle.std.specs.Prelude.{ℕ, List}
-use Rattle.hir_base.specs.declared.display.NameDisplay.{NameDisplay}
 use Rattle.hir_base.specs.declared.display.ModPathDisplay.{ModPathDisplay}
-use Rattle.hir_base.specs.Display.{shown, path_shown}
-
--- the text of a name that is to be printed
-abbrev pub name_display_text : NameDisplay → List ℕ
-name_display_text d = shown d.edition d.name.now
+use Rattle.hir_base.specs.Display.{path_shown}
 
 -- the text of a path that is to be printed
 abbrev pub path_display_text : ModPathDisplay → List ℕ

@@ -1,8 +1,6 @@
 -- the types, under their names
 pub mod Types
 -- names
-pub mod NameForm
-pub mod Name
 -- paths and files, and how they print
 pub mod ModPath
 pub mod Path
@@ -12,9 +10,8 @@ pub mod Display
 pub mod Limit
 -- places, ids and macros
 pub mod Place
-pub mod Ids
-pub mod MacroKind
-pub mod BuiltinType
+-- what items are written as
+pub mod Shape
 -- conditions on a crate's options
 pub mod Cfg
 pub mod CfgOptions
@@ -22,10 +19,6 @@ pub mod SameCfg
 -- numbers for values
 pub mod Locations
 -- what holds of equality, order and hash, and where memory runs out
-pub mod Laws
-pub mod Refusal
 -- words of private code
 pub mod DisplayText
 pub mod Root
-pub mod Head
-pub mod Text

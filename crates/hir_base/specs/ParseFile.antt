@@ -4,7 +4,7 @@ use Rattle.std.specs.List.{fold, slice_split, join_with_byte}
 use Rattle.hir_base.specs.declared.limit.Limit.TheVariants.{File as FileLimit}
 use Rattle.hir_base.specs.declared.mod_path.ParseError.{ParseError}
 use Rattle.hir_base.specs.declared.mod_path.ParseError.TheVariants.{Bad, TooLarge}
-use Rattle.hir_base.specs.NameForm.{same_text}
+use Rattle.hir_ids.specs.NameForm.{same_text}
 
 -- the segments up to here and one more: an empty one and `.` vanish, `..` drops the segment before and may not climb past the root
 abbrev pub one_more : Option (List (List ℕ)) → List ℕ → Option (List (List ℕ))

@@ -5,14 +5,14 @@ use Rattle.std.specs.List.{list_any, list_all, slice_split}
 use Rattle.std.specs.Option.{option_map}
 use Rattle.std.specs.Str.{all_ascii_digits}
 use Rattle.std.specs.Str.Parse.{digits_value}
-use Rattle.hir_base.specs.declared.ids.Crate.{Crate}
+use Rattle.hir_ids.specs.declared.ids.Crate.{Crate}
 use Rattle.hir_base.specs.declared.limit.Limit.TheVariants.{Name as NameLimit, Path as PathLimit}
 use Rattle.hir_base.specs.declared.mod_path.ParseError.{ParseError}
 use Rattle.hir_base.specs.declared.mod_path.ParseError.TheVariants.{Bad, TooLarge, Memory}
 use Rattle.hir_base.specs.declared.mod_path.PathKind.{PathKind}
 use Rattle.hir_base.specs.declared.mod_path.PathKind.TheVariants.{Plain, Super, Crate as CrateRoot, Abs, DollarCrate}
 use Rattle.hir_base.specs.ModPath.{Path}
-use Rattle.hir_base.specs.NameForm.{same_text, is_name, max_name}
+use Rattle.hir_ids.specs.NameForm.{same_text, is_name, max_name}
 
 -- memory ran out
 abbrev pub IsMemory : ParseError → Type 0

@@ -6,7 +6,7 @@ use Rattle.hir_base.specs.declared.mod_path.PathKind.TheVariants as kind
 use Rattle.hir_base.specs.declared.parse_path.Root.{Root}
 use Rattle.hir_base.specs.declared.parse_path.Root.TheVariants.{Plain, Super, Crate, Abs, DollarCrate}
 use Rattle.hir_base.specs.ModPath.{Path}
-use Rattle.hir_base.specs.Text.{nows}
+use Rattle.hir_ids.specs.Text.{nows}
 
 -- the kind of a path with this root, however many levels it climbs
 abbrev pub kind_of_root : Root → PathKind

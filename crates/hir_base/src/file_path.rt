@@ -8,9 +8,9 @@ ghost use Rattle.std.proofs.Common.{rules};
 ghost use Rattle.std.specs.Hash as fed;
 ghost use Rattle.std.specs.List.{join_with_byte};
 ghost use Rattle.std.specs.Option.{option_map};
-ghost use Rattle.hir_base.specs.Refusal.{Gives};
+ghost use Rattle.hir_ids.specs.Refusal.{Gives};
 ghost use Rattle.hir_base.specs.ParseFile.{folded_segments, one_more};
-ghost use Rattle.hir_base.specs.Text.{nows};
+ghost use Rattle.hir_ids.specs.Text.{nows};
 
 use crate::limit::Limit;
 use crate::mod_path::ParseError;

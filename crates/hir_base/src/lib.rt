@@ -1,25 +1,22 @@
 //! Names, paths and ids: the plain values that every layer speaks of.
 #![tactic(auto)]
 
-pub mod ast_id;
-pub mod builtin_type;
+pub use hir_ids::{ast_id, builtin_type, edition, explicitness, ids, laws, name, text};
+
 pub mod cfg;
 pub mod cfg_options;
 pub mod display;
-pub mod edition;
 pub mod file_path;
-pub mod ids;
-pub mod laws;
 pub mod limit;
 pub mod locations;
 pub mod macro_kind;
 pub mod mod_path;
-pub mod name;
 mod parse_path;
 mod pieces;
 pub mod place;
 pub mod resolve_mode;
-pub mod text;
+pub mod shape;
+pub mod tree_id;
 
 pub use ast_id::{
     AstId, AstKind, AttrId, BlockId, EditionedFileId, EntryId, FileId, HirFileId, InFile,
@@ -44,4 +41,6 @@ pub use mod_path::{ModPath, ParseError, PathKind};
 pub use name::{Name, NameError};
 pub use place::{BlockPlace, Place, PlaceElement};
 pub use resolve_mode::{BuiltinShadowMode, MacroSubNs};
+pub use shape::{ExternCrateName, FieldsShape};
 pub use text::Text;
+pub use tree_id::{TreeId, TreeKey};

@@ -2,7 +2,7 @@
 ghost use Rattle.std.specs.Prelude.{◌≡◌, [], slice_get, length, option_copied, OnOk, OnErr, IfOk, IsErrOf};
 ghost use Rattle.std.specs.List.{IsDistinct};
 ghost use Rattle.hir_base.specs.declared.locations.LocationsError.TheVariants.{Memory};
-ghost use Rattle.hir_base.specs.Refusal.{Gives};
+ghost use Rattle.hir_ids.specs.Refusal.{Gives};
 ghost use Rattle.hir_base.specs.Locations.{IsMemory, number_given, with_value, NeedsRoom, KeepsNumbers, IsNumberOf};
 
 use indexmap::IndexSet;

@@ -7,7 +7,7 @@ ghost use Rattle.std.specs.Hash as fed;
 ghost use Rattle.std.specs.Hash.{and-Alike, on_Alike, items_Alike, same_Alike};
 ghost use Rattle.hir_base.specs.declared.mod_path.PathKind.{PathKind};
 ghost use Rattle.hir_base.specs.declared.mod_path.ParseError.TheVariants.{Memory};
-ghost use Rattle.hir_base.specs.Refusal.{Gives};
+ghost use Rattle.hir_ids.specs.Refusal.{Gives};
 
 use crate::ids::Crate;
 use crate::limit::Limit;

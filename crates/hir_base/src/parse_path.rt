@@ -3,9 +3,9 @@ ghost use Rattle.std.specs.Prelude.{◌≡◌, ◌+◌, ◌<◌, ◌≤◌, ◌^
 ghost use Rattle.std.specs.List.{list_all, list_any};
 ghost use Rattle.std.specs.Option.{option_map};
 ghost use Rattle.hir_base.specs.ParsePath.{parts, path, climb, crate_of_digits, from_root, from_parts, levels};
-ghost use Rattle.hir_base.specs.NameForm.{is_name, max_name};
+ghost use Rattle.hir_ids.specs.NameForm.{is_name, max_name};
 ghost use Rattle.hir_base.specs.Root.{kind_of_root, path_read};
-ghost use Rattle.hir_base.specs.Text.{nows};
+ghost use Rattle.hir_ids.specs.Text.{nows};
 
 use crate::ids::Crate;
 use crate::mod_path::PathKind;

@@ -1,7 +1,7 @@
 //! The pieces of a text between separators.
 ghost use Rattle.std.specs.Prelude.{◌≡◌, ◌<◌, ◌==◌, IfOk};
 ghost use Rattle.std.specs.List.{slice_split};
-ghost use Rattle.hir_base.specs.Text.{nows};
+ghost use Rattle.hir_ids.specs.Text.{nows};
 
 use std::alloc::{AllocError, Global};
 

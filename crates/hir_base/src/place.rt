@@ -96,7 +96,7 @@ impl Place {
 }
 
 impl PartialEq for Place {
-    ghost use Rattle.hir_base.specs.contracts.ids.CrateEq.TheImpl.Laws.{laws-law as crate_laws};
+    ghost use Rattle.hir_ids.specs.contracts.ids.CrateEq.TheImpl.Laws.{laws-law as crate_laws};
     ghost use Rattle.hir_base.specs.contracts.place.PlaceElementEq.TheImpl.Laws.{laws-law as element_laws};
 
     ghost eq = { eq_of_both (on (λ p. p.krate) (⟦<Crate as PartialEq>⟧.eq)) (on (λ p. p.elements) (pointwise (⟦<PlaceElement as PartialEq>⟧.eq))) };
@@ -109,14 +109,14 @@ impl PartialEq for Place {
 }
 
 impl Eq for Place {
-    ghost use Rattle.hir_base.specs.contracts.ids.CrateEq.TheImpl.Laws.{laws-law as crate_laws};
+    ghost use Rattle.hir_ids.specs.contracts.ids.CrateEq.TheImpl.Laws.{laws-law as crate_laws};
     ghost use Rattle.hir_base.specs.contracts.place.PlaceElementEq.TheImpl.Laws.{laws-law as element_laws};
 
     ghost laws = { and_equiv (on_equiv (λ p. p.krate) crate_laws) (on_equiv (λ p. p.elements) (lists_equiv element_laws)) };
 }
 
 impl Ord for Place {
-    ghost use Rattle.hir_base.specs.contracts.ids.CrateOrd.TheImpl.Laws.{total-law as crate_total, matches_eq-law as crate_ties};
+    ghost use Rattle.hir_ids.specs.contracts.ids.CrateOrd.TheImpl.Laws.{total-law as crate_total, matches_eq-law as crate_ties};
     ghost use Rattle.hir_base.specs.contracts.place.PlaceElementOrd.TheImpl.Laws.{total-law as element_total, matches_eq-law as element_ties};
 
     ghost cmp = { then_cmp (on (λ p. p.krate) (⟦<Crate as Ord>⟧.cmp)) (on (λ p. p.elements) (slice_cmp (⟦<PlaceElement as Ord>⟧.cmp))) };
@@ -135,7 +135,7 @@ impl Ord for Place {
 }
 
 impl PartialOrd for Place {
-    ghost use Rattle.hir_base.specs.contracts.ids.CrateOrd.TheImpl.Laws.{total-law as crate_total, matches_eq-law as crate_ties};
+    ghost use Rattle.hir_ids.specs.contracts.ids.CrateOrd.TheImpl.Laws.{total-law as crate_total, matches_eq-law as crate_ties};
     ghost use Rattle.hir_base.specs.contracts.place.PlaceElementOrd.TheImpl.Laws.{total-law as element_total, matches_eq-law as element_ties};
 
     ghost partial_cmp = { as_partial_cmp (then_cmp (on (λ p. p.krate) (⟦<Crate as Ord>⟧.cmp)) (on (λ p. p.elements) (slice_cmp (⟦<PlaceElement as Ord>⟧.cmp)))) };
@@ -149,7 +149,7 @@ impl PartialOrd for Place {
 }
 
 impl Hash for Place {
-    ghost use Rattle.hir_base.specs.contracts.ids.CrateHash.TheImpl.Laws.{respects_eq-law as crate_alike};
+    ghost use Rattle.hir_ids.specs.contracts.ids.CrateHash.TheImpl.Laws.{respects_eq-law as crate_alike};
     ghost use Rattle.hir_base.specs.contracts.place.PlaceElementHash.TheImpl.Laws.{respects_eq-law as element_alike};
 
     ghost hash_input = { λ p. ⟦<Crate as Hash>⟧.hash_input p.krate ++ fed.slice (⟦<PlaceElement as Hash>⟧.hash_input) p.elements };

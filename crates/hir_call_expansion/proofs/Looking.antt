@@ -1,42 +1,42 @@
 -- What is asked for of a call that reaches a macro.
 use Rattle.std.proofs.Common.{◌≡◌, ◌∙◌, ℕ, ◌++◌, List, [], ◌∷◌, Option, Some, refl, sym, ap, subst, option_and_then, option_map}
 use Rattle.std.specs.Prelude.{IsSome}
-use Rattle.hir_base.specs.declared.ast_id.AstId.{AstId}
-use Rattle.hir_base.specs.declared.macro_kind.CallStyle.{CallStyle}
-use Rattle.hir_base.specs.declared.ids.Crate.{Crate}
-use Rattle.hir_base.specs.declared.ast_id.EntryId.{EntryId}
-use Rattle.hir_base.specs.declared.ast_id.MacroCallId.{MacroCallId}
-use Rattle.hir_base.specs.declared.macro_kind.MacroCallLoc.{MacroCallLoc}
-use Rattle.hir_base.specs.declared.macro_kind.MacroId.{MacroId}
-use Rattle.hir_base.specs.declared.macro_kind.MacroId.TheVariants as macros
-use Rattle.hir_item_tree.specs.SourceTree.{SourceTreeValue}
-use Rattle.hir_tables.specs.Interning.{Interns, IsFull}
-use Rattle.hir_tables.specs.SourcePlaces.{ExpansionValue, SourcePlaceValue, expansion}
-use Rattle.hir_tables.specs.Tables.{KeepsTables, TablesValue, call_at, entry_at, source_of}
-use Rattle.hir_tables.proofs.Growth.{KeepsTables-trans}
-use Rattle.hir_def_map_rules.specs.Diagnostics.{call_node}
-use Rattle.hir_def_map_rules.specs.Overlay.{Maps}
-use Rattle.hir_def_map_rules.specs.State.{Map}
-use Rattle.hir_collector_rules.specs.declared.source_database.Key.{Key}
-use Rattle.hir_collector_rules.specs.declared.macro_directive.MacroDirective.{MacroDirective}
-use Rattle.hir_collector_rules.specs.declared.macro_directive.MacroDirectiveKind.{MacroDirectiveKind}
-use Rattle.hir_collector_rules.specs.declared.source_database.Key.TheVariants as keys
-use Rattle.hir_collector_rules.specs.CallMoves.{SeesCall}
-use Rattle.hir_collector_rules.specs.declared.macro_directive.MacroDirectiveKind.TheVariants.{Attr, Derive, FnLike}
-use Rattle.hir_collector_rules.specs.Calls.{AreCallsPlaced, Expanding, IsMeantCall, IsNumberedCall, IsTextOf, call_key, call_kind, call_loc, call_style}
-use Rattle.hir_collector_rules.specs.Calls.{call_tree, called_text, expansion_of_call, expansion_readings, kind_by, text_readings}
-use Rattle.hir_collector_rules.specs.Keys.{Environment, IsMeant, entry_under, environment, input_at, node_tree, of_entry, of_input, of_text, of_tree, source_in}
-use Rattle.hir_collector_rules.specs.Keys.{text_at}
-use Rattle.hir_collector_rules.specs.ModuleFiles.{Reading}
-use Rattle.hir_collector_rules.specs.Moves.{OnceGrown}
-use Rattle.hir_collector_rules.specs.NumberedOut.{IsCallNumberedOut, LacksExpansion, call_out, expansion_by, expansion_out}
-use Rattle.hir_collector_rules.specs.State.{Core, with_asked}
-use Rattle.hir_collector_rules.specs.Steps.{Sees, keys_read, with_keys}
-use Rattle.hir_collector_rules.specs.Workspace.{Workspace, seen_of}
-use Rattle.hir_collector_start.proofs.CallPlaces.{placed_loc}
-use Rattle.hir_collector_rules.proofs.Meaning.{looks_stand}
-use Rattle.hir_collector_rules.proofs.ModuleFiles.{call_kept, macro_kept, site_kept}
-use Rattle.hir_collector_rules.proofs.Numbers.{full_out, still_out}
+use Rattle.hir_collector_state.specs.HirIds.declared.ast_id.AstId.{AstId}
+use Rattle.hir_collector_state.specs.HirBase.declared.macro_kind.CallStyle.{CallStyle}
+use Rattle.hir_collector_state.specs.HirIds.declared.ids.Crate.{Crate}
+use Rattle.hir_collector_state.specs.HirIds.declared.ast_id.EntryId.{EntryId}
+use Rattle.hir_collector_state.specs.HirIds.declared.ast_id.MacroCallId.{MacroCallId}
+use Rattle.hir_collector_state.specs.HirBase.declared.macro_kind.MacroCallLoc.{MacroCallLoc}
+use Rattle.hir_collector_state.specs.HirIds.declared.macro_kind.MacroId.{MacroId}
+use Rattle.hir_collector_state.specs.HirIds.declared.macro_kind.MacroId.TheVariants as macros
+use Rattle.hir_collector_state.specs.HirItemTree.SourceTree.{SourceTreeValue}
+use Rattle.hir_collector_state.specs.HirTables.Interning.{Interns, IsFull}
+use Rattle.hir_collector_state.specs.HirTables.SourcePlaces.{ExpansionValue, SourcePlaceValue, expansion}
+use Rattle.hir_collector_state.specs.HirTables.Tables.{KeepsTables, TablesValue, call_at, entry_at, source_of}
+use Rattle.hir_collector_state.proofs.HirTables.Growth.{KeepsTables-trans}
+use Rattle.hir_collector_state.specs.HirDefMapRules.Diagnostics.{call_node}
+use Rattle.hir_collector_state.specs.HirDefMapRules.Overlay.{Maps}
+use Rattle.hir_collector_state.specs.HirDefMapRules.State.{Map}
+use Rattle.hir_collector_state.specs.HirCollectorRules.declared.source_database.Key.{Key}
+use Rattle.hir_collector_state.specs.HirCollectorRules.declared.macro_directive.MacroDirective.{MacroDirective}
+use Rattle.hir_collector_state.specs.HirCollectorRules.declared.macro_directive.MacroDirectiveKind.{MacroDirectiveKind}
+use Rattle.hir_collector_state.specs.HirCollectorRules.declared.source_database.Key.TheVariants as keys
+use Rattle.hir_collector_state.specs.HirCollectorRules.CallMoves.{SeesCall}
+use Rattle.hir_collector_state.specs.HirCollectorRules.declared.macro_directive.MacroDirectiveKind.TheVariants.{Attr, Derive, FnLike}
+use Rattle.hir_collector_state.specs.HirCollectorRules.Calls.{AreCallsPlaced, Expanding, IsMeantCall, IsNumberedCall, IsTextOf, call_key, call_kind, call_loc, call_style}
+use Rattle.hir_collector_state.specs.HirCollectorRules.Calls.{call_tree, called_text, expansion_of_call, expansion_readings, kind_by, text_readings}
+use Rattle.hir_collector_state.specs.HirCollectorRules.Keys.{Environment, IsMeant, entry_under, environment, input_at, node_tree, of_entry, of_input, of_text, of_tree, source_in}
+use Rattle.hir_collector_state.specs.HirCollectorRules.Keys.{text_at}
+use Rattle.hir_collector_state.specs.HirCollectorRules.ModuleFiles.{Reading}
+use Rattle.hir_collector_state.specs.HirCollectorRules.Moves.{OnceGrown}
+use Rattle.hir_collector_state.specs.HirCollectorRules.NumberedOut.{IsCallNumberedOut, LacksExpansion, call_out, expansion_by, expansion_out}
+use Rattle.hir_collector_state.specs.HirCollectorRules.State.{Core, with_asked}
+use Rattle.hir_collector_state.specs.HirCollectorRules.Steps.{Sees, keys_read, with_keys}
+use Rattle.hir_collector_state.specs.HirCollectorRules.Workspace.{Workspace, seen_of}
+use Rattle.hir_collector_state.proofs.HirCollectorStart.CallPlaces.{placed_loc}
+use Rattle.hir_collector_state.proofs.HirCollectorRules.Meaning.{looks_stand}
+use Rattle.hir_collector_state.proofs.HirCollectorRules.ModuleFiles.{call_kept, macro_kept, site_kept}
+use Rattle.hir_collector_state.proofs.HirCollectorRules.Numbers.{full_out, still_out}
 
 -- ---- keys, one after another
 

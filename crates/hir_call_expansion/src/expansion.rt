@@ -1,46 +1,50 @@
 //! What macro calls, derives and attributes expand to: all that an expansion depends on is asked for, and then the expansion.
 ghost use Rattle.std.specs.Prelude.{◌≡◌, ◌<◌, true, false, [], IfOk, None, OnOk, Some, option_map, unwrap_or};
-ghost use Rattle.hir_item_tree.specs.SyntaxIds.{node_id};
-ghost use Rattle.hir_tables.specs.SourcePlaces.{expansion_value};
-ghost use Rattle.hir_tables.specs.Tables.{KeepsTables};
-ghost use Rattle.hir_def_map.specs.WorldParts.{part_of};
-ghost use Rattle.hir_collector_rules.specs.CallMoves.{SeesCall};
-ghost use Rattle.hir_collector_rules.specs.Calls.{AreCallsPlaced, Expanding, IsMeantCall, call_site, called_text, error_of, expansion_of_call, text_readings};
-ghost use Rattle.hir_collector_rules.specs.declared.macro_directive.MacroDirective.{MacroDirective};
-ghost use Rattle.hir_collector_rules.specs.ItemIds.{module_id};
-ghost use Rattle.hir_collector_rules.specs.Keys.{IsMeant, input_at, macro_key, macro_tree, source_in, text_at, text_of};
-ghost use Rattle.hir_collector_rules.specs.Moves.{Makes, OnceGrown};
-ghost use Rattle.hir_collector_rules.specs.NumberedOut.{LacksExpansion};
-ghost use Rattle.hir_collector_rules.specs.State.{core_in};
-ghost use Rattle.hir_collector_rules.specs.Steps.{failing, keys_read, with_keys};
-ghost use Rattle.hir_collector_rules.specs.Workspace.{entry_look};
+ghost use Rattle.hir_collector_state.specs.HirItemTree.SyntaxIds.{node_id};
+ghost use Rattle.hir_collector_state.specs.HirTables.SourcePlaces.{expansion_value};
+ghost use Rattle.hir_collector_state.specs.HirTables.Tables.{KeepsTables};
+ghost use Rattle.hir_collector_state.specs.HirNameres.WorldParts.{part_of};
+ghost use Rattle.hir_collector_state.specs.HirCollectorRules.CallMoves.{SeesCall};
+ghost use Rattle.hir_collector_state.specs.HirCollectorRules.Calls.{AreCallsPlaced, Expanding, IsMeantCall, call_site, called_text, error_of, expansion_of_call, text_readings};
+ghost use Rattle.hir_collector_state.specs.HirCollectorRules.declared.macro_directive.MacroDirective.{MacroDirective};
+ghost use Rattle.hir_collector_state.specs.HirCollectorRules.ItemIds.{module_id};
+ghost use Rattle.hir_collector_state.specs.HirCollectorRules.Keys.{IsMeant, input_at, macro_key, macro_tree, source_in, text_at, text_of};
+ghost use Rattle.hir_collector_state.specs.HirCollectorRules.Moves.{Makes, OnceGrown};
+ghost use Rattle.hir_collector_state.specs.HirCollectorRules.NumberedOut.{LacksExpansion};
+ghost use Rattle.hir_collector_state.specs.HirCollectorRules.State.{core_in};
+ghost use Rattle.hir_collector_state.specs.HirCollectorRules.Steps.{failing, keys_read, with_keys};
+ghost use Rattle.hir_collector_state.specs.HirCollectorRules.Workspace.{entry_look};
 ghost use Rattle.hir_collector_state.specs.Waiting.{IsNoted};
 
-use hir_base::ast_id::{AstId, AstKind, HirFileId, MacroCallId};
-use hir_base::ids::{Crate, HasModule};
-use hir_base::macro_kind::{CallStyle, ExpansionKey, MacroCallLoc, MacroId, MacroLoc, MacroText};
-use hir_base::text::Text;
-use hir_collector_rules::macro_directive::MacroDirective;
-use hir_collector_rules::site::Site;
-use hir_collector_rules::source_database::{ExpansionLook, Key, SourceDatabase};
-use hir_collector_rules::start::StepError;
-use hir_collector_start::sources::source_at;
 use hir_collector_state::def_collector::DefCollector;
-use hir_def_map::nameres::diagnostics::DefDiagnostic;
-use hir_def_map::world::part::WorldPart;
-use hir_item_tree::check::NodeId;
-use hir_item_tree::source_tree::SourceTree;
-use hir_item_tree::tree_id::{TreeId, TreeKey};
-use hir_tables::Tables;
+use hir_collector_state::hir_base::ast_id::{AstId, AstKind, HirFileId, MacroCallId};
+use hir_collector_state::hir_base::ids::{Crate, HasModule};
+use hir_collector_state::hir_base::macro_kind::{
+    CallStyle, ExpansionKey, MacroCallLoc, MacroId, MacroLoc, MacroText,
+};
+use hir_collector_state::hir_base::text::Text;
+use hir_collector_state::hir_collector_rules::macro_directive::MacroDirective;
+use hir_collector_state::hir_collector_rules::site::Site;
+use hir_collector_state::hir_collector_rules::source_database::{
+    ExpansionLook, Key, SourceDatabase,
+};
+use hir_collector_state::hir_collector_rules::start::StepError;
+use hir_collector_state::hir_collector_start::sources::source_at;
+use hir_collector_state::hir_item_tree::check::NodeId;
+use hir_collector_state::hir_item_tree::source_tree::SourceTree;
+use hir_collector_state::hir_item_tree::tree_id::{TreeId, TreeKey};
+use hir_collector_state::hir_nameres::nameres::diagnostics::DefDiagnostic;
+use hir_collector_state::hir_nameres::world::part::WorldPart;
+use hir_collector_state::hir_tables::Tables;
 use std::alloc::{AllocError, Global};
 use std::rc::Rc;
 
-/// The same text, if there is one.
-fn copied(alloc: Global, text: Option<&str>) -> Result<Option<Text>, AllocError>
-    ensures value { IfOk result (λ copy. copy ≡ option_map (λ t. t.now) text.entry) }
+/// The same text without a copy, if there is one.
+fn shared(text: Option<&Text>) -> Result<Option<Text>, AllocError>
+    ensures value { IfOk result (λ same. same ≡ option_map (λ t. t.now) text.entry) }
 {
     match text {
-        Some(text) => Ok(Some(Text::from_str(alloc, text)?)),
+        Some(text) => Ok(Some(text.clone()?)),
         None => Ok(None),
     }
 }
@@ -84,7 +88,7 @@ fn text_in<D: SourceDatabase>(
         id: tree_of(loc),
     };
     let source = source_at(alloc, db, locations, key)?;
-    copied(alloc, source.text(NodeId { kind, id: loc.id }))
+    shared(source.text(NodeId { kind, id: loc.id }))
 }
 
 /// The text of a macro, where a source writes it.
@@ -123,13 +127,10 @@ fn input_at<D: SourceDatabase>(
         },
     };
     let source = source_at(alloc, db, locations, key)?;
-    copied(
-        alloc,
-        source.input(NodeId {
-            kind: ast.kind,
-            id: ast.id,
-        }),
-    )
+    shared(source.input(NodeId {
+        kind: ast.kind,
+        id: ast.id,
+    }))
 }
 
 /// A text, or an empty one.

@@ -1,10 +1,10 @@
 -- What is idle once slots are woken, and what it watches.
 use Rattle.std.proofs.Common.{◌≡◌, sym, subst, ℕ, ◌==◌, true, false, List, Option, None, Some, refl}
 use Rattle.std.specs.List.{All}
-use Rattle.hir_base.specs.contracts.ast_id.AstIdOrd.TheImpl.Laws.{total-law as item_total}
-use Rattle.hir_base.specs.declared.ast_id.AstId.{AstId}
-use Rattle.hir_def_map.specs.contracts.nameres.path_resolution.slots.SlotOrd.TheImpl.Laws.{total-law as slot_total}
-use Rattle.hir_def_map.specs.declared.nameres.path_resolution.slots.Slot.{Slot as PathSlot}
+use Rattle.hir_nameres.specs.HirIds.contracts.ast_id.AstIdOrd.TheImpl.Laws.{total-law as item_total}
+use Rattle.hir_nameres.specs.HirIds.declared.ast_id.AstId.{AstId}
+use Rattle.hir_nameres.specs.contracts.nameres.path_resolution.slots.SlotOrd.TheImpl.Laws.{total-law as slot_total}
+use Rattle.hir_nameres.specs.declared.nameres.path_resolution.slots.Slot.{Slot as PathSlot}
 use Rattle.hir_worklist.proofs.Idle.{idle-woken}
 use Rattle.hir_worklist.proofs.Settled.{IsUnread}
 use Rattle.hir_worklist.specs.Moves.{Wakes}

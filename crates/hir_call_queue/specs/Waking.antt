@@ -1,8 +1,8 @@
 -- What is queued, and what is watched?
 use Rattle.std.specs.Prelude.{◌≡◌, ℕ, Bool, true, false, List, Option, None, Some, Contains}
 use Rattle.std.specs.List.{All}
-use Rattle.hir_base.specs.declared.ast_id.AstId.{AstId}
-use Rattle.hir_def_map.specs.declared.nameres.path_resolution.slots.Slot.{Slot as PathSlot}
+use Rattle.hir_nameres.specs.HirIds.declared.ast_id.AstId.{AstId}
+use Rattle.hir_nameres.specs.declared.nameres.path_resolution.slots.Slot.{Slot as PathSlot}
 use Rattle.hir_worklist.specs.Queue.{IsIdle, Queue}
 use Rattle.hir_worklist.specs.Settling.{AreWatched, WatchesEach}
 use Rattle.hir_worklist.specs.Watching.{is_watching}

@@ -1,7 +1,7 @@
 //! Which calls are to be tried.
 ghost use Rattle.std.specs.Prelude.{◌≡◌, ◌≤◌, true, false, [], IfNone, IfOk, IfSome, OnOk, Some};
 ghost use Rattle.std.specs.List.{All};
-ghost use Rattle.hir_def_map.specs.Scoping.Slots.{slot_of};
+ghost use Rattle.hir_nameres.specs.Scoping.Slots.{slot_of};
 ghost use Rattle.hir_worklist.specs.Moves.{Takes, closed, empty_queue, opened};
 ghost use Rattle.hir_worklist.specs.Queue.{count_of};
 ghost use Rattle.hir_worklist.specs.Settling.{WatchesEach};
@@ -10,9 +10,9 @@ ghost use Rattle.hir_import_resolution.specs.Inner.Queue.{KeepsWatched, slot_cmp
 ghost use Rattle.hir_import_rules.specs.Changed.{IsThere};
 ghost use Rattle.hir_call_queue.specs.Waking.{IsWatching, IsWoken, KeepsItems, is_apart, watches_item, with_worklist, worklist_of};
 
-use hir_base::ast_id::AstId;
-use hir_def_map::nameres::path_resolution::slots::{PathSlots, Slot, SlotRef};
 use hir_import_growth::Changed;
+use hir_nameres::hir_base::ast_id::AstId;
+use hir_nameres::nameres::path_resolution::slots::{PathSlots, Slot, SlotRef};
 use hir_worklist::{Watchers, Worklist};
 use std::alloc::{AllocError, Global};
 

@@ -1,21 +1,21 @@
 -- A run begins over the tables as they are, and as it leaves them.
 use Rattle.std.proofs.Common.{◌≡◌, ◌∙◌, if◌then◌else◌, Bool, true, false, List, [], Option, Some, None, refl, sym, ap, subst}
 use Rattle.std.specs.Prelude.{IsSome, is_some, not, option_map}
-use Rattle.hir_base.specs.declared.ids.Crate.{Crate}
-use Rattle.hir_base.specs.declared.ids.ModuleId.{ModuleId}
-use Rattle.hir_item_tree.specs.ItemTree.{empty_tree}
-use Rattle.hir_item_tree.specs.SourceTree.{SourceTreeValue}
-use Rattle.hir_item_tree.specs.declared.tree_id.TreeId.{TreeId}
-use Rattle.hir_tables.specs.SourcePlaces.{SourcePlaceValue}
-use Rattle.hir_tables.specs.Tables.{KeepsTables, TablesValue, source_of}
-use Rattle.hir_def_map_rules.specs.Overlay.{Maps}
-use Rattle.hir_collector_rules.specs.declared.start.Start.{Start}
-use Rattle.hir_collector_rules.specs.Workspace.{Workspace, crate_in}
-use Rattle.hir_collector_rules.specs.Keys.{source_in, source_under}
-use Rattle.hir_collector_rules.specs.Start.{began, core_of, exports_macros, is_declared, krate_of, root_site, start_by, tree_key, tree_visits}
-use Rattle.hir_collector_rules.specs.State.{Core, Task, at_rest, joined}
-use Rattle.hir_collector_rules.specs.Moves.{IsHeld}
-use Rattle.hir_mod_resolution.proofs.Outline.{held_grown, held_source}
+use Rattle.hir_mod_collector.specs.HirIds.declared.ids.Crate.{Crate}
+use Rattle.hir_mod_collector.specs.HirIds.declared.ids.ModuleId.{ModuleId}
+use Rattle.hir_mod_collector.specs.HirItemTree.ItemTree.{empty_tree}
+use Rattle.hir_mod_collector.specs.HirItemTree.SourceTree.{SourceTreeValue}
+use Rattle.hir_mod_collector.specs.HirBase.declared.tree_id.TreeId.{TreeId}
+use Rattle.hir_mod_collector.specs.HirTables.SourcePlaces.{SourcePlaceValue}
+use Rattle.hir_mod_collector.specs.HirTables.Tables.{KeepsTables, TablesValue, source_of}
+use Rattle.hir_mod_collector.specs.HirDefMapRules.Overlay.{Maps}
+use Rattle.hir_mod_collector.specs.HirCollectorRules.declared.start.Start.{Start}
+use Rattle.hir_mod_collector.specs.HirCollectorRules.Workspace.{Workspace, crate_in}
+use Rattle.hir_mod_collector.specs.HirCollectorRules.Keys.{source_in, source_under}
+use Rattle.hir_mod_collector.specs.HirCollectorRules.Start.{began, core_of, exports_macros, is_declared, krate_of, root_site, start_by, tree_key, tree_visits}
+use Rattle.hir_mod_collector.specs.HirCollectorRules.State.{Core, Task, at_rest, joined}
+use Rattle.hir_mod_collector.specs.HirCollectorRules.Moves.{IsHeld}
+use Rattle.hir_mod_collector.proofs.HirModResolution.Outline.{held_grown, held_source}
 
 -- whether something is there, as it is asked
 pub none_there : {A B : Type 0} (f : A → B) (o : Option A) (s : Option B) (b : Bool) → option_map f o ≡ s → is_some o ≡ not b → b ≡ true → s ≡ None

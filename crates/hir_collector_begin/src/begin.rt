@@ -1,41 +1,43 @@
 //! What a run of the collector begins with: the root module with what all modules find, and the items to which its tree leads.
 ghost use Rattle.std.specs.Prelude.{◌≡◌, ◌<◌, ◌&&◌, IfOk, IsSome, None, OnOk, false, is_none, is_some, length, not, option_map, unwrap_or, []};
-ghost use Rattle.hir_tables.specs.Tables.{KeepsTables, source_of};
-ghost use Rattle.hir_def_map.specs.WorldParts.{part_of};
-ghost use Rattle.hir_def_map_rules.specs.Overlay.{map_in};
-ghost use Rattle.hir_def_map.specs.World.{finished_in};
-ghost use Rattle.hir_collector_rules.specs.Workspace.{config_view, dependencies_of, options_of};
-ghost use Rattle.hir_collector_rules.specs.Keys.{Environment, environment};
-ghost use Rattle.hir_collector_rules.specs.ModuleFiles.{IsFileMeant, file_of_tree, is_file_meant};
-ghost use Rattle.hir_collector_rules.specs.Start.{began, core_of, exports_macros, holders_by, id_of, is_declared, is_proc_macro_by, root_site, tree_visits};
-ghost use Rattle.hir_collector_rules.specs.CallMoves.{ComesToRest, IsReady};
-ghost use Rattle.hir_collector_rules.specs.Calls.{AreCallsPlaced, IsMeantAt};
-ghost use Rattle.hir_collector_rules.specs.State.{at_rest, core_in, joined};
-ghost use Rattle.hir_collector_rules.specs.Steps.{Steps};
-ghost use Rattle.hir_collector_rules.specs.Derivation.{IsSpent};
-ghost use Rattle.hir_collector_rules.specs.Moves.{OnceGrown};
-ghost use Rattle.hir_collector_imports.specs.Outside.{begins_inside, begins_outside};
+ghost use Rattle.hir_mod_collector.specs.HirTables.Tables.{KeepsTables, source_of};
+ghost use Rattle.hir_nameres.specs.WorldParts.{part_of};
+ghost use Rattle.hir_mod_collector.specs.HirDefMapRules.Overlay.{map_in};
+ghost use Rattle.hir_nameres.specs.World.{finished_in};
+ghost use Rattle.hir_mod_collector.specs.HirCollectorRules.Workspace.{config_view, dependencies_of, options_of};
+ghost use Rattle.hir_mod_collector.specs.HirCollectorRules.Keys.{Environment, environment};
+ghost use Rattle.hir_mod_collector.specs.HirCollectorRules.ModuleFiles.{IsFileMeant, file_of_tree, is_file_meant};
+ghost use Rattle.hir_mod_collector.specs.HirCollectorRules.Start.{began, core_of, exports_macros, holders_by, id_of, is_declared, is_proc_macro_by, root_site, tree_visits};
+ghost use Rattle.hir_mod_collector.specs.HirCollectorRules.CallMoves.{ComesToRest, IsReady};
+ghost use Rattle.hir_mod_collector.specs.HirCollectorRules.Calls.{AreCallsPlaced, IsMeantAt};
+ghost use Rattle.hir_mod_collector.specs.HirCollectorRules.State.{at_rest, core_in, joined};
+ghost use Rattle.hir_mod_collector.specs.HirCollectorRules.Steps.{Steps};
+ghost use Rattle.hir_mod_collector.specs.HirCollectorRules.Derivation.{IsSpent};
+ghost use Rattle.hir_mod_collector.specs.HirCollectorRules.Moves.{OnceGrown};
+ghost use Rattle.hir_mod_collector.specs.HirCollectorImports.Outside.{begins_inside, begins_outside};
 
-use hir_base::ast_id::FileId;
-use hir_base::cfg_options::CfgOptions;
-use hir_base::ids::{MapId, ModuleId};
-use hir_collector_rules::site::Site;
-use hir_collector_rules::source_database::{Config, CrateRoot, Dependency, SourceDatabase};
-use hir_collector_rules::start::{Start, StepError};
-use hir_collector_start::sources::source_at;
-use hir_collector_start::start_data::{start_data, start_local};
-use hir_collector_state::def_collector::DefCollector;
-use hir_crate_graph::crate_set::CrateSet;
 use hir_def_map::nameres::local_def_map::LocalDefMap;
 use hir_def_map::world::World;
 use hir_def_map::world::part::WorldPart;
-use hir_item_tree::item_tree::ItemTree;
-use hir_item_tree::source_tree::SourceTree;
-use hir_item_tree::tree_id::{TreeId, TreeKey};
+use hir_mod_collector::hir_base::ast_id::FileId;
+use hir_mod_collector::hir_base::cfg_options::CfgOptions;
+use hir_mod_collector::hir_base::ids::{MapId, ModuleId};
+use hir_mod_collector::hir_collector_rules::site::Site;
+use hir_mod_collector::hir_collector_rules::source_database::{
+    Config, CrateRoot, Dependency, SourceDatabase,
+};
+use hir_mod_collector::hir_collector_rules::start::{Start, StepError};
+use hir_mod_collector::hir_collector_start::sources::source_at;
+use hir_mod_collector::hir_collector_start::start_data::{start_data, start_local};
+use hir_mod_collector::hir_collector_state::def_collector::DefCollector;
+use hir_mod_collector::hir_crate_graph::crate_set::CrateSet;
+use hir_mod_collector::hir_item_tree::item_tree::ItemTree;
+use hir_mod_collector::hir_item_tree::source_tree::SourceTree;
+use hir_mod_collector::hir_item_tree::tree_id::{TreeId, TreeKey};
+use hir_mod_collector::hir_mod_dir::ModDir;
+use hir_mod_collector::hir_mod_resolution::mod_resolution::file_of_tree;
+use hir_mod_collector::hir_tables::Tables;
 use hir_mod_collector::mod_collector::walk_all;
-use hir_mod_dir::ModDir;
-use hir_mod_resolution::mod_resolution::file_of_tree;
-use hir_tables::Tables;
 use std::alloc::{AllocError, Global};
 use std::rc::Rc;
 
@@ -57,7 +59,7 @@ pub fn lacks_its_file(locations: &Tables, tree: TreeId) -> bool
 }
 
 /// The modules that hold a block, the innermost first; none holds a crate.
-#[tactic(auto, unfolding(hir_def_map::specs::World::finished_in))]
+#[tactic(auto, unfolding(hir_nameres::specs::World::finished_in))]
 pub fn holders_by(alloc: Global, world: &World, start: Start) -> Result<Vec<ModuleId>, AllocError>
     ensures value { IfOk result (λ holders. holders.items ≡ holders_by (finished_in world.now.maps) start) }
 {

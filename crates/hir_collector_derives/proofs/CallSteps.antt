@@ -4,56 +4,56 @@ use Rattle.std.specs.Option.{option_and_then}
 use Rattle.std.proofs.Common.{◌≡◌, ◌∙◌, ◌+◌, ℕ, ◌<◌, ◌≤◌, List, [], ◌∷◌, ◌++◌, length, slice_get, slice_set, Option, None, Some, inl, refl, sym, ap, subst}
 use Rattle.std.proofs.Common.{arith, append-nil}
 use Rattle.either.specs.declared.Either.TheVariants as either
-use Rattle.hir_base.specs.Ids.{macro_module}
-use Rattle.hir_base.specs.contracts.ids.MapIdPartialEq.TheImpl as map_id
-use Rattle.hir_base.specs.declared.ast_id.AstId.{AstId}
-use Rattle.hir_base.specs.declared.macro_kind.BuiltinDeriveImplId.{BuiltinDeriveImplId}
-use Rattle.hir_base.specs.declared.ast_id.MacroCallId.{MacroCallId}
-use Rattle.hir_base.specs.declared.macro_kind.MacroId.{MacroId}
-use Rattle.hir_base.specs.declared.ids.MapId.{MapId}
-use Rattle.hir_base.specs.declared.ids.ModuleId.{ModuleId}
-use Rattle.hir_item_tree.specs.KeptForest.{KeptForest, KeptItem, all_items}
-use Rattle.hir_item_tree.specs.Rows.{items_at, numbers_of}
-use Rattle.hir_item_tree.specs.SourceTree.{SourceTreeValue}
-use Rattle.hir_item_tree.specs.declared.rows.ModItemId.{ModItemId}
-use Rattle.hir_tables.specs.Tables.{KeepsTables, TablesValue}
-use Rattle.hir_tables.proofs.Growth.{KeepsTables-trans}
-use Rattle.hir_def_map_rules.specs.Macros.{macro_data_at, with_diagnostic}
-use Rattle.hir_def_map_rules.specs.Overlay.{Maps, Placed, placed_in}
-use Rattle.hir_def_map_rules.specs.State.{MacroDataValue, Map, numbered}
-use Rattle.hir_def_map_rules.specs.declared.derive_helpers.DeriveHelper.{DeriveHelper}
-use Rattle.hir_import_rules.specs.Rest.{IsAtRest}
-use Rattle.hir_collector_rules.specs.declared.start.TheConstants.{STEP_LIMIT}
-use Rattle.hir_collector_rules.specs.declared.macro_directive.Fate.{Fate}
-use Rattle.hir_collector_rules.specs.declared.macro_directive.MacroDirective.{MacroDirective}
-use Rattle.hir_collector_rules.specs.declared.site.Site.{Site}
-use Rattle.hir_collector_rules.specs.declared.macro_directive.WaitingItem.{WaitingItem}
-use Rattle.hir_collector_rules.specs.declared.macro_directive.Fate.TheVariants.{GivenUp, Handled, Waits}
-use Rattle.hir_collector_rules.specs.CallMoves.{NoneWaitsBefore, Rested, RestsTooFar, SeesCall, already, moved}
-use Rattle.hir_collector_rules.specs.Calls.{DerivedCall, Expanding, IsMeantAt, IsWaiting, LeadsNowhere, call_site, error_of, helpers_brought, helpers_by}
-use Rattle.hir_collector_rules.specs.Calls.{helpers_of, item_kept, kept_of, waiting_item}
-use Rattle.hir_collector_rules.specs.Changes.{Change, act, helps, perform, with_derived}
-use Rattle.hir_collector_rules.specs.Derivation.{IsSpent, counted_out, numbered_out}
-use Rattle.hir_collector_rules.specs.Invocations.{Invocation, impl_noted, invocation_of, with_noted}
-use Rattle.hir_collector_rules.specs.ItemIds.{module_id}
-use Rattle.hir_collector_rules.specs.Keys.{Environment, environment}
-use Rattle.hir_collector_rules.specs.NumberedOut.{LacksExpansion, lacks_call}
-use Rattle.hir_collector_rules.specs.Moves.{Makes, OnceGrown, Walks, WalksTooFar}
-use Rattle.hir_collector_rules.specs.State.{Core, State, Task, at_rest, behind, counted, import_state, joined, ticked, visit, visits, visits_over, with_fate}
-use Rattle.hir_collector_rules.specs.State.{with_map, with_settled}
-use Rattle.hir_collector_rules.specs.Steps.{CallsMacro, DerivesBuiltin, Expands, FallsBack, IsDeep, IsQuiet, IsReachedDeep, May, MayRest, Numbered, Rule, Sees}
-use Rattle.hir_collector_rules.specs.Steps.{Skips, Step, Steps, bringing, derives_builtin, drops_call, drops_reached, expands_call, failing, falls_back, none}
-use Rattle.hir_collector_rules.specs.Steps.{reads, rests, site_behind, skips_attribute, visit_behind}
-use Rattle.hir_collector_rules.specs.TreeReads.{visits_at, visits_behind, visits_found}
-use Rattle.hir_collector_rules.specs.Workspace.{TreeLook, Workspace}
-use Rattle.hir_collector_rules.specs.Reports.{call_report}
-use Rattle.hir_collector_rules.proofs.Changes.{Keeps-perform, perform-append}
-use Rattle.hir_collector_rules.proofs.Grows.{Grows-Step}
-use Rattle.hir_collector_rules.proofs.Lists.{get_inside, get_set_same}
+use Rattle.hir_collector_state.specs.HirIds.Ids.{macro_module}
+use Rattle.hir_collector_state.specs.HirIds.contracts.ids.MapIdPartialEq.TheImpl as map_id
+use Rattle.hir_collector_state.specs.HirIds.declared.ast_id.AstId.{AstId}
+use Rattle.hir_collector_state.specs.HirIds.declared.macro_kind.BuiltinDeriveImplId.{BuiltinDeriveImplId}
+use Rattle.hir_collector_state.specs.HirIds.declared.ast_id.MacroCallId.{MacroCallId}
+use Rattle.hir_collector_state.specs.HirIds.declared.macro_kind.MacroId.{MacroId}
+use Rattle.hir_collector_state.specs.HirIds.declared.ids.MapId.{MapId}
+use Rattle.hir_collector_state.specs.HirIds.declared.ids.ModuleId.{ModuleId}
+use Rattle.hir_collector_state.specs.HirItemTree.KeptForest.{KeptForest, KeptItem, all_items}
+use Rattle.hir_collector_state.specs.HirItemTree.Rows.{items_at, numbers_of}
+use Rattle.hir_collector_state.specs.HirItemTree.SourceTree.{SourceTreeValue}
+use Rattle.hir_collector_state.specs.HirItemTree.declared.rows.ModItemId.{ModItemId}
+use Rattle.hir_collector_state.specs.HirTables.Tables.{KeepsTables, TablesValue}
+use Rattle.hir_collector_state.proofs.HirTables.Growth.{KeepsTables-trans}
+use Rattle.hir_collector_state.specs.HirDefMapRules.Macros.{macro_data_at, with_diagnostic}
+use Rattle.hir_collector_state.specs.HirDefMapRules.Overlay.{Maps, Placed, placed_in}
+use Rattle.hir_collector_state.specs.HirDefMapRules.State.{MacroDataValue, Map, numbered}
+use Rattle.hir_collector_state.specs.HirMapParts.declared.derive_helpers.DeriveHelper.{DeriveHelper}
+use Rattle.hir_collector_state.specs.HirImportRules.Rest.{IsAtRest}
+use Rattle.hir_collector_state.specs.HirCollectorRules.declared.start.TheConstants.{STEP_LIMIT}
+use Rattle.hir_collector_state.specs.HirCollectorRules.declared.macro_directive.Fate.{Fate}
+use Rattle.hir_collector_state.specs.HirCollectorRules.declared.macro_directive.MacroDirective.{MacroDirective}
+use Rattle.hir_collector_state.specs.HirCollectorRules.declared.site.Site.{Site}
+use Rattle.hir_collector_state.specs.HirCollectorRules.declared.macro_directive.WaitingItem.{WaitingItem}
+use Rattle.hir_collector_state.specs.HirCollectorRules.declared.macro_directive.Fate.TheVariants.{GivenUp, Handled, Waits}
+use Rattle.hir_collector_state.specs.HirCollectorRules.CallMoves.{NoneWaitsBefore, Rested, RestsTooFar, SeesCall, already, moved}
+use Rattle.hir_collector_state.specs.HirCollectorRules.Calls.{DerivedCall, Expanding, IsMeantAt, IsWaiting, LeadsNowhere, call_site, error_of, helpers_brought, helpers_by}
+use Rattle.hir_collector_state.specs.HirCollectorRules.Calls.{helpers_of, item_kept, kept_of, waiting_item}
+use Rattle.hir_collector_state.specs.HirCollectorRules.Changes.{Change, act, helps, perform, with_derived}
+use Rattle.hir_collector_state.specs.HirCollectorRules.Derivation.{IsSpent, counted_out, numbered_out}
+use Rattle.hir_collector_state.specs.HirCollectorRules.Invocations.{Invocation, impl_noted, invocation_of, with_noted}
+use Rattle.hir_collector_state.specs.HirCollectorRules.ItemIds.{module_id}
+use Rattle.hir_collector_state.specs.HirCollectorRules.Keys.{Environment, environment}
+use Rattle.hir_collector_state.specs.HirCollectorRules.NumberedOut.{LacksExpansion, lacks_call}
+use Rattle.hir_collector_state.specs.HirCollectorRules.Moves.{Makes, OnceGrown, Walks, WalksTooFar}
+use Rattle.hir_collector_state.specs.HirCollectorRules.State.{Core, State, Task, at_rest, behind, counted, import_state, joined, ticked, visit, visits, visits_over, with_fate}
+use Rattle.hir_collector_state.specs.HirCollectorRules.State.{with_map, with_settled}
+use Rattle.hir_collector_state.specs.HirCollectorRules.Steps.{CallsMacro, DerivesBuiltin, Expands, FallsBack, IsDeep, IsQuiet, IsReachedDeep, May, MayRest, Numbered, Rule, Sees}
+use Rattle.hir_collector_state.specs.HirCollectorRules.Steps.{Skips, Step, Steps, bringing, derives_builtin, drops_call, drops_reached, expands_call, failing, falls_back, none}
+use Rattle.hir_collector_state.specs.HirCollectorRules.Steps.{reads, rests, site_behind, skips_attribute, visit_behind}
+use Rattle.hir_collector_state.specs.HirCollectorRules.TreeReads.{visits_at, visits_behind, visits_found}
+use Rattle.hir_collector_state.specs.HirCollectorRules.Workspace.{TreeLook, Workspace}
+use Rattle.hir_collector_state.specs.HirCollectorRules.Reports.{call_report}
+use Rattle.hir_collector_state.proofs.HirCollectorRules.Changes.{Keeps-perform, perform-append}
+use Rattle.hir_collector_state.proofs.HirCollectorRules.Grows.{Grows-Step}
+use Rattle.hir_collector_state.proofs.HirCollectorRules.Lists.{get_inside, get_set_same}
 use Rattle.hir_collector_state.proofs.Made.{Goes, count_kept, goes, made}
-use Rattle.hir_collector_rules.proofs.Moves.{Steps-first, Steps-one, spent_after}
-use Rattle.hir_collector_rules.proofs.Numbers.{tables_stay}
-use Rattle.hir_collector_rules.proofs.Tried.{handled_stays}
+use Rattle.hir_collector_state.proofs.HirCollectorRules.Moves.{Steps-first, Steps-one, spent_after}
+use Rattle.hir_collector_state.proofs.HirCollectorRules.Numbers.{tables_stay}
+use Rattle.hir_collector_state.proofs.HirCollectorRules.Tried.{handled_stays}
 
 -- ---- numbers
 

@@ -1,12 +1,12 @@
 -- Helpers that are brought one after another.
 use Rattle.std.proofs.Common.{◌≡◌, ◌∙◌, ◌<◌, ◌+◌, ℕ, zero, suc, List, [], ◌∷◌, drop, length, map, refl, sym, ap, arith}
-use Rattle.hir_base.specs.declared.ast_id.AstId.{AstId}
-use Rattle.hir_def_map_rules.specs.Macros.{with_derive_helper}
-use Rattle.hir_def_map_rules.specs.declared.derive_helpers.DeriveHelper.{DeriveHelper}
-use Rattle.hir_collector_rules.specs.Changes.{act, helps, perform}
-use Rattle.hir_collector_rules.specs.Moves.{Makes}
-use Rattle.hir_collector_rules.specs.State.{Core, State, Task, joined, with_map}
-use Rattle.hir_collector_rules.specs.Steps.{bringing}
+use Rattle.hir_collector_state.specs.HirIds.declared.ast_id.AstId.{AstId}
+use Rattle.hir_collector_state.specs.HirDefMapRules.Macros.{with_derive_helper}
+use Rattle.hir_collector_state.specs.HirMapParts.declared.derive_helpers.DeriveHelper.{DeriveHelper}
+use Rattle.hir_collector_state.specs.HirCollectorRules.Changes.{act, helps, perform}
+use Rattle.hir_collector_state.specs.HirCollectorRules.Moves.{Makes}
+use Rattle.hir_collector_state.specs.HirCollectorRules.State.{Core, State, Task, joined, with_map}
+use Rattle.hir_collector_state.specs.HirCollectorRules.Steps.{bringing}
 
 -- bringing those that are left from here comes to what bringing all from there does
 pub record MakesWithLeft (node : AstId) (left all : List DeriveHelper) (old now : Core) : Type 0 where

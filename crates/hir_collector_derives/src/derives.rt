@@ -1,24 +1,26 @@
 //! What derives bring, and what is dropped.
 ghost use Rattle.std.specs.Prelude.{◌≡◌, ◌<◌, ◌≤◌, IfOk, OnOk, Some, length, map, slice_get};
-ghost use Rattle.hir_def_map.specs.WorldParts.{part_of};
-ghost use Rattle.hir_collector_rules.specs.Calls.{DerivedCall, builtin_impl, helper_by, helpers_brought};
-ghost use Rattle.hir_collector_rules.specs.Derivation.{IsSpent};
-ghost use Rattle.hir_collector_rules.specs.Keys.{Environment};
-ghost use Rattle.hir_collector_rules.specs.Moves.{Makes};
-ghost use Rattle.hir_collector_rules.specs.State.{at_rest, core_in, counted, with_fate};
-ghost use Rattle.hir_collector_rules.specs.Steps.{DerivesBuiltin, IsReachedDeep, Steps, bringing};
+ghost use Rattle.hir_collector_state.specs.HirNameres.WorldParts.{part_of};
+ghost use Rattle.hir_collector_state.specs.HirCollectorRules.Calls.{DerivedCall, builtin_impl, helper_by, helpers_brought};
+ghost use Rattle.hir_collector_state.specs.HirCollectorRules.Derivation.{IsSpent};
+ghost use Rattle.hir_collector_state.specs.HirCollectorRules.Keys.{Environment};
+ghost use Rattle.hir_collector_state.specs.HirCollectorRules.Moves.{Makes};
+ghost use Rattle.hir_collector_state.specs.HirCollectorRules.State.{at_rest, core_in, counted, with_fate};
+ghost use Rattle.hir_collector_state.specs.HirCollectorRules.Steps.{DerivesBuiltin, IsReachedDeep, Steps, bringing};
 ghost use Rattle.hir_collector_state.specs.Waiting.{IsNoted};
 
 use either::Either;
-use hir_base::ast_id::{AstId, MacroCallId};
-use hir_base::macro_kind::{BuiltinDeriveImplId, MacroId};
-use hir_base::name::Name;
-use hir_collector_rules::macro_directive::{Fate, MacroDirective, MacroDirectiveKind};
-use hir_collector_rules::names::cloned;
-use hir_collector_rules::start::{STEP_LIMIT, StepError};
 use hir_collector_state::def_collector::DefCollector;
-use hir_def_map::nameres::derive_helpers::DeriveHelper;
-use hir_def_map::world::part::WorldPart;
+use hir_collector_state::hir_base::ast_id::{AstId, MacroCallId};
+use hir_collector_state::hir_base::macro_kind::{BuiltinDeriveImplId, MacroId};
+use hir_collector_state::hir_base::name::Name;
+use hir_collector_state::hir_collector_rules::macro_directive::{
+    Fate, MacroDirective, MacroDirectiveKind,
+};
+use hir_collector_state::hir_collector_rules::names::cloned;
+use hir_collector_state::hir_collector_rules::start::{STEP_LIMIT, StepError};
+use hir_collector_state::hir_nameres::nameres::derive_helpers::DeriveHelper;
+use hir_collector_state::hir_nameres::world::part::WorldPart;
 use std::alloc::AllocError;
 
 /// The names of the helpers that come into scope with a macro: none but those of a derive.

@@ -4,7 +4,7 @@ use Rattle.std.specs.BTreeMap.{is_at}
 use Rattle.std.specs.Cmp.Lexicographic.{slice_cmp}
 use Rattle.std.specs.Map.{lookup}
 use Rattle.std.specs.Ordering.{nat_cmp}
-use Rattle.hir_base.specs.declared.ids.Crate.{Crate}
+use Rattle.hir_ids.specs.declared.ids.Crate.{Crate}
 use Rattle.hir_item_tree.specs.Source.{SourceValue, source_view}
 use Rattle.hir_item_tree.specs.declared.source.Source.{Source}
 use Rattle.hir_tables.specs.SourcePlaces.{SourcePlaceValue, file, block, expansion}

@@ -1,10 +1,10 @@
 -- Steps of imports are steps of the run.
 use Rattle.std.proofs.Common.{◌≡◌, ◌∙◌, List, [], ◌∷◌, map as list_map, inl, refl, sym, ap, subst}
-use Rattle.hir_def_map_rules.specs.Overlay.{Maps}
-use Rattle.hir_import_rules.specs.Changes.{Change as ImportChange, act as act_on_imports, perform as perform_on_imports}
-use Rattle.hir_import_rules.specs.Rest as rest
-use Rattle.hir_import_rules.specs.Rules as imports
-use Rattle.hir_import_rules.specs.State.{ImportState}
+use Rattle.hir_collector_state.specs.HirDefMapRules.Overlay.{Maps}
+use Rattle.hir_collector_state.specs.HirImportRules.Changes.{Change as ImportChange, act as act_on_imports, perform as perform_on_imports}
+use Rattle.hir_collector_state.specs.HirImportRules.Rest as rest
+use Rattle.hir_collector_state.specs.HirImportRules.Rules as imports
+use Rattle.hir_collector_state.specs.HirImportRules.State.{ImportState}
 use Rattle.hir_collector_rules.specs.Changes.{act, changes_imports, perform}
 use Rattle.hir_collector_rules.specs.Derivation.{IsSpent, counted_out}
 use Rattle.hir_collector_rules.specs.Keys.{Environment}

@@ -1,12 +1,12 @@
 -- What imports change is noted.
 use Rattle.std.proofs.Common.{◌≡◌, ◌≢◌, ◌⊎◌, inl, inr, ap, refl, Bool, true, false, List, arith}
-use Rattle.hir_def_map_rules.specs.Overlay.{Maps}
-use Rattle.hir_def_map.specs.declared.nameres.path_resolution.slots.Slot.{Slot as PathSlot}
-use Rattle.hir_def_map_laws.specs.SlotChanges.{ScopesChangeAmong}
-use Rattle.hir_import_rules.specs.Changed.{everything, with_slots}
+use Rattle.hir_collector_state.specs.HirDefMapRules.Overlay.{Maps}
+use Rattle.hir_collector_state.specs.HirNameres.declared.nameres.path_resolution.slots.Slot.{Slot as PathSlot}
+use Rattle.hir_collector_state.specs.HirDefMapLaws.SlotChanges.{ScopesChangeAmong}
+use Rattle.hir_collector_state.specs.HirImportRules.Changed.{everything, with_slots}
 use Rattle.hir_import_resolution.proofs.Counting.{step_count, steps_count}
-use Rattle.hir_import_rules.specs.Rules.{Steps, more, none}
-use Rattle.hir_import_rules.specs.State.{ImportState}
+use Rattle.hir_collector_state.specs.HirImportRules.Rules.{Steps, more, none}
+use Rattle.hir_collector_state.specs.HirImportRules.State.{ImportState}
 use Rattle.hir_collector_rules.specs.State.{Run, at_rest, core_in, import_state}
 use Rattle.hir_collector_state.specs.Waiting.{NotesSlots}
 use Rattle.hir_collector_rules.proofs.Bound.{number_same_or_not}

@@ -4,32 +4,32 @@ use Rattle.std.proofs.Common.{cond, slice_get, arith}
 use Rattle.std.proofs.lemmas.List.Elements.{Contains-append_cases, Contains-append_left, Contains-append_right, Contains-push_cases}
 use Rattle.std.specs.Option.{option_and_then}
 use Rattle.std.specs.Prelude.{Result, Ok, Err, IfOk, IsOkAnd, OnOk}
-use Rattle.hir_base.specs.declared.ast_id.AstId.{AstId}
-use Rattle.hir_base.specs.declared.ids.ModuleId.{ModuleId}
-use Rattle.hir_scope.specs.declared.imports.GlobId.{GlobId}
-use Rattle.hir_scope.specs.declared.visibility.Visibility.{Visibility}
-use Rattle.hir_def_map_rules.proofs.WellFormed.{parent_listed}
-use Rattle.hir_def_map_rules.specs.Overlay.{Maps}
-use Rattle.hir_def_map_rules.specs.State.{Map, ModuleValue, parent_at, parent_of}
-use Rattle.hir_def_map.specs.declared.nameres.path_resolution.slots.Slot.{Slot as PathSlot}
-use Rattle.hir_def_map.specs.declared.nameres.path_resolution.slots.Slot.TheVariants.{Module as of_module}
-use Rattle.hir_def_map_laws.specs.ReadLaw.{AgreeAt, DiffersInScopes}
-use Rattle.hir_def_map_laws.specs.SlotChanges.{ScopesChangeAmong}
-use Rattle.hir_glob_imports.specs.Keys.{name_of}
-use Rattle.hir_glob_imports.specs.Rules.{brings, copies, follows, raises}
-use Rattle.hir_glob_imports.specs.declared.edge.Bound.{Bound}
-use Rattle.hir_glob_imports.specs.declared.edge.Key.{Key}
-use Rattle.hir_glob_imports.specs.declared.edge.Target.{Target}
-use Rattle.hir_glob_imports.specs.declared.edge.Key.TheVariants.{Types, Values, Macros, Unnamed}
-use Rattle.hir_glob_imports.specs.declared.edge.Slot.{Slot as GlobSlot}
-use Rattle.hir_import_rules.specs.Changes.{Change as ImportChange, act, along, keeps_trait, perform, pushes, records, takes}
-use Rattle.hir_import_rules.specs.Directives.{TakenValue}
+use Rattle.hir_collector_state.specs.HirIds.declared.ast_id.AstId.{AstId}
+use Rattle.hir_collector_state.specs.HirIds.declared.ids.ModuleId.{ModuleId}
+use Rattle.hir_collector_state.specs.HirPerNs.declared.imports.GlobId.{GlobId}
+use Rattle.hir_collector_state.specs.HirPerNs.declared.visibility.Visibility.{Visibility}
+use Rattle.hir_collector_state.proofs.HirDefMapRules.WellFormed.{parent_listed}
+use Rattle.hir_collector_state.specs.HirDefMapRules.Overlay.{Maps}
+use Rattle.hir_collector_state.specs.HirDefMapRules.State.{Map, ModuleValue, parent_at, parent_of}
+use Rattle.hir_collector_state.specs.HirNameres.declared.nameres.path_resolution.slots.Slot.{Slot as PathSlot}
+use Rattle.hir_collector_state.specs.HirNameres.declared.nameres.path_resolution.slots.Slot.TheVariants.{Module as of_module}
+use Rattle.hir_collector_state.specs.HirDefMapLaws.ReadLaw.{AgreeAt, DiffersInScopes}
+use Rattle.hir_collector_state.specs.HirDefMapLaws.SlotChanges.{ScopesChangeAmong}
+use Rattle.hir_collector_state.specs.HirGlobImports.Keys.{name_of}
+use Rattle.hir_collector_state.specs.HirGlobImports.Rules.{brings, copies, follows, raises}
+use Rattle.hir_collector_state.specs.HirGlobImports.declared.edge.Bound.{Bound}
+use Rattle.hir_collector_state.specs.HirGlobImports.declared.edge.Key.{Key}
+use Rattle.hir_collector_state.specs.HirGlobImports.declared.edge.Target.{Target}
+use Rattle.hir_collector_state.specs.HirGlobImports.declared.edge.Key.TheVariants.{Types, Values, Macros, Unnamed}
+use Rattle.hir_collector_state.specs.HirGlobImports.declared.edge.Slot.{Slot as GlobSlot}
+use Rattle.hir_collector_state.specs.HirImportRules.Changes.{Change as ImportChange, act, along, keeps_trait, perform, pushes, records, takes}
+use Rattle.hir_collector_state.specs.HirImportRules.Directives.{TakenValue}
 use Rattle.hir_import_resolution.specs.Inner.State.{path_slots, slots_named}
-use Rattle.hir_import_rules.specs.Names.{ScopesValue, bound_of, copied, copied_to, copied_where, followed, followed_to, followed_where}
-use Rattle.hir_import_rules.specs.Rules.{Step, Steps, acts, more, none}
-use Rattle.hir_import_rules.specs.State.{ImportState, scopes_of}
-use Rattle.hir_import_rules.specs.declared.directive.ImportDirective.{ImportDirective}
-use Rattle.hir_import_rules.specs.Changed.{ChangedValue, IsUnhelped, IsUntouched, with_slots}
+use Rattle.hir_collector_state.specs.HirImportRules.Names.{ScopesValue, bound_of, copied, copied_to, copied_where, followed, followed_to, followed_where}
+use Rattle.hir_collector_state.specs.HirImportRules.Rules.{Step, Steps, acts, more, none}
+use Rattle.hir_collector_state.specs.HirImportRules.State.{ImportState, scopes_of}
+use Rattle.hir_collector_state.specs.HirImportRules.declared.directive.ImportDirective.{ImportDirective}
+use Rattle.hir_collector_state.specs.HirImportRules.Changed.{ChangedValue, IsUnhelped, IsUntouched, with_slots}
 use Rattle.hir_collector_rules.specs.State.{Run, at_rest, core_in, import_state}
 use Rattle.hir_collector_state.specs.Waiting.{IsNotedBeside, KeepsModules, LeavesGlobs, LeavesImports, NotesSlots}
 use Rattle.hir_collector_imports.specs.Waiting.{noted_along, noted_name}

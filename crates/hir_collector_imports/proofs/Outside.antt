@@ -5,17 +5,17 @@ use Rattle.std.specs.Cmp.Lexicographic.{slice_cmp}
 use Rattle.std.specs.Map.{lookup}
 use Rattle.std.specs.Ordering.{nat_cmp}
 use Rattle.std.specs.Prelude.{is_none, is_some, not}
-use Rattle.hir_base.specs.declared.ast_id.BlockId.{BlockId}
-use Rattle.hir_base.specs.declared.ids.ExternCrateId.{ExternCrateId}
-use Rattle.hir_base.specs.declared.ids.MapId.{MapId}
-use Rattle.hir_base.specs.declared.ids.ModuleId.{ModuleId}
-use Rattle.hir_def_map.specs.Scoping.Slots.{is_in}
-use Rattle.hir_def_map_laws.specs.ReadLaw.{BeginsOutside, KeepApart}
-use Rattle.hir_def_map_rules.specs.Overlay.{Maps}
-use Rattle.hir_def_map_rules.specs.State.{Local, at_name}
+use Rattle.hir_collector_state.specs.HirIds.declared.ast_id.BlockId.{BlockId}
+use Rattle.hir_collector_state.specs.HirIds.declared.ids.ExternCrateId.{ExternCrateId}
+use Rattle.hir_collector_state.specs.HirIds.declared.ids.MapId.{MapId}
+use Rattle.hir_collector_state.specs.HirIds.declared.ids.ModuleId.{ModuleId}
+use Rattle.hir_collector_state.specs.HirNameres.Scoping.Slots.{is_in}
+use Rattle.hir_collector_state.specs.HirDefMapLaws.ReadLaw.{BeginsOutside, KeepApart}
+use Rattle.hir_collector_state.specs.HirDefMapRules.Overlay.{Maps}
+use Rattle.hir_collector_state.specs.HirDefMapRules.State.{Local, at_name}
 use Rattle.hir_collector_rules.specs.Changes.{Change, act, begins_paths, changes_imports, perform}
 use Rattle.hir_collector_rules.specs.Imports.{extern_by}
-use Rattle.hir_import_rules.specs.Directives.{name_of}
+use Rattle.hir_collector_state.specs.HirImportRules.Directives.{name_of}
 use Rattle.hir_collector_rules.specs.Keys.{Environment}
 use Rattle.hir_collector_rules.specs.State.{Core, State, at_rest, import_state}
 use Rattle.hir_collector_rules.specs.Steps.{Step, Steps, acts, asking, more, none}

@@ -1,29 +1,29 @@
 -- What a part of a run needs holds wherever steps lead.
 use Rattle.std.proofs.Common.{◌≡◌, ◌∙◌, ◌+◌, ℕ, zero, suc, ◌<◌, ◌≤◌, List, [], ◌∷◌, length, map as list_map, slice_get, None, Some, refl, sym, ap, subst, arith}
-use Rattle.hir_base.specs.declared.ids.Crate.{Crate}
-use Rattle.hir_base.specs.declared.ids.ModuleId.{ModuleId}
-use Rattle.hir_base.specs.declared.ids.TraitId.{TraitId}
-use Rattle.hir_item_tree.specs.declared.tree_id.TreeId.{TreeId}
-use Rattle.hir_tables.specs.Tables.{KeepsTables, TablesValue}
-use Rattle.hir_textual_scope.specs.Macros.{with_macro}
-use Rattle.hir_scope.specs.Scope.{ScopeValue}
-use Rattle.hir_def_map_rules.specs.Macros.{with_derive_helper, with_diagnostic, with_exported, with_macro_data, with_macro_def}
-use Rattle.hir_def_map_rules.specs.Overlay.{Maps}
-use Rattle.hir_def_map_rules.specs.State.{IsInOrder, Map, entry_at, module_at, new_module, with_enum}
-use Rattle.hir_glob_imports.specs.Waves.{Stands}
-use Rattle.hir_glob_imports.specs.declared.edge.Brought.{Brought}
-use Rattle.hir_glob_imports.specs.declared.edge.Slot.{Slot}
-use Rattle.hir_glob_imports.specs.declared.edge.Key.{Key as SlotKey}
-use Rattle.hir_glob_imports.specs.declared.edge.Target.TheVariants.{Own}
-use Rattle.hir_import_rules.specs.Changes.{Change as ImportChange, act as act_on_imports, along, keeps_trait, pushes, records, takes}
-use Rattle.hir_import_rules.specs.Directives.{not_taken, nothing_taken}
-use Rattle.hir_import_rules.specs.Names.{bound_at, trait_vis, view_of}
-use Rattle.hir_import_rules.specs.Rest.{IsRecorded, IsSound, IsSource}
-use Rattle.hir_import_growth.specs.Growth.{GrowsAround}
-use Rattle.hir_import_rules.specs.Rules as imports
-use Rattle.hir_import_rules.specs.State.{ImportState, scopes_of}
-use Rattle.hir_import_rules.specs.declared.directive.ImportDirective.{ImportDirective}
-use Rattle.hir_import_growth.proofs.GrowingAround.{lists_around, modules_around, scopes_around}
+use Rattle.hir_collector_state.specs.HirIds.declared.ids.Crate.{Crate}
+use Rattle.hir_collector_state.specs.HirIds.declared.ids.ModuleId.{ModuleId}
+use Rattle.hir_collector_state.specs.HirIds.declared.ids.TraitId.{TraitId}
+use Rattle.hir_collector_state.specs.HirBase.declared.tree_id.TreeId.{TreeId}
+use Rattle.hir_collector_state.specs.HirTables.Tables.{KeepsTables, TablesValue}
+use Rattle.hir_collector_state.specs.HirTextualScope.Macros.{with_macro}
+use Rattle.hir_collector_state.specs.HirScope.Scope.{ScopeValue}
+use Rattle.hir_collector_state.specs.HirDefMapRules.Macros.{with_derive_helper, with_diagnostic, with_exported, with_macro_data, with_macro_def}
+use Rattle.hir_collector_state.specs.HirDefMapRules.Overlay.{Maps}
+use Rattle.hir_collector_state.specs.HirDefMapRules.State.{IsInOrder, Map, entry_at, module_at, new_module, with_enum}
+use Rattle.hir_collector_state.specs.HirGlobImports.Waves.{Stands}
+use Rattle.hir_collector_state.specs.HirGlobImports.declared.edge.Brought.{Brought}
+use Rattle.hir_collector_state.specs.HirGlobImports.declared.edge.Slot.{Slot}
+use Rattle.hir_collector_state.specs.HirGlobImports.declared.edge.Key.{Key as SlotKey}
+use Rattle.hir_collector_state.specs.HirGlobImports.declared.edge.Target.TheVariants.{Own}
+use Rattle.hir_collector_state.specs.HirImportRules.Changes.{Change as ImportChange, act as act_on_imports, along, keeps_trait, pushes, records, takes}
+use Rattle.hir_collector_state.specs.HirImportRules.Directives.{not_taken, nothing_taken}
+use Rattle.hir_collector_state.specs.HirImportRules.Names.{bound_at, trait_vis, view_of}
+use Rattle.hir_collector_state.specs.HirImportRules.Rest.{IsRecorded, IsSound, IsSource}
+use Rattle.hir_collector_state.specs.HirImportGrowth.Growth.{GrowsAround}
+use Rattle.hir_collector_state.specs.HirImportRules.Rules as imports
+use Rattle.hir_collector_state.specs.HirImportRules.State.{ImportState, scopes_of}
+use Rattle.hir_collector_state.specs.HirImportRules.declared.directive.ImportDirective.{ImportDirective}
+use Rattle.hir_collector_state.proofs.HirImportGrowth.GrowingAround.{lists_around, modules_around, scopes_around}
 use Rattle.hir_import_resolution.proofs.Soundness.{local_keeps_sound, pushes_keep_sound, reached_keep_sound, steps_keep_sound}
 use Rattle.hir_collector_rules.specs.declared.macro_directive.MacroDirective.{MacroDirective}
 use Rattle.hir_collector_rules.specs.declared.start.Start.{Start}

@@ -1,11 +1,11 @@
 -- Does a path begin with a module of a run's own map?
 use Rattle.std.specs.Prelude.{◌||◌, ℕ, Bool, List, Option, is_none, not}
 use Rattle.std.specs.List.{list_any}
-use Rattle.hir_base.specs.declared.ids.ExternCrateId.{ExternCrateId}
-use Rattle.hir_base.specs.declared.ids.MapId.{MapId}
-use Rattle.hir_base.specs.declared.ids.ModuleId.{ModuleId}
-use Rattle.hir_def_map.specs.Scoping.Slots.{is_in}
-use Rattle.hir_def_map_rules.specs.State.{Local}
+use Rattle.hir_collector_state.specs.HirIds.declared.ids.ExternCrateId.{ExternCrateId}
+use Rattle.hir_collector_state.specs.HirIds.declared.ids.MapId.{MapId}
+use Rattle.hir_collector_state.specs.HirIds.declared.ids.ModuleId.{ModuleId}
+use Rattle.hir_collector_state.specs.HirNameres.Scoping.Slots.{is_in}
+use Rattle.hir_collector_state.specs.HirDefMapRules.State.{Local}
 
 -- whether one of the crates that paths begin with lies in a map
 abbrev pub begins_inside : MapId → Local → Bool

@@ -1,20 +1,20 @@
 -- Which calls and imports wait in queues, and when is it in vain to try them?
 use Rattle.std.specs.Prelude.{◌≡◌, ◌≢◌, ℕ, ◌<◌, ◌≤◌, true, false, [], ◌∷◌, List, Option, None, Some, length, option_map}
-use Rattle.hir_base.specs.declared.ast_id.AstId.{AstId}
-use Rattle.hir_def_map_rules.specs.Overlay.{Maps}
-use Rattle.hir_def_map.specs.declared.nameres.path_resolution.slots.Slot.{Slot as PathSlot}
-use Rattle.hir_def_map_laws.specs.ReadLaw.{BeginsOutside}
-use Rattle.hir_glob_imports.specs.Keys.{name_of}
-use Rattle.hir_glob_imports.specs.declared.edge.Slot.{Slot as GlobSlot}
+use Rattle.hir_collector_state.specs.HirIds.declared.ast_id.AstId.{AstId}
+use Rattle.hir_collector_state.specs.HirDefMapRules.Overlay.{Maps}
+use Rattle.hir_collector_state.specs.HirNameres.declared.nameres.path_resolution.slots.Slot.{Slot as PathSlot}
+use Rattle.hir_collector_state.specs.HirDefMapLaws.ReadLaw.{BeginsOutside}
+use Rattle.hir_collector_state.specs.HirGlobImports.Keys.{name_of}
+use Rattle.hir_collector_state.specs.HirGlobImports.declared.edge.Slot.{Slot as GlobSlot}
 use Rattle.hir_worklist.specs.Queue.{IsIdle, count_of, is_unfinished}
 use Rattle.hir_worklist.specs.Settling.{AreWatched}
 use Rattle.hir_import_resolution.specs.Inner.Queue.{slot_cmp}
 use Rattle.hir_import_resolution.specs.Inner.State.{IsApart}
-use Rattle.hir_import_growth.specs.Growth.{GlobsLast}
+use Rattle.hir_collector_state.specs.HirImportGrowth.Growth.{GlobsLast}
 use Rattle.hir_import_resolution.specs.Rounds.{Grew, IsUpToDate as AreUpToDate, is_apart as are_apart, is_lasting}
-use Rattle.hir_import_rules.specs.State.{ImportState}
+use Rattle.hir_collector_state.specs.HirImportRules.State.{ImportState}
 use Rattle.hir_import_resolution.specs.declared.import_queue.ImportQueue.{ImportQueue}
-use Rattle.hir_import_rules.specs.Changed.{ChangedValue, everything, joined, with_slot}
+use Rattle.hir_collector_state.specs.HirImportRules.Changed.{ChangedValue, everything, joined, with_slot}
 use Rattle.hir_call_queue.specs.Waking.{attributes_of, is_apart, watchers_of, watches_item, worklist_of}
 use Rattle.hir_call_queue.specs.declared.queue.CallQueue.{CallQueue}
 use Rattle.hir_collector_rules.specs.declared.macro_directive.MacroDirective.{MacroDirective}

@@ -2,7 +2,7 @@
 #![tactic(auto, unfolding(hir_collector_rules::specs::State::core_in))]
 
 ghost use Rattle.std.specs.Prelude.{◌≡◌, [], IsOkAnd, List, OnOk, length, option_copied};
-ghost use Rattle.hir_def_map.specs.WorldParts.{part_of};
+ghost use Rattle.hir_collector_state.specs.HirNameres.WorldParts.{part_of};
 ghost use Rattle.hir_collector_rules.specs.Derivation.{IsSpent};
 ghost use Rattle.hir_collector_rules.specs.Keys.{Environment};
 ghost use Rattle.hir_collector_rules.specs.State.{Task, core_in, joined};
@@ -10,12 +10,12 @@ ghost use Rattle.hir_collector_rules.specs.Steps.{Steps};
 ghost use Rattle.hir_collector_state.specs.Waiting.{IsNotedBeside};
 ghost use Rattle.hir_collector_imports.specs.Waiting.{noted_along, noted_name};
 
-use hir_base::name::Name;
 use hir_collector_rules::start::StepError;
 use hir_collector_state::def_collector::DefCollector;
-use hir_def_map::world::part::WorldPart;
-use hir_glob_imports::Slot;
-use hir_import_growth::Changed;
+use hir_collector_state::hir_base::name::Name;
+use hir_collector_state::hir_glob_imports::Slot;
+use hir_collector_state::hir_import_growth::Changed;
+use hir_collector_state::hir_nameres::world::part::WorldPart;
 use hir_import_resolution::{ImportError, Imports, spread_changes};
 use std::alloc::AllocError;
 

@@ -1,9 +1,9 @@
 //! Which slots may have changed.
 ghost use Rattle.std.specs.Prelude.{◌≡◌, ◌≢◌, true, false, IfOk};
-ghost use Rattle.hir_import_rules.specs.Changed.{everything, with_slots};
+ghost use Rattle.hir_collector_state.specs.HirImportRules.Changed.{everything, with_slots};
 
-use hir_def_map::nameres::path_resolution::slots::Slot;
-use hir_import_growth::Changed;
+use hir_collector_state::hir_import_growth::Changed;
+use hir_collector_state::hir_nameres::nameres::path_resolution::slots::Slot;
 use std::alloc::AllocError;
 
 /// What may have changed once steps were counted: anything, where any was.

@@ -2,14 +2,14 @@
 #![tactic(auto, unfolding(hir_collector_rules::specs::State::core_in))]
 
 ghost use Rattle.std.specs.Prelude.{◌≡◌, ◌<◌, ◌≤◌, ℕ, true, false, Some, length, slice_get, IfOk};
-ghost use Rattle.hir_def_map_rules.specs.State.{IsInOrder};
-ghost use Rattle.hir_def_map.specs.WorldParts.{part_of};
-ghost use Rattle.hir_def_map_laws.specs.SlotChanges.{ScopesChangeAmong};
+ghost use Rattle.hir_collector_state.specs.HirDefMapRules.State.{IsInOrder};
+ghost use Rattle.hir_collector_state.specs.HirNameres.WorldParts.{part_of};
+ghost use Rattle.hir_collector_state.specs.HirDefMapLaws.SlotChanges.{ScopesChangeAmong};
 ghost use Rattle.hir_import_resolution.specs.Inner.State.{IsApart, state_in};
-ghost use Rattle.hir_import_rules.specs.Rest.{IsAtRest, IsClosed, IsSound, IsSpent as ImportsAreSpent};
-ghost use Rattle.hir_import_growth.specs.Growth.{GlobsLast};
+ghost use Rattle.hir_collector_state.specs.HirImportRules.Rest.{IsAtRest, IsClosed, IsSound, IsSpent as ImportsAreSpent};
+ghost use Rattle.hir_collector_state.specs.HirImportGrowth.Growth.{GlobsLast};
 ghost use Rattle.hir_import_resolution.specs.Rounds.{IsResumable, IsUpToDate as AreUpToDate, is_apart, is_lasting};
-ghost use Rattle.hir_import_rules.specs.Rules.{Steps as StepsOfImports};
+ghost use Rattle.hir_collector_state.specs.HirImportRules.Rules.{Steps as StepsOfImports};
 ghost use Rattle.hir_collector_rules.specs.Keys.{Environment};
 ghost use Rattle.hir_collector_rules.specs.State.{at_rest, core_in, core_with_imports, import_state};
 ghost use Rattle.hir_collector_rules.specs.Steps.{Steps};
@@ -19,8 +19,8 @@ ghost use Rattle.hir_collector_state.specs.Waiting.{NotesSlots};
 use crate::changes::{changed_by, changed_by_imports};
 use hir_collector_rules::start::{STEP_LIMIT, StepError};
 use hir_collector_state::def_collector::DefCollector;
-use hir_def_map::world::part::WorldPart;
-use hir_import_growth::Changed;
+use hir_collector_state::hir_import_growth::Changed;
+use hir_collector_state::hir_nameres::world::part::WorldPart;
 use hir_import_resolution::{
     ImportDirective, ImportError, ImportQueue, Imports, Resting, begin_imports, resume_imports,
     spread_globs,

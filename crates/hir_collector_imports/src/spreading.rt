@@ -2,7 +2,7 @@
 #![tactic(auto, unfolding(hir_collector_rules::specs::State::core_in))]
 
 ghost use Rattle.std.specs.Prelude.{◌≡◌, [], List, OnOk, length};
-ghost use Rattle.hir_def_map.specs.WorldParts.{part_of};
+ghost use Rattle.hir_collector_state.specs.HirNameres.WorldParts.{part_of};
 ghost use Rattle.hir_collector_rules.specs.Derivation.{IsSpent};
 ghost use Rattle.hir_collector_rules.specs.Keys.{Environment};
 ghost use Rattle.hir_collector_rules.specs.State.{Task, core_in, joined};
@@ -13,7 +13,7 @@ use crate::along_globs::with_changes_spread;
 use core::mem::replace_with;
 use hir_collector_rules::start::StepError;
 use hir_collector_state::def_collector::DefCollector;
-use hir_def_map::world::part::WorldPart;
+use hir_collector_state::hir_nameres::world::part::WorldPart;
 
 /// Lets what was bound go along globs, until nothing is left to go.
 ///

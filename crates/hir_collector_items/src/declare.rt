@@ -1,36 +1,36 @@
 //! Items that bind their names, modules aside.
 ghost use Rattle.std.specs.Prelude.{◌≡◌, ◌≤◌, true, [], map, OnOk};
-ghost use Rattle.hir_item_tree.specs.Collected.{is_enabled};
-ghost use Rattle.hir_item_tree.specs.KeptForest.{leaf, function, structure, union_structure, constant, static_item, trait_item, type_alias};
-ghost use Rattle.hir_def_map.specs.WorldParts.{part_of};
-ghost use Rattle.hir_collector_rules.specs.Keys.{Environment};
-ghost use Rattle.hir_collector_rules.specs.State.{core_in, counted};
-ghost use Rattle.hir_collector_rules.specs.ItemIds.{module_id};
-ghost use Rattle.hir_collector_rules.specs.Items.{constructor_of, declared_struct, meet_of, own_visibility, type_declaration, value_declaration};
-ghost use Rattle.hir_import_rules.specs.Visibilities.{visibility_in};
-ghost use Rattle.hir_collector_rules.specs.TreeReads.{head_of};
-ghost use Rattle.hir_collector_rules.specs.Steps.{visit, with_declaration};
-ghost use Rattle.hir_collector_rules.specs.Moves.{Handles};
+ghost use Rattle.hir_collector_state.specs.HirItemTree.Collected.{is_enabled};
+ghost use Rattle.hir_collector_state.specs.HirItemTree.KeptForest.{leaf, function, structure, union_structure, constant, static_item, trait_item, type_alias};
+ghost use Rattle.hir_collector_state.specs.HirNameres.WorldParts.{part_of};
+ghost use Rattle.hir_collector_state.specs.HirCollectorRules.Keys.{Environment};
+ghost use Rattle.hir_collector_state.specs.HirCollectorRules.State.{core_in, counted};
+ghost use Rattle.hir_collector_state.specs.HirCollectorRules.ItemIds.{module_id};
+ghost use Rattle.hir_collector_state.specs.HirCollectorRules.Items.{constructor_of, declared_struct, meet_of, own_visibility, type_declaration, value_declaration};
+ghost use Rattle.hir_collector_state.specs.HirImportRules.Visibilities.{visibility_in};
+ghost use Rattle.hir_collector_state.specs.HirCollectorRules.TreeReads.{head_of};
+ghost use Rattle.hir_collector_state.specs.HirCollectorRules.Steps.{visit, with_declaration};
+ghost use Rattle.hir_collector_state.specs.HirCollectorRules.Moves.{Handles};
 ghost use Rattle.hir_collector_state.specs.Waiting.{IsNoted};
 
 use crate::exports::{declare_exporting, export_at};
-use hir_base::ids::{
+use hir_collector_state::declare::declare;
+use hir_collector_state::def_collector::DefCollector;
+use hir_collector_state::hir_base::ids::{
     AdtId, ConstId, FunctionId, ItemLoc, ModuleDefId, ModuleId, StaticId, StructId, TraitId,
     TypeAliasId, UnionId,
 };
-use hir_base::name::Name;
-use hir_collector_rules::declaration::Declaration;
-use hir_collector_rules::site::{ItemHead, Site};
-use hir_collector_rules::start::{STEP_LIMIT, StepError};
-use hir_collector_state::declare::declare;
-use hir_collector_state::def_collector::DefCollector;
-use hir_def_map::world::part::WorldPart;
-use hir_import_growth::visibilities::lesser;
-use hir_item_tree::kinds::Struct;
-use hir_item_tree::raw_visibility::RawVisibility;
-use hir_item_tree::shape::FieldsShape;
-use hir_scope::per_ns::{Item, PerNs};
-use hir_scope::visibility::Visibility;
+use hir_collector_state::hir_base::name::Name;
+use hir_collector_state::hir_collector_rules::declaration::Declaration;
+use hir_collector_state::hir_collector_rules::site::{ItemHead, Site};
+use hir_collector_state::hir_collector_rules::start::{STEP_LIMIT, StepError};
+use hir_collector_state::hir_import_growth::visibilities::lesser;
+use hir_collector_state::hir_item_tree::kinds::Struct;
+use hir_collector_state::hir_item_tree::raw_visibility::RawVisibility;
+use hir_collector_state::hir_item_tree::shape::FieldsShape;
+use hir_collector_state::hir_nameres::world::part::WorldPart;
+use hir_collector_state::hir_scope::per_ns::{Item, PerNs};
+use hir_collector_state::hir_scope::visibility::Visibility;
 
 /// Declares what an item's name stands for as a type.
 fn declare_type(

@@ -1,32 +1,34 @@
 //! The macros that functions of a procedural-macro crate export, and what others see of such a crate.
 ghost use Rattle.std.specs.Prelude.{◌≡◌, ◌≤◌, [], IfOk, OnOk, Some, map as list_map, option_map};
-ghost use Rattle.hir_item_tree.specs.Attributes.{input_view};
-ghost use Rattle.hir_item_tree.specs.Collected.{numbered};
-ghost use Rattle.hir_item_tree.specs.KeptForest.{function, leaf};
-ghost use Rattle.hir_collector_rules.specs.Attributes.{derive_export, export_at, export_of, first_derive};
-ghost use Rattle.hir_collector_rules.specs.ItemIds.{function_id};
-ghost use Rattle.hir_collector_rules.specs.Items.{value_declaration};
-ghost use Rattle.hir_collector_rules.specs.Moves.{with_export};
-ghost use Rattle.hir_collector_rules.specs.State.{core_in, counted};
-ghost use Rattle.hir_collector_rules.specs.TreeReads.{head_of};
+ghost use Rattle.hir_collector_state.specs.HirItemTree.Attributes.{input_view};
+ghost use Rattle.hir_collector_state.specs.HirItemTree.Collected.{numbered};
+ghost use Rattle.hir_collector_state.specs.HirItemTree.KeptForest.{function, leaf};
+ghost use Rattle.hir_collector_state.specs.HirCollectorRules.Attributes.{derive_export, export_at, export_of, first_derive};
+ghost use Rattle.hir_collector_state.specs.HirCollectorRules.ItemIds.{function_id};
+ghost use Rattle.hir_collector_state.specs.HirCollectorRules.Items.{value_declaration};
+ghost use Rattle.hir_collector_state.specs.HirCollectorRules.Moves.{with_export};
+ghost use Rattle.hir_collector_state.specs.HirCollectorRules.State.{core_in, counted};
+ghost use Rattle.hir_collector_state.specs.HirCollectorRules.TreeReads.{head_of};
 ghost use Rattle.hir_collector_state.specs.Waiting.{IsNoted};
 
-use hir_base::ids::{FunctionId, ModuleDefId};
-use hir_base::macro_kind::{MacroId, ProcMacroId, ProcMacroLoc, ProcMacroStyle};
-use hir_base::name::Name;
-use hir_collector_rules::crate_attrs::{is_keyed, says};
-use hir_collector_rules::declaration::Declaration;
-use hir_collector_rules::exported::{Export, ExportedFunction};
-use hir_collector_rules::names::cloned;
-use hir_collector_rules::site::{ItemHead, Site};
-use hir_collector_rules::start::{STEP_LIMIT, StepError};
 use hir_collector_state::declare::{bind, declare};
 use hir_collector_state::def_collector::DefCollector;
-use hir_def_map::nameres::macro_data::MacroData;
-use hir_item_tree::attrs::Attr;
-use hir_item_tree::raw_attr::{AttrInput, TokenTree};
-use hir_scope::per_ns::PerNs;
-use hir_scope::visibility::Visibility;
+use hir_collector_state::hir_base::ids::{FunctionId, ModuleDefId};
+use hir_collector_state::hir_base::macro_kind::{
+    MacroId, ProcMacroId, ProcMacroLoc, ProcMacroStyle,
+};
+use hir_collector_state::hir_base::name::Name;
+use hir_collector_state::hir_collector_rules::crate_attrs::{is_keyed, says};
+use hir_collector_state::hir_collector_rules::declaration::Declaration;
+use hir_collector_state::hir_collector_rules::exported::{Export, ExportedFunction};
+use hir_collector_state::hir_collector_rules::names::cloned;
+use hir_collector_state::hir_collector_rules::site::{ItemHead, Site};
+use hir_collector_state::hir_collector_rules::start::{STEP_LIMIT, StepError};
+use hir_collector_state::hir_item_tree::attrs::Attr;
+use hir_collector_state::hir_item_tree::raw_attr::{AttrInput, TokenTree};
+use hir_collector_state::hir_nameres::nameres::macro_data::MacroData;
+use hir_collector_state::hir_scope::per_ns::PerNs;
+use hir_collector_state::hir_scope::visibility::Visibility;
 use std::alloc::{AllocError, Global};
 
 /// A derive macro, with its own name and its helpers, if an attribute names one.

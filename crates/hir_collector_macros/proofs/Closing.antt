@@ -1,13 +1,13 @@
 -- A module that is closed behind its items.
 use Rattle.std.proofs.Common.{◌≡◌, ℕ, true, ◌∷◌, map, refl}
-use Rattle.hir_def_map_rules.specs.Overlay.{Maps}
-use Rattle.hir_collector_rules.specs.Keys.{Environment}
-use Rattle.hir_collector_rules.specs.State.{closes, Core, joined, counted, with_map}
-use Rattle.hir_collector_rules.specs.Steps.{Steps, behind, none, closes_module, closing}
-use Rattle.hir_collector_rules.specs.Macros.{textual_at, with_textual_scope}
-use Rattle.hir_collector_rules.specs.Derivation.{IsFull, counted_out}
-use Rattle.hir_collector_rules.specs.Moves.{Walks, WalksTooFar}
-use Rattle.hir_collector_rules.proofs.Moves.{Steps-one}
+use Rattle.hir_collector_state.specs.HirDefMapRules.Overlay.{Maps}
+use Rattle.hir_collector_state.specs.HirCollectorRules.Keys.{Environment}
+use Rattle.hir_collector_state.specs.HirCollectorRules.State.{closes, Core, joined, counted, with_map}
+use Rattle.hir_collector_state.specs.HirCollectorRules.Steps.{Steps, behind, none, closes_module, closing}
+use Rattle.hir_collector_state.specs.HirCollectorRules.Macros.{textual_at, with_textual_scope}
+use Rattle.hir_collector_state.specs.HirCollectorRules.Derivation.{IsFull, counted_out}
+use Rattle.hir_collector_state.specs.HirCollectorRules.Moves.{Walks, WalksTooFar}
+use Rattle.hir_collector_state.proofs.HirCollectorRules.Moves.{Steps-one}
 use Rattle.hir_collector_state.proofs.Made.{Goes, made}
 use Rattle.hir_collector_macros.proofs.Progress.{goes_closing}
 

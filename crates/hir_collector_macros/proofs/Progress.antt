@@ -1,25 +1,25 @@
 -- Each item has its rule, so where something is to be visited a step may be taken: where it is a module with a file of its own,
 -- once that is looked for.
 use Rattle.std.proofs.Common.{◌≡◌, ℕ, Bool, true, false, List, ◌∷◌, Option, None, Some, refl}
-use Rattle.hir_item_tree.specs.Collected.{is_enabled}
-use Rattle.hir_base.specs.Cfg.{Cfg}
-use Rattle.hir_def_map_rules.specs.declared.diagnostics.DefDiagnostic.{DefDiagnostic}
-use Rattle.hir_item_tree.specs.Kinds.{item_head, item_kind}
+use Rattle.hir_collector_state.specs.HirItemTree.Collected.{is_enabled}
+use Rattle.hir_collector_state.specs.HirBase.Cfg.{Cfg}
+use Rattle.hir_collector_state.specs.HirMapParts.declared.diagnostics.DefDiagnostic.{DefDiagnostic}
+use Rattle.hir_collector_state.specs.HirItemTree.Kinds.{item_head, item_kind}
 use mathlib.Core.Bool.{true≢false}
-use Rattle.hir_item_tree.specs.KeptForest.{Head, Leaf, KeptItem, extern_block, inline_module, leaf, holder, import, extern_crate, function, structure}
-use Rattle.hir_item_tree.specs.KeptForest.{union_structure, enumeration, constant, static_item, trait_item, implementation, type_alias, outline_module}
-use Rattle.hir_item_tree.specs.KeptForest.{macro_call, macro_rules, macro_def}
-use Rattle.hir_def_map_rules.specs.Overlay.{Maps}
-use Rattle.hir_collector_rules.specs.declared.exported.Export.{Export}
-use Rattle.hir_collector_rules.specs.declared.site.Site.{Site}
-use Rattle.hir_collector_rules.specs.Attributes.{export_at, next_attribute}
-use Rattle.hir_collector_rules.specs.Keys.{Environment, variants_at}
-use Rattle.hir_collector_rules.specs.State.{State, Task, visits, closes}
-use Rattle.hir_collector_rules.specs.ItemIds.{enum_id, module_id, node_of}
-use Rattle.hir_collector_rules.specs.Reports.{IsUnconfigured}
-use Rattle.hir_collector_rules.specs.Steps.{IsNext, behind, drops_item, exports_macro, defines_rules, defines_macro, closes_module, declares_item}
-use Rattle.hir_collector_rules.specs.Steps.{declares_enum, lists_constant, lists_impl, opens_module, enters_block, reaches_imports, reaches_crate, reaches_call}
-use Rattle.hir_collector_rules.specs.Steps.{visit}
+use Rattle.hir_collector_state.specs.HirItemTree.KeptForest.{Head, Leaf, KeptItem, extern_block, inline_module, leaf, holder, import, extern_crate, function, structure}
+use Rattle.hir_collector_state.specs.HirItemTree.KeptForest.{union_structure, enumeration, constant, static_item, trait_item, implementation, type_alias, outline_module}
+use Rattle.hir_collector_state.specs.HirItemTree.KeptForest.{macro_call, macro_rules, macro_def}
+use Rattle.hir_collector_state.specs.HirDefMapRules.Overlay.{Maps}
+use Rattle.hir_collector_state.specs.HirCollectorRules.declared.exported.Export.{Export}
+use Rattle.hir_collector_state.specs.HirCollectorRules.declared.site.Site.{Site}
+use Rattle.hir_collector_state.specs.HirCollectorRules.Attributes.{export_at, next_attribute}
+use Rattle.hir_collector_state.specs.HirCollectorRules.Keys.{Environment, variants_at}
+use Rattle.hir_collector_state.specs.HirCollectorRules.State.{State, Task, visits, closes}
+use Rattle.hir_collector_state.specs.HirCollectorRules.ItemIds.{enum_id, module_id, node_of}
+use Rattle.hir_collector_state.specs.HirCollectorRules.Reports.{IsUnconfigured}
+use Rattle.hir_collector_state.specs.HirCollectorRules.Steps.{IsNext, behind, drops_item, exports_macro, defines_rules, defines_macro, closes_module, declares_item}
+use Rattle.hir_collector_state.specs.HirCollectorRules.Steps.{declares_enum, lists_constant, lists_impl, opens_module, enters_block, reaches_imports, reaches_crate, reaches_call}
+use Rattle.hir_collector_state.specs.HirCollectorRules.Steps.{visit}
 use Rattle.hir_collector_state.proofs.Made.{Goes, goes}
 
 -- whether an item is a module with a file of its own

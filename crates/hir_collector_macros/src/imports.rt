@@ -1,32 +1,33 @@
 //! The imports that `use` items and `extern crate` items write.
 ghost use Rattle.std.specs.Prelude.{◌≡◌, ◌≤◌, true, ◌++◌, ◌∷◌, [], map, OnOk, IfOk};
-ghost use Rattle.hir_item_tree.specs.Collected.{is_enabled};
-ghost use Rattle.hir_item_tree.specs.Imports.{imports_of};
-ghost use Rattle.hir_item_tree.specs.KeptForest.{extern_crate, leaf, import};
-ghost use Rattle.hir_item_tree.specs.UseTree.{use_tree_view};
-ghost use Rattle.hir_def_map_rules.specs.Overlay.{Maps};
-ghost use Rattle.hir_def_map.specs.WorldParts.{part_of};
-ghost use Rattle.hir_collector_rules.specs.Keys.{Environment};
-ghost use Rattle.hir_collector_rules.specs.State.{core_in, with_imports};
-ghost use Rattle.hir_collector_rules.specs.Imports.{crate_import, path_of_crate, reached_import};
-ghost use Rattle.hir_collector_rules.specs.ItemIds.{extern_crate_id};
-ghost use Rattle.hir_collector_rules.specs.TreeReads.{head_of};
-ghost use Rattle.hir_collector_rules.specs.Steps.{visit};
-ghost use Rattle.hir_collector_rules.specs.Moves.{Handles};
+ghost use Rattle.hir_collector_state.specs.HirItemTree.Collected.{is_enabled};
+ghost use Rattle.hir_collector_state.specs.HirItemTree.Imports.{imports_of};
+ghost use Rattle.hir_collector_state.specs.HirItemTree.KeptForest.{extern_crate, leaf, import};
+ghost use Rattle.hir_collector_state.specs.HirItemTree.UseTree.{use_tree_view};
+ghost use Rattle.hir_collector_state.specs.HirDefMapRules.Overlay.{Maps};
+ghost use Rattle.hir_collector_state.specs.HirNameres.WorldParts.{part_of};
+ghost use Rattle.hir_collector_state.specs.HirCollectorRules.Keys.{Environment};
+ghost use Rattle.hir_collector_state.specs.HirCollectorRules.State.{core_in, with_imports};
+ghost use Rattle.hir_collector_state.specs.HirCollectorRules.Imports.{crate_import, path_of_crate, reached_import};
+ghost use Rattle.hir_collector_state.specs.HirCollectorRules.ItemIds.{extern_crate_id};
+ghost use Rattle.hir_collector_state.specs.HirCollectorRules.TreeReads.{head_of};
+ghost use Rattle.hir_collector_state.specs.HirCollectorRules.Steps.{visit};
+ghost use Rattle.hir_collector_state.specs.HirCollectorRules.Moves.{Handles};
 ghost use Rattle.hir_collector_state.specs.Waiting.{IsNoted};
 
-use hir_base::ids::{ExternCrateId, ItemLoc, UseId};
-use hir_base::mod_path::{ModPath, PathKind};
-use hir_collector_rules::site::{ItemHead, Site};
-use hir_collector_rules::start::{STEP_LIMIT, StepError};
 use hir_collector_state::def_collector::DefCollector;
-use hir_def_map::world::part::WorldPart;
-use hir_import_rules::{ImportDirective, ImportSource};
-use hir_item_tree::expand::Import;
-use hir_item_tree::raw_visibility::RawVisibility;
-use hir_item_tree::shape::{ExternCrateName, ImportAlias, ImportKind};
-use hir_item_tree::use_tree::UseTree;
-use hir_scope::imports::ImportId;
+use hir_collector_state::hir_base::ids::{ExternCrateId, ItemLoc, UseId};
+use hir_collector_state::hir_base::mod_path::{ModPath, PathKind};
+use hir_collector_state::hir_collector_rules::site::{ItemHead, Site};
+use hir_collector_state::hir_collector_rules::start::{STEP_LIMIT, StepError};
+use hir_collector_state::hir_import_rules::{ImportDirective, ImportSource};
+use hir_collector_state::hir_item_tree::expand::Import;
+use hir_collector_state::hir_item_tree::raw_visibility::RawVisibility;
+use hir_collector_state::hir_item_tree::shape::{ExternCrateName, ImportAlias, ImportKind};
+use hir_collector_state::hir_item_tree::shared_path::SharedPath;
+use hir_collector_state::hir_item_tree::use_tree::UseTree;
+use hir_collector_state::hir_nameres::world::part::WorldPart;
+use hir_collector_state::hir_scope::imports::ImportId;
 use smallvec::SmallVec;
 use std::alloc::{AllocError, Global};
 use std::collections::VecDeque;
@@ -38,7 +39,7 @@ fn expanded(alloc: Global, tree: &UseTree) -> Result<VecDeque<Import>, AllocErro
     let mut imports = VecDeque::new(alloc);
     tree.expand(
         alloc,
-        &mut |place: u32, path: ModPath, kind: ImportKind, alias: Option<ImportAlias>| -> Result<
+        &mut |place: u32, path: SharedPath, kind: ImportKind, alias: Option<ImportAlias>| -> Result<
             (),
             AllocError,
         >
@@ -160,7 +161,7 @@ fn crate_import(
             krate: run.crate_named(name),
         },
         visibility: head.visibility.clone()?,
-        path: path_of_crate(run.allocator(), name)?,
+        path: SharedPath::alone(path_of_crate(run.allocator(), name)?),
         alias: clone_alias(alias)?,
     })
 }

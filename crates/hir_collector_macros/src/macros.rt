@@ -1,39 +1,41 @@
 //! Items that define macros.
 ghost use Rattle.std.specs.Prelude.{◌≡◌, ◌<◌, ◌≤◌, true, [], length, OnOk};
-ghost use Rattle.hir_item_tree.specs.Collected.{collected_of, is_enabled};
-ghost use Rattle.hir_item_tree.specs.KeptForest.{leaf, macro_def, macro_rules};
-ghost use Rattle.hir_def_map_rules.specs.Macros.{with_macro_data};
-ghost use Rattle.hir_def_map_rules.specs.Overlay.{Maps};
-ghost use Rattle.hir_def_map.specs.WorldParts.{part_of};
-ghost use Rattle.hir_collector_rules.specs.State.{core_in, with_map};
-ghost use Rattle.hir_collector_rules.specs.ItemIds.{macro_loc, node_of};
-ghost use Rattle.hir_collector_rules.specs.Keys.{Environment};
-ghost use Rattle.hir_collector_rules.specs.Macros.{is_exported};
-ghost use Rattle.hir_collector_rules.specs.Reports.{is_unimplemented};
-ghost use Rattle.hir_collector_rules.specs.Moves.{Handles, Makes, Walks, WalksTooFar};
-ghost use Rattle.hir_collector_rules.specs.Steps.{closing, exporting, macro_data_of, reporting, visit};
-ghost use Rattle.hir_collector_rules.specs.TreeReads.{head_of};
+ghost use Rattle.hir_collector_state.specs.HirItemTree.Collected.{collected_of, is_enabled};
+ghost use Rattle.hir_collector_state.specs.HirItemTree.KeptForest.{leaf, macro_def, macro_rules};
+ghost use Rattle.hir_collector_state.specs.HirDefMapRules.Macros.{with_macro_data};
+ghost use Rattle.hir_collector_state.specs.HirDefMapRules.Overlay.{Maps};
+ghost use Rattle.hir_collector_state.specs.HirNameres.WorldParts.{part_of};
+ghost use Rattle.hir_collector_state.specs.HirCollectorRules.State.{core_in, with_map};
+ghost use Rattle.hir_collector_state.specs.HirCollectorRules.ItemIds.{macro_loc, node_of};
+ghost use Rattle.hir_collector_state.specs.HirCollectorRules.Keys.{Environment};
+ghost use Rattle.hir_collector_state.specs.HirCollectorRules.Macros.{is_exported};
+ghost use Rattle.hir_collector_state.specs.HirCollectorRules.Reports.{is_unimplemented};
+ghost use Rattle.hir_collector_state.specs.HirCollectorRules.Moves.{Handles, Makes, Walks, WalksTooFar};
+ghost use Rattle.hir_collector_state.specs.HirCollectorRules.Steps.{closing, exporting, macro_data_of, reporting, visit};
+ghost use Rattle.hir_collector_state.specs.HirCollectorRules.TreeReads.{head_of};
 ghost use Rattle.hir_collector_state.specs.Waiting.{IsNoted};
 
-use hir_base::ast_id::{AstId, AstKind, SyntaxId};
-use hir_base::ids::{ModuleDefId, ModuleId};
-use hir_base::macro_kind::{Macro2Id, MacroExpander, MacroId, MacroLoc, MacroRulesId};
-use hir_base::name::Name;
-use hir_collector_rules::crate_attrs::says;
-use hir_collector_rules::declaration::Declaration;
-use hir_collector_rules::names::cloned;
-use hir_collector_rules::site::{ItemHead, Site};
-use hir_collector_rules::start::{STEP_LIMIT, StepError};
 use hir_collector_state::declare::bind;
 use hir_collector_state::def_collector::DefCollector;
-use hir_def_map::nameres::diagnostics::DefDiagnostic;
-use hir_def_map::nameres::macro_data::MacroData;
-use hir_def_map::world::part::WorldPart;
-use hir_item_tree::attrs::AttrsOrCfg;
-use hir_item_tree::kinds::{Macro2, MacroRules};
-use hir_item_tree::tree_id::TreeId;
-use hir_scope::per_ns::PerNs;
-use hir_scope::visibility::Visibility;
+use hir_collector_state::hir_base::ast_id::{AstId, AstKind, SyntaxId};
+use hir_collector_state::hir_base::ids::{ModuleDefId, ModuleId};
+use hir_collector_state::hir_base::macro_kind::{
+    Macro2Id, MacroExpander, MacroId, MacroLoc, MacroRulesId,
+};
+use hir_collector_state::hir_base::name::Name;
+use hir_collector_state::hir_collector_rules::crate_attrs::says;
+use hir_collector_state::hir_collector_rules::declaration::Declaration;
+use hir_collector_state::hir_collector_rules::names::cloned;
+use hir_collector_state::hir_collector_rules::site::{ItemHead, Site};
+use hir_collector_state::hir_collector_rules::start::{STEP_LIMIT, StepError};
+use hir_collector_state::hir_item_tree::attrs::AttrsOrCfg;
+use hir_collector_state::hir_item_tree::kinds::{Macro2, MacroRules};
+use hir_collector_state::hir_item_tree::tree_id::TreeId;
+use hir_collector_state::hir_nameres::nameres::diagnostics::DefDiagnostic;
+use hir_collector_state::hir_nameres::nameres::macro_data::MacroData;
+use hir_collector_state::hir_nameres::world::part::WorldPart;
+use hir_collector_state::hir_scope::per_ns::PerNs;
+use hir_collector_state::hir_scope::visibility::Visibility;
 use std::alloc::AllocError;
 
 /// Whether `macro_rules` binds its macro at the root of the map too.

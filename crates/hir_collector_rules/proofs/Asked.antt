@@ -3,17 +3,17 @@ use Rattle.std.proofs.Common.{◌≡◌, ◌<◌, ◌∙◌, ◌⊎◌, inl, inr
 use Rattle.std.proofs.Common.{sym, ap, subst, arith, Contains}
 use Rattle.std.specs.List.{list_any}
 use Rattle.std.proofs.lemmas.Map.Views.{Contains-from_any}
-use Rattle.hir_base.specs.declared.ast_id.BlockId.{BlockId}
-use Rattle.hir_base.specs.declared.ids.Crate.{Crate}
-use Rattle.hir_base.specs.declared.ids.MapId.{MapId}
-use Rattle.hir_base.specs.declared.ids.ModuleId.{ModuleId}
-use Rattle.hir_base.specs.contracts.ids.MapIdPartialEq.TheImpl as map_id
-use Rattle.hir_scope.specs.ModuleTree.{same_crate}
-use Rattle.hir_def_map.specs.WorldParts.{among, is_of_some}
-use Rattle.hir_def_map.specs.Inner.PartLaws.{among_agrees}
-use Rattle.hir_def_map_rules.specs.Inner.OverlayLaws.{exact_crate, exact_map}
-use Rattle.hir_def_map_rules.specs.References.{crate_map}
-use Rattle.hir_def_map_rules.specs.Overlay.{Maps, Placed, holders_of}
+use Rattle.hir_nameres.specs.HirIds.declared.ast_id.BlockId.{BlockId}
+use Rattle.hir_nameres.specs.HirIds.declared.ids.Crate.{Crate}
+use Rattle.hir_nameres.specs.HirIds.declared.ids.MapId.{MapId}
+use Rattle.hir_nameres.specs.HirIds.declared.ids.ModuleId.{ModuleId}
+use Rattle.hir_nameres.specs.HirIds.contracts.ids.MapIdPartialEq.TheImpl as map_id
+use Rattle.hir_nameres.specs.HirPerNs.ModuleTree.{same_crate}
+use Rattle.hir_nameres.specs.WorldParts.{among, is_of_some}
+use Rattle.hir_nameres.specs.Inner.PartLaws.{among_agrees}
+use Rattle.hir_nameres.specs.HirDefMapRules.Inner.OverlayLaws.{exact_crate, exact_map}
+use Rattle.hir_nameres.specs.HirDefMapRules.References.{crate_map}
+use Rattle.hir_nameres.specs.HirDefMapRules.Overlay.{Maps, Placed, holders_of}
 use Rattle.hir_collector_rules.specs.Types.{Key, Start}
 use Rattle.hir_collector_rules.specs.declared.start.Start.TheVariants as starts
 use Rattle.hir_collector_rules.specs.declared.source_database.Key.TheVariants.{Map}

@@ -1,11 +1,11 @@
 -- What a module lists, it goes on listing.
 use Rattle.std.proofs.Common.{ℕ, zero, suc, ◌<◌, ◌++◌, List, [], ◌∷◌, length, slice_get, Option, Some, refl, arith, Contains}
 use Rattle.std.proofs.lemmas.List.Elements.{Contains-append_left, Contains-append_right}
-use Rattle.hir_base.specs.declared.ids.ModuleDefId.{ModuleDefId}
-use Rattle.hir_def_map_rules.specs.Declaration.{listed}
-use Rattle.hir_def_map_rules.specs.State.{ModuleValue, changed_at, with_module_scope}
-use Rattle.hir_def_map_rules.specs.declared.declaration.Declaration.{Declaration}
-use Rattle.hir_def_map_rules.specs.declared.declaration.Declaration.TheVariants as declaration
+use Rattle.hir_nameres.specs.HirIds.declared.ids.ModuleDefId.{ModuleDefId}
+use Rattle.hir_nameres.specs.HirDefMapRules.Declaration.{listed}
+use Rattle.hir_nameres.specs.HirDefMapRules.State.{ModuleValue, changed_at, with_module_scope}
+use Rattle.hir_nameres.specs.HirDefMapRules.declared.declaration.Declaration.{Declaration}
+use Rattle.hir_nameres.specs.HirDefMapRules.declared.declaration.Declaration.TheVariants as declaration
 use Rattle.hir_collector_rules.specs.Causes.{declarations_of}
 
 module _ (def : ModuleDefId) where

@@ -3,15 +3,15 @@ use Rattle.std.proofs.Common.{◌≡◌, ◌∙◌, ◌==◌, ◌||◌, ℕ, zer
 use Rattle.std.proofs.Common.{inr, refl, sym, ap, subst, arith, Contains, if◌then◌else◌, cond, slice_get}
 use Rattle.std.specs.List.{list_any}
 use Rattle.std.specs.Prelude.{option_map, unwrap_or}
-use Rattle.hir_crate_graph.specs.CrateSet.{crate_of, crates_from}
-use Rattle.hir_crate_graph.specs.Dependencies.{is_reached}
+use Rattle.hir_nameres.specs.HirCrateGraph.CrateSet.{crate_of, crates_from}
+use Rattle.hir_nameres.specs.HirCrateGraph.Dependencies.{is_reached}
 use Rattle.std.proofs.lemmas.List.Elements.{Contains-append_left, Contains-append_right, Contains-append_cases}
-use Rattle.hir_base.specs.declared.ids.Crate.{Crate}
-use Rattle.hir_base.specs.declared.ids.ModuleId.{ModuleId}
+use Rattle.hir_nameres.specs.HirIds.declared.ids.Crate.{Crate}
+use Rattle.hir_nameres.specs.HirIds.declared.ids.ModuleId.{ModuleId}
 use Rattle.hir_item_tree.specs.ItemTree.{Tree}
 use Rattle.hir_tables.specs.Tables.{KeepsTables, TablesValue}
-use Rattle.hir_def_map.specs.WorldParts.{among}
-use Rattle.hir_def_map_rules.specs.Overlay.{Maps, map_in}
+use Rattle.hir_nameres.specs.WorldParts.{among}
+use Rattle.hir_nameres.specs.HirDefMapRules.Overlay.{Maps, map_in}
 use Rattle.hir_collector_rules.specs.Types.{CrateRoot, Dependency, Key, MacroDirective, Start, WaitingItem}
 use Rattle.hir_collector_rules.specs.declared.start.Start.TheVariants as starts
 use Rattle.hir_collector_rules.specs.declared.source_database.Key.TheVariants as keys
@@ -26,7 +26,7 @@ use Rattle.hir_import_rules.specs.Directives.{kind_of, reached_by}
 use Rattle.hir_import_rules.specs.Rest.{BroughtStands, IsClosed, IsRecorded, IsSettled}
 use Rattle.hir_collector_rules.specs.ModuleFiles.{Reading}
 use Rattle.hir_collector_rules.specs.Ended.{ended, exporting_scope}
-use Rattle.hir_def_map_rules.specs.State.{Map, crate_map, with_scope}
+use Rattle.hir_nameres.specs.HirDefMapRules.State.{Map, crate_map, with_scope}
 use Rattle.hir_collector_rules.specs.Start.{Beginning, began, begin_of, data_beside, exports_macros, held_keys, holders_by, krate_of, read_by, root_key}
 use Rattle.hir_collector_rules.specs.Start.{root_tree, start_by, start_data}
 use Rattle.hir_collector_rules.specs.Steps.{Sees, Step, Steps, none, more, keys_read, reads}

@@ -9,8 +9,8 @@ use Rattle.std.specs.declared.cmp.Ordering.{Ordering}
 use Rattle.std.specs.declared.cmp.Ordering.TheVariants.{Less, Equal, Greater}
 use Rattle.std.proofs.Common.{refl, sym}
 use mathlib.Core.Bool.{true≢false}
-use Rattle.hir_scope.specs.Entries.{has_key, item_at, with_entry}
-use Rattle.hir_def_map_rules.proofs.NoneOf.{neither, none_found, not_first, not_second}
+use Rattle.hir_nameres.specs.HirScope.Entries.{has_key, item_at, with_entry}
+use Rattle.hir_nameres.proofs.HirDefMapRules.NoneOf.{neither, none_found, not_first, not_second}
 
 module _ {V : Type 0} where
   pub there_or : (b : Bool) (v : V) (o : Option V) → is_some o ≡ true → is_some (cond b (Some v) o) ≡ true

@@ -1,35 +1,35 @@
 -- No step takes a module, a binding or a declaration away.
 use Rattle.std.proofs.Common.{◌≡◌, ℕ, ◌+◌, ◌<◌, ◌≤◌, List, [], ◌∷◌, length, Option, None, Some, refl, sym, ap, subst, arith, Contains}
-use Rattle.hir_base.specs.declared.ast_id.AstId.{AstId}
-use Rattle.hir_base.specs.declared.macro_kind.BuiltinDeriveImplId.{BuiltinDeriveImplId}
-use Rattle.hir_base.specs.declared.ids.EnumId.{EnumId}
-use Rattle.hir_base.specs.declared.ids.ExternBlockId.{ExternBlockId}
-use Rattle.hir_base.specs.declared.ids.ExternCrateId.{ExternCrateId}
-use Rattle.hir_base.specs.declared.ids.FunctionId.{FunctionId}
-use Rattle.hir_base.specs.declared.macro_kind.MacroId.{MacroId}
-use Rattle.hir_base.specs.declared.ids.ModuleDefId.{ModuleDefId}
-use Rattle.hir_base.specs.declared.ids.ModuleId.{ModuleId}
-use Rattle.hir_base.specs.declared.macro_kind.ProcMacroId.{ProcMacroId}
-use Rattle.hir_textual_scope.specs.Macros.{with_macro}
-use Rattle.hir_textual_scope.specs.declared.textual_scope.TextualMacro.{TextualMacro}
-use Rattle.hir_scope.specs.Globs.{GlobNames}
-use Rattle.hir_scope.specs.Scope.{ScopeValue, binding_of}
-use Rattle.hir_scope.specs.declared.per_ns.PerNs.{PerNs}
-use Rattle.hir_scope.specs.declared.visibility.Visibility.{Visibility}
-use Rattle.hir_def_map_rules.specs.State.{MacroDataValue, Map, Variants, changed_at, entry_at, module_at, new_id, new_module, numbered, pushed, with_child}
-use Rattle.hir_def_map_rules.specs.State.{with_declared, with_enum, with_extern_block, with_module, with_module_scope, with_scope}
-use Rattle.hir_def_map_rules.specs.Overlay.{Maps}
-use Rattle.hir_def_map_rules.specs.Declaration.{listed}
-use Rattle.hir_def_map_rules.proofs.Grown.{entry_at-with_module, length-changed}
-use Rattle.hir_def_map_rules.specs.Listed.{KeepsNames}
-use Rattle.hir_def_map_rules.proofs.Listed.{KeepsNames-listed}
-use Rattle.hir_def_map_rules.proofs.StaysWellFormed.{length-made}
-use Rattle.hir_def_map_rules.specs.declared.declaration.Declaration.{Declaration as Listing}
-use Rattle.hir_def_map_rules.specs.declared.declaration.Declaration.TheVariants as declaration
-use Rattle.hir_def_map_rules.specs.Macros.{with_derive_helper, with_diagnostic, with_exported, with_macro_data, with_macro_def}
-use Rattle.hir_def_map_rules.specs.declared.diagnostics.DefDiagnostic.{DefDiagnostic}
-use Rattle.hir_def_map_rules.specs.declared.derive_helpers.DeriveHelper.{DeriveHelper}
-use Rattle.hir_def_map_rules.specs.declared.origin.ModuleOrigin.{ModuleOrigin}
+use Rattle.hir_nameres.specs.HirIds.declared.ast_id.AstId.{AstId}
+use Rattle.hir_nameres.specs.HirIds.declared.macro_kind.BuiltinDeriveImplId.{BuiltinDeriveImplId}
+use Rattle.hir_nameres.specs.HirIds.declared.ids.EnumId.{EnumId}
+use Rattle.hir_nameres.specs.HirIds.declared.ids.ExternBlockId.{ExternBlockId}
+use Rattle.hir_nameres.specs.HirIds.declared.ids.ExternCrateId.{ExternCrateId}
+use Rattle.hir_nameres.specs.HirIds.declared.ids.FunctionId.{FunctionId}
+use Rattle.hir_nameres.specs.HirIds.declared.macro_kind.MacroId.{MacroId}
+use Rattle.hir_nameres.specs.HirIds.declared.ids.ModuleDefId.{ModuleDefId}
+use Rattle.hir_nameres.specs.HirIds.declared.ids.ModuleId.{ModuleId}
+use Rattle.hir_nameres.specs.HirIds.declared.macro_kind.ProcMacroId.{ProcMacroId}
+use Rattle.hir_nameres.specs.HirTextualScope.Macros.{with_macro}
+use Rattle.hir_nameres.specs.HirTextualScope.declared.textual_scope.TextualMacro.{TextualMacro}
+use Rattle.hir_nameres.specs.HirScope.Globs.{GlobNames}
+use Rattle.hir_nameres.specs.HirScope.Scope.{ScopeValue, binding_of}
+use Rattle.hir_nameres.specs.HirPerNs.declared.per_ns.PerNs.{PerNs}
+use Rattle.hir_nameres.specs.HirPerNs.declared.visibility.Visibility.{Visibility}
+use Rattle.hir_nameres.specs.HirDefMapRules.State.{MacroDataValue, Map, Variants, changed_at, entry_at, module_at, new_id, new_module, numbered, pushed, with_child}
+use Rattle.hir_nameres.specs.HirDefMapRules.State.{with_declared, with_enum, with_extern_block, with_module, with_module_scope, with_scope}
+use Rattle.hir_nameres.specs.HirDefMapRules.Overlay.{Maps}
+use Rattle.hir_nameres.specs.HirDefMapRules.Declaration.{listed}
+use Rattle.hir_nameres.proofs.HirDefMapRules.Grown.{entry_at-with_module, length-changed}
+use Rattle.hir_nameres.specs.HirDefMapRules.Listed.{KeepsNames}
+use Rattle.hir_nameres.proofs.HirDefMapRules.Listed.{KeepsNames-listed}
+use Rattle.hir_nameres.proofs.HirDefMapRules.StaysWellFormed.{length-made}
+use Rattle.hir_nameres.specs.HirDefMapRules.declared.declaration.Declaration.{Declaration as Listing}
+use Rattle.hir_nameres.specs.HirDefMapRules.declared.declaration.Declaration.TheVariants as declaration
+use Rattle.hir_nameres.specs.HirDefMapRules.Macros.{with_derive_helper, with_diagnostic, with_exported, with_macro_data, with_macro_def}
+use Rattle.hir_nameres.specs.HirMapParts.declared.diagnostics.DefDiagnostic.{DefDiagnostic}
+use Rattle.hir_nameres.specs.HirMapParts.declared.derive_helpers.DeriveHelper.{DeriveHelper}
+use Rattle.hir_nameres.specs.HirMapParts.declared.origin.ModuleOrigin.{ModuleOrigin}
 use Rattle.hir_collector_rules.specs.Types.{Declaration}
 use Rattle.hir_collector_rules.specs.Keys.{Environment}
 use Rattle.hir_collector_rules.specs.State.{Core, State, counted, import_state, with_map}

@@ -2,18 +2,18 @@
 use Rattle.std.proofs.Common.{◌≡◌, ◌∙◌, ℕ, ◌<◌, Bool, true, false, List, [], ◌∷◌, length, map as list_map, slice_get, slice_set, Option, None, Some, inl, inr}
 use Rattle.std.proofs.Common.{refl, sym, ap, subst, arith}
 use Rattle.std.proofs.lemmas.Bool.{cases_lt}
-use Rattle.hir_base.specs.declared.ids.Crate.{Crate}
-use Rattle.hir_base.specs.declared.ids.ModuleId.{ModuleId}
+use Rattle.hir_nameres.specs.HirIds.declared.ids.Crate.{Crate}
+use Rattle.hir_nameres.specs.HirIds.declared.ids.ModuleId.{ModuleId}
 use Rattle.hir_item_tree.specs.ItemTree.{Tree}
 use Rattle.hir_item_tree.specs.KeptForest.{KeptForest, no_items, item}
-use Rattle.hir_item_tree.specs.declared.tree_id.TreeId.{TreeId}
-use Rattle.hir_def_map_rules.proofs.NoneOf.{not_first, not_second}
-use Rattle.hir_def_map_rules.specs.State.{Map, entry_at, place_at}
-use Rattle.hir_def_map_rules.specs.Overlay.{Maps}
-use Rattle.hir_scope.specs.declared.per_ns.PerNs.{PerNs}
+use Rattle.hir_nameres.specs.HirBase.declared.tree_id.TreeId.{TreeId}
+use Rattle.hir_nameres.proofs.HirDefMapRules.NoneOf.{not_first, not_second}
+use Rattle.hir_nameres.specs.HirDefMapRules.State.{Map, entry_at, place_at}
+use Rattle.hir_nameres.specs.HirDefMapRules.Overlay.{Maps}
+use Rattle.hir_nameres.specs.HirPerNs.declared.per_ns.PerNs.{PerNs}
 use Rattle.hir_glob_imports.specs.Rules.{Act}
 use Rattle.hir_glob_imports.specs.declared.edge.Target.{Target}
-use Rattle.hir_def_map_rules.specs.Scoping.{Resolution}
+use Rattle.hir_nameres.specs.HirDefMapRules.Scoping.{Resolution}
 use Rattle.hir_import_rules.specs.declared.directive.ImportDirective.{ImportDirective}
 use Rattle.hir_import_rules.specs.declared.directive.ImportSource.{ImportSource}
 use Rattle.hir_import_rules.specs.declared.namespaces.Namespaces.{Namespaces}

@@ -1,19 +1,19 @@
 -- What changes of imports leave: of the map, one scope is another, and what else they leave alone.
 use Rattle.std.proofs.Common.{◌≡◌, ℕ, List, Option, None, Some, refl}
-use Rattle.hir_base.specs.declared.ids.ModuleId.{ModuleId}
-use Rattle.hir_base.specs.declared.ids.TraitId.{TraitId}
-use Rattle.hir_scope.specs.Globs.{GlobNames}
-use Rattle.hir_scope.specs.Scope.{ScopeValue}
-use Rattle.hir_scope.specs.Scope.Push.{pushed_scope}
-use Rattle.hir_scope.specs.declared.imports.GlobId.{GlobId}
-use Rattle.hir_scope.specs.declared.imports.ImportId.{ImportId}
-use Rattle.hir_scope.specs.declared.imports.ImportOrExternCrate.{ImportOrExternCrate}
-use Rattle.hir_scope.specs.declared.item_in_ns.ItemInNs.{ItemInNs}
-use Rattle.hir_scope.specs.declared.per_ns.PerNs.{PerNs}
-use Rattle.hir_scope.specs.declared.visibility.Visibility.{Visibility}
-use Rattle.hir_scope.specs.declared.imports.ImportOrExternCrate.TheVariants as ways
-use Rattle.hir_def_map_rules.specs.State.{Map, module_at, numbered, with_scope}
-use Rattle.hir_def_map_rules.specs.Overlay.{Maps}
+use Rattle.hir_nameres.specs.HirIds.declared.ids.ModuleId.{ModuleId}
+use Rattle.hir_nameres.specs.HirIds.declared.ids.TraitId.{TraitId}
+use Rattle.hir_nameres.specs.HirScope.Globs.{GlobNames}
+use Rattle.hir_nameres.specs.HirScope.Scope.{ScopeValue}
+use Rattle.hir_nameres.specs.HirScope.Scope.Push.{pushed_scope}
+use Rattle.hir_nameres.specs.HirPerNs.declared.imports.GlobId.{GlobId}
+use Rattle.hir_nameres.specs.HirPerNs.declared.imports.ImportId.{ImportId}
+use Rattle.hir_nameres.specs.HirPerNs.declared.imports.ImportOrExternCrate.{ImportOrExternCrate}
+use Rattle.hir_nameres.specs.HirPerNs.declared.item_in_ns.ItemInNs.{ItemInNs}
+use Rattle.hir_nameres.specs.HirPerNs.declared.per_ns.PerNs.{PerNs}
+use Rattle.hir_nameres.specs.HirPerNs.declared.visibility.Visibility.{Visibility}
+use Rattle.hir_nameres.specs.HirPerNs.declared.imports.ImportOrExternCrate.TheVariants as ways
+use Rattle.hir_nameres.specs.HirDefMapRules.State.{Map, module_at, numbered, with_scope}
+use Rattle.hir_nameres.specs.HirDefMapRules.Overlay.{Maps}
 use Rattle.hir_glob_imports.specs.Rules.{Act, copies, brings, follows, raises}
 use Rattle.hir_glob_imports.specs.declared.edge.Bound.{Bound}
 use Rattle.hir_glob_imports.specs.declared.edge.Key.{Key}

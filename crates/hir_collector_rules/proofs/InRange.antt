@@ -1,27 +1,27 @@
 -- What is to be visited, each import and each call is of a module that is there.
 use Rattle.std.proofs.Common.{◌≡◌, ℕ, zero, suc, ◌+◌, ◌<◌, ◌≤◌, Bool, true, false, ◌||◌, List, [], ◌∷◌, ◌++◌, length, map as list_map, slice_get, Option, None}
 use Rattle.std.proofs.Common.{Some, refl, sym, subst, arith, append_assoc}
-use Rattle.hir_base.specs.declared.ids.AdtId.{AdtId}
-use Rattle.hir_base.specs.declared.ast_id.AstId.{AstId}
-use Rattle.hir_base.specs.declared.ast_id.AttrId.{AttrId}
-use Rattle.hir_base.specs.declared.ids.UseId.{UseId}
+use Rattle.hir_nameres.specs.HirIds.declared.ids.AdtId.{AdtId}
+use Rattle.hir_nameres.specs.HirIds.declared.ast_id.AstId.{AstId}
+use Rattle.hir_nameres.specs.HirIds.declared.ast_id.AttrId.{AttrId}
+use Rattle.hir_nameres.specs.HirIds.declared.ids.UseId.{UseId}
 use Rattle.hir_item_tree.specs.KeptForest.{Head, KeptForest, no_items, item}
 use Rattle.hir_item_tree.specs.Imports.{imports_of}
 use Rattle.hir_use_tree.specs.declared.imports.Import.{Import}
-use Rattle.hir_raw_visibility.specs.declared.raw_visibility.RawVisibility.{RawVisibility}
+use Rattle.hir_nameres.specs.HirRawVisibility.declared.raw_visibility.RawVisibility.{RawVisibility}
 use Rattle.hir_mod_dir.specs.Directory.{Directory}
 use Rattle.hir_mod_dir.specs.ModuleFiles.{inline_directory}
-use Rattle.hir_def_map_rules.specs.State.{Map, ModuleValue, new_module, with_module}
-use Rattle.hir_def_map_rules.specs.Overlay.{Maps}
-use Rattle.hir_def_map_rules.proofs.Grown.{length-changed}
-use Rattle.hir_def_map_rules.proofs.StaysWellFormed.{length-made}
+use Rattle.hir_nameres.specs.HirDefMapRules.State.{Map, ModuleValue, new_module, with_module}
+use Rattle.hir_nameres.specs.HirDefMapRules.Overlay.{Maps}
+use Rattle.hir_nameres.proofs.HirDefMapRules.Grown.{length-changed}
+use Rattle.hir_nameres.proofs.HirDefMapRules.StaysWellFormed.{length-made}
 use Rattle.hir_import_rules.specs.declared.directive.ImportDirective.{ImportDirective}
 use Rattle.hir_import_rules.specs.Rules.{acts as import_acts}
 use Rattle.hir_collector_rules.specs.Types.{MacroDirective, Site}
 use Rattle.hir_collector_rules.specs.Calls.{call_site, error_of}
 use Rattle.hir_collector_rules.specs.Keys.{Environment}
 use Rattle.hir_collector_rules.specs.State.{State, Task, Visit, visits, closes, import_state, visits_over}
-use Rattle.hir_base.specs.ModPath.{Path}
+use Rattle.hir_nameres.specs.HirBase.ModPath.{Path}
 use Rattle.hir_use_tree.specs.UseTree.{count_of}
 use Rattle.hir_collector_rules.specs.Attributes.{attr_id, item_node}
 use Rattle.hir_collector_rules.specs.ItemIds.{macro_rules_id, module_id, use_id}

@@ -2,8 +2,8 @@
 use Rattle.std.proofs.Common.{◌≡◌, Bool, false, refl, sym, ap, subst}
 use Rattle.hir_use_tree.specs.declared.imports.ImportKind.{ImportKind}
 use Rattle.hir_use_tree.specs.declared.imports.ImportKind.TheVariants as kinds
-use Rattle.hir_scope.specs.declared.per_ns.PerNs.{PerNs}
-use Rattle.hir_def_map_rules.specs.Scoping.{Resolution}
+use Rattle.hir_nameres.specs.HirPerNs.declared.per_ns.PerNs.{PerNs}
+use Rattle.hir_nameres.specs.HirDefMapRules.Scoping.{Resolution}
 use Rattle.hir_import_rules.specs.declared.namespaces.Namespaces.{Namespaces}
 use Rattle.hir_import_rules.specs.Directives.{AreAmong, namespaces_of, both_of, kept_by_kind, kept_of, open_items, no_namespaces}
 

@@ -3,7 +3,7 @@ use Rattle.std.specs.List.{list_any}
 use Rattle.std.proofs.Common.{◌≡◌, ◌≢◌, ◌∙◌, ℕ, Bool, false, zero, suc, ◌+◌, ◌<◌, ◌≤◌, List, [], ◌∷◌, ◌++◌, length, map, drop, get_or, slice_get, slice_set}
 use Rattle.std.proofs.Common.{Some, None, refl, sym, ap, add-one, arith}
 use Rattle.std.proofs.Math.Seq.{drop-cons}
-use Rattle.hir_def_map_rules.proofs.NoneOf.{neither, not_first, not_second}
+use Rattle.hir_nameres.proofs.HirDefMapRules.NoneOf.{neither, not_first, not_second}
 
 module _ {A : Type 0} where
   -- what stands at the place, and the rest

@@ -4,33 +4,33 @@ use Rattle.std.proofs.Common.{sym, ap, subst, arith, append_assoc, Contains}
 use Rattle.std.specs.Option.{option_and_then}
 use Rattle.std.specs.Prelude.{IsSome, option_map}
 use Rattle.std.proofs.lemmas.List.Elements.{Contains-append_cases}
-use Rattle.hir_base.specs.ModPath.{Path}
-use Rattle.hir_base.specs.declared.ids.AdtId.{AdtId}
-use Rattle.hir_base.specs.declared.ast_id.AstId.{AstId}
-use Rattle.hir_base.specs.declared.ast_id.AttrId.{AttrId}
-use Rattle.hir_base.specs.declared.ast_id.BlockId.{BlockId}
-use Rattle.hir_base.specs.declared.ids.Crate.{Crate}
-use Rattle.hir_base.specs.declared.ast_id.EntryId.{EntryId}
-use Rattle.hir_base.specs.declared.ast_id.FileId.{FileId}
-use Rattle.hir_base.specs.declared.ast_id.HirFileId.{HirFileId}
-use Rattle.hir_base.specs.declared.macro_kind.MacroCallLoc.{MacroCallLoc}
-use Rattle.hir_base.specs.declared.macro_kind.MacroId.{MacroId}
-use Rattle.hir_base.specs.declared.ids.ModuleId.{ModuleId}
-use Rattle.hir_base.specs.declared.ast_id.AstKind.TheVariants.{MacroDef, MacroRules}
-use Rattle.hir_base.specs.declared.ast_id.HirFileId.TheVariants.{File, Macro}
-use Rattle.hir_base.specs.declared.macro_kind.MacroId.TheVariants as macros
+use Rattle.hir_nameres.specs.HirBase.ModPath.{Path}
+use Rattle.hir_nameres.specs.HirIds.declared.ids.AdtId.{AdtId}
+use Rattle.hir_nameres.specs.HirIds.declared.ast_id.AstId.{AstId}
+use Rattle.hir_nameres.specs.HirIds.declared.ast_id.AttrId.{AttrId}
+use Rattle.hir_nameres.specs.HirIds.declared.ast_id.BlockId.{BlockId}
+use Rattle.hir_nameres.specs.HirIds.declared.ids.Crate.{Crate}
+use Rattle.hir_nameres.specs.HirIds.declared.ast_id.EntryId.{EntryId}
+use Rattle.hir_nameres.specs.HirIds.declared.ast_id.FileId.{FileId}
+use Rattle.hir_nameres.specs.HirIds.declared.ast_id.HirFileId.{HirFileId}
+use Rattle.hir_nameres.specs.HirBase.declared.macro_kind.MacroCallLoc.{MacroCallLoc}
+use Rattle.hir_nameres.specs.HirIds.declared.macro_kind.MacroId.{MacroId}
+use Rattle.hir_nameres.specs.HirIds.declared.ids.ModuleId.{ModuleId}
+use Rattle.hir_nameres.specs.HirIds.declared.ast_id.AstKind.TheVariants.{MacroDef, MacroRules}
+use Rattle.hir_nameres.specs.HirIds.declared.ast_id.HirFileId.TheVariants.{File, Macro}
+use Rattle.hir_nameres.specs.HirIds.declared.macro_kind.MacroId.TheVariants as macros
 use Rattle.hir_item_tree.specs.ItemTree.{Tree}
 use Rattle.hir_item_tree.specs.KeptForest.{Head, KeptForest, KeptItem, no_items, item}
 use Rattle.hir_item_tree.specs.SourceTree.{variants_of}
 use Rattle.hir_item_tree.specs.SyntaxIds.{node_id}
 use Rattle.hir_mod_dir.specs.Directory.{Directory}
 use Rattle.hir_mod_dir.specs.ModuleFiles.{inline_directory}
-use Rattle.hir_item_tree.specs.declared.tree_id.TreeId.{TreeId}
+use Rattle.hir_nameres.specs.HirBase.declared.tree_id.TreeId.{TreeId}
 use Rattle.hir_tables.specs.SourcePlaces.{ExpansionValue, SourcePlaceValue, expansion as of_expansion, file as of_file}
 use Rattle.hir_tables.specs.Tables.{TablesValue, KeepsTables, entry_at, file_at, source_of, source_under as place_under}
 use Rattle.hir_tables.proofs.Growth.{source_of-kept}
-use Rattle.hir_def_map_rules.specs.State.{Map}
-use Rattle.hir_def_map_rules.specs.Overlay.{Maps}
+use Rattle.hir_nameres.specs.HirDefMapRules.State.{Map}
+use Rattle.hir_nameres.specs.HirDefMapRules.Overlay.{Maps}
 use Rattle.hir_import_rules.specs.Rules.{acts as import_acts}
 use Rattle.hir_collector_rules.specs.Types.{Key, MacroDirective, Site, Start, WaitingItem}
 use Rattle.hir_use_tree.specs.UseTree.{count_of}

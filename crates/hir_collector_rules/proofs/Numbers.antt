@@ -1,8 +1,8 @@
 -- What numbers mean stays as tables grow.
 use Rattle.std.proofs.Common.{◌≡◌, ◌∙◌, List, Some, Result, Ok, Err, IsErrAnd, ap, arith}
-use Rattle.hir_base.specs.Locations.{KeepsNumbers}
-use Rattle.hir_base.specs.declared.locations.LocationsError.{LocationsError}
-use Rattle.hir_base.specs.declared.locations.LocationsError.TheVariants as numbers
+use Rattle.hir_nameres.specs.HirBase.Locations.{KeepsNumbers}
+use Rattle.hir_nameres.specs.HirBase.declared.locations.LocationsError.{LocationsError}
+use Rattle.hir_nameres.specs.HirBase.declared.locations.LocationsError.TheVariants as numbers
 use Rattle.hir_tables.specs.Interning.{IsFull}
 use Rattle.hir_tables.specs.Tables.{TablesValue, KeepsTables}
 use Rattle.hir_collector_rules.specs.Types.{CollectError, StepError}

@@ -1,6 +1,6 @@
 -- What waits stays, and what was handled stays so; what rounds of calls come to, one after another.
 use Rattle.std.proofs.Common.{◌≡◌, ◌∙◌, inl, inr, ℕ, ◌+◌, ◌<◌, ◌≤◌, List, ◌++◌, length, slice_get, slice_set, Some, refl, sym, ap, subst, arith}
-use Rattle.hir_def_map_rules.specs.Overlay.{Maps}
+use Rattle.hir_nameres.specs.HirDefMapRules.Overlay.{Maps}
 use Rattle.hir_import_rules.specs.Rules.{acts as import_acts}
 use Rattle.hir_collector_rules.specs.Types.{Fate, MacroDirective}
 use Rattle.hir_collector_rules.specs.declared.macro_directive.Fate.TheVariants.{GivenUp, Handled, Waits}

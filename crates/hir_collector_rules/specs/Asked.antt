@@ -1,6 +1,6 @@
 -- How are the keys of a run kept?
 use Rattle.std.specs.Prelude.{◌≡◌, ◌++◌, List}
-use Rattle.hir_base.specs.declared.ids.Crate.{Crate}
+use Rattle.hir_nameres.specs.HirIds.declared.ids.Crate.{Crate}
 use Rattle.hir_collector_rules.specs.declared.source_database.Key.{Key}
 use Rattle.hir_collector_rules.specs.Keys.{map_keys}
 

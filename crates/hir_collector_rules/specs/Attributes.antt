@@ -2,24 +2,24 @@
 use Rattle.std.specs.Prelude.{◌≡◌, ℕ, suc, ◌==◌, Contains, Bool, false, true, ◌||◌, ◌&&◌, is_none, List, [], ◌∷◌, drop, codes, Option, None, Some, cond}
 use Rattle.std.specs.Prelude.{unwrap_or}
 use Rattle.std.specs.Str.{bytes_eq}
-use Rattle.hir_base.specs.ModPath.{Path}
-use Rattle.hir_base.specs.declared.ids.AdtId.{AdtId}
-use Rattle.hir_base.specs.declared.ast_id.AstId.{AstId}
-use Rattle.hir_base.specs.declared.ast_id.AttrId.{AttrId}
-use Rattle.hir_base.specs.declared.mod_path.PathKind.{PathKind}
-use Rattle.hir_base.specs.declared.macro_kind.ProcMacroId.{ProcMacroId}
-use Rattle.hir_base.specs.declared.macro_kind.ProcMacroStyle.{ProcMacroStyle}
-use Rattle.hir_base.specs.declared.ast_id.SyntaxId.{SyntaxId}
-use Rattle.hir_base.specs.declared.ids.AdtId.TheVariants as adts
-use Rattle.hir_base.specs.declared.macro_kind.ProcMacroStyle.TheVariants.{FnLike, Attr, Derive}
-use Rattle.hir_base.specs.declared.mod_path.PathKind.TheVariants as roots
+use Rattle.hir_nameres.specs.HirBase.ModPath.{Path}
+use Rattle.hir_nameres.specs.HirIds.declared.ids.AdtId.{AdtId}
+use Rattle.hir_nameres.specs.HirIds.declared.ast_id.AstId.{AstId}
+use Rattle.hir_nameres.specs.HirIds.declared.ast_id.AttrId.{AttrId}
+use Rattle.hir_nameres.specs.HirBase.declared.mod_path.PathKind.{PathKind}
+use Rattle.hir_nameres.specs.HirIds.declared.macro_kind.ProcMacroId.{ProcMacroId}
+use Rattle.hir_nameres.specs.HirIds.declared.macro_kind.ProcMacroStyle.{ProcMacroStyle}
+use Rattle.hir_nameres.specs.HirIds.declared.ast_id.SyntaxId.{SyntaxId}
+use Rattle.hir_nameres.specs.HirIds.declared.ids.AdtId.TheVariants as adts
+use Rattle.hir_nameres.specs.HirIds.declared.macro_kind.ProcMacroStyle.TheVariants.{FnLike, Attr, Derive}
+use Rattle.hir_nameres.specs.HirBase.declared.mod_path.PathKind.TheVariants as roots
 use Rattle.hir_item_tree.specs.Attributes.{Input, literal, parentheses, derive, paths, tokens}
 use Rattle.hir_item_tree.specs.Collected.{Numbered}
 use Rattle.hir_item_tree.specs.KeptForest.{Head, KeptItem, Leaf, enumeration, function, holder, leaf, structure, union_structure}
 use Rattle.hir_item_tree.specs.Kinds.{item_head, item_kind}
-use Rattle.hir_def_map_rules.specs.Macros.{helpers_at}
-use Rattle.hir_def_map_rules.specs.State.{Map}
-use Rattle.hir_def_map_rules.specs.declared.derive_helpers.DeriveHelper.{DeriveHelper}
+use Rattle.hir_nameres.specs.HirDefMapRules.Macros.{helpers_at}
+use Rattle.hir_nameres.specs.HirDefMapRules.State.{Map}
+use Rattle.hir_nameres.specs.HirMapParts.declared.derive_helpers.DeriveHelper.{DeriveHelper}
 use Rattle.hir_collector_rules.specs.declared.exported.Export.{Export}
 use Rattle.hir_collector_rules.specs.declared.site.Site.{Site}
 use Rattle.hir_collector_rules.specs.BuiltinAttributes.{is_inert}

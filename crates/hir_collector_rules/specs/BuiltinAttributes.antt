@@ -1,9 +1,9 @@
 -- Which attributes are builtin and inert, so that nothing is looked up for them?
 use Rattle.std.specs.Prelude.{ℕ, Bool, false, ◌||◌, nat_eq, List, [], ◌∷◌, codes}
 use Rattle.std.specs.List.{starts_with}
-use Rattle.hir_base.specs.Display.{is_one_of}
-use Rattle.hir_base.specs.declared.mod_path.PathKind.{PathKind}
-use Rattle.hir_base.specs.declared.mod_path.PathKind.TheVariants as roots
+use Rattle.hir_nameres.specs.HirIds.Display.{is_one_of}
+use Rattle.hir_nameres.specs.HirBase.declared.mod_path.PathKind.{PathKind}
+use Rattle.hir_nameres.specs.HirBase.declared.mod_path.PathKind.TheVariants as roots
 
 -- attributes of tests, and of macros
 abbrev pub testing_and_macros : List (List ℕ)

@@ -3,43 +3,43 @@ use Rattle.std.specs.Prelude.{◌≡◌, ◌<◌, IsSome, ℕ, ◌+◌, Bool, tr
 use Rattle.std.specs.Prelude.{slice_get}
 use Rattle.std.specs.Option.{option_and_then}
 use Rattle.either.specs.declared.Either.{Either}
-use Rattle.hir_base.specs.Ids.{macro_module}
-use Rattle.hir_base.specs.MacroKind.{contains_styles, derive_alone, styles_of}
-use Rattle.hir_base.specs.ModPath.{Path}
-use Rattle.hir_base.specs.declared.ast_id.AstId.{AstId}
-use Rattle.hir_base.specs.declared.ast_id.AttrId.{AttrId}
-use Rattle.hir_base.specs.declared.macro_kind.BuiltinDeriveImplId.{BuiltinDeriveImplId}
-use Rattle.hir_base.specs.declared.macro_kind.CallStyle.{CallStyle}
-use Rattle.hir_base.specs.declared.ids.Crate.{Crate}
-use Rattle.hir_base.specs.declared.ast_id.EntryId.{EntryId}
-use Rattle.hir_base.specs.declared.ast_id.MacroCallId.{MacroCallId}
-use Rattle.hir_base.specs.declared.macro_kind.MacroCallKind.{MacroCallKind}
-use Rattle.hir_base.specs.declared.macro_kind.MacroCallLoc.{MacroCallLoc}
-use Rattle.hir_base.specs.declared.macro_kind.MacroExpander.{MacroExpander}
-use Rattle.hir_base.specs.declared.macro_kind.MacroId.{MacroId}
-use Rattle.hir_base.specs.declared.resolve_mode.MacroSubNs.{MacroSubNs}
-use Rattle.hir_base.specs.declared.ast_id.HirFileId.TheVariants.{Macro}
-use Rattle.hir_base.specs.declared.macro_kind.CallStyle.TheVariants as styles
-use Rattle.hir_base.specs.declared.macro_kind.MacroExpander.TheVariants as expanders
-use Rattle.hir_base.specs.declared.macro_kind.MacroCallKind.TheVariants as call_kinds
-use Rattle.hir_base.specs.declared.macro_kind.MacroId.TheVariants.{Macro2Id, MacroRulesId, ProcMacroId}
-use Rattle.hir_base.specs.declared.resolve_mode.BuiltinShadowMode.TheVariants as shadow_modes
-use Rattle.hir_base.specs.declared.resolve_mode.MacroSubNs.TheVariants as sub_namespaces
-use Rattle.hir_def_map_rules.specs.declared.path_result.ResolveMode.TheVariants as modes
-use Rattle.hir_item_tree.specs.declared.tree_id.TreeId.{TreeId}
-use Rattle.hir_item_tree.specs.declared.tree_id.TreeKey.{TreeKey}
-use Rattle.hir_scope.specs.PerNs.{Item}
-use Rattle.hir_scope.specs.declared.imports.ImportOrExternCrate.{ImportOrExternCrate}
-use Rattle.hir_scope.specs.declared.per_ns.PerNs.{PerNs}
+use Rattle.hir_nameres.specs.HirIds.Ids.{macro_module}
+use Rattle.hir_nameres.specs.HirIds.MacroKind.{contains_styles, derive_alone, styles_of}
+use Rattle.hir_nameres.specs.HirBase.ModPath.{Path}
+use Rattle.hir_nameres.specs.HirIds.declared.ast_id.AstId.{AstId}
+use Rattle.hir_nameres.specs.HirIds.declared.ast_id.AttrId.{AttrId}
+use Rattle.hir_nameres.specs.HirIds.declared.macro_kind.BuiltinDeriveImplId.{BuiltinDeriveImplId}
+use Rattle.hir_nameres.specs.HirBase.declared.macro_kind.CallStyle.{CallStyle}
+use Rattle.hir_nameres.specs.HirIds.declared.ids.Crate.{Crate}
+use Rattle.hir_nameres.specs.HirIds.declared.ast_id.EntryId.{EntryId}
+use Rattle.hir_nameres.specs.HirIds.declared.ast_id.MacroCallId.{MacroCallId}
+use Rattle.hir_nameres.specs.HirBase.declared.macro_kind.MacroCallKind.{MacroCallKind}
+use Rattle.hir_nameres.specs.HirBase.declared.macro_kind.MacroCallLoc.{MacroCallLoc}
+use Rattle.hir_nameres.specs.HirIds.declared.macro_kind.MacroExpander.{MacroExpander}
+use Rattle.hir_nameres.specs.HirIds.declared.macro_kind.MacroId.{MacroId}
+use Rattle.hir_nameres.specs.HirBase.declared.resolve_mode.MacroSubNs.{MacroSubNs}
+use Rattle.hir_nameres.specs.HirIds.declared.ast_id.HirFileId.TheVariants.{Macro}
+use Rattle.hir_nameres.specs.HirBase.declared.macro_kind.CallStyle.TheVariants as styles
+use Rattle.hir_nameres.specs.HirIds.declared.macro_kind.MacroExpander.TheVariants as expanders
+use Rattle.hir_nameres.specs.HirBase.declared.macro_kind.MacroCallKind.TheVariants as call_kinds
+use Rattle.hir_nameres.specs.HirIds.declared.macro_kind.MacroId.TheVariants.{Macro2Id, MacroRulesId, ProcMacroId}
+use Rattle.hir_nameres.specs.HirBase.declared.resolve_mode.BuiltinShadowMode.TheVariants as shadow_modes
+use Rattle.hir_nameres.specs.HirBase.declared.resolve_mode.MacroSubNs.TheVariants as sub_namespaces
+use Rattle.hir_nameres.specs.HirDefMapRules.declared.path_result.ResolveMode.TheVariants as modes
+use Rattle.hir_nameres.specs.HirBase.declared.tree_id.TreeId.{TreeId}
+use Rattle.hir_nameres.specs.HirBase.declared.tree_id.TreeKey.{TreeKey}
+use Rattle.hir_nameres.specs.HirPerNs.PerNs.{Item}
+use Rattle.hir_nameres.specs.HirPerNs.declared.imports.ImportOrExternCrate.{ImportOrExternCrate}
+use Rattle.hir_nameres.specs.HirPerNs.declared.per_ns.PerNs.{PerNs}
 use Rattle.hir_tables.specs.SourcePlaces.{ExpansionValue}
 use Rattle.hir_tables.specs.Tables.{TablesValue, call_at, entry_at, source_of}
-use Rattle.hir_def_map_rules.specs.Diagnostics.{call_node}
-use Rattle.hir_def_map_rules.specs.Macros.{macro_data_at}
-use Rattle.hir_def_map_rules.specs.Overlay.{Maps, map_in, overlay}
-use Rattle.hir_def_map_rules.specs.Scoping.{resolution_of}
-use Rattle.hir_def_map_rules.specs.Scoping.Asking.{Asking}
-use Rattle.hir_def_map_rules.specs.State.{Local, MacroDataValue, Map, numbered}
-use Rattle.hir_def_map_rules.specs.declared.derive_helpers.DeriveHelper.{DeriveHelper}
+use Rattle.hir_nameres.specs.HirDefMapRules.Diagnostics.{call_node}
+use Rattle.hir_nameres.specs.HirDefMapRules.Macros.{macro_data_at}
+use Rattle.hir_nameres.specs.HirDefMapRules.Overlay.{Maps, map_in, overlay}
+use Rattle.hir_nameres.specs.HirDefMapRules.Scoping.{resolution_of}
+use Rattle.hir_nameres.specs.HirDefMapRules.Scoping.Asking.{Asking}
+use Rattle.hir_nameres.specs.HirDefMapRules.State.{Local, MacroDataValue, Map, numbered}
+use Rattle.hir_nameres.specs.HirMapParts.declared.derive_helpers.DeriveHelper.{DeriveHelper}
 use Rattle.hir_item_tree.specs.KeptForest.{KeptItem, all_items}
 use Rattle.hir_collector_rules.specs.declared.macro_directive.Fate.TheVariants as fates
 use Rattle.hir_collector_rules.specs.declared.macro_directive.MacroDirective.{MacroDirective}

@@ -6,15 +6,15 @@ use Rattle.std.specs.Cmp.Lexicographic.{slice_cmp}
 use Rattle.std.specs.BTreeSet.{insert_key}
 use Rattle.std.specs.Str.{all_ascii_digits}
 use Rattle.std.specs.Str.Parse.{digits_value, without_leading_plus}
-use Rattle.hir_base.specs.ModPath.{Path}
-use Rattle.hir_base.specs.declared.ids.Crate.{Crate}
-use Rattle.hir_base.specs.declared.edition.Edition.{Edition}
-use Rattle.hir_base.specs.declared.mod_path.PathKind.{PathKind}
-use Rattle.hir_base.specs.declared.mod_path.PathKind.TheVariants as roots
+use Rattle.hir_nameres.specs.HirBase.ModPath.{Path}
+use Rattle.hir_nameres.specs.HirIds.declared.ids.Crate.{Crate}
+use Rattle.hir_nameres.specs.HirIds.declared.edition.Edition.{Edition}
+use Rattle.hir_nameres.specs.HirBase.declared.mod_path.PathKind.{PathKind}
+use Rattle.hir_nameres.specs.HirBase.declared.mod_path.PathKind.TheVariants as roots
 use Rattle.hir_item_tree.specs.AttrQuery.{is_ident}
 use Rattle.hir_item_tree.specs.Attributes.{paths, tokens, derive, Input, literal, parentheses}
 use Rattle.hir_item_tree.specs.Collected.{Numbered}
-use Rattle.hir_def_map_rules.specs.State.{CrateData}
+use Rattle.hir_nameres.specs.HirDefMapRules.State.{CrateData}
 
 -- whether an attribute's path is this name alone
 abbrev pub is_keyed : List ℕ → Numbered → Bool

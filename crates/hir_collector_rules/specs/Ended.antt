@@ -1,12 +1,12 @@
 -- What do others see of a procedural-macro crate?
 use Rattle.std.specs.Prelude.{ℕ, List, [], ◌∷◌, cond}
-use Rattle.hir_base.specs.declared.ids.Crate.{Crate}
-use Rattle.hir_base.specs.declared.ids.FunctionId.{FunctionId}
-use Rattle.hir_base.specs.declared.ids.ModuleDefId.TheVariants as definitions
-use Rattle.hir_base.specs.contracts.ids.ModuleDefIdPartialEq.TheImpl as module_def
-use Rattle.hir_scope.specs.Scope.{ScopeValue}
-use Rattle.hir_scope.specs.Scope.Updates.{censored_scope, without_definition}
-use Rattle.hir_def_map_rules.specs.State.{Map, with_scope}
+use Rattle.hir_nameres.specs.HirIds.declared.ids.Crate.{Crate}
+use Rattle.hir_nameres.specs.HirIds.declared.ids.FunctionId.{FunctionId}
+use Rattle.hir_nameres.specs.HirIds.declared.ids.ModuleDefId.TheVariants as definitions
+use Rattle.hir_nameres.specs.HirIds.contracts.ids.ModuleDefIdPartialEq.TheImpl as module_def
+use Rattle.hir_nameres.specs.HirScope.Scope.{ScopeValue}
+use Rattle.hir_nameres.specs.HirScope.Scope.Updates.{censored_scope, without_definition}
+use Rattle.hir_nameres.specs.HirDefMapRules.State.{Map, with_scope}
 use Rattle.hir_collector_rules.specs.declared.exported.ExportedFunction.{ExportedFunction}
 use Rattle.hir_collector_rules.specs.State.{Core}
 

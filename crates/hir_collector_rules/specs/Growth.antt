@@ -1,7 +1,7 @@
 -- What stays of a run's answer as tables grow?
 use Rattle.std.specs.Prelude.{◌≡◌, Contains}
 use Rattle.hir_tables.specs.Tables.{TablesValue, KeepsTables}
-use Rattle.hir_def_map_rules.specs.Overlay.{Maps}
+use Rattle.hir_nameres.specs.HirDefMapRules.Overlay.{Maps}
 use Rattle.hir_collector_rules.specs.declared.source_database.Key.{Key}
 use Rattle.hir_collector_rules.specs.Workspace.{Workspace}
 use Rattle.hir_collector_rules.specs.Calls.{IsMeantAt}

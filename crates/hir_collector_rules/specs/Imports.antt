@@ -1,20 +1,20 @@
 -- Which imports does the walk find?
 use Rattle.std.specs.Prelude.{◌==◌, ℕ, ◌&&◌, is_none, List, [], ◌∷◌, Option, None, Some, map, cond}
 use Rattle.std.specs.Str.{bytes_eq}
-use Rattle.hir_base.specs.ModPath.{Path}
-use Rattle.hir_base.specs.declared.ids.Crate.{Crate}
-use Rattle.hir_base.specs.declared.ids.UseId.{UseId}
-use Rattle.hir_base.specs.declared.mod_path.PathKind.TheVariants as path_kinds
+use Rattle.hir_nameres.specs.HirBase.ModPath.{Path}
+use Rattle.hir_nameres.specs.HirIds.declared.ids.Crate.{Crate}
+use Rattle.hir_nameres.specs.HirIds.declared.ids.UseId.{UseId}
+use Rattle.hir_nameres.specs.HirBase.declared.mod_path.PathKind.TheVariants as path_kinds
 use Rattle.hir_item_tree.specs.Imports.{imports_of}
 use Rattle.hir_use_tree.specs.declared.imports.Import.{Import}
 use Rattle.hir_use_tree.specs.declared.imports.ImportAlias.{ImportAlias}
 use Rattle.hir_item_tree.specs.KeptForest.{Head}
 use Rattle.hir_item_tree.specs.UseTree.{UseTree}
-use Rattle.hir_item_tree.specs.declared.shape.ExternCrateName.{ExternCrateName}
-use Rattle.hir_raw_visibility.specs.declared.raw_visibility.RawVisibility.{RawVisibility}
-use Rattle.hir_item_tree.specs.declared.shape.ExternCrateName.TheVariants.{SelfCrate, Name}
-use Rattle.hir_def_map_rules.specs.Scoping.Start.{crate_root}
-use Rattle.hir_def_map_rules.specs.State.{Local, Map, with_extern}
+use Rattle.hir_nameres.specs.HirBase.declared.shape.ExternCrateName.{ExternCrateName}
+use Rattle.hir_nameres.specs.HirRawVisibility.declared.raw_visibility.RawVisibility.{RawVisibility}
+use Rattle.hir_nameres.specs.HirBase.declared.shape.ExternCrateName.TheVariants.{SelfCrate, Name}
+use Rattle.hir_nameres.specs.HirDefMapRules.Scoping.Start.{crate_root}
+use Rattle.hir_nameres.specs.HirDefMapRules.State.{Local, Map, with_extern}
 use Rattle.hir_import_rules.specs.declared.directive.ImportDirective.{ImportDirective}
 use Rattle.hir_import_rules.specs.declared.directive.ImportSource.{ImportSource}
 use Rattle.hir_import_rules.specs.declared.directive.ImportSource.TheVariants as sources

@@ -1,14 +1,14 @@
 -- What does a scope note of macro calls, attributes and derives?
 use Rattle.std.specs.Prelude.{ℕ, List, None, cond, length, replicate}
 use Rattle.either.specs.declared.Either.TheVariants as either
-use Rattle.hir_base.specs.ModPath.{Path}
-use Rattle.hir_base.specs.declared.ast_id.AstId.{AstId}
-use Rattle.hir_base.specs.declared.ast_id.AttrId.{AttrId}
-use Rattle.hir_base.specs.declared.macro_kind.BuiltinDeriveImplId.{BuiltinDeriveImplId}
-use Rattle.hir_base.specs.declared.ast_id.MacroCallId.{MacroCallId}
-use Rattle.hir_scope.specs.MacroScope.{has_derive_slot, with_call, with_derive, with_derive_attribute}
-use Rattle.hir_scope.specs.Scope.{DeriveCall, DeriveCalls, ScopeValue}
-use Rattle.hir_def_map_rules.specs.State.{Map, with_scope}
+use Rattle.hir_nameres.specs.HirBase.ModPath.{Path}
+use Rattle.hir_nameres.specs.HirIds.declared.ast_id.AstId.{AstId}
+use Rattle.hir_nameres.specs.HirIds.declared.ast_id.AttrId.{AttrId}
+use Rattle.hir_nameres.specs.HirIds.declared.macro_kind.BuiltinDeriveImplId.{BuiltinDeriveImplId}
+use Rattle.hir_nameres.specs.HirIds.declared.ast_id.MacroCallId.{MacroCallId}
+use Rattle.hir_nameres.specs.HirScope.MacroScope.{has_derive_slot, with_call, with_derive, with_derive_attribute}
+use Rattle.hir_nameres.specs.HirScope.Scope.{DeriveCall, DeriveCalls, ScopeValue}
+use Rattle.hir_nameres.specs.HirDefMapRules.State.{Map, with_scope}
 use Rattle.hir_collector_rules.specs.declared.macro_directive.MacroDirective.{MacroDirective}
 use Rattle.hir_collector_rules.specs.declared.macro_directive.MacroDirectiveKind.{MacroDirectiveKind}
 use Rattle.hir_collector_rules.specs.declared.macro_directive.MacroDirectiveKind.TheVariants.{Attr, Derive, FnLike}

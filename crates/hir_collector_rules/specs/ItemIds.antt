@@ -1,29 +1,29 @@
 -- Which definition is an item of a source?
 use Rattle.std.specs.Prelude.{ℕ, Option, None, Some}
-use Rattle.hir_base.specs.declared.ast_id.AstId.{AstId}
-use Rattle.hir_base.specs.declared.ast_id.AstKind.{AstKind}
-use Rattle.hir_base.specs.declared.ids.ConstId.{ConstId}
-use Rattle.hir_base.specs.declared.ids.EnumId.{EnumId}
-use Rattle.hir_base.specs.declared.ids.ExternBlockId.{ExternBlockId}
-use Rattle.hir_base.specs.declared.ids.ExternCrateId.{ExternCrateId}
-use Rattle.hir_base.specs.declared.ids.FunctionId.{FunctionId}
-use Rattle.hir_base.specs.declared.ids.ImplId.{ImplId}
-use Rattle.hir_base.specs.declared.ids.ItemContainerId.{ItemContainerId}
-use Rattle.hir_base.specs.declared.macro_kind.MacroExpander.{MacroExpander}
-use Rattle.hir_base.specs.declared.macro_kind.MacroId.{MacroId}
-use Rattle.hir_base.specs.declared.macro_kind.MacroLoc.{MacroLoc}
-use Rattle.hir_base.specs.declared.ids.ModuleId.{ModuleId}
-use Rattle.hir_base.specs.declared.ids.StaticId.{StaticId}
-use Rattle.hir_base.specs.declared.ids.StructId.{StructId}
-use Rattle.hir_base.specs.declared.ast_id.SyntaxId.{SyntaxId}
-use Rattle.hir_base.specs.declared.ids.TraitId.{TraitId}
-use Rattle.hir_base.specs.declared.ids.TypeAliasId.{TypeAliasId}
-use Rattle.hir_base.specs.declared.ids.UnionId.{UnionId}
-use Rattle.hir_base.specs.declared.ids.UseId.{UseId}
-use Rattle.hir_base.specs.declared.ids.ItemContainerId.TheVariants as containers
-use Rattle.hir_base.specs.declared.macro_kind.MacroId.TheVariants as macros
-use Rattle.hir_item_tree.specs.declared.tree_id.TreeId.{TreeId}
-use Rattle.hir_def_map_rules.specs.State.{Map, numbered}
+use Rattle.hir_nameres.specs.HirIds.declared.ast_id.AstId.{AstId}
+use Rattle.hir_nameres.specs.HirIds.declared.ast_id.AstKind.{AstKind}
+use Rattle.hir_nameres.specs.HirIds.declared.ids.ConstId.{ConstId}
+use Rattle.hir_nameres.specs.HirIds.declared.ids.EnumId.{EnumId}
+use Rattle.hir_nameres.specs.HirIds.declared.ids.ExternBlockId.{ExternBlockId}
+use Rattle.hir_nameres.specs.HirIds.declared.ids.ExternCrateId.{ExternCrateId}
+use Rattle.hir_nameres.specs.HirIds.declared.ids.FunctionId.{FunctionId}
+use Rattle.hir_nameres.specs.HirIds.declared.ids.ImplId.{ImplId}
+use Rattle.hir_nameres.specs.HirIds.declared.ids.ItemContainerId.{ItemContainerId}
+use Rattle.hir_nameres.specs.HirIds.declared.macro_kind.MacroExpander.{MacroExpander}
+use Rattle.hir_nameres.specs.HirIds.declared.macro_kind.MacroId.{MacroId}
+use Rattle.hir_nameres.specs.HirIds.declared.macro_kind.MacroLoc.{MacroLoc}
+use Rattle.hir_nameres.specs.HirIds.declared.ids.ModuleId.{ModuleId}
+use Rattle.hir_nameres.specs.HirIds.declared.ids.StaticId.{StaticId}
+use Rattle.hir_nameres.specs.HirIds.declared.ids.StructId.{StructId}
+use Rattle.hir_nameres.specs.HirIds.declared.ast_id.SyntaxId.{SyntaxId}
+use Rattle.hir_nameres.specs.HirIds.declared.ids.TraitId.{TraitId}
+use Rattle.hir_nameres.specs.HirIds.declared.ids.TypeAliasId.{TypeAliasId}
+use Rattle.hir_nameres.specs.HirIds.declared.ids.UnionId.{UnionId}
+use Rattle.hir_nameres.specs.HirIds.declared.ids.UseId.{UseId}
+use Rattle.hir_nameres.specs.HirIds.declared.ids.ItemContainerId.TheVariants as containers
+use Rattle.hir_nameres.specs.HirIds.declared.macro_kind.MacroId.TheVariants as macros
+use Rattle.hir_nameres.specs.HirBase.declared.tree_id.TreeId.{TreeId}
+use Rattle.hir_nameres.specs.HirDefMapRules.State.{Map, numbered}
 use Rattle.hir_collector_rules.specs.declared.site.Site.{Site}
 
 -- the module of a number

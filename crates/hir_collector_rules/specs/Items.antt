@@ -1,23 +1,23 @@
 -- What does an item declare?
 use Rattle.std.specs.Prelude.{ℕ, List, [], ◌∷◌, Option, None, Some, map, unwrap_or}
 use Rattle.std.specs.Option.{option_and_then}
-use Rattle.hir_base.specs.declared.ast_id.AstKind.TheVariants as kinds
-use Rattle.hir_base.specs.declared.edition.Edition.{Edition}
-use Rattle.hir_base.specs.declared.ids.ModuleDefId.{ModuleDefId}
-use Rattle.hir_base.specs.declared.ast_id.SyntaxId.{SyntaxId}
-use Rattle.hir_base.specs.declared.ids.AdtId.TheVariants as adts
-use Rattle.hir_base.specs.declared.ids.ModuleDefId.TheVariants as definitions
+use Rattle.hir_nameres.specs.HirIds.declared.ast_id.AstKind.TheVariants as kinds
+use Rattle.hir_nameres.specs.HirIds.declared.edition.Edition.{Edition}
+use Rattle.hir_nameres.specs.HirIds.declared.ids.ModuleDefId.{ModuleDefId}
+use Rattle.hir_nameres.specs.HirIds.declared.ast_id.SyntaxId.{SyntaxId}
+use Rattle.hir_nameres.specs.HirIds.declared.ids.AdtId.TheVariants as adts
+use Rattle.hir_nameres.specs.HirIds.declared.ids.ModuleDefId.TheVariants as definitions
 use Rattle.hir_item_tree.specs.KeptForest.{Head, Leaf, import, extern_crate, function, structure, union_structure, enumeration, constant, static_item}
 use Rattle.hir_item_tree.specs.KeptForest.{trait_item, implementation, type_alias, outline_module, macro_call, macro_rules, macro_def, KeptItem, leaf, holder}
-use Rattle.hir_item_tree.specs.declared.shape.FieldsShape.{FieldsShape}
-use Rattle.hir_item_tree.specs.declared.tree_id.TreeId.{TreeId}
-use Rattle.hir_item_tree.specs.declared.shape.FieldsShape.TheVariants.{Record, Tuple, Unit as UnitShape}
-use Rattle.hir_scope.specs.declared.per_ns.PerNs.{PerNs}
-use Rattle.hir_scope.specs.declared.visibility.Visibility.{Visibility}
-use Rattle.hir_def_map_rules.specs.State.{Local, Map, new_id}
-use Rattle.hir_def_map_rules.specs.Overlay.{Maps}
-use Rattle.hir_def_map_rules.specs.declared.origin.ModuleOrigin.{ModuleOrigin}
-use Rattle.hir_def_map_rules.specs.declared.origin.ModuleOrigin.TheVariants as origins
+use Rattle.hir_nameres.specs.HirBase.declared.shape.FieldsShape.{FieldsShape}
+use Rattle.hir_nameres.specs.HirBase.declared.tree_id.TreeId.{TreeId}
+use Rattle.hir_nameres.specs.HirBase.declared.shape.FieldsShape.TheVariants.{Record, Tuple, Unit as UnitShape}
+use Rattle.hir_nameres.specs.HirPerNs.declared.per_ns.PerNs.{PerNs}
+use Rattle.hir_nameres.specs.HirPerNs.declared.visibility.Visibility.{Visibility}
+use Rattle.hir_nameres.specs.HirDefMapRules.State.{Local, Map, new_id}
+use Rattle.hir_nameres.specs.HirDefMapRules.Overlay.{Maps}
+use Rattle.hir_nameres.specs.HirMapParts.declared.origin.ModuleOrigin.{ModuleOrigin}
+use Rattle.hir_nameres.specs.HirMapParts.declared.origin.ModuleOrigin.TheVariants as origins
 use Rattle.hir_import_rules.specs.Visibilities.{lesser_in, visibility_in}
 use Rattle.hir_collector_rules.specs.declared.declaration.Declaration.{Declaration}
 use Rattle.hir_collector_rules.specs.declared.site.Site.{Site}

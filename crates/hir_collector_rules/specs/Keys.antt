@@ -1,17 +1,17 @@
 -- What a run may ask for, and when two workspaces with their finished maps answer alike.
 use Rattle.std.specs.Prelude.{◌≡◌, ℕ, ⊤, false, List, [], map, Option, None, Some, Contains, IsSome}
 use Rattle.std.specs.Option.{option_and_then}
-use Rattle.hir_base.specs.declared.ast_id.AstId.{AstId}
-use Rattle.hir_base.specs.declared.ids.Crate.{Crate}
-use Rattle.hir_base.specs.declared.ast_id.EntryId.{EntryId}
-use Rattle.hir_base.specs.declared.ids.EnumId.{EnumId}
-use Rattle.hir_base.specs.declared.macro_kind.MacroId.{MacroId}
-use Rattle.hir_base.specs.declared.macro_kind.MacroLoc.{MacroLoc}
-use Rattle.hir_base.specs.declared.ast_id.AstKind.TheVariants.{MacroDef, MacroRules}
-use Rattle.hir_base.specs.declared.macro_kind.MacroId.TheVariants.{Macro2Id, MacroRulesId, ProcMacroId}
+use Rattle.hir_nameres.specs.HirIds.declared.ast_id.AstId.{AstId}
+use Rattle.hir_nameres.specs.HirIds.declared.ids.Crate.{Crate}
+use Rattle.hir_nameres.specs.HirIds.declared.ast_id.EntryId.{EntryId}
+use Rattle.hir_nameres.specs.HirIds.declared.ids.EnumId.{EnumId}
+use Rattle.hir_nameres.specs.HirIds.declared.macro_kind.MacroId.{MacroId}
+use Rattle.hir_nameres.specs.HirIds.declared.macro_kind.MacroLoc.{MacroLoc}
+use Rattle.hir_nameres.specs.HirIds.declared.ast_id.AstKind.TheVariants.{MacroDef, MacroRules}
+use Rattle.hir_nameres.specs.HirIds.declared.macro_kind.MacroId.TheVariants.{Macro2Id, MacroRulesId, ProcMacroId}
 use Rattle.hir_item_tree.specs.declared.check.NodeId.{NodeId}
-use Rattle.hir_item_tree.specs.declared.tree_id.TreeId.{TreeId}
-use Rattle.hir_item_tree.specs.declared.tree_id.TreeKey.{TreeKey}
+use Rattle.hir_nameres.specs.HirBase.declared.tree_id.TreeId.{TreeId}
+use Rattle.hir_nameres.specs.HirBase.declared.tree_id.TreeKey.{TreeKey}
 use Rattle.hir_item_tree.specs.declared.side_lists.VariantItem.{VariantItem}
 use Rattle.hir_item_tree.specs.SideLists.{entry_input, entry_text}
 use Rattle.hir_item_tree.specs.SyntaxIds.{node_id}
@@ -19,8 +19,8 @@ use Rattle.hir_item_tree.specs.ItemTree.{empty_tree}
 use Rattle.hir_item_tree.specs.SourceTree.{SourceTreeValue, side_of, variants_of}
 use Rattle.hir_tables.specs.SourcePlaces.{ExpansionValue, SourcePlaceValue}
 use Rattle.hir_tables.specs.Tables.{TablesValue, entry_at, source_of}
-use Rattle.hir_def_map_rules.specs.References.{crate_map}
-use Rattle.hir_def_map_rules.specs.Overlay.{Maps, Placed}
+use Rattle.hir_nameres.specs.HirDefMapRules.References.{crate_map}
+use Rattle.hir_nameres.specs.HirDefMapRules.Overlay.{Maps, Placed}
 use Rattle.hir_collector_rules.specs.declared.source_database.Key.{Key}
 use Rattle.hir_collector_rules.specs.declared.source_database.Key.TheVariants.{Tree, Variants, Text, Input, Expansion, Map}
 use Rattle.hir_collector_rules.specs.Workspace.{Workspace, EntryLook, TreeLook, seen_of}

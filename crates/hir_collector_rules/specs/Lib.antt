@@ -38,3 +38,20 @@ pub mod TreeReads
 pub mod Codes
 pub mod CollectedCodes
 pub mod Types
+pub use Rattle.hir_nameres.specs.HirBase as HirBase
+pub use Rattle.hir_nameres.specs.HirCrateGraph as HirCrateGraph
+pub use Rattle.hir_nameres.specs.HirDefMapRules as HirDefMapRules
+pub use Rattle.hir_glob_imports.specs as HirGlobImports
+pub use Rattle.hir_nameres.specs.HirIds as HirIds
+pub use Rattle.hir_import_rules.specs as HirImportRules
+pub use Rattle.hir_item_tree.specs as HirItemTree
+pub use Rattle.hir_nameres.specs.HirMapParts as HirMapParts
+pub use Rattle.hir_mod_dir.specs as HirModDir
+pub use Rattle.hir_nameres.specs as HirNameres
+pub use Rattle.hir_nameres.specs.HirPerNs as HirPerNs
+pub use Rattle.hir_nameres.specs.HirRawVisibility as HirRawVisibility
+pub use Rattle.hir_nameres.specs.HirScope as HirScope
+pub use Rattle.hir_nameres.specs.HirScopeTable as HirScopeTable
+pub use Rattle.hir_tables.specs as HirTables
+pub use Rattle.hir_nameres.specs.HirTextualScope as HirTextualScope
+pub use Rattle.hir_use_tree.specs as HirUseTree

@@ -2,27 +2,27 @@
 use Rattle.std.specs.Prelude.{ℕ, Bool, true, false, ◌&&◌, not, is_none, List, [], ◌∷◌, ◌++◌, codes, Option, None, Some, cond}
 use Rattle.std.specs.List.{list_any}
 use Rattle.std.specs.Option.{option_and_then}
-use Rattle.hir_base.specs.declared.ids.Crate.{Crate}
-use Rattle.hir_base.specs.declared.ids.ExternCrateId.{ExternCrateId}
-use Rattle.hir_base.specs.declared.macro_kind.MacroId.{MacroId}
-use Rattle.hir_base.specs.declared.ids.ModuleId.{ModuleId}
-use Rattle.hir_base.specs.declared.ids.UseId.{UseId}
-use Rattle.hir_base.specs.declared.ids.ModuleDefId.TheVariants as definitions
+use Rattle.hir_nameres.specs.HirIds.declared.ids.Crate.{Crate}
+use Rattle.hir_nameres.specs.HirIds.declared.ids.ExternCrateId.{ExternCrateId}
+use Rattle.hir_nameres.specs.HirIds.declared.macro_kind.MacroId.{MacroId}
+use Rattle.hir_nameres.specs.HirIds.declared.ids.ModuleId.{ModuleId}
+use Rattle.hir_nameres.specs.HirIds.declared.ids.UseId.{UseId}
+use Rattle.hir_nameres.specs.HirIds.declared.ids.ModuleDefId.TheVariants as definitions
 use Rattle.hir_item_tree.specs.Attributes.{Input, literal, parentheses, derive, paths, tokens}
 use Rattle.hir_item_tree.specs.Collected.{Collected, Numbered}
 use Rattle.hir_item_tree.specs.KeptForest.{Head}
-use Rattle.hir_item_tree.specs.declared.shape.ExternCrateName.{ExternCrateName}
-use Rattle.hir_item_tree.specs.declared.shape.ExternCrateName.TheVariants.{SelfCrate, Name}
-use Rattle.hir_textual_scope.specs.Macros.{with_macro}
-use Rattle.hir_textual_scope.specs.declared.textual_scope.TextualMacro.{TextualMacro}
-use Rattle.hir_scope.specs.Entries.{item_at}
-use Rattle.hir_scope.specs.ModuleTree.{same_crate}
-use Rattle.hir_scope.specs.PerNs.{Item, macros_only}
-use Rattle.hir_scope.specs.Scope.{ScopeValue}
-use Rattle.hir_scope.specs.declared.imports.ImportOrExternCrate.{ImportOrExternCrate}
-use Rattle.hir_scope.specs.declared.visibility.Visibility.{Visibility}
-use Rattle.hir_def_map_rules.specs.Overlay.{Maps, map_in}
-use Rattle.hir_def_map_rules.specs.State.{Map, crate_map, scope_at, with_name, with_scope}
+use Rattle.hir_nameres.specs.HirBase.declared.shape.ExternCrateName.{ExternCrateName}
+use Rattle.hir_nameres.specs.HirBase.declared.shape.ExternCrateName.TheVariants.{SelfCrate, Name}
+use Rattle.hir_nameres.specs.HirTextualScope.Macros.{with_macro}
+use Rattle.hir_nameres.specs.HirTextualScope.declared.textual_scope.TextualMacro.{TextualMacro}
+use Rattle.hir_nameres.specs.HirScope.Entries.{item_at}
+use Rattle.hir_nameres.specs.HirPerNs.ModuleTree.{same_crate}
+use Rattle.hir_nameres.specs.HirPerNs.PerNs.{Item, macros_only}
+use Rattle.hir_nameres.specs.HirScope.Scope.{ScopeValue}
+use Rattle.hir_nameres.specs.HirPerNs.declared.imports.ImportOrExternCrate.{ImportOrExternCrate}
+use Rattle.hir_nameres.specs.HirPerNs.declared.visibility.Visibility.{Visibility}
+use Rattle.hir_nameres.specs.HirDefMapRules.Overlay.{Maps, map_in}
+use Rattle.hir_nameres.specs.HirDefMapRules.State.{Map, crate_map, scope_at, with_name, with_scope}
 use Rattle.hir_import_rules.specs.Visibilities.{is_public}
 use Rattle.hir_collector_rules.specs.declared.declaration.Declaration.{Declaration}
 use Rattle.hir_collector_rules.specs.declared.source_database.Dependency.{Dependency}

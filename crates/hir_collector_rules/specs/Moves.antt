@@ -1,34 +1,34 @@
 -- What a part of a run does.
 use Rattle.std.specs.Prelude.{◌≡◌, ◌+◌, ℕ, suc, map, Bool, true, false, List, [], ◌∷◌, ◌++◌, length, Option, None, Some, option_map}
 use Rattle.std.specs.Option.{option_to_list}
-use Rattle.hir_base.specs.Cfg.{Cfg}
-use Rattle.hir_base.specs.declared.ast_id.AstKind.TheVariants as nodes
+use Rattle.hir_nameres.specs.HirBase.Cfg.{Cfg}
+use Rattle.hir_nameres.specs.HirIds.declared.ast_id.AstKind.TheVariants as nodes
 use Rattle.hir_item_tree.specs.Collected.{Numbered as Attribute, is_enabled, numbered}
 use Rattle.hir_item_tree.specs.KeptForest.{Head}
-use Rattle.hir_base.specs.ModPath.{Path}
-use Rattle.hir_base.specs.declared.ids.AdtId.{AdtId}
-use Rattle.hir_base.specs.declared.ast_id.AstId.{AstId}
-use Rattle.hir_base.specs.declared.ast_id.AttrId.{AttrId}
-use Rattle.hir_base.specs.declared.ids.Crate.{Crate}
-use Rattle.hir_base.specs.declared.locations.LocationsError.{LocationsError}
-use Rattle.hir_base.specs.declared.ast_id.MacroCallId.{MacroCallId}
+use Rattle.hir_nameres.specs.HirBase.ModPath.{Path}
+use Rattle.hir_nameres.specs.HirIds.declared.ids.AdtId.{AdtId}
+use Rattle.hir_nameres.specs.HirIds.declared.ast_id.AstId.{AstId}
+use Rattle.hir_nameres.specs.HirIds.declared.ast_id.AttrId.{AttrId}
+use Rattle.hir_nameres.specs.HirIds.declared.ids.Crate.{Crate}
+use Rattle.hir_nameres.specs.HirBase.declared.locations.LocationsError.{LocationsError}
+use Rattle.hir_nameres.specs.HirIds.declared.ast_id.MacroCallId.{MacroCallId}
 use Rattle.hir_item_tree.specs.declared.kinds.ModItemKind.{ModItemKind}
-use Rattle.hir_item_tree.specs.declared.tree_id.TreeId.{TreeId}
+use Rattle.hir_nameres.specs.HirBase.declared.tree_id.TreeId.{TreeId}
 use Rattle.hir_item_tree.specs.declared.kinds.ModItemKind.TheVariants as kinds
 use Rattle.hir_mod_dir.specs.declared.candidate.Candidate.{Candidate}
-use Rattle.hir_def_map_rules.specs.Macros.{with_diagnostic, with_exported, with_macro_data}
-use Rattle.hir_def_map_rules.specs.declared.add_module_error.AddModuleError.{AddModuleError}
-use Rattle.hir_def_map_rules.specs.declared.diagnostics.DefDiagnostic.{DefDiagnostic}
-use Rattle.hir_def_map_rules.specs.declared.origin.ModuleOrigin.{ModuleOrigin}
-use Rattle.hir_base.specs.declared.macro_kind.MacroId.TheVariants.{ProcMacroId}
+use Rattle.hir_nameres.specs.HirDefMapRules.Macros.{with_diagnostic, with_exported, with_macro_data}
+use Rattle.hir_nameres.specs.HirMapParts.declared.add_module_error.AddModuleError.{AddModuleError}
+use Rattle.hir_nameres.specs.HirMapParts.declared.diagnostics.DefDiagnostic.{DefDiagnostic}
+use Rattle.hir_nameres.specs.HirMapParts.declared.origin.ModuleOrigin.{ModuleOrigin}
+use Rattle.hir_nameres.specs.HirIds.declared.macro_kind.MacroId.TheVariants.{ProcMacroId}
 use Rattle.hir_collector_rules.specs.declared.declaration.Declaration.{Declaration}
 use Rattle.hir_collector_rules.specs.declared.exported.Export.{Export}
-use Rattle.hir_scope.specs.declared.visibility.Visibility.{Visibility}
-use Rattle.hir_scope.specs.declared.visibility.Visibility.TheVariants.{Public}
-use Rattle.hir_def_map_rules.specs.Overlay.{Maps}
-use Rattle.hir_def_map_rules.specs.State.{Map, ModuleValue, new_module, with_module}
+use Rattle.hir_nameres.specs.HirPerNs.declared.visibility.Visibility.{Visibility}
+use Rattle.hir_nameres.specs.HirPerNs.declared.visibility.Visibility.TheVariants.{Public}
+use Rattle.hir_nameres.specs.HirDefMapRules.Overlay.{Maps}
+use Rattle.hir_nameres.specs.HirDefMapRules.State.{Map, ModuleValue, new_module, with_module}
 use Rattle.hir_collector_rules.specs.declared.site.Site.{Site}
-use Rattle.hir_def_map_rules.specs.declared.add_module_error.AddModuleError.TheVariants as refusals
+use Rattle.hir_nameres.specs.HirMapParts.declared.add_module_error.AddModuleError.TheVariants as refusals
 use Rattle.hir_import_rules.specs.declared.error.ImportError.{ImportError}
 use Rattle.hir_import_rules.specs.declared.error.ImportError.TheVariants as imports
 use Rattle.hir_collector_rules.specs.declared.start.CollectError.{CollectError}
@@ -36,7 +36,7 @@ use Rattle.hir_collector_rules.specs.declared.start.CollectError.TheVariants as 
 use Rattle.hir_collector_rules.specs.declared.start.StepError.{StepError}
 use Rattle.hir_collector_rules.specs.declared.start.StepError.TheVariants.{TooMany, Memory}
 use Rattle.hir_item_tree.specs.SourceTree.{SourceTreeValue}
-use Rattle.hir_base.specs.declared.locations.LocationsError.TheVariants as numbers
+use Rattle.hir_nameres.specs.HirBase.declared.locations.LocationsError.TheVariants as numbers
 use Rattle.hir_tables.specs.SourcePlaces.{SourcePlaceValue}
 use Rattle.hir_tables.specs.Tables.{KeepsTables, TablesValue, source_of}
 use Rattle.hir_collector_rules.specs.Keys.{Environment, environment}

@@ -2,24 +2,24 @@
 use Rattle.std.specs.Prelude.{ℕ, Bool, ◌||◌, ◌&&◌, not, is_some, List, [], ◌∷◌, codes, Option, Some, None, cond}
 use Rattle.std.specs.Option.{option_and_then}
 use Rattle.std.specs.Str.{bytes_eq}
-use Rattle.hir_base.specs.ModPath.{Path}
-use Rattle.hir_base.specs.declared.edition.Edition.{Edition}
-use Rattle.hir_base.specs.declared.ids.ModuleDefId.{ModuleDefId}
-use Rattle.hir_base.specs.declared.ids.ModuleId.{ModuleId}
-use Rattle.hir_base.specs.declared.ids.UseId.{UseId}
-use Rattle.hir_base.specs.declared.edition.Edition.TheVariants as editions
-use Rattle.hir_base.specs.declared.ids.ModuleDefId.TheVariants as definitions
-use Rattle.hir_base.specs.declared.mod_path.PathKind.TheVariants.{Abs}
-use Rattle.hir_scope.specs.Imports.{use_of}
-use Rattle.hir_scope.specs.declared.imports.ImportOrExternCrate.{ImportOrExternCrate}
-use Rattle.hir_scope.specs.PerNs.{Item}
-use Rattle.hir_def_map_rules.specs.State.{CrateData, Local, Map, at_name, with_extern, root_of}
-use Rattle.hir_def_map_rules.specs.Overlay.{Maps, overlay}
-use Rattle.hir_def_map_rules.specs.Scoping.{resolution_of}
-use Rattle.hir_def_map_rules.specs.Scoping.Asking.{Asking}
-use Rattle.hir_def_map_rules.specs.Scoping.Start.{crate_root}
-use Rattle.hir_def_map_rules.specs.declared.path_result.ResolveMode.TheVariants as modes
-use Rattle.hir_base.specs.declared.resolve_mode.BuiltinShadowMode.TheVariants as shadow_modes
+use Rattle.hir_nameres.specs.HirBase.ModPath.{Path}
+use Rattle.hir_nameres.specs.HirIds.declared.edition.Edition.{Edition}
+use Rattle.hir_nameres.specs.HirIds.declared.ids.ModuleDefId.{ModuleDefId}
+use Rattle.hir_nameres.specs.HirIds.declared.ids.ModuleId.{ModuleId}
+use Rattle.hir_nameres.specs.HirIds.declared.ids.UseId.{UseId}
+use Rattle.hir_nameres.specs.HirIds.declared.edition.Edition.TheVariants as editions
+use Rattle.hir_nameres.specs.HirIds.declared.ids.ModuleDefId.TheVariants as definitions
+use Rattle.hir_nameres.specs.HirBase.declared.mod_path.PathKind.TheVariants.{Abs}
+use Rattle.hir_nameres.specs.HirPerNs.Imports.{use_of}
+use Rattle.hir_nameres.specs.HirPerNs.declared.imports.ImportOrExternCrate.{ImportOrExternCrate}
+use Rattle.hir_nameres.specs.HirPerNs.PerNs.{Item}
+use Rattle.hir_nameres.specs.HirDefMapRules.State.{CrateData, Local, Map, at_name, with_extern, root_of}
+use Rattle.hir_nameres.specs.HirDefMapRules.Overlay.{Maps, overlay}
+use Rattle.hir_nameres.specs.HirDefMapRules.Scoping.{resolution_of}
+use Rattle.hir_nameres.specs.HirDefMapRules.Scoping.Asking.{Asking}
+use Rattle.hir_nameres.specs.HirDefMapRules.Scoping.Start.{crate_root}
+use Rattle.hir_nameres.specs.HirDefMapRules.declared.path_result.ResolveMode.TheVariants as modes
+use Rattle.hir_nameres.specs.HirBase.declared.resolve_mode.BuiltinShadowMode.TheVariants as shadow_modes
 use Rattle.hir_collector_rules.specs.declared.source_database.Dependency.{Dependency}
 use Rattle.hir_collector_rules.specs.Macros.{macros_beside, with_macros_used}
 

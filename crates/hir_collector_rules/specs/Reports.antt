@@ -6,22 +6,22 @@ use Rattle.std.specs.Cmp.Lexicographic.{slice_cmp}
 use Rattle.std.specs.Ordering.{nat_cmp}
 use Rattle.std.specs.declared.alloc.Global.{Global}
 use Rattle.std.specs.declared.vec.Vec.{Vec}
-use Rattle.hir_base.specs.Cfg.{Cfg, cfg_view}
-use Rattle.hir_base.specs.ModPath.{Path}
-use Rattle.hir_base.specs.declared.ast_id.AstId.{AstId}
-use Rattle.hir_base.specs.declared.ast_id.AttrId.{AttrId}
-use Rattle.hir_base.specs.declared.cfg.CfgAtom.{CfgAtom}
-use Rattle.hir_base.specs.declared.cfg.CfgExpr.{CfgExpr}
-use Rattle.hir_base.specs.declared.macro_kind.MacroExpander.{MacroExpander}
-use Rattle.hir_base.specs.declared.ids.MapId.{MapId}
-use Rattle.hir_base.specs.declared.ids.ModuleId.{ModuleId}
-use Rattle.hir_base.specs.declared.mod_path.PathKind.{PathKind}
-use Rattle.hir_base.specs.declared.ast_id.AstKind.TheVariants as nodes
-use Rattle.hir_base.specs.declared.macro_kind.MacroExpander.TheVariants as expanders
-use Rattle.hir_base.specs.declared.mod_path.PathKind.TheVariants as roots
-use Rattle.hir_def_map_rules.specs.State.{Map, numbered}
-use Rattle.hir_def_map_rules.specs.declared.diagnostics.DefDiagnostic.{DefDiagnostic}
-use Rattle.hir_def_map_rules.specs.declared.diagnostics.DefDiagnosticKind.TheVariants as kinds
+use Rattle.hir_nameres.specs.HirBase.Cfg.{Cfg, cfg_view}
+use Rattle.hir_nameres.specs.HirBase.ModPath.{Path}
+use Rattle.hir_nameres.specs.HirIds.declared.ast_id.AstId.{AstId}
+use Rattle.hir_nameres.specs.HirIds.declared.ast_id.AttrId.{AttrId}
+use Rattle.hir_nameres.specs.HirBase.declared.cfg.CfgAtom.{CfgAtom}
+use Rattle.hir_nameres.specs.HirBase.declared.cfg.CfgExpr.{CfgExpr}
+use Rattle.hir_nameres.specs.HirIds.declared.macro_kind.MacroExpander.{MacroExpander}
+use Rattle.hir_nameres.specs.HirIds.declared.ids.MapId.{MapId}
+use Rattle.hir_nameres.specs.HirIds.declared.ids.ModuleId.{ModuleId}
+use Rattle.hir_nameres.specs.HirBase.declared.mod_path.PathKind.{PathKind}
+use Rattle.hir_nameres.specs.HirIds.declared.ast_id.AstKind.TheVariants as nodes
+use Rattle.hir_nameres.specs.HirIds.declared.macro_kind.MacroExpander.TheVariants as expanders
+use Rattle.hir_nameres.specs.HirBase.declared.mod_path.PathKind.TheVariants as roots
+use Rattle.hir_nameres.specs.HirDefMapRules.State.{Map, numbered}
+use Rattle.hir_nameres.specs.HirMapParts.declared.diagnostics.DefDiagnostic.{DefDiagnostic}
+use Rattle.hir_nameres.specs.HirMapParts.declared.diagnostics.DefDiagnosticKind.TheVariants as kinds
 use Rattle.hir_import_rules.specs.declared.directive.ImportDirective.{ImportDirective}
 use Rattle.hir_import_rules.specs.declared.directive.ImportSource.{ImportSource}
 use Rattle.hir_import_rules.specs.declared.directive.ImportSource.TheVariants as sources

@@ -1,6 +1,6 @@
 -- When may rounds of macro calls be cut off?
 use Rattle.std.specs.Prelude.{◌≡◌, ◌<◌, ℕ, suc, Some, slice_get}
-use Rattle.hir_def_map_rules.specs.Overlay.{Maps}
+use Rattle.hir_nameres.specs.HirDefMapRules.Overlay.{Maps}
 use Rattle.hir_collector_rules.specs.declared.macro_directive.Fate.TheVariants.{Handled}
 use Rattle.hir_collector_rules.specs.declared.macro_directive.MacroDirective.{MacroDirective}
 use Rattle.hir_collector_rules.specs.Calls.{IsWaiting, LeadsNowhere}

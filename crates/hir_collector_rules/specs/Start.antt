@@ -1,29 +1,29 @@
 -- Where a run begins.
 use Rattle.std.specs.Prelude.{Bool, false, ◌||◌, is_some, List, [], ◌∷◌, ◌++◌, map, Option, None, Some, option_map, if◌then◌else◌}
-use Rattle.hir_base.specs.declared.ast_id.BlockId.{BlockId}
-use Rattle.hir_base.specs.declared.cfg.CfgAtom.{CfgAtom}
-use Rattle.hir_base.specs.declared.ids.Crate.{Crate}
-use Rattle.hir_base.specs.declared.ids.MapId.{MapId}
-use Rattle.hir_base.specs.declared.ids.ModuleId.{ModuleId}
-use Rattle.hir_base.specs.declared.ids.UseId.{UseId}
-use Rattle.hir_base.specs.declared.edition.Edition.TheVariants.{Edition2024}
+use Rattle.hir_nameres.specs.HirIds.declared.ast_id.BlockId.{BlockId}
+use Rattle.hir_nameres.specs.HirBase.declared.cfg.CfgAtom.{CfgAtom}
+use Rattle.hir_nameres.specs.HirIds.declared.ids.Crate.{Crate}
+use Rattle.hir_nameres.specs.HirIds.declared.ids.MapId.{MapId}
+use Rattle.hir_nameres.specs.HirIds.declared.ids.ModuleId.{ModuleId}
+use Rattle.hir_nameres.specs.HirIds.declared.ids.UseId.{UseId}
+use Rattle.hir_nameres.specs.HirIds.declared.edition.Edition.TheVariants.{Edition2024}
 use Rattle.hir_item_tree.specs.Collected.{is_enabled}
 use Rattle.hir_item_tree.specs.ItemTree.{Tree}
-use Rattle.hir_raw_visibility.specs.declared.raw_visibility.VisibilityExplicitness.TheVariants.{Implicit}
-use Rattle.hir_item_tree.specs.declared.tree_id.TreeId.{TreeId}
-use Rattle.hir_item_tree.specs.declared.tree_id.TreeKey.{TreeKey}
+use Rattle.hir_nameres.specs.HirIds.declared.explicitness.VisibilityExplicitness.TheVariants.{Implicit}
+use Rattle.hir_nameres.specs.HirBase.declared.tree_id.TreeId.{TreeId}
+use Rattle.hir_nameres.specs.HirBase.declared.tree_id.TreeKey.{TreeKey}
 use Rattle.hir_mod_dir.specs.ModuleFiles.{root as root_directory}
-use Rattle.hir_scope.specs.declared.visibility.Visibility.{Visibility}
-use Rattle.hir_scope.specs.declared.visibility.Visibility.TheVariants as visibilities
+use Rattle.hir_nameres.specs.HirPerNs.declared.visibility.Visibility.{Visibility}
+use Rattle.hir_nameres.specs.HirPerNs.declared.visibility.Visibility.TheVariants as visibilities
 use Rattle.hir_tables.specs.Tables.{TablesValue}
-use Rattle.hir_def_map.specs.WorldParts.{among}
-use Rattle.hir_def_map_rules.specs.References.{crate_map}
-use Rattle.hir_def_map_rules.specs.State.{CrateData, Local, Map, empty_map, map_id_of, new_module, with_prelude}
-use Rattle.hir_def_map_rules.specs.Overlay.{Maps, Placed, holders_of, map_in}
-use Rattle.hir_def_map_rules.specs.Scoping.Asking.{local_of}
-use Rattle.hir_def_map_rules.specs.declared.block_info.BlockInfo.{BlockInfo}
-use Rattle.hir_def_map_rules.specs.declared.origin.ModuleOrigin.{ModuleOrigin}
-use Rattle.hir_def_map_rules.specs.declared.origin.ModuleOrigin.TheVariants as origins
+use Rattle.hir_nameres.specs.WorldParts.{among}
+use Rattle.hir_nameres.specs.HirDefMapRules.References.{crate_map}
+use Rattle.hir_nameres.specs.HirDefMapRules.State.{CrateData, Local, Map, empty_map, map_id_of, new_module, with_prelude}
+use Rattle.hir_nameres.specs.HirDefMapRules.Overlay.{Maps, Placed, holders_of, map_in}
+use Rattle.hir_nameres.specs.HirDefMapRules.Scoping.Asking.{local_of}
+use Rattle.hir_nameres.specs.HirMapParts.declared.block_info.BlockInfo.{BlockInfo}
+use Rattle.hir_nameres.specs.HirMapParts.declared.origin.ModuleOrigin.{ModuleOrigin}
+use Rattle.hir_nameres.specs.HirMapParts.declared.origin.ModuleOrigin.TheVariants as origins
 use Rattle.hir_collector_rules.specs.declared.start.Start.{Start}
 use Rattle.hir_collector_rules.specs.declared.start.Start.TheVariants as starts
 use Rattle.hir_collector_rules.specs.declared.site.Site.{Site}

@@ -1,10 +1,10 @@
 -- Where a run stands.
 use Rattle.std.specs.Prelude.{ℕ, ◌+◌, Bool, List, [], ◌∷◌, ◌++◌, None, length, map, slice_set}
-use Rattle.hir_base.specs.declared.cfg.CfgAtom.{CfgAtom}
+use Rattle.hir_nameres.specs.HirBase.declared.cfg.CfgAtom.{CfgAtom}
 use Rattle.hir_item_tree.specs.KeptForest.{KeptItem, KeptForest, no_items, item}
-use Rattle.hir_scope.specs.Globs.{GlobNames}
-use Rattle.hir_scope.specs.declared.per_ns.PerNs.{PerNs}
-use Rattle.hir_def_map_rules.specs.State.{Local, Map, globs_after, no_globs, pushed}
+use Rattle.hir_nameres.specs.HirScope.Globs.{GlobNames}
+use Rattle.hir_nameres.specs.HirPerNs.declared.per_ns.PerNs.{PerNs}
+use Rattle.hir_nameres.specs.HirDefMapRules.State.{Local, Map, globs_after, no_globs, pushed}
 use Rattle.hir_glob_imports.specs.Rules.{BroughtBy}
 use Rattle.hir_glob_imports.specs.Waves.{GlobsValue, brought_of}
 use Rattle.hir_glob_imports.specs.declared.edge.Edge.{Edge}

@@ -1,8 +1,8 @@
 -- When does a run meet a source that has no number?
 use Rattle.std.specs.Prelude.{◌<◌, ℕ, IsSome}
-use Rattle.hir_base.specs.declared.macro_kind.MacroId.{MacroId}
+use Rattle.hir_nameres.specs.HirIds.declared.macro_kind.MacroId.{MacroId}
 use Rattle.hir_tables.specs.Tables.{TablesValue, source_of}
-use Rattle.hir_def_map_rules.specs.Overlay.{Maps}
+use Rattle.hir_nameres.specs.HirDefMapRules.Overlay.{Maps}
 use Rattle.hir_collector_rules.specs.declared.macro_directive.MacroDirective.{MacroDirective}
 use Rattle.hir_collector_rules.specs.Workspace.{Workspace}
 use Rattle.hir_collector_rules.specs.Keys.{Environment, IsMeant, environment}

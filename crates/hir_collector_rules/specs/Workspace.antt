@@ -1,13 +1,13 @@
 -- What is handed in: the crates, and what each of their sources has.
 use Rattle.std.specs.Prelude.{ℕ, Bool, List, [], Option, None, Some, map, option_map, slice_get}
-use Rattle.hir_base.specs.ModPath.{Path}
-use Rattle.hir_base.specs.declared.cfg.CfgAtom.{CfgAtom}
-use Rattle.hir_base.specs.declared.ids.Crate.{Crate}
-use Rattle.hir_base.specs.declared.edition.Edition.{Edition}
+use Rattle.hir_nameres.specs.HirBase.ModPath.{Path}
+use Rattle.hir_nameres.specs.HirBase.declared.cfg.CfgAtom.{CfgAtom}
+use Rattle.hir_nameres.specs.HirIds.declared.ids.Crate.{Crate}
+use Rattle.hir_nameres.specs.HirIds.declared.edition.Edition.{Edition}
 use Rattle.hir_item_tree.specs.Attributes.{Attributes, attributes_view}
 use Rattle.hir_item_tree.specs.ItemTree.{Tree}
 use Rattle.hir_item_tree.specs.SourceTree.{SourceTreeValue}
-use Rattle.hir_crate_graph.specs.Dependencies.{transitive_dependencies}
+use Rattle.hir_nameres.specs.HirCrateGraph.Dependencies.{transitive_dependencies}
 use Rattle.hir_tables.specs.SourcePlaces.{ExpansionValue, SourcePlaceValue}
 use Rattle.hir_collector_rules.specs.declared.source_database.Config.{Config}
 use Rattle.hir_collector_rules.specs.declared.source_database.CrateRoot.{CrateRoot}

@@ -5,12 +5,12 @@ ghost use Rattle.hir_collector_rules.specs.Asked.{IsOwnPart};
 ghost use Rattle.hir_collector_rules.specs.Keys.{map_keys};
 
 use crate::source_database::Key;
-use hir_base::ids::MapId;
-use hir_crate_graph::crate_set::CrateSet;
-use hir_crate_graph::crates::Crates;
-use hir_def_map::nameres::DefMap;
-use hir_def_map::nameres::local_def_map::LocalDefMap;
-use hir_scope::imports::ImportOrExternCrate;
+use hir_nameres::hir_base::ids::MapId;
+use hir_nameres::hir_crate_graph::crate_set::CrateSet;
+use hir_nameres::hir_crate_graph::crates::Crates;
+use hir_nameres::hir_scope::imports::ImportOrExternCrate;
+use hir_nameres::nameres::DefMap;
+use hir_nameres::nameres::local_def_map::LocalDefMap;
 use std::marker::Model;
 use std::rc::Rc;
 

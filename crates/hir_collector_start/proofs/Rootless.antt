@@ -1,13 +1,13 @@
 -- A run that has come upon nothing, and the number of the tree with which a run begins.
 use Rattle.std.proofs.Common.{◌≡◌, ◌∙◌, ℕ, false, List, [], length, slice_get, Option, Some, None, refl, sym, ap, subst}
 use Rattle.std.specs.Prelude.{IsSome}
-use Rattle.hir_item_tree.specs.declared.tree_id.TreeId.{TreeId}
-use Rattle.hir_tables.specs.SourcePlaces.{SourcePlaceValue}
-use Rattle.hir_tables.specs.Tables.{KeepsTables, TablesValue, source_of}
-use Rattle.hir_tables.proofs.Growth.{source_of-kept}
-use Rattle.hir_def_map_rules.specs.Overlay.{Maps}
-use Rattle.hir_def_map_rules.specs.State.{IsInOrder}
-use Rattle.hir_glob_imports.specs.declared.edge.Brought.{Brought}
+use Rattle.hir_collector_rules.specs.HirBase.declared.tree_id.TreeId.{TreeId}
+use Rattle.hir_collector_rules.specs.HirTables.SourcePlaces.{SourcePlaceValue}
+use Rattle.hir_collector_rules.specs.HirTables.Tables.{KeepsTables, TablesValue, source_of}
+use Rattle.hir_collector_rules.proofs.HirTables.Growth.{source_of-kept}
+use Rattle.hir_collector_rules.specs.HirDefMapRules.Overlay.{Maps}
+use Rattle.hir_collector_rules.specs.HirDefMapRules.State.{IsInOrder}
+use Rattle.hir_collector_rules.specs.HirGlobImports.declared.edge.Brought.{Brought}
 use Rattle.hir_collector_rules.specs.CallMoves.{ComesToRest, IsReady, rested}
 use Rattle.hir_collector_rules.specs.Keys.{Environment}
 use Rattle.hir_collector_rules.specs.State.{Core, RecordedGlobs, no_recorded_globs}

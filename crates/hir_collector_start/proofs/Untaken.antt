@@ -1,9 +1,9 @@
 -- Imports that were never taken, one after another.
 use Rattle.std.proofs.Common.{◌≡◌, ◌∙◌, ℕ, zero, suc, ◌+◌, ◌<◌, List, [], ◌∷◌, length, drop, get_or, slice_get, Option, Some, None, cond, refl, sym, ap, ◌++◌}
 use Rattle.std.proofs.Common.{append_assoc, Bool, true, false, add-one}
-use Rattle.hir_scope.specs.declared.imports.ImportOrExternCrate.{ImportOrExternCrate}
-use Rattle.hir_import_rules.specs.declared.directive.ImportDirective.{ImportDirective}
-use Rattle.hir_import_rules.specs.Directives.{TakenValue}
+use Rattle.hir_collector_rules.specs.HirPerNs.declared.imports.ImportOrExternCrate.{ImportOrExternCrate}
+use Rattle.hir_collector_rules.specs.HirImportRules.declared.directive.ImportDirective.{ImportDirective}
+use Rattle.hir_collector_rules.specs.HirImportRules.Directives.{TakenValue}
 use Rattle.hir_collector_rules.specs.Derivation.{leftover_among, is_left_over, told_of}
 use Rattle.hir_collector_rules.proofs.Lists.{drop_at, drop_some, drop_none}
 

@@ -1,12 +1,12 @@
 //! What others see of a procedural-macro crate.
 ghost use Rattle.std.specs.Prelude.{◌≡◌};
-ghost use Rattle.hir_def_map_rules.specs.State.{with_scope};
+ghost use Rattle.hir_collector_rules.specs.HirDefMapRules.State.{with_scope};
 ghost use Rattle.hir_collector_rules.specs.Ended.{exporting_scope, without_functions};
 
-use hir_base::ids::{Crate, ModuleDefId};
 use hir_collector_rules::exported::ExportedFunction;
-use hir_def_map::nameres::DefMap;
-use hir_scope::item_scope::ItemScope;
+use hir_collector_rules::hir_base::ids::{Crate, ModuleDefId};
+use hir_collector_rules::hir_nameres::nameres::DefMap;
+use hir_collector_rules::hir_scope::item_scope::ItemScope;
 
 /// Lets the names of functions stand for them no more.
 fn remove_functions(scope: &mut ItemScope, exported: &[ExportedFunction])

@@ -1,21 +1,22 @@
 //! The diagnostics of a run.
 ghost use Rattle.std.specs.Prelude.{◌≡◌, ◌++◌, ◌∷◌, [], IfOk, OnOk, map};
-ghost use Rattle.hir_base.specs.Cfg.{cfg_view};
+ghost use Rattle.hir_collector_rules.specs.HirBase.Cfg.{cfg_view};
 ghost use Rattle.hir_collector_rules.specs.CrateTop.{with_names};
 ghost use Rattle.hir_collector_rules.specs.Reports.{IsUnconfigured, IsUnresolvedModule, begins_with, call_report, crate_names, crates_among, report_by, reports_of, unresolved_among, unresolved_calls, with_diagnostics};
 
-use hir_base::ast_id::{AstId, AstKind};
-use hir_base::cfg::CfgExpr;
-use hir_base::cfg_options::CfgOptions;
-use hir_base::ids::{ExternCrateId, ModuleId};
-use hir_base::mod_path::{ModPath, PathKind};
-use hir_base::name::Name;
-use hir_base::text::Text;
+use hir_collector_rules::hir_base::ast_id::{AstId, AstKind};
+use hir_collector_rules::hir_base::cfg::CfgExpr;
+use hir_collector_rules::hir_base::cfg_options::CfgOptions;
+use hir_collector_rules::hir_base::ids::{ExternCrateId, ModuleId};
+use hir_collector_rules::hir_base::mod_path::PathKind;
+use hir_collector_rules::hir_base::name::Name;
+use hir_collector_rules::hir_base::text::Text;
+use hir_collector_rules::hir_import_rules::{ImportDirective, ImportSource, Taken};
+use hir_collector_rules::hir_item_tree::shared_path::SharedPath;
+use hir_collector_rules::hir_mod_dir::Candidate;
+use hir_collector_rules::hir_nameres::nameres::DefMap;
+use hir_collector_rules::hir_nameres::nameres::diagnostics::DefDiagnostic;
 use hir_collector_rules::macro_directive::{Fate, MacroDirective};
-use hir_def_map::nameres::DefMap;
-use hir_def_map::nameres::diagnostics::DefDiagnostic;
-use hir_import_rules::{ImportDirective, ImportSource, Taken};
-use hir_mod_dir::Candidate;
 use std::alloc::{AllocError, Global};
 use std::collections::BTreeSet;
 
@@ -57,12 +58,19 @@ fn texts_of(alloc: Global, candidates: &[Candidate]) -> Result<Vec<Text>, AllocE
 }
 
 /// Adds the name of the crate that an `extern crate` names.
-fn add_crate(names: &mut BTreeSet<Name>, import: &ImportDirective) -> Result<(), AllocError>
+fn add_crate(
+    alloc: Global,
+    names: &mut BTreeSet<Name>,
+    import: &ImportDirective,
+) -> Result<(), AllocError>
     ensures ok { OnOk result (names.new.keys ≡ with_names names.old.keys (crate_names import.now.source import.now.path.segments)) }
 {
     match import.source {
         ImportSource::Use { .. } => Ok(()),
-        ImportSource::ExternCrate { .. } => add_all(names, import.path.segments()),
+        ImportSource::ExternCrate { .. } => {
+            let path = import.path.to_path(alloc)?;
+            add_all(names, path.segments())
+        }
     }
 }
 
@@ -91,7 +99,7 @@ pub fn unresolved_crates(
             return Ok(names);
         };
         if taking.is_untaken() {
-            add_crate(&mut names, import)?;
+            add_crate(alloc, &mut names, import)?;
         }
         left = imports;
         takings = others;
@@ -100,13 +108,13 @@ pub fn unresolved_crates(
 }
 
 /// Whether a path begins with one of these names.
-fn begins_with(names: &BTreeSet<Name>, path: &ModPath) -> bool
+fn begins_with(names: &BTreeSet<Name>, path: &SharedPath) -> bool
     ensures value { result ≡ begins_with names.now.keys path.now.kind path.now.segments }
 {
     match path.kind() {
-        PathKind::Plain | PathKind::Abs => match path.segments() {
-            [first, ..] => names.contains(first),
-            [] => false,
+        PathKind::Plain | PathKind::Abs => match path.first() {
+            Some(first) => names.contains(first),
+            None => false,
         },
         PathKind::Super(_) | PathKind::Crate | PathKind::DollarCrate(_) => false,
     }

@@ -2,11 +2,11 @@
 ghost use Rattle.std.specs.Prelude.{◌≡◌, [], IfOk};
 ghost use Rattle.hir_collector_rules.specs.Preludes.{extern_prelude, is_kept_away, joins};
 
-use hir_base::ids::{MapId, ModuleId};
-use hir_base::name::Name;
+use hir_collector_rules::hir_base::ids::{MapId, ModuleId};
+use hir_collector_rules::hir_base::name::Name;
+use hir_collector_rules::hir_nameres::nameres::crate_data::DefMapCrateData;
+use hir_collector_rules::hir_nameres::nameres::local_def_map::LocalDefMap;
 use hir_collector_rules::source_database::Dependency;
-use hir_def_map::nameres::crate_data::DefMapCrateData;
-use hir_def_map::nameres::local_def_map::LocalDefMap;
 use std::alloc::{AllocError, Global};
 
 /// Whether a crate of this name is kept away from one that does without the standard or the core library.

@@ -2,8 +2,8 @@
 ghost use Rattle.std.specs.Prelude.{◌≡◌, IfOk, slice_get};
 ghost use Rattle.hir_collector_rules.specs.Derivation.{is_left_over, leftover_among, told_of};
 
-use hir_import_rules::{ImportDirective, ImportSource, Taken};
-use hir_scope::imports::ImportOrExternCrate;
+use hir_collector_rules::hir_import_rules::{ImportDirective, ImportSource, Taken};
+use hir_collector_rules::hir_scope::imports::ImportOrExternCrate;
 use std::alloc::{AllocError, Global};
 
 /// The imports of which no taking reached anything, in their order.

@@ -1,22 +1,22 @@
 //! What all modules of a crate find.
 ghost use Rattle.std.specs.Prelude.{◌≡◌, IfOk};
-ghost use Rattle.hir_def_map.specs.WorldParts.{part_of};
+ghost use Rattle.hir_collector_rules.specs.HirNameres.WorldParts.{part_of};
 ghost use Rattle.hir_collector_rules.specs.Start.{own_prelude};
 ghost use Rattle.hir_collector_rules.specs.Preludes.{edition_module, module_named, module_of, prelude_crate, prelude_of, prelude_path};
 
-use hir_base::edition::Edition;
-use hir_base::ids::{ModuleDefId, ModuleId, UseId};
-use hir_base::mod_path::{ModPath, PathKind};
-use hir_base::name::Name;
+use hir_collector_rules::hir_base::edition::Edition;
+use hir_collector_rules::hir_base::ids::{ModuleDefId, ModuleId, UseId};
+use hir_collector_rules::hir_base::mod_path::{ModPath, PathKind};
+use hir_collector_rules::hir_base::name::Name;
+use hir_collector_rules::hir_nameres::def_maps::DefMaps;
+use hir_collector_rules::hir_nameres::nameres::DefMap;
+use hir_collector_rules::hir_nameres::nameres::local_def_map::LocalDefMap;
+use hir_collector_rules::hir_nameres::nameres::path_resolution::query::Query;
+use hir_collector_rules::hir_nameres::nameres::path_resolution::{BuiltinShadowMode, ResolveMode};
+use hir_collector_rules::hir_nameres::world::part::WorldPart;
+use hir_collector_rules::hir_scope::per_ns::TypesItem;
 use hir_collector_rules::names::known_name;
 use hir_collector_rules::start::Start;
-use hir_def_map::def_maps::DefMaps;
-use hir_def_map::nameres::DefMap;
-use hir_def_map::nameres::local_def_map::LocalDefMap;
-use hir_def_map::nameres::path_resolution::query::Query;
-use hir_def_map::nameres::path_resolution::{BuiltinShadowMode, ResolveMode};
-use hir_def_map::world::part::WorldPart;
-use hir_scope::per_ns::TypesItem;
 use smallvec::SmallVec;
 use std::alloc::{AllocError, Global};
 

@@ -2,26 +2,26 @@
 use Rattle.std.proofs.Common.{◌≡◌, ◌∙◌, ap, sym, subst, refl, ℕ, ◌<◌, ◌&&◌, Bool, true, false, length, List, [], ◌∷◌, Option, None, Some, unwrap_or, arith}
 use Rattle.std.specs.List.{All}
 use Rattle.std.specs.Option.{option_map}
-use Rattle.hir_base.specs.ModPath.{Path}
-use Rattle.hir_base.specs.contracts.ids.MapIdPartialEq.TheImpl as map_id
-use Rattle.hir_base.specs.declared.ast_id.AstId.{AstId}
-use Rattle.hir_base.specs.declared.macro_kind.MacroId.{MacroId}
-use Rattle.hir_base.specs.declared.ids.MapId.{MapId}
-use Rattle.hir_base.specs.declared.ids.ModuleId.{ModuleId}
-use Rattle.hir_base.specs.declared.mod_path.PathKind.{PathKind}
-use Rattle.hir_base.specs.declared.mod_path.PathKind.TheVariants as roots
-use Rattle.hir_scope.specs.PerNs.{Item}
-use Rattle.hir_scope.specs.declared.imports.ImportOrExternCrate.{ImportOrExternCrate}
-use Rattle.hir_def_map_rules.proofs.Fails.{Fails-nowhere}
-use Rattle.hir_def_map_rules.specs.Macros.{helpers_at}
-use Rattle.hir_def_map_rules.specs.Overlay.{Maps, overlay}
-use Rattle.hir_def_map_rules.specs.Scoping.{resolution_of}
-use Rattle.hir_def_map_rules.specs.Scoping.Asking.{Asking}
-use Rattle.hir_def_map_rules.specs.State.{IsBefore, IsInOrder, Local, Map, entry_at, numbered, parent_at, parent_of}
-use Rattle.hir_def_map.specs.declared.nameres.path_resolution.slots.Slot.{Slot as PathSlot}
-use Rattle.hir_def_map.specs.declared.nameres.path_resolution.slots.Slot.TheVariants.{Module as of_module, Preludes as of_preludes}
-use Rattle.hir_def_map_rules.specs.declared.reference.Reference.{Reference}
-use Rattle.hir_def_map_rules.specs.declared.reference.Reference.TheVariants as named
+use Rattle.hir_collector_rules.specs.HirBase.ModPath.{Path}
+use Rattle.hir_collector_rules.specs.HirIds.contracts.ids.MapIdPartialEq.TheImpl as map_id
+use Rattle.hir_collector_rules.specs.HirIds.declared.ast_id.AstId.{AstId}
+use Rattle.hir_collector_rules.specs.HirIds.declared.macro_kind.MacroId.{MacroId}
+use Rattle.hir_collector_rules.specs.HirIds.declared.ids.MapId.{MapId}
+use Rattle.hir_collector_rules.specs.HirIds.declared.ids.ModuleId.{ModuleId}
+use Rattle.hir_collector_rules.specs.HirBase.declared.mod_path.PathKind.{PathKind}
+use Rattle.hir_collector_rules.specs.HirBase.declared.mod_path.PathKind.TheVariants as roots
+use Rattle.hir_collector_rules.specs.HirPerNs.PerNs.{Item}
+use Rattle.hir_collector_rules.specs.HirPerNs.declared.imports.ImportOrExternCrate.{ImportOrExternCrate}
+use Rattle.hir_collector_rules.proofs.HirDefMapRules.Fails.{Fails-nowhere}
+use Rattle.hir_collector_rules.specs.HirDefMapRules.Macros.{helpers_at}
+use Rattle.hir_collector_rules.specs.HirDefMapRules.Overlay.{Maps, overlay}
+use Rattle.hir_collector_rules.specs.HirDefMapRules.Scoping.{resolution_of}
+use Rattle.hir_collector_rules.specs.HirDefMapRules.Scoping.Asking.{Asking}
+use Rattle.hir_collector_rules.specs.HirDefMapRules.State.{IsBefore, IsInOrder, Local, Map, entry_at, numbered, parent_at, parent_of}
+use Rattle.hir_collector_rules.specs.HirNameres.declared.nameres.path_resolution.slots.Slot.{Slot as PathSlot}
+use Rattle.hir_collector_rules.specs.HirNameres.declared.nameres.path_resolution.slots.Slot.TheVariants.{Module as of_module, Preludes as of_preludes}
+use Rattle.hir_collector_rules.specs.HirDefMapRules.declared.reference.Reference.{Reference}
+use Rattle.hir_collector_rules.specs.HirDefMapRules.declared.reference.Reference.TheVariants as named
 use Rattle.hir_def_map_laws.proofs.Changed.{Change, has_others}
 use Rattle.hir_def_map_laws.proofs.ReadLaw.{reads_alike}
 use Rattle.hir_def_map_laws.proofs.SameAbove.{before_at, same_numbers_above, same_parent_at}

@@ -1,36 +1,36 @@
 -- A path reaches the same macro whatever variants the enums of a map have: none lies behind an enum.
 use Rattle.std.proofs.Common.{◌≡◌, ◌∙◌, ap, sym, refl, ℕ, ◌+◌, List, [], ◌∷◌, Bool, true, false, ◌&&◌, cond, Option, None, Some}
 use Rattle.std.specs.Prelude.{is_some, not}
-use Rattle.hir_base.specs.declared.ids.AdtId.{AdtId}
-use Rattle.hir_base.specs.declared.ids.EnumId.{EnumId}
-use Rattle.hir_base.specs.declared.ids.ModuleDefId.{ModuleDefId}
-use Rattle.hir_base.specs.declared.mod_path.PathKind.{PathKind}
-use Rattle.hir_base.specs.declared.ids.AdtId.TheVariants as adts
-use Rattle.hir_base.specs.declared.ids.ModuleId.{ModuleId as AnyModule}
-use Rattle.hir_base.specs.declared.ids.ModuleDefId.TheVariants.{ModuleId, FunctionId, AdtId as AnyAdt, EnumVariantId, ConstId, StaticId, TraitId, TypeAliasId}
-use Rattle.hir_base.specs.declared.ids.ModuleDefId.TheVariants.{BuiltinType, MacroId}
-use Rattle.hir_base.specs.declared.macro_kind.MacroId.{MacroId as AnyMacro}
-use Rattle.hir_base.specs.declared.mod_path.PathKind.TheVariants as kinds
-use Rattle.hir_item_tree.specs.Shape.{has_constructor}
-use Rattle.hir_scope.specs.Bindings.{first_of}
-use Rattle.hir_scope.specs.ModuleTree.{same_block, same_crate}
-use Rattle.hir_scope.specs.PerNs.{Item, with_constructor}
-use Rattle.hir_scope.specs.declared.imports.ImportOrExternCrate.{ImportOrExternCrate}
-use Rattle.hir_scope.specs.declared.per_ns.PerNs.{PerNs}
-use Rattle.hir_def_map_rules.specs.Ancestors.{holders_in}
-use Rattle.hir_def_map_rules.specs.Overlay.{Maps, map_in, overlay}
-use Rattle.hir_def_map_rules.specs.Scoping.Asking.{Asking}
-use Rattle.hir_def_map_rules.specs.Scoping.Blocks.{from_blocks, in_preludes, inherited, joined, with_preludes}
-use Rattle.hir_def_map_rules.specs.Scoping.FirstSegment.{extern_name, is_block_root, name_in_crate_root_or_extern_prelude, name_in_module, name_in_preludes}
-use Rattle.hir_def_map_rules.specs.Scoping.FirstSegment.{shadow_before}
-use Rattle.hir_def_map_rules.specs.Scoping.Segments.{after_enum, nearest_non_block_module, rest, seen, through, through_adt, through_type, unresolved}
-use Rattle.hir_def_map_rules.specs.Scoping.Segments.{variant_in}
-use Rattle.hir_def_map_rules.specs.Scoping.Start.{abs_from, climb, from_start, is_import, is_in_edition_2015, is_in_reach, module_bound, settled_in_block}
-use Rattle.hir_def_map_rules.specs.Scoping.Start.{super_from}
-use Rattle.hir_def_map_rules.specs.State.{Map, Variants, crate_root}
-use Rattle.hir_def_map_rules.specs.declared.enum_variants.EnumVariant.{EnumVariant}
-use Rattle.hir_def_map_rules.specs.declared.path_result.ResolvePathResult.{ResolvePathResult}
-use Rattle.hir_def_map_rules.specs.declared.path_result.ReachedFixedPoint.TheVariants.{No, Yes}
+use Rattle.hir_collector_rules.specs.HirIds.declared.ids.AdtId.{AdtId}
+use Rattle.hir_collector_rules.specs.HirIds.declared.ids.EnumId.{EnumId}
+use Rattle.hir_collector_rules.specs.HirIds.declared.ids.ModuleDefId.{ModuleDefId}
+use Rattle.hir_collector_rules.specs.HirBase.declared.mod_path.PathKind.{PathKind}
+use Rattle.hir_collector_rules.specs.HirIds.declared.ids.AdtId.TheVariants as adts
+use Rattle.hir_collector_rules.specs.HirIds.declared.ids.ModuleId.{ModuleId as AnyModule}
+use Rattle.hir_collector_rules.specs.HirIds.declared.ids.ModuleDefId.TheVariants.{ModuleId, FunctionId, AdtId as AnyAdt, EnumVariantId, ConstId, StaticId, TraitId, TypeAliasId}
+use Rattle.hir_collector_rules.specs.HirIds.declared.ids.ModuleDefId.TheVariants.{BuiltinType, MacroId}
+use Rattle.hir_collector_rules.specs.HirIds.declared.macro_kind.MacroId.{MacroId as AnyMacro}
+use Rattle.hir_collector_rules.specs.HirBase.declared.mod_path.PathKind.TheVariants as kinds
+use Rattle.hir_collector_rules.specs.HirBase.Shape.{has_constructor}
+use Rattle.hir_collector_rules.specs.HirScope.Bindings.{first_of}
+use Rattle.hir_collector_rules.specs.HirPerNs.ModuleTree.{same_block, same_crate}
+use Rattle.hir_collector_rules.specs.HirPerNs.PerNs.{Item, with_constructor}
+use Rattle.hir_collector_rules.specs.HirPerNs.declared.imports.ImportOrExternCrate.{ImportOrExternCrate}
+use Rattle.hir_collector_rules.specs.HirPerNs.declared.per_ns.PerNs.{PerNs}
+use Rattle.hir_collector_rules.specs.HirDefMapRules.Ancestors.{holders_in}
+use Rattle.hir_collector_rules.specs.HirDefMapRules.Overlay.{Maps, map_in, overlay}
+use Rattle.hir_collector_rules.specs.HirDefMapRules.Scoping.Asking.{Asking}
+use Rattle.hir_collector_rules.specs.HirDefMapRules.Scoping.Blocks.{from_blocks, in_preludes, inherited, joined, with_preludes}
+use Rattle.hir_collector_rules.specs.HirDefMapRules.Scoping.FirstSegment.{extern_name, is_block_root, name_in_crate_root_or_extern_prelude, name_in_module, name_in_preludes}
+use Rattle.hir_collector_rules.specs.HirDefMapRules.Scoping.FirstSegment.{shadow_before}
+use Rattle.hir_collector_rules.specs.HirDefMapRules.Scoping.Segments.{after_enum, nearest_non_block_module, rest, seen, through, through_adt, through_type, unresolved}
+use Rattle.hir_collector_rules.specs.HirDefMapRules.Scoping.Segments.{variant_in}
+use Rattle.hir_collector_rules.specs.HirDefMapRules.Scoping.Start.{abs_from, climb, from_start, is_import, is_in_edition_2015, is_in_reach, module_bound, settled_in_block}
+use Rattle.hir_collector_rules.specs.HirDefMapRules.Scoping.Start.{super_from}
+use Rattle.hir_collector_rules.specs.HirDefMapRules.State.{Map, Variants, crate_root}
+use Rattle.hir_collector_rules.specs.HirMapParts.declared.enum_variants.EnumVariant.{EnumVariant}
+use Rattle.hir_collector_rules.specs.HirDefMapRules.declared.path_result.ResolvePathResult.{ResolvePathResult}
+use Rattle.hir_collector_rules.specs.HirDefMapRules.declared.path_result.ReachedFixedPoint.TheVariants.{No, Yes}
 use Rattle.hir_def_map_laws.proofs.EnumsApart.{same_2015, same_climb, same_holders, same_in_module, same_in_preludes, same_in_root, same_nearest, same_reach}
 use Rattle.hir_def_map_laws.proofs.EnumsApart.{same_seen}
 

@@ -1,13 +1,13 @@
 -- The modules of a run's map come after what they are in.
 use Rattle.std.proofs.Common.{◌≡◌, ◌∙◌, ◌⊎◌, inl, inr, ℕ, zero, suc, ◌<◌, List, [], ◌∷◌, ◌++◌, length, slice_get, Option, None, Some, refl, sym, ap, subst}
 use Rattle.std.proofs.Common.{arith}
-use Rattle.hir_base.specs.declared.ids.ModuleId.{ModuleId}
-use Rattle.hir_scope.specs.Scope.{ScopeValue}
-use Rattle.hir_def_map_rules.proofs.Grown.{kept, length-changed}
-use Rattle.hir_def_map_rules.specs.Overlay.{Maps}
-use Rattle.hir_def_map_rules.specs.State.{IsBefore, IsInOrder, Map, ModuleValue, changed_at, module_at, new_id, numbered, parent_of, with_child, with_module}
-use Rattle.hir_def_map_rules.specs.State.{with_module_scope, with_scope}
-use Rattle.hir_import_rules.specs.Rules.{acts as import_acts}
+use Rattle.hir_collector_rules.specs.HirIds.declared.ids.ModuleId.{ModuleId}
+use Rattle.hir_collector_rules.specs.HirScope.Scope.{ScopeValue}
+use Rattle.hir_collector_rules.proofs.HirDefMapRules.Grown.{kept, length-changed}
+use Rattle.hir_collector_rules.specs.HirDefMapRules.Overlay.{Maps}
+use Rattle.hir_collector_rules.specs.HirDefMapRules.State.{IsBefore, IsInOrder, Map, ModuleValue, changed_at, module_at, new_id, numbered, parent_of, with_child, with_module}
+use Rattle.hir_collector_rules.specs.HirDefMapRules.State.{with_module_scope, with_scope}
+use Rattle.hir_collector_rules.specs.HirImportRules.Rules.{acts as import_acts}
 use Rattle.hir_collector_rules.specs.Calls.{error_of}
 use Rattle.hir_collector_rules.specs.Keys.{Environment}
 use Rattle.hir_collector_rules.specs.State.{State, import_state}

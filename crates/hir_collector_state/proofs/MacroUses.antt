@@ -2,13 +2,13 @@
 use Rattle.std.specs.Prelude.{◌≡◌, Bool, true, false, ◌&&◌, ◌||◌, not, is_none, List, [], ◌∷◌, ◌++◌, codes, Option, None, Some, cond, if◌then◌else◌}
 use Rattle.std.specs.List.{list_any}
 use Rattle.std.proofs.Common.{◌∙◌, ap, refl}
-use Rattle.hir_base.specs.declared.macro_kind.MacroId.{MacroId}
-use Rattle.hir_item_tree.specs.Collected.{Numbered}
-use Rattle.hir_item_tree.specs.KeptForest.{Head}
-use Rattle.hir_item_tree.specs.declared.shape.ExternCrateName.{ExternCrateName}
-use Rattle.hir_scope.specs.Scope.{ScopeValue}
-use Rattle.hir_def_map_rules.specs.Overlay.{Maps}
-use Rattle.hir_def_map_rules.specs.State.{Map}
+use Rattle.hir_collector_rules.specs.HirIds.declared.macro_kind.MacroId.{MacroId}
+use Rattle.hir_collector_rules.specs.HirItemTree.Collected.{Numbered}
+use Rattle.hir_collector_rules.specs.HirItemTree.KeptForest.{Head}
+use Rattle.hir_collector_rules.specs.HirBase.declared.shape.ExternCrateName.{ExternCrateName}
+use Rattle.hir_collector_rules.specs.HirScope.Scope.{ScopeValue}
+use Rattle.hir_collector_rules.specs.HirDefMapRules.Overlay.{Maps}
+use Rattle.hir_collector_rules.specs.HirDefMapRules.State.{Map}
 use Rattle.hir_collector_rules.specs.CrateTop.{is_keyed, listed_under, names_in, says}
 use Rattle.hir_collector_rules.specs.Macros.{lists_names, macros_brought, other_scope, public_among, public_at, wanted_in, wants_all}
 use Rattle.hir_collector_rules.specs.declared.source_database.Dependency.{Dependency}

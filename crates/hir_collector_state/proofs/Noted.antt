@@ -11,50 +11,50 @@ use Rattle.std.specs.Map.{lookup, set_value}
 use Rattle.std.specs.Ordering.{is_eq, match_ordering}
 use Rattle.std.specs.declared.cmp.Ordering.{Ordering}
 use Rattle.std.specs.declared.cmp.Ordering.TheVariants.{Less, Equal, Greater}
-use Rattle.hir_base.specs.contracts.ast_id.AstIdOrd.TheImpl.Laws.{total-law as ast_total}
-use Rattle.hir_base.specs.declared.ast_id.AstId.{AstId}
-use Rattle.hir_base.specs.declared.macro_kind.BuiltinDeriveImplId.{BuiltinDeriveImplId}
-use Rattle.hir_base.specs.declared.ids.EnumId.{EnumId}
-use Rattle.hir_base.specs.declared.ids.ExternCrateId.{ExternCrateId}
-use Rattle.hir_base.specs.declared.ids.FunctionId.{FunctionId}
-use Rattle.hir_base.specs.declared.macro_kind.MacroId.{MacroId}
-use Rattle.hir_base.specs.declared.ids.ModuleId.{ModuleId}
-use Rattle.hir_base.specs.declared.macro_kind.ProcMacroId.{ProcMacroId}
-use Rattle.hir_scope.proofs.Pushes.{scope_stays}
-use Rattle.hir_scope.specs.Globs.{GlobNames, Place}
-use Rattle.hir_scope.specs.Scope.{ScopeValue}
-use Rattle.hir_scope.specs.declared.per_ns.PerNs.{PerNs}
-use Rattle.hir_scope.specs.declared.visibility.Visibility.{Visibility}
-use Rattle.hir_def_map_rules.proofs.Grown.{kept, length-changed}
-use Rattle.hir_def_map_rules.specs.Declaration.{listed}
-use Rattle.hir_def_map_rules.specs.Overlay.{Maps}
-use Rattle.hir_def_map_rules.specs.Macros.{helpers_at, with_derive_helper, with_diagnostic, with_exported, with_helper, with_macro_data, with_macro_def}
-use Rattle.hir_def_map_rules.specs.State.{IsInOrder, Local, MacroDataValue, Map, ModuleValue, changed_at, changes_module, entry_of, module_at, new_module}
-use Rattle.hir_def_map_rules.specs.State.{numbered, parent_at, parent_of, push_changes, pushed, pushed_module, place_at, Variants, variants_at, with_enum}
-use Rattle.hir_def_map_rules.specs.State.{with_extern, with_module, with_module_scope, with_scope}
-use Rattle.hir_def_map_rules.specs.declared.declaration.Declaration.{Declaration as Listing}
-use Rattle.hir_def_map_rules.specs.declared.diagnostics.DefDiagnostic.{DefDiagnostic}
-use Rattle.hir_def_map_rules.specs.declared.derive_helpers.DeriveHelper.{DeriveHelper}
-use Rattle.hir_def_map_rules.specs.declared.origin.ModuleOrigin.{ModuleOrigin}
-use Rattle.hir_def_map.specs.declared.nameres.path_resolution.slots.Slot.{Slot as PathSlot}
-use Rattle.hir_def_map.specs.declared.nameres.path_resolution.slots.Slot.TheVariants.{Module as of_module, Preludes as of_preludes}
-use Rattle.hir_def_map_rules.specs.Scoping.FirstSegment.{legacy_of}
+use Rattle.hir_collector_rules.specs.HirIds.contracts.ast_id.AstIdOrd.TheImpl.Laws.{total-law as ast_total}
+use Rattle.hir_collector_rules.specs.HirIds.declared.ast_id.AstId.{AstId}
+use Rattle.hir_collector_rules.specs.HirIds.declared.macro_kind.BuiltinDeriveImplId.{BuiltinDeriveImplId}
+use Rattle.hir_collector_rules.specs.HirIds.declared.ids.EnumId.{EnumId}
+use Rattle.hir_collector_rules.specs.HirIds.declared.ids.ExternCrateId.{ExternCrateId}
+use Rattle.hir_collector_rules.specs.HirIds.declared.ids.FunctionId.{FunctionId}
+use Rattle.hir_collector_rules.specs.HirIds.declared.macro_kind.MacroId.{MacroId}
+use Rattle.hir_collector_rules.specs.HirIds.declared.ids.ModuleId.{ModuleId}
+use Rattle.hir_collector_rules.specs.HirIds.declared.macro_kind.ProcMacroId.{ProcMacroId}
+use Rattle.hir_collector_rules.proofs.HirScope.Pushes.{scope_stays}
+use Rattle.hir_collector_rules.specs.HirScope.Globs.{GlobNames, Place}
+use Rattle.hir_collector_rules.specs.HirScope.Scope.{ScopeValue}
+use Rattle.hir_collector_rules.specs.HirPerNs.declared.per_ns.PerNs.{PerNs}
+use Rattle.hir_collector_rules.specs.HirPerNs.declared.visibility.Visibility.{Visibility}
+use Rattle.hir_collector_rules.proofs.HirDefMapRules.Grown.{kept, length-changed}
+use Rattle.hir_collector_rules.specs.HirDefMapRules.Declaration.{listed}
+use Rattle.hir_collector_rules.specs.HirDefMapRules.Overlay.{Maps}
+use Rattle.hir_collector_rules.specs.HirDefMapRules.Macros.{helpers_at, with_derive_helper, with_diagnostic, with_exported, with_helper, with_macro_data, with_macro_def}
+use Rattle.hir_collector_rules.specs.HirDefMapRules.State.{IsInOrder, Local, MacroDataValue, Map, ModuleValue, changed_at, changes_module, entry_of, module_at, new_module}
+use Rattle.hir_collector_rules.specs.HirDefMapRules.State.{numbered, parent_at, parent_of, push_changes, pushed, pushed_module, place_at, Variants, variants_at, with_enum}
+use Rattle.hir_collector_rules.specs.HirDefMapRules.State.{with_extern, with_module, with_module_scope, with_scope}
+use Rattle.hir_collector_rules.specs.HirDefMapRules.declared.declaration.Declaration.{Declaration as Listing}
+use Rattle.hir_collector_rules.specs.HirMapParts.declared.diagnostics.DefDiagnostic.{DefDiagnostic}
+use Rattle.hir_collector_rules.specs.HirMapParts.declared.derive_helpers.DeriveHelper.{DeriveHelper}
+use Rattle.hir_collector_rules.specs.HirMapParts.declared.origin.ModuleOrigin.{ModuleOrigin}
+use Rattle.hir_collector_rules.specs.HirNameres.declared.nameres.path_resolution.slots.Slot.{Slot as PathSlot}
+use Rattle.hir_collector_rules.specs.HirNameres.declared.nameres.path_resolution.slots.Slot.TheVariants.{Module as of_module, Preludes as of_preludes}
+use Rattle.hir_collector_rules.specs.HirDefMapRules.Scoping.FirstSegment.{legacy_of}
 use Rattle.hir_def_map_laws.proofs.SameAbove.{found-below}
 use Rattle.hir_def_map_laws.proofs.SlotChanges.{Grows-itself, changes-crate, changes-listed, changes-made, changes-pushed}
 use Rattle.hir_def_map_laws.proofs.SlotLists.{textual_macros}
 use Rattle.hir_def_map_laws.specs.ReadLaw.{AgreeAt, Grows}
 use Rattle.hir_def_map_laws.specs.SlotChanges.{ChangesOnly}
-use Rattle.hir_textual_scope.specs.Macros.{with_macro}
-use Rattle.hir_glob_imports.specs.View.{View}
-use Rattle.hir_glob_imports.specs.Waves.{GlobsValue, IsKept, brought_of}
+use Rattle.hir_collector_rules.specs.HirTextualScope.Macros.{with_macro}
+use Rattle.hir_collector_rules.specs.HirGlobImports.View.{View}
+use Rattle.hir_collector_rules.specs.HirGlobImports.Waves.{GlobsValue, IsKept, brought_of}
 use Rattle.hir_import_growth.proofs.GlobsLasting.{globs_pushed, globs_still}
 use Rattle.hir_import_growth.proofs.GrowingAround.{enums_around, lists_around, modules_around, scopes_around}
-use Rattle.hir_import_rules.specs.Changes.{forgotten}
-use Rattle.hir_import_rules.specs.Directives.{TakenValue}
+use Rattle.hir_collector_rules.specs.HirImportRules.Changes.{forgotten}
+use Rattle.hir_collector_rules.specs.HirImportRules.Directives.{TakenValue}
 use Rattle.hir_import_growth.specs.Binding.{IsBound}
 use Rattle.hir_import_growth.specs.Growth.{GlobsLast, GrowsAround, HaveGlobs}
-use Rattle.hir_import_rules.specs.declared.directive.ImportDirective.{ImportDirective}
-use Rattle.hir_import_rules.specs.Changed.{ChangedValue, IsThere, IsUnhelped, IsUntouched, everything, item_cmp, with_item, with_preludes, with_slot}
+use Rattle.hir_collector_rules.specs.HirImportRules.declared.directive.ImportDirective.{ImportDirective}
+use Rattle.hir_collector_rules.specs.HirImportRules.Changed.{ChangedValue, IsThere, IsUnhelped, IsUntouched, everything, item_cmp, with_item, with_preludes, with_slot}
 use Rattle.hir_collector_rules.specs.Attributes.{is_named_by}
 use Rattle.hir_collector_rules.specs.Changes.{with_builtin_derive, with_derived}
 use Rattle.hir_collector_rules.specs.Invocations.{Invocation, with_invocation, with_noted}

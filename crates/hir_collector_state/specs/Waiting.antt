@@ -1,16 +1,16 @@
 -- What has changed of a run, and which slots do its calls read?
 use Rattle.std.specs.Prelude.{◌≡◌, ℕ, ◌<◌, ◌≤◌, Bool, false, [], List, None, Some, length, option_map, slice_get, unwrap_or}
 use Rattle.std.specs.List.{All}
-use Rattle.hir_base.specs.declared.ast_id.AstId.{AstId}
-use Rattle.hir_base.specs.declared.ids.EnumId.{EnumId}
-use Rattle.hir_def_map_rules.specs.Macros.{helpers_at}
-use Rattle.hir_def_map_rules.specs.Overlay.{Maps}
-use Rattle.hir_def_map.specs.Scoping.Slots.{reads}
-use Rattle.hir_def_map_rules.specs.State.{IsInOrder, Local, Map, ModuleValue, Variants, module_at, numbered, parent_at, variants_at}
-use Rattle.hir_def_map.specs.declared.nameres.path_resolution.slots.Slot.{Slot as PathSlot}
+use Rattle.hir_collector_rules.specs.HirIds.declared.ast_id.AstId.{AstId}
+use Rattle.hir_collector_rules.specs.HirIds.declared.ids.EnumId.{EnumId}
+use Rattle.hir_collector_rules.specs.HirDefMapRules.Macros.{helpers_at}
+use Rattle.hir_collector_rules.specs.HirDefMapRules.Overlay.{Maps}
+use Rattle.hir_collector_rules.specs.HirNameres.Scoping.Slots.{reads}
+use Rattle.hir_collector_rules.specs.HirDefMapRules.State.{IsInOrder, Local, Map, ModuleValue, Variants, module_at, numbered, parent_at, variants_at}
+use Rattle.hir_collector_rules.specs.HirNameres.declared.nameres.path_resolution.slots.Slot.{Slot as PathSlot}
 use Rattle.hir_def_map_laws.specs.ReadLaw.{AgreeAt, BeginsOutside}
 use Rattle.hir_import_growth.specs.Growth.{GlobsLast}
-use Rattle.hir_import_rules.specs.Changed.{IsThere, IsUnhelped, IsUntouched}
+use Rattle.hir_collector_rules.specs.HirImportRules.Changed.{IsThere, IsUnhelped, IsUntouched}
 use Rattle.hir_collector_rules.specs.declared.macro_directive.MacroDirective.{MacroDirective}
 use Rattle.hir_collector_rules.specs.Attributes.{is_named_by}
 use Rattle.hir_collector_rules.specs.Calls.{by_style, called_macro, path_of_call, style_of}

@@ -2,11 +2,11 @@
 #![tactic(auto, unfolding(hir_collector_rules::specs::State::core_in))]
 
 ghost use Rattle.std.specs.Prelude.{◌≡◌, ◌<◌, ◌≤◌, true, false, ◌∷◌, [], Some, length, option_map, slice_get, slice_set, IfNone, IfOk, IfSome, None, OnOk};
-ghost use Rattle.hir_def_map_rules.specs.State.{with_enum, new_id, new_module, with_declared, with_use, with_impl, with_extern_block, with_extern_crate, with_unnamed_const};
-ghost use Rattle.hir_def_map.specs.WorldParts.{part_of};
-ghost use Rattle.hir_def_map_rules.specs.Macros.{with_diagnostic, with_macro_def};
-ghost use Rattle.hir_import_rules.specs.Visibilities.{visibility_in};
-ghost use Rattle.hir_import_rules.specs.Changed.{nothing};
+ghost use Rattle.hir_collector_rules.specs.HirDefMapRules.State.{with_enum, new_id, new_module, with_declared, with_use, with_impl, with_extern_block, with_extern_crate, with_unnamed_const};
+ghost use Rattle.hir_collector_rules.specs.HirNameres.WorldParts.{part_of};
+ghost use Rattle.hir_collector_rules.specs.HirDefMapRules.Macros.{with_diagnostic, with_macro_def};
+ghost use Rattle.hir_collector_rules.specs.HirImportRules.Visibilities.{visibility_in};
+ghost use Rattle.hir_collector_rules.specs.HirImportRules.Changed.{nothing};
 ghost use Rattle.hir_collector_rules.specs.State.{at_rest, core_in, counted, with_asked, with_bound, with_calls, with_fate, with_imports, with_local, with_map};
 ghost use Rattle.hir_collector_rules.specs.ItemIds.{container_of, module_id};
 ghost use Rattle.hir_collector_rules.specs.Items.{own_visibility};
@@ -22,17 +22,35 @@ ghost use Rattle.hir_collector_rules.specs.Moves.{begun};
 ghost use Rattle.hir_collector_state.specs.Waiting.{IsNoted};
 
 use crate::def_collector::changes::note_variants;
-use hir_base::ast_id::{AstId, EditionedFileId, FileId, HirFileId};
-use hir_base::cfg_options::CfgOptions;
-use hir_base::ids::{
-    ConstId, Crate, EnumId, ExternBlockId, ExternCrateId, ImplId, ItemContainerId, MapId,
-    ModuleDefId, ModuleId, UseId,
-};
-use hir_base::macro_kind::MacroId;
-use hir_base::name::Name;
 use hir_collector_rules::collected::{Asked, Collected};
 use hir_collector_rules::crate_attrs::says;
 use hir_collector_rules::exported::ExportedFunction;
+use hir_collector_rules::hir_base::ast_id::{AstId, EditionedFileId, FileId, HirFileId};
+use hir_collector_rules::hir_base::cfg_options::CfgOptions;
+use hir_collector_rules::hir_base::ids::{
+    ConstId, Crate, EnumId, ExternBlockId, ExternCrateId, ImplId, ItemContainerId, MapId,
+    ModuleDefId, ModuleId, UseId,
+};
+use hir_collector_rules::hir_base::macro_kind::MacroId;
+use hir_collector_rules::hir_base::name::Name;
+use hir_collector_rules::hir_crate_graph::crate_set::CrateSet;
+use hir_collector_rules::hir_glob_imports::GlobImports;
+use hir_collector_rules::hir_import_rules::{ImportDirective, ImportSource, Taken};
+use hir_collector_rules::hir_item_tree::raw_visibility::RawVisibility;
+use hir_collector_rules::hir_item_tree::shape::ExternCrateName;
+use hir_collector_rules::hir_item_tree::tree_id::{TreeId, TreeKey};
+use hir_collector_rules::hir_nameres::nameres::DefMap;
+use hir_collector_rules::hir_nameres::nameres::crate_data::DefMapCrateData;
+use hir_collector_rules::hir_nameres::nameres::diagnostics::DefDiagnostic;
+use hir_collector_rules::hir_nameres::nameres::enum_variants::EnumVariants;
+use hir_collector_rules::hir_nameres::nameres::local_def_map::LocalDefMap;
+use hir_collector_rules::hir_nameres::nameres::module_data::ModuleData;
+use hir_collector_rules::hir_nameres::nameres::origin::ModuleOrigin;
+use hir_collector_rules::hir_nameres::world::part::WorldPart;
+use hir_collector_rules::hir_scope::glob_imports::PerNsGlobImports;
+use hir_collector_rules::hir_scope::item_scope::ItemScope;
+use hir_collector_rules::hir_scope::per_ns::PerNs;
+use hir_collector_rules::hir_scope::visibility::Visibility;
 use hir_collector_rules::macro_directive::{Fate, MacroDirective};
 use hir_collector_rules::site::{ItemHead, Site};
 use hir_collector_rules::source_database::{Dependency, Key};
@@ -44,26 +62,8 @@ use hir_collector_start::leftovers::untaken;
 use hir_collector_start::macro_use::{root_scope, use_prelude_macros, use_wanted};
 use hir_collector_start::preludes::own_prelude;
 use hir_collector_start::textual;
-use hir_crate_graph::crate_set::CrateSet;
-use hir_def_map::nameres::DefMap;
-use hir_def_map::nameres::crate_data::DefMapCrateData;
-use hir_def_map::nameres::diagnostics::DefDiagnostic;
-use hir_def_map::nameres::enum_variants::EnumVariants;
-use hir_def_map::nameres::local_def_map::LocalDefMap;
-use hir_def_map::nameres::module_data::ModuleData;
-use hir_def_map::nameres::origin::ModuleOrigin;
-use hir_def_map::world::part::WorldPart;
-use hir_glob_imports::GlobImports;
 use hir_import_growth::visibilities::visibility;
 use hir_import_growth::{Changed, forget};
-use hir_import_rules::{ImportDirective, ImportSource, Taken};
-use hir_item_tree::raw_visibility::RawVisibility;
-use hir_item_tree::shape::ExternCrateName;
-use hir_item_tree::tree_id::{TreeId, TreeKey};
-use hir_scope::glob_imports::PerNsGlobImports;
-use hir_scope::item_scope::ItemScope;
-use hir_scope::per_ns::PerNs;
-use hir_scope::visibility::Visibility;
 use std::alloc::{AllocError, Global};
 use std::marker::Model;
 use std::rc::Rc;

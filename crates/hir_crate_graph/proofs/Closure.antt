@@ -6,8 +6,8 @@ use Rattle.std.specs.List.{list_any}
 use Rattle.std.proofs.lemmas.Bool.{cases_eq, cases_lt}
 use Rattle.std.proofs.lemmas.Bool.Decides.{nat_tests}
 use Rattle.std.proofs.lemmas.Map.Views.{list_any-from_Contains, Contains-from_any}
-use Rattle.hir_base.specs.declared.ids.Crate.{Crate}
-use Rattle.hir_base.specs.contracts.ids.CrateEq.TheImpl.Laws.{laws-law as crate_laws}
+use Rattle.hir_ids.specs.declared.ids.Crate.{Crate}
+use Rattle.hir_ids.specs.contracts.ids.CrateEq.TheImpl.Laws.{laws-law as crate_laws}
 use Rattle.hir_crate_graph.specs.CrateSet.{same_crate, has_crate, crate_of}
 use Rattle.hir_crate_graph.specs.Dependencies.DependsOn.{directly, through}
 use Rattle.hir_crate_graph.specs.Dependencies.{DependsOn, is_reached, transitive_dependencies, transitive_below, has_late, IsOrderedBelow, AreTransitive}

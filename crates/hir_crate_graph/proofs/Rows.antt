@@ -6,7 +6,7 @@ use Rattle.std.specs.Int.RustNames.{bit_and, bit_or}
 use Rattle.std.proofs.lemmas.Bool.{cases_eq, cases_lt}
 use Rattle.std.proofs.lemmas.List.{get_or_past, get_or-set_same, get_or-set_other}
 use Rattle.std.proofs.lemmas.Nat.Bits.{bit_at-zero, bit_at_or, bit_at_set_same, bit_at_set_other, shr_and_one, bit_at-lt}
-use Rattle.hir_base.specs.declared.ids.Crate.{Crate}
+use Rattle.hir_ids.specs.declared.ids.Crate.{Crate}
 use Rattle.hir_crate_graph.specs.Bits.{has_bit, members}
 use Rattle.hir_crate_graph.specs.CrateSet.{has_crate, IsAscending, Gains}
 use Rattle.hir_crate_graph.proofs.CrateLists.{or_true, or_false, same_number, other_number, ascending_alike, IsAscending-crates_from, length-crates_from}

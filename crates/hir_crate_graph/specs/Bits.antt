@@ -1,7 +1,7 @@
 -- Which crates does a row of bits have?
 use Rattle.std.specs.Prelude.{◌≡◌, ◌==◌, ℕ, ◌*◌, ◌/◌, ◌%◌, ◌<◌, ◌≤◌, Bool, true, false, List, length, slice_index}
 use Rattle.std.specs.Int.{bit_at}
-use Rattle.hir_base.specs.declared.ids.Crate.{Crate}
+use Rattle.hir_ids.specs.declared.ids.Crate.{Crate}
 use Rattle.hir_crate_graph.specs.CrateSet.{crates_below}
 
 -- whether the bit at a place is set, 64 a word

@@ -3,9 +3,9 @@ use Rattle.std.specs.Prelude.{◌≡◌, ◌==◌, ℕ, ◌<◌, zero, suc, Bool
 use Rattle.std.specs.List.{AllByRecursion, list_any}
 use Rattle.std.specs.Cmp.{IsEquivalence}
 use Rattle.std.specs.Cmp.Lexicographic.{lists_equiv, pointwise}
-use Rattle.hir_base.specs.declared.ids.Crate.{Crate}
-use Rattle.hir_base.specs.contracts.ids.CratePartialEq.TheImpl as krate
-use Rattle.hir_base.specs.contracts.ids.CrateEq.TheImpl.Laws.{laws-law as krate_laws}
+use Rattle.hir_ids.specs.declared.ids.Crate.{Crate}
+use Rattle.hir_ids.specs.contracts.ids.CratePartialEq.TheImpl as krate
+use Rattle.hir_ids.specs.contracts.ids.CrateEq.TheImpl.Laws.{laws-law as krate_laws}
 
 abbrev pub same_crate : Crate → Crate → Bool
 same_crate a b = a.0 == b.0

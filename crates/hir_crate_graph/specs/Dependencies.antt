@@ -1,7 +1,7 @@
 -- On which crates does a crate depend?
 use Rattle.std.specs.Prelude.{◌≡◌, ◌==◌, ℕ, ◌<◌, zero, suc, nat_le, Bool, false, ◌||◌, List, [], ◌∷◌, ◌++◌, length, Contains}
 use Rattle.std.specs.List.{list_any}
-use Rattle.hir_base.specs.declared.ids.Crate.{Crate}
+use Rattle.hir_ids.specs.declared.ids.Crate.{Crate}
 use Rattle.hir_crate_graph.specs.CrateSet.{crates_below}
 
 -- the second crate is a direct dependency of the first, or one on which such a one depends

@@ -1,6 +1,6 @@
 -- What holds of every graph?
 use Rattle.std.specs.Prelude.{◌≡◌, ◌↔◌, ℕ, suc, true, List}
-use Rattle.hir_base.specs.declared.ids.Crate.{Crate}
+use Rattle.hir_ids.specs.declared.ids.Crate.{Crate}
 use Rattle.hir_crate_graph.specs.CrateSet.{has_crate, IsAscending}
 use Rattle.hir_crate_graph.specs.Dependencies.{DependsOn, transitive_dependencies, IsOrderedBelow}
 

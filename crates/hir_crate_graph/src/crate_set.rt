@@ -4,7 +4,7 @@ ghost use Rattle.hir_crate_graph.specs.CrateSet.{same_crate, has_crate, Gains, I
 
 use crate::crates::Crates;
 use crate::words::{has_bit, lengthen, set_all, set_bit};
-use hir_base::ids::Crate;
+use hir_ids::ids::Crate;
 use std::alloc::{AllocError, Global};
 use std::marker::Model;
 
@@ -16,7 +16,7 @@ pub struct CrateSet {
 
 impl Model for CrateSet {
     ghost use Rattle.std.specs.Prelude.{List, ◌≤◌, vec_len};
-    ghost use Rattle.hir_base.specs.declared.ids.Crate.{Crate};
+    ghost use Rattle.hir_ids.specs.declared.ids.Crate.{Crate};
     ghost use Rattle.hir_crate_graph.specs.Bits.{members};
 
     ghost Value = { List Crate };

@@ -4,7 +4,7 @@ ghost use Rattle.std.specs.Iterator.{YieldsFirst, YieldsLast, item_count};
 ghost use Rattle.hir_crate_graph.specs.Bits.{members};
 
 use crate::words::{first_from, last_below};
-use hir_base::ids::Crate;
+use hir_ids::ids::Crate;
 use std::marker::Model;
 
 /// The crates of a set in ascending order.
@@ -19,7 +19,7 @@ pub struct Crates<'a> {
 
 impl<'a> Model for Crates<'a> {
     ghost use Rattle.std.specs.Prelude.{List, length, ◌≤◌, ◌*◌, ◌-◌};
-    ghost use Rattle.hir_base.specs.declared.ids.Crate.{Crate};
+    ghost use Rattle.hir_ids.specs.declared.ids.Crate.{Crate};
     ghost use Rattle.hir_crate_graph.specs.Bits.{has_bit};
     ghost use Rattle.hir_crate_graph.specs.CrateSet.{crates_from};
 

@@ -1,14 +1,14 @@
 //! The transitive dependencies of each crate.
 ghost use Rattle.std.specs.Prelude.{◌≡◌, ℕ, ◌<◌, ◌^◌, [], List, length, map, true, OnOk, OnErr, IfOk, option_map, slice_get};
-ghost use Rattle.hir_base.specs.Refusal.{Gives};
-ghost use Rattle.hir_base.specs.declared.ids.Crate.{Crate};
+ghost use Rattle.hir_ids.specs.Refusal.{Gives};
+ghost use Rattle.hir_ids.specs.declared.ids.Crate.{Crate};
 ghost use Rattle.hir_crate_graph.specs.declared.transitive.CrateGraphError.TheVariants.{Memory};
 ghost use Rattle.hir_crate_graph.specs.CrateSet.{Gains, IsAscending};
 ghost use Rattle.hir_crate_graph.specs.Dependencies.{has_late, AreTransitive};
 ghost use Rattle.hir_crate_graph.specs.Graph.{IsMemory, Adds, comes_by, IsUnionOf, transitive_of, verdict_of_push};
 
 use crate::crate_set::CrateSet;
-use hir_base::ids::Crate;
+use hir_ids::ids::Crate;
 use std::alloc::{AllocError, AllocFailed, Global};
 use std::marker::Model;
 use std::rc::Rc;
@@ -61,7 +61,7 @@ pub struct TransitiveDependencies {
 
 impl Model for TransitiveDependencies {
     ghost use Rattle.std.specs.Prelude.{List, map};
-    ghost use Rattle.hir_base.specs.declared.ids.Crate.{Crate};
+    ghost use Rattle.hir_ids.specs.declared.ids.Crate.{Crate};
 
     ghost Value = { List (List Crate) };
 

@@ -2,22 +2,22 @@
 use Rattle.std.specs.Prelude.{◌≡◌, ◌&&◌, Bool, true, false, not, is_none, is_some, IsSome, List, Option, None, Some, option_map}
 use Rattle.std.specs.BTreeMap.{BTreeMap}
 use Rattle.std.proofs.Common.{refl, subst, sym}
-use Rattle.hir_base.specs.declared.ids.Crate.{Crate}
-use Rattle.hir_base.specs.declared.ast_id.FileId.{FileId}
-use Rattle.hir_base.specs.declared.ids.MapId.{MapId}
-use Rattle.hir_base.specs.declared.ids.ModuleId.{ModuleId}
-use Rattle.hir_tables.specs.Tables.{TablesValue, file_at}
-use Rattle.hir_def_map_rules.specs.Overlay.{Maps, Placed}
-use Rattle.hir_def_map_rules.specs.State.{Local}
-use Rattle.hir_def_map.specs.World.{IsChecked, finished_in}
-use Rattle.hir_def_map.specs.WorldParts.{among}
-use Rattle.hir_def_map.specs.declared.world.finished.Finished.{Finished}
-use Rattle.hir_collector_rules.specs.ModuleFiles.{IsFileMeant, is_file_meant}
-use Rattle.hir_def_map_laws.specs.ReadLaw.{KeepApart}
-use Rattle.hir_def_map_laws.proofs.Apart.{some_apart, worlds_apart}
+use Rattle.hir_mod_collector.specs.HirIds.declared.ids.Crate.{Crate}
+use Rattle.hir_mod_collector.specs.HirIds.declared.ast_id.FileId.{FileId}
+use Rattle.hir_mod_collector.specs.HirIds.declared.ids.MapId.{MapId}
+use Rattle.hir_mod_collector.specs.HirIds.declared.ids.ModuleId.{ModuleId}
+use Rattle.hir_mod_collector.specs.HirTables.Tables.{TablesValue, file_at}
+use Rattle.hir_mod_collector.specs.HirDefMapRules.Overlay.{Maps, Placed}
+use Rattle.hir_mod_collector.specs.HirDefMapRules.State.{Local}
+use Rattle.hir_mod_collector.specs.HirNameres.World.{IsChecked, finished_in}
+use Rattle.hir_mod_collector.specs.HirNameres.WorldParts.{among}
+use Rattle.hir_mod_collector.specs.HirNameres.declared.world.finished.Finished.{Finished}
+use Rattle.hir_mod_collector.specs.HirCollectorRules.ModuleFiles.{IsFileMeant, is_file_meant}
+use Rattle.hir_mod_collector.specs.HirDefMapLaws.ReadLaw.{KeepApart}
+use Rattle.hir_mod_collector.proofs.HirDefMapLaws.Apart.{some_apart, worlds_apart}
 use Rattle.hir_import_resolution.specs.Inner.State.{IsApart}
-use Rattle.hir_collector_imports.proofs.Outside.{outside_by}
-use Rattle.hir_collector_imports.specs.Outside.{begins_outside}
+use Rattle.hir_mod_collector.proofs.HirCollectorImports.Outside.{outside_by}
+use Rattle.hir_mod_collector.specs.HirCollectorImports.Outside.{begins_outside}
 
 -- a map that isn't there
 pub no_map : (p : Option Placed) → option_map (λ (placed : Placed). placed.map) p ≡ None → p ≡ None

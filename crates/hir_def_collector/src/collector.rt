@@ -36,32 +36,36 @@
 //! A block's run reads besides the maps of what holds it: the module in which it is written, that of this one's block, and so
 //! on. What is said of its crate, and the crates that its paths may begin with, it takes from the crate's map.
 ghost use Rattle.std.specs.Prelude.{◌≡◌, ◌<◌, IfOk, false, is_none, option_map};
-ghost use Rattle.hir_tables.specs.Tables.{KeepsTables, source_of};
-ghost use Rattle.hir_def_map_rules.specs.Overlay.{Maps};
-ghost use Rattle.hir_def_map.specs.World.{finished_in};
-ghost use Rattle.hir_collector_rules.specs.Workspace.{Workspace};
-ghost use Rattle.hir_collector_rules.specs.Keys.{AgreeOn};
-ghost use Rattle.hir_collector_rules.specs.Start.{beginning, holders_by};
-ghost use Rattle.hir_collector_rules.specs.Calls.{AreCallsPlaced};
-ghost use Rattle.hir_collector_rules.specs.Derivation.{Ends, IsOverlong, collected_view};
-ghost use Rattle.hir_collector_rules.specs.UnknownSources.{MeetsUnknownSource};
+ghost use Rattle.hir_mod_collector.specs.HirTables.Tables.{KeepsTables, source_of};
+ghost use Rattle.hir_mod_collector.specs.HirDefMapRules.Overlay.{Maps};
+ghost use Rattle.hir_mod_collector.specs.HirNameres.World.{finished_in};
+ghost use Rattle.hir_mod_collector.specs.HirCollectorRules.Workspace.{Workspace};
+ghost use Rattle.hir_mod_collector.specs.HirCollectorRules.Keys.{AgreeOn};
+ghost use Rattle.hir_mod_collector.specs.HirCollectorRules.Start.{beginning, holders_by};
+ghost use Rattle.hir_mod_collector.specs.HirCollectorRules.Calls.{AreCallsPlaced};
+ghost use Rattle.hir_mod_collector.specs.HirCollectorRules.Derivation.{Ends, IsOverlong, collected_view};
+ghost use Rattle.hir_mod_collector.specs.HirCollectorRules.UnknownSources.{MeetsUnknownSource};
 
-pub use hir_attr_resolution::attributes;
 use hir_collector_begin::begin::{begin, holders_by, is_apart, lacks_its_file, transitive_of};
-pub use hir_collector_items::exports;
-use hir_collector_rules::collected::Collected;
-use hir_collector_rules::source_database::SourceDatabase;
-pub use hir_collector_rules::start::{CollectError, STEP_LIMIT, Start, StepError};
-pub use hir_collector_rules::{collected, declaration, macro_directive, shared_tree, site};
 use hir_def_map::nameres::local_def_map::LocalDefMap;
 use hir_def_map::world::World;
 use hir_def_map::world::part::WorldPart;
-use hir_item_tree::tree_id::TreeId;
 pub use hir_macro_rounds::calls;
 use hir_macro_rounds::calls::resolve_rounds;
+pub use hir_mod_collector::hir_attr_resolution::attributes;
+pub use hir_mod_collector::hir_collector_items::exports;
+use hir_mod_collector::hir_collector_rules::collected::Collected;
+use hir_mod_collector::hir_collector_rules::source_database::SourceDatabase;
+pub use hir_mod_collector::hir_collector_rules::start::{
+    CollectError, STEP_LIMIT, Start, StepError,
+};
+pub use hir_mod_collector::hir_collector_rules::{
+    collected, declaration, macro_directive, shared_tree, site,
+};
+use hir_mod_collector::hir_item_tree::tree_id::TreeId;
+pub use hir_mod_collector::hir_mod_resolution::mod_resolution;
+use hir_mod_collector::hir_tables::Tables;
 pub use hir_mod_collector::mod_collector;
-pub use hir_mod_resolution::mod_resolution;
-use hir_tables::Tables;
 use std::alloc::Global;
 
 /// Finds what the names of a crate's or a block's modules stand for, beside the finished maps of the crates on which the

@@ -1,7 +1,7 @@
 -- What the map of a run has that its last state has: the root of a procedural-macro crate shows less.
 use Rattle.std.proofs.Common.{◌≡◌, Bool, true, false, cond, length, refl}
-use Rattle.hir_def_map_rules.specs.State.{Map, with_module_scope, with_scope}
-use Rattle.hir_def_map_rules.proofs.Grown.{length-changed}
+use Rattle.hir_collector_rules.specs.HirDefMapRules.State.{Map, with_module_scope, with_scope}
+use Rattle.hir_collector_rules.proofs.HirDefMapRules.Grown.{length-changed}
 use Rattle.hir_collector_rules.specs.Ended.{ended, exporting_scope}
 use Rattle.hir_collector_rules.specs.State.{Core}
 

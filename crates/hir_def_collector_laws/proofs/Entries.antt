@@ -8,7 +8,7 @@ use Rattle.std.specs.declared.cmp.Ordering.{Ordering}
 use Rattle.std.specs.declared.cmp.Ordering.TheVariants.{Less, Equal, Greater}
 use Rattle.std.proofs.Common.{◌∙◌, ap, arith, refl, subst, sym}
 use Rattle.indexmap.specs.IndexMap.{insert_entry as insert_last}
-use Rattle.hir_scope.specs.Entries.{has_key, with_entry}
+use Rattle.hir_collector_rules.specs.HirScope.Entries.{has_key, with_entry}
 
 module _ {K V : Type 0} (P : V → Type 0) where
   abbrev pub AllValues : List (K × V) → Type 0

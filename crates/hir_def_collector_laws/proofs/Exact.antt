@@ -4,54 +4,54 @@ use Rattle.std.specs.Bool.{beq}
 use Rattle.std.specs.Cmp.{unsigned_Decides, first_so, second_so}
 use Rattle.std.specs.Option.{option_eq}
 use denote.Enum.Bare.{same_true}
-use Rattle.hir_base.specs.contracts.ast_id.BlockIdPartialEq.TheImpl as block_id
-use Rattle.hir_base.specs.contracts.ast_id.HirFileIdPartialEq.TheImpl as hir_file
-use Rattle.hir_base.specs.contracts.ast_id.SyntaxIdPartialEq.TheImpl as syntax
-use Rattle.hir_base.specs.contracts.builtin_type.BuiltinFloat.{the_type as floats}
-use Rattle.hir_base.specs.contracts.builtin_type.BuiltinInt.{the_type as ints}
-use Rattle.hir_base.specs.contracts.builtin_type.BuiltinTypePartialEq.TheImpl as builtin_type
-use Rattle.hir_base.specs.contracts.builtin_type.BuiltinUint.{the_type as uints}
-use Rattle.hir_base.specs.contracts.edition.Edition.{the_type as editions}
-use Rattle.hir_base.specs.contracts.ids.AdtIdPartialEq.TheImpl as adt
-use Rattle.hir_base.specs.contracts.ids.EnumIdPartialEq.TheImpl as enum_id
-use Rattle.hir_base.specs.contracts.ids.ItemContainerIdPartialEq.TheImpl as container
-use Rattle.hir_base.specs.contracts.ids.ModuleDefIdPartialEq.TheImpl as module_def
-use Rattle.hir_base.specs.contracts.ids.ModuleIdPartialEq.TheImpl as module_id
-use Rattle.hir_base.specs.contracts.macro_kind.MacroCallStylesPartialEq.TheImpl as call_styles
-use Rattle.hir_base.specs.contracts.macro_kind.MacroExpanderPartialEq.TheImpl as expander
-use Rattle.hir_base.specs.contracts.macro_kind.MacroIdPartialEq.TheImpl as makro
-use Rattle.hir_base.specs.contracts.macro_kind.MacroLocPartialEq.TheImpl as macro_loc
-use Rattle.hir_base.specs.contracts.macro_kind.ProcMacroLocPartialEq.TheImpl as proc_macro_loc
-use Rattle.hir_base.specs.contracts.macro_kind.ProcMacroStyle.{the_type as proc_macro_styles}
-use Rattle.hir_base.specs.declared.ids.AdtId.{AdtId}
-use Rattle.hir_base.specs.declared.ast_id.BlockId.{BlockId}
-use Rattle.hir_base.specs.declared.builtin_type.BuiltinType.{BuiltinType}
-use Rattle.hir_base.specs.declared.ids.EnumId.{EnumId}
-use Rattle.hir_base.specs.declared.ast_id.HirFileId.{HirFileId}
-use Rattle.hir_base.specs.declared.ids.ItemContainerId.{ItemContainerId}
-use Rattle.hir_base.specs.declared.ids.ItemLoc.{ItemLoc}
-use Rattle.hir_base.specs.declared.macro_kind.MacroCallStyles.{MacroCallStyles}
-use Rattle.hir_base.specs.declared.macro_kind.MacroExpander.{MacroExpander}
-use Rattle.hir_base.specs.declared.macro_kind.MacroId.{MacroId}
-use Rattle.hir_base.specs.declared.macro_kind.MacroLoc.{MacroLoc}
-use Rattle.hir_base.specs.declared.ids.ModuleDefId.{ModuleDefId}
-use Rattle.hir_base.specs.declared.ids.ModuleId.{ModuleId}
-use Rattle.hir_base.specs.declared.macro_kind.ProcMacroLoc.{ProcMacroLoc}
-use Rattle.hir_base.specs.declared.ast_id.SyntaxId.{SyntaxId}
-use Rattle.hir_base.specs.declared.ast_id.HirFileId.TheVariants as files
-use Rattle.hir_base.specs.declared.builtin_type.BuiltinType.TheVariants as builtins
-use Rattle.hir_base.specs.declared.ids.AdtId.TheVariants as adts
-use Rattle.hir_base.specs.declared.ids.ItemContainerId.TheVariants as containers
-use Rattle.hir_base.specs.declared.ids.ModuleDefId.TheVariants as definitions
-use Rattle.hir_base.specs.declared.macro_kind.MacroExpander.TheVariants as expanders
-use Rattle.hir_base.specs.declared.macro_kind.MacroId.TheVariants as macros
-use Rattle.hir_raw_visibility.specs.contracts.raw_visibility.VisibilityExplicitness.{the_type as ways_of_writing}
-use Rattle.hir_scope.specs.declared.item_in_ns.ItemInNs.{ItemInNs}
-use Rattle.hir_scope.specs.declared.visibility.Visibility.{Visibility}
-use Rattle.hir_scope.specs.declared.item_in_ns.ItemInNs.TheVariants as in_ns
-use Rattle.hir_scope.specs.declared.visibility.Visibility.TheVariants.{Module, PubCrate, Public}
-use Rattle.hir_glob_imports.specs.Moves.{same_bound, same_def, same_vis}
-use Rattle.hir_glob_imports.specs.declared.edge.Bound.{Bound}
+use Rattle.hir_collector_rules.specs.HirIds.contracts.ast_id.BlockIdPartialEq.TheImpl as block_id
+use Rattle.hir_collector_rules.specs.HirIds.contracts.ast_id.HirFileIdPartialEq.TheImpl as hir_file
+use Rattle.hir_collector_rules.specs.HirIds.contracts.ast_id.SyntaxIdPartialEq.TheImpl as syntax
+use Rattle.hir_collector_rules.specs.HirIds.contracts.builtin_type.BuiltinFloat.{the_type as floats}
+use Rattle.hir_collector_rules.specs.HirIds.contracts.builtin_type.BuiltinInt.{the_type as ints}
+use Rattle.hir_collector_rules.specs.HirIds.contracts.builtin_type.BuiltinTypePartialEq.TheImpl as builtin_type
+use Rattle.hir_collector_rules.specs.HirIds.contracts.builtin_type.BuiltinUint.{the_type as uints}
+use Rattle.hir_collector_rules.specs.HirIds.contracts.edition.Edition.{the_type as editions}
+use Rattle.hir_collector_rules.specs.HirIds.contracts.ids.AdtIdPartialEq.TheImpl as adt
+use Rattle.hir_collector_rules.specs.HirIds.contracts.ids.EnumIdPartialEq.TheImpl as enum_id
+use Rattle.hir_collector_rules.specs.HirIds.contracts.ids.ItemContainerIdPartialEq.TheImpl as container
+use Rattle.hir_collector_rules.specs.HirIds.contracts.ids.ModuleDefIdPartialEq.TheImpl as module_def
+use Rattle.hir_collector_rules.specs.HirIds.contracts.ids.ModuleIdPartialEq.TheImpl as module_id
+use Rattle.hir_collector_rules.specs.HirIds.contracts.macro_kind.MacroCallStylesPartialEq.TheImpl as call_styles
+use Rattle.hir_collector_rules.specs.HirIds.contracts.macro_kind.MacroExpanderPartialEq.TheImpl as expander
+use Rattle.hir_collector_rules.specs.HirIds.contracts.macro_kind.MacroIdPartialEq.TheImpl as makro
+use Rattle.hir_collector_rules.specs.HirIds.contracts.macro_kind.MacroLocPartialEq.TheImpl as macro_loc
+use Rattle.hir_collector_rules.specs.HirIds.contracts.macro_kind.ProcMacroLocPartialEq.TheImpl as proc_macro_loc
+use Rattle.hir_collector_rules.specs.HirIds.contracts.macro_kind.ProcMacroStyle.{the_type as proc_macro_styles}
+use Rattle.hir_collector_rules.specs.HirIds.declared.ids.AdtId.{AdtId}
+use Rattle.hir_collector_rules.specs.HirIds.declared.ast_id.BlockId.{BlockId}
+use Rattle.hir_collector_rules.specs.HirIds.declared.builtin_type.BuiltinType.{BuiltinType}
+use Rattle.hir_collector_rules.specs.HirIds.declared.ids.EnumId.{EnumId}
+use Rattle.hir_collector_rules.specs.HirIds.declared.ast_id.HirFileId.{HirFileId}
+use Rattle.hir_collector_rules.specs.HirIds.declared.ids.ItemContainerId.{ItemContainerId}
+use Rattle.hir_collector_rules.specs.HirIds.declared.ids.ItemLoc.{ItemLoc}
+use Rattle.hir_collector_rules.specs.HirIds.declared.macro_kind.MacroCallStyles.{MacroCallStyles}
+use Rattle.hir_collector_rules.specs.HirIds.declared.macro_kind.MacroExpander.{MacroExpander}
+use Rattle.hir_collector_rules.specs.HirIds.declared.macro_kind.MacroId.{MacroId}
+use Rattle.hir_collector_rules.specs.HirIds.declared.macro_kind.MacroLoc.{MacroLoc}
+use Rattle.hir_collector_rules.specs.HirIds.declared.ids.ModuleDefId.{ModuleDefId}
+use Rattle.hir_collector_rules.specs.HirIds.declared.ids.ModuleId.{ModuleId}
+use Rattle.hir_collector_rules.specs.HirIds.declared.macro_kind.ProcMacroLoc.{ProcMacroLoc}
+use Rattle.hir_collector_rules.specs.HirIds.declared.ast_id.SyntaxId.{SyntaxId}
+use Rattle.hir_collector_rules.specs.HirIds.declared.ast_id.HirFileId.TheVariants as files
+use Rattle.hir_collector_rules.specs.HirIds.declared.builtin_type.BuiltinType.TheVariants as builtins
+use Rattle.hir_collector_rules.specs.HirIds.declared.ids.AdtId.TheVariants as adts
+use Rattle.hir_collector_rules.specs.HirIds.declared.ids.ItemContainerId.TheVariants as containers
+use Rattle.hir_collector_rules.specs.HirIds.declared.ids.ModuleDefId.TheVariants as definitions
+use Rattle.hir_collector_rules.specs.HirIds.declared.macro_kind.MacroExpander.TheVariants as expanders
+use Rattle.hir_collector_rules.specs.HirIds.declared.macro_kind.MacroId.TheVariants as macros
+use Rattle.hir_collector_rules.specs.HirIds.contracts.explicitness.VisibilityExplicitness.{the_type as ways_of_writing}
+use Rattle.hir_collector_rules.specs.HirPerNs.declared.item_in_ns.ItemInNs.{ItemInNs}
+use Rattle.hir_collector_rules.specs.HirPerNs.declared.visibility.Visibility.{Visibility}
+use Rattle.hir_collector_rules.specs.HirPerNs.declared.item_in_ns.ItemInNs.TheVariants as in_ns
+use Rattle.hir_collector_rules.specs.HirPerNs.declared.visibility.Visibility.TheVariants.{Module, PubCrate, Public}
+use Rattle.hir_collector_rules.specs.HirGlobImports.Moves.{same_bound, same_def, same_vis}
+use Rattle.hir_collector_rules.specs.HirGlobImports.declared.edge.Bound.{Bound}
 use Rattle.hir_def_collector_laws.proofs.Places.{exact_module}
 
 same_nat : (m n : ℕ) → nat_eq m n ≡ true → m ≡ n

@@ -8,55 +8,55 @@ use Rattle.std.specs.Cmp.{first_so, second_so, unsigned_Decides}
 use Rattle.std.specs.Cmp.Lexicographic.{slice_cmp}
 use Rattle.std.specs.Map.{remove_entry}
 use Rattle.std.specs.Ordering.{nat_cmp}
-use Rattle.hir_base.specs.declared.ids.Crate.{Crate}
-use Rattle.hir_base.specs.declared.macro_kind.MacroId.{MacroId}
-use Rattle.hir_base.specs.declared.ids.MapId.{MapId}
-use Rattle.hir_base.specs.declared.ids.ModuleDefId.{ModuleDefId}
-use Rattle.hir_base.specs.declared.ids.TraitId.{TraitId}
-use Rattle.hir_base.specs.contracts.ids.ModuleDefIdPartialEq.TheImpl as module_def
-use Rattle.hir_base.specs.declared.ids.ModuleDefId.TheVariants as definitions
-use Rattle.hir_scope.specs.Entries.{item_at}
-use Rattle.hir_scope.specs.Globs.{GlobNames, Place}
-use Rattle.hir_scope.specs.ImportRecords.{is_glob}
-use Rattle.hir_scope.specs.Imports.{glob_of}
-use Rattle.hir_scope.specs.ModuleTree.{same_crate}
-use Rattle.hir_scope.specs.PerNs.{Item}
-use Rattle.hir_scope.specs.Scope.{ScopeValue}
-use Rattle.hir_scope.specs.Scope.Updates.{censored_item, censored_macro, is_definition}
-use Rattle.hir_scope.specs.contracts.item_in_ns.ItemInNsEq.TheImpl.Laws.{laws-law as item_laws}
-use Rattle.hir_scope.specs.declared.imports.GlobId.{GlobId}
-use Rattle.hir_scope.specs.declared.imports.ImportOrExternCrate.{ImportOrExternCrate}
-use Rattle.hir_scope.specs.declared.imports.ImportOrGlob.{ImportOrGlob}
-use Rattle.hir_scope.specs.declared.item_in_ns.ItemInNs.{ItemInNs}
-use Rattle.hir_scope.specs.declared.per_ns.PerNs.{PerNs}
-use Rattle.hir_scope.specs.declared.visibility.Visibility.{Visibility}
-use Rattle.hir_scope.specs.declared.item_in_ns.ItemInNs.TheVariants as in_ns
-use Rattle.hir_scope.specs.declared.visibility.Visibility.TheVariants.{Module, PubCrate, Public}
-use Rattle.hir_tables.specs.Tables.{TablesValue}
-use Rattle.hir_def_map_rules.specs.Declaration.{listed}
-use Rattle.hir_def_map_rules.specs.Overlay.{Maps}
-use Rattle.hir_def_map_rules.specs.State.{Map, ModuleValue, changed_at, entry_at, entry_of, module_at, new_id, new_module, with_child, with_module_scope}
-use Rattle.hir_glob_imports.specs.Keys.{is_unnamed, slot_at}
-use Rattle.hir_glob_imports.specs.Moves.{brought_vis, is_as_seen, may_raise, same_bound, same_def, same_vis, seen_by, shown}
-use Rattle.hir_glob_imports.specs.Rules.{BroughtBy, CanCopy, CanFollow, CanRaise, Rule as GlobRule, May as MayAlong, acts as glob_acts, as_seen, copies_along}
-use Rattle.hir_glob_imports.specs.Rules.{follows_along, noted, raises_along}
-use Rattle.hir_glob_imports.specs.View.{View, bound_in}
-use Rattle.hir_glob_imports.specs.Waves.{Stands}
-use Rattle.hir_glob_imports.specs.declared.edge.Bound.{Bound}
-use Rattle.hir_glob_imports.specs.declared.edge.Brought.{Brought}
-use Rattle.hir_glob_imports.specs.declared.edge.Edge.{Edge}
-use Rattle.hir_glob_imports.specs.declared.edge.Key.{Key}
-use Rattle.hir_glob_imports.specs.declared.edge.Key.TheVariants.{Types, Values, Macros, Unnamed}
-use Rattle.hir_import_rules.specs.Changes.{Change as ImportChange, along, keeps_trait, kept_vis, pushes, pushing, records, takes}
-use Rattle.hir_import_rules.specs.ScopeLaws.{vacant_of}
-use Rattle.hir_import_rules.specs.Names.{ScopesValue, bound_at, bound_by, bound_of, copied, copied_where, entries_of, followed, followed_where, raised}
-use Rattle.hir_import_rules.specs.Names.{scope_table, trait_vis, view_of, with_trait}
-use Rattle.hir_import_rules.specs.Rules.{Rule as ImportRule, May as MayImport, goes_along, takes_glob, takes_import}
-use Rattle.hir_import_rules.specs.State.{glob_state, scopes_of}
-use Rattle.hir_import_rules.specs.Visibilities.{greater_in, lesser_in}
-use Rattle.hir_import_rules.specs.declared.directive.ImportDirective.{ImportDirective}
-use Rattle.hir_import_rules.specs.declared.directive.ImportSource.{ImportSource}
-use Rattle.hir_import_rules.specs.declared.directive.ImportSource.TheVariants as sources
+use Rattle.hir_collector_rules.specs.HirIds.declared.ids.Crate.{Crate}
+use Rattle.hir_collector_rules.specs.HirIds.declared.macro_kind.MacroId.{MacroId}
+use Rattle.hir_collector_rules.specs.HirIds.declared.ids.MapId.{MapId}
+use Rattle.hir_collector_rules.specs.HirIds.declared.ids.ModuleDefId.{ModuleDefId}
+use Rattle.hir_collector_rules.specs.HirIds.declared.ids.TraitId.{TraitId}
+use Rattle.hir_collector_rules.specs.HirIds.contracts.ids.ModuleDefIdPartialEq.TheImpl as module_def
+use Rattle.hir_collector_rules.specs.HirIds.declared.ids.ModuleDefId.TheVariants as definitions
+use Rattle.hir_collector_rules.specs.HirScope.Entries.{item_at}
+use Rattle.hir_collector_rules.specs.HirScope.Globs.{GlobNames, Place}
+use Rattle.hir_collector_rules.specs.HirScope.ImportRecords.{is_glob}
+use Rattle.hir_collector_rules.specs.HirPerNs.Imports.{glob_of}
+use Rattle.hir_collector_rules.specs.HirPerNs.ModuleTree.{same_crate}
+use Rattle.hir_collector_rules.specs.HirPerNs.PerNs.{Item}
+use Rattle.hir_collector_rules.specs.HirScope.Scope.{ScopeValue}
+use Rattle.hir_collector_rules.specs.HirScope.Scope.Updates.{censored_item, censored_macro, is_definition}
+use Rattle.hir_collector_rules.specs.HirPerNs.contracts.item_in_ns.ItemInNsEq.TheImpl.Laws.{laws-law as item_laws}
+use Rattle.hir_collector_rules.specs.HirPerNs.declared.imports.GlobId.{GlobId}
+use Rattle.hir_collector_rules.specs.HirPerNs.declared.imports.ImportOrExternCrate.{ImportOrExternCrate}
+use Rattle.hir_collector_rules.specs.HirPerNs.declared.imports.ImportOrGlob.{ImportOrGlob}
+use Rattle.hir_collector_rules.specs.HirPerNs.declared.item_in_ns.ItemInNs.{ItemInNs}
+use Rattle.hir_collector_rules.specs.HirPerNs.declared.per_ns.PerNs.{PerNs}
+use Rattle.hir_collector_rules.specs.HirPerNs.declared.visibility.Visibility.{Visibility}
+use Rattle.hir_collector_rules.specs.HirPerNs.declared.item_in_ns.ItemInNs.TheVariants as in_ns
+use Rattle.hir_collector_rules.specs.HirPerNs.declared.visibility.Visibility.TheVariants.{Module, PubCrate, Public}
+use Rattle.hir_collector_rules.specs.HirTables.Tables.{TablesValue}
+use Rattle.hir_collector_rules.specs.HirDefMapRules.Declaration.{listed}
+use Rattle.hir_collector_rules.specs.HirDefMapRules.Overlay.{Maps}
+use Rattle.hir_collector_rules.specs.HirDefMapRules.State.{Map, ModuleValue, changed_at, entry_at, entry_of, module_at, new_id, new_module, with_child, with_module_scope}
+use Rattle.hir_collector_rules.specs.HirGlobImports.Keys.{is_unnamed, slot_at}
+use Rattle.hir_collector_rules.specs.HirGlobImports.Moves.{brought_vis, is_as_seen, may_raise, same_bound, same_def, same_vis, seen_by, shown}
+use Rattle.hir_collector_rules.specs.HirGlobImports.Rules.{BroughtBy, CanCopy, CanFollow, CanRaise, Rule as GlobRule, May as MayAlong, acts as glob_acts, as_seen, copies_along}
+use Rattle.hir_collector_rules.specs.HirGlobImports.Rules.{follows_along, noted, raises_along}
+use Rattle.hir_collector_rules.specs.HirGlobImports.View.{View, bound_in}
+use Rattle.hir_collector_rules.specs.HirGlobImports.Waves.{Stands}
+use Rattle.hir_collector_rules.specs.HirGlobImports.declared.edge.Bound.{Bound}
+use Rattle.hir_collector_rules.specs.HirGlobImports.declared.edge.Brought.{Brought}
+use Rattle.hir_collector_rules.specs.HirGlobImports.declared.edge.Edge.{Edge}
+use Rattle.hir_collector_rules.specs.HirGlobImports.declared.edge.Key.{Key}
+use Rattle.hir_collector_rules.specs.HirGlobImports.declared.edge.Key.TheVariants.{Types, Values, Macros, Unnamed}
+use Rattle.hir_collector_rules.specs.HirImportRules.Changes.{Change as ImportChange, along, keeps_trait, kept_vis, pushes, pushing, records, takes}
+use Rattle.hir_collector_rules.specs.HirImportRules.ScopeLaws.{vacant_of}
+use Rattle.hir_collector_rules.specs.HirImportRules.Names.{ScopesValue, bound_at, bound_by, bound_of, copied, copied_where, entries_of, followed, followed_where, raised}
+use Rattle.hir_collector_rules.specs.HirImportRules.Names.{scope_table, trait_vis, view_of, with_trait}
+use Rattle.hir_collector_rules.specs.HirImportRules.Rules.{Rule as ImportRule, May as MayImport, goes_along, takes_glob, takes_import}
+use Rattle.hir_collector_rules.specs.HirImportRules.State.{glob_state, scopes_of}
+use Rattle.hir_collector_rules.specs.HirImportRules.Visibilities.{greater_in, lesser_in}
+use Rattle.hir_collector_rules.specs.HirImportRules.declared.directive.ImportDirective.{ImportDirective}
+use Rattle.hir_collector_rules.specs.HirImportRules.declared.directive.ImportSource.{ImportSource}
+use Rattle.hir_collector_rules.specs.HirImportRules.declared.directive.ImportSource.TheVariants as sources
 use Rattle.hir_collector_rules.specs.Calls.{error_of}
 use Rattle.hir_collector_rules.specs.Changes.{Change, lists, makes, gives_variants, begins_paths, reaches, awaits, ends, settles, changes_imports, adds_textual}
 use Rattle.hir_collector_rules.specs.Changes.{takes_textual, defines, describes, helps, lists_derive, notes, exports, uses_macros, tells, goes_on, act, perform}

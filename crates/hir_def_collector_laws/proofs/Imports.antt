@@ -1,14 +1,14 @@
 -- So is each import that is left over, each glob and each call.
 use Rattle.std.proofs.Common.{◌≡◌, ◌∙◌, ◌<◌, ℕ, zero, suc, List, [], ◌∷◌, length, Some, Bool, true, false, cond, sym, ap, subst, arith, Contains}
 use Rattle.std.proofs.lemmas.List.Elements.{Contains-append_left}
-use Rattle.hir_base.specs.declared.ids.MapId.{MapId}
-use Rattle.hir_scope.specs.declared.imports.ImportOrExternCrate.{ImportOrExternCrate}
-use Rattle.hir_tables.specs.Tables.{TablesValue}
-use Rattle.hir_def_map_rules.specs.Overlay.{Maps}
-use Rattle.hir_def_map_rules.specs.State.{Map}
-use Rattle.hir_glob_imports.specs.declared.edge.Edge.{Edge}
-use Rattle.hir_import_rules.specs.Directives.{TakenValue, glob_of, is_untaken}
-use Rattle.hir_import_rules.specs.declared.directive.ImportDirective.{ImportDirective}
+use Rattle.hir_collector_rules.specs.HirIds.declared.ids.MapId.{MapId}
+use Rattle.hir_collector_rules.specs.HirPerNs.declared.imports.ImportOrExternCrate.{ImportOrExternCrate}
+use Rattle.hir_collector_rules.specs.HirTables.Tables.{TablesValue}
+use Rattle.hir_collector_rules.specs.HirDefMapRules.Overlay.{Maps}
+use Rattle.hir_collector_rules.specs.HirDefMapRules.State.{Map}
+use Rattle.hir_collector_rules.specs.HirGlobImports.declared.edge.Edge.{Edge}
+use Rattle.hir_collector_rules.specs.HirImportRules.Directives.{TakenValue, glob_of, is_untaken}
+use Rattle.hir_collector_rules.specs.HirImportRules.declared.directive.ImportDirective.{ImportDirective}
 use Rattle.hir_collector_rules.specs.declared.source_database.Key.{Key}
 use Rattle.hir_collector_rules.specs.declared.macro_directive.MacroDirective.{MacroDirective}
 use Rattle.hir_collector_rules.specs.Derivation.{CollectedValue, Ends, leftover_among, told_of}

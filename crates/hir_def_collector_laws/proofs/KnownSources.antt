@@ -2,21 +2,21 @@
 use Rattle.std.specs.Prelude.{◌≡◌, List, Bool, true, false, is_some, not, Option, Some, None, cond, option_map}
 use Rattle.std.proofs.Common.{ap, refl, subst, arith}
 use mathlib.Core.Bool.{true≢false}
-use Rattle.hir_base.specs.declared.macro_kind.MacroId.{MacroId}
-use Rattle.hir_base.specs.declared.ids.ModuleId.{ModuleId}
-use Rattle.hir_base.specs.declared.macro_kind.MacroId.TheVariants as macros
-use Rattle.hir_scope.specs.PerNs.{Item}
-use Rattle.hir_scope.specs.declared.imports.ImportOrExternCrate.{ImportOrExternCrate}
-use Rattle.hir_scope.specs.declared.per_ns.PerNs.{PerNs}
-use Rattle.hir_tables.specs.Tables.{TablesValue, source_under}
-use Rattle.hir_def_map_rules.specs.Closed.{PathsLeadToWhatIsThere}
-use Rattle.hir_def_map_rules.specs.Overlay.{Maps, overlay}
-use Rattle.hir_def_map_rules.specs.Scoping.{resolution_of}
-use Rattle.hir_def_map_rules.specs.Sources.{HoldsNowhere, HoldsOfNone, PathsAnswerFromSources, SourceTest, on_macro, on_macro_item, on_some}
-use Rattle.hir_def_map_rules.specs.State.{numbered}
-use Rattle.hir_def_map_rules.specs.WellFormed.{AreWellFormed}
-use Rattle.hir_def_map_rules.proofs.NoneOf.{not_first}
-use Rattle.hir_def_map_rules.proofs.StaysSourced.{HoldsNowhere-overlay}
+use Rattle.hir_collector_rules.specs.HirIds.declared.macro_kind.MacroId.{MacroId}
+use Rattle.hir_collector_rules.specs.HirIds.declared.ids.ModuleId.{ModuleId}
+use Rattle.hir_collector_rules.specs.HirIds.declared.macro_kind.MacroId.TheVariants as macros
+use Rattle.hir_collector_rules.specs.HirPerNs.PerNs.{Item}
+use Rattle.hir_collector_rules.specs.HirPerNs.declared.imports.ImportOrExternCrate.{ImportOrExternCrate}
+use Rattle.hir_collector_rules.specs.HirPerNs.declared.per_ns.PerNs.{PerNs}
+use Rattle.hir_collector_rules.specs.HirTables.Tables.{TablesValue, source_under}
+use Rattle.hir_collector_rules.specs.HirDefMapRules.Closed.{PathsLeadToWhatIsThere}
+use Rattle.hir_collector_rules.specs.HirDefMapRules.Overlay.{Maps, overlay}
+use Rattle.hir_collector_rules.specs.HirDefMapRules.Scoping.{resolution_of}
+use Rattle.hir_collector_rules.specs.HirDefMapRules.Sources.{HoldsNowhere, HoldsOfNone, PathsAnswerFromSources, SourceTest, on_macro, on_macro_item, on_some}
+use Rattle.hir_collector_rules.specs.HirDefMapRules.State.{numbered}
+use Rattle.hir_collector_rules.specs.HirDefMapRules.WellFormed.{AreWellFormed}
+use Rattle.hir_collector_rules.proofs.HirDefMapRules.NoneOf.{not_first}
+use Rattle.hir_collector_rules.proofs.HirDefMapRules.StaysSourced.{HoldsNowhere-overlay}
 use Rattle.hir_collector_rules.specs.declared.macro_directive.MacroDirective.{MacroDirective}
 use Rattle.hir_collector_rules.specs.declared.macro_directive.MacroDirectiveKind.{MacroDirectiveKind}
 use Rattle.hir_collector_rules.specs.declared.source_database.Key.TheVariants as keys

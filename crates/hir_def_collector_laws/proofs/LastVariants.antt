@@ -7,11 +7,11 @@ use Rattle.std.specs.Ordering.{is_eq, nat_cmp}
 use Rattle.std.specs.declared.cmp.Ordering.{Ordering}
 use Rattle.std.specs.declared.cmp.Ordering.TheVariants.{Less, Equal, Greater}
 use Rattle.std.proofs.lemmas.Map.Lookups.{exact_bytes}
-use Rattle.hir_base.specs.declared.ids.EnumId.{EnumId}
-use Rattle.hir_item_tree.specs.declared.side_lists.VariantItem.{VariantItem}
-use Rattle.hir_def_map_rules.proofs.Grown.{at_name-with_name, at_name-with_name_other}
-use Rattle.hir_def_map_rules.specs.State.{Variants, at_name, with_name}
-use Rattle.hir_def_map_rules.specs.declared.enum_variants.EnumVariant.{EnumVariant}
+use Rattle.hir_collector_rules.specs.HirIds.declared.ids.EnumId.{EnumId}
+use Rattle.hir_collector_rules.specs.HirItemTree.declared.side_lists.VariantItem.{VariantItem}
+use Rattle.hir_collector_rules.proofs.HirDefMapRules.Grown.{at_name-with_name, at_name-with_name_other}
+use Rattle.hir_collector_rules.specs.HirDefMapRules.State.{Variants, at_name, with_name}
+use Rattle.hir_collector_rules.specs.HirMapParts.declared.enum_variants.EnumVariant.{EnumVariant}
 use Rattle.hir_collector_rules.specs.Enums.{last_named, variant_of, with_variant}
 use Rattle.hir_collector_rules.proofs.Bound.{cmp_itself}
 

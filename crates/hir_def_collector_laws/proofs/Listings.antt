@@ -1,25 +1,25 @@
 -- What changes add to the lists of modules, and what they leave of modules.
 use Rattle.std.proofs.Common.{◌≡◌, ◌∙◌, ◌<◌, ◌+◌, ℕ, zero, suc, Bool, true, false, cond, List, [], ◌∷◌, ◌++◌, length, map as list_map, slice_get, Option, None}
 use Rattle.std.proofs.Common.{Some, refl, sym, ap, subst, arith, append-nil, append_assoc}
-use Rattle.hir_base.specs.declared.ast_id.AstId.{AstId}
-use Rattle.hir_base.specs.declared.macro_kind.MacroExpander.{MacroExpander}
-use Rattle.hir_base.specs.declared.macro_kind.MacroId.{MacroId}
-use Rattle.hir_base.specs.declared.ids.ModuleDefId.{ModuleDefId}
-use Rattle.hir_base.specs.declared.ids.ModuleId.{ModuleId}
-use Rattle.hir_item_tree.specs.KeptForest.{Head}
-use Rattle.hir_scope.specs.PerNs.{macros_only}
-use Rattle.hir_scope.specs.Scope.{ScopeValue}
-use Rattle.hir_scope.specs.declared.visibility.Visibility.TheVariants as visibilities
-use Rattle.hir_def_map_rules.specs.Declaration.{listed}
-use Rattle.hir_def_map_rules.specs.State.{Map, ModuleValue, changed_at, module_at, new_id, new_module, numbered, with_child, with_module, with_module_scope}
-use Rattle.hir_def_map_rules.specs.State.{with_scope}
-use Rattle.hir_def_map_rules.specs.Overlay.{Maps}
-use Rattle.hir_def_map_rules.specs.declared.declaration.Declaration.{Declaration as Listing}
-use Rattle.hir_def_map_rules.specs.declared.declaration.Declaration.TheVariants as listings
-use Rattle.hir_def_map_rules.specs.declared.derive_helpers.DeriveHelper.{DeriveHelper}
-use Rattle.hir_def_map_rules.proofs.Grown.{length-changed}
-use Rattle.hir_def_map_rules.proofs.StaysWellFormed.{length-made}
-use Rattle.hir_import_rules.specs.Changes.{Change as ImportChange, pushes}
+use Rattle.hir_collector_rules.specs.HirIds.declared.ast_id.AstId.{AstId}
+use Rattle.hir_collector_rules.specs.HirIds.declared.macro_kind.MacroExpander.{MacroExpander}
+use Rattle.hir_collector_rules.specs.HirIds.declared.macro_kind.MacroId.{MacroId}
+use Rattle.hir_collector_rules.specs.HirIds.declared.ids.ModuleDefId.{ModuleDefId}
+use Rattle.hir_collector_rules.specs.HirIds.declared.ids.ModuleId.{ModuleId}
+use Rattle.hir_collector_rules.specs.HirItemTree.KeptForest.{Head}
+use Rattle.hir_collector_rules.specs.HirPerNs.PerNs.{macros_only}
+use Rattle.hir_collector_rules.specs.HirScope.Scope.{ScopeValue}
+use Rattle.hir_collector_rules.specs.HirPerNs.declared.visibility.Visibility.TheVariants as visibilities
+use Rattle.hir_collector_rules.specs.HirDefMapRules.Declaration.{listed}
+use Rattle.hir_collector_rules.specs.HirDefMapRules.State.{Map, ModuleValue, changed_at, module_at, new_id, new_module, numbered, with_child, with_module, with_module_scope}
+use Rattle.hir_collector_rules.specs.HirDefMapRules.State.{with_scope}
+use Rattle.hir_collector_rules.specs.HirDefMapRules.Overlay.{Maps}
+use Rattle.hir_collector_rules.specs.HirDefMapRules.declared.declaration.Declaration.{Declaration as Listing}
+use Rattle.hir_collector_rules.specs.HirDefMapRules.declared.declaration.Declaration.TheVariants as listings
+use Rattle.hir_collector_rules.specs.HirMapParts.declared.derive_helpers.DeriveHelper.{DeriveHelper}
+use Rattle.hir_collector_rules.proofs.HirDefMapRules.Grown.{length-changed}
+use Rattle.hir_collector_rules.proofs.HirDefMapRules.StaysWellFormed.{length-made}
+use Rattle.hir_collector_rules.specs.HirImportRules.Changes.{Change as ImportChange, pushes}
 use Rattle.hir_collector_rules.specs.declared.exported.ExportedFunction.{ExportedFunction}
 use Rattle.hir_collector_rules.specs.declared.macro_directive.MacroDirective.{MacroDirective}
 use Rattle.hir_collector_rules.specs.Causes.{declarations_of}

@@ -1,8 +1,8 @@
 -- Macros that are used one after another.
 use Rattle.std.proofs.Common.{◌≡◌, ℕ, List, [], ◌∷◌, ◌++◌, Option, refl, ap}
-use Rattle.hir_base.specs.declared.ids.ExternCrateId.{ExternCrateId}
-use Rattle.hir_base.specs.declared.macro_kind.MacroId.{MacroId}
-use Rattle.hir_def_map_rules.specs.State.{Map, with_name}
+use Rattle.hir_collector_rules.specs.HirIds.declared.ids.ExternCrateId.{ExternCrateId}
+use Rattle.hir_collector_rules.specs.HirIds.declared.macro_kind.MacroId.{MacroId}
+use Rattle.hir_collector_rules.specs.HirDefMapRules.State.{Map, with_name}
 use Rattle.hir_collector_rules.specs.Macros.{with_macros_used, with_used}
 
 used_joined : (prelude : List (List ℕ × (MacroId × Option ExternCrateId))) (macros others : List (List ℕ × MacroId)) (by : Option ExternCrateId)

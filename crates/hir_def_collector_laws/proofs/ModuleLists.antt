@@ -1,6 +1,6 @@
 -- Which modules does a list have once one was changed, or there is one more?
 use Rattle.std.proofs.Common.{◌≡◌, ◌≢◌, ℕ, zero, suc, List, [], ◌∷◌, ◌++◌, Some, slice_get, refl, sym, ap, arith}
-use Rattle.hir_def_map_rules.specs.State.{ModuleValue, changed_at}
+use Rattle.hir_collector_rules.specs.HirDefMapRules.State.{ModuleValue, changed_at}
 
 -- a module of a list where one was changed
 pub data IsChanged (ms : List ModuleValue) (at : ℕ) (change : ModuleValue → ModuleValue) (number : ℕ) (m : ModuleValue) : Type 0 where

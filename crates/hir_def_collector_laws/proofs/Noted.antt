@@ -5,30 +5,30 @@ use Rattle.std.specs.BTreeMap.{insert_entry, is_at}
 use Rattle.std.specs.Cmp.Lexicographic.{slice_cmp}
 use Rattle.std.specs.Map.{set_value}
 use Rattle.std.specs.Ordering.{nat_cmp}
-use Rattle.hir_base.specs.declared.ids.Crate.{Crate}
-use Rattle.hir_base.specs.declared.ids.MapId.{MapId}
-use Rattle.hir_scope.specs.Bindings.{Candidate, Push, taken, takes as takes_slot, written_items, written_places}
-use Rattle.hir_scope.specs.Entries.{item_at, with_entry}
-use Rattle.hir_scope.specs.Globs.{Place, has_place, with_place, without_place}
-use Rattle.hir_scope.specs.PerNs.{Item}
-use Rattle.hir_scope.specs.declared.imports.GlobId.{GlobId}
-use Rattle.hir_scope.specs.declared.per_ns.PerNs.{PerNs}
-use Rattle.hir_scope.specs.declared.visibility.Visibility.{Visibility}
-use Rattle.hir_scope.proofs.AfterPush.{item_at-with_entry, item_at-with_entry_other}
-use Rattle.hir_scope_table.specs.Table.{rewritten}
-use Rattle.hir_def_map_rules.specs.State.{place_at}
-use Rattle.hir_glob_imports.specs.Keys.{same_slot, slot_at}
-use Rattle.hir_glob_imports.specs.Rules.{BroughtBy, with_brought}
-use Rattle.hir_glob_imports.specs.View.{View}
-use Rattle.hir_glob_imports.specs.Waves.{Records, adds, edge_with_vis, stays, widens}
-use Rattle.hir_glob_imports.specs.declared.edge.Brought.{Brought}
-use Rattle.hir_glob_imports.specs.declared.edge.Edge.{Edge}
-use Rattle.hir_glob_imports.specs.declared.edge.Key.{Key}
-use Rattle.hir_glob_imports.specs.declared.edge.Slot.{Slot}
-use Rattle.hir_glob_imports.specs.declared.edge.Key.TheVariants.{Types, Values, Macros}
-use Rattle.hir_glob_imports.proofs.Exact.{exact_slot}
-use Rattle.hir_glob_imports.proofs.Settling.{same_itself}
-use Rattle.hir_import_rules.specs.Changes.{forgotten, forgotten_in}
+use Rattle.hir_collector_rules.specs.HirIds.declared.ids.Crate.{Crate}
+use Rattle.hir_collector_rules.specs.HirIds.declared.ids.MapId.{MapId}
+use Rattle.hir_collector_rules.specs.HirScope.Bindings.{Candidate, Push, taken, takes as takes_slot, written_items, written_places}
+use Rattle.hir_collector_rules.specs.HirScope.Entries.{item_at, with_entry}
+use Rattle.hir_collector_rules.specs.HirScope.Globs.{Place, has_place, with_place, without_place}
+use Rattle.hir_collector_rules.specs.HirPerNs.PerNs.{Item}
+use Rattle.hir_collector_rules.specs.HirPerNs.declared.imports.GlobId.{GlobId}
+use Rattle.hir_collector_rules.specs.HirPerNs.declared.per_ns.PerNs.{PerNs}
+use Rattle.hir_collector_rules.specs.HirPerNs.declared.visibility.Visibility.{Visibility}
+use Rattle.hir_collector_rules.proofs.HirScope.AfterPush.{item_at-with_entry, item_at-with_entry_other}
+use Rattle.hir_collector_rules.specs.HirScopeTable.Table.{rewritten}
+use Rattle.hir_collector_rules.specs.HirDefMapRules.State.{place_at}
+use Rattle.hir_collector_rules.specs.HirGlobImports.Keys.{same_slot, slot_at}
+use Rattle.hir_collector_rules.specs.HirGlobImports.Rules.{BroughtBy, with_brought}
+use Rattle.hir_collector_rules.specs.HirGlobImports.View.{View}
+use Rattle.hir_collector_rules.specs.HirGlobImports.Waves.{Records, adds, edge_with_vis, stays, widens}
+use Rattle.hir_collector_rules.specs.HirGlobImports.declared.edge.Brought.{Brought}
+use Rattle.hir_collector_rules.specs.HirGlobImports.declared.edge.Edge.{Edge}
+use Rattle.hir_collector_rules.specs.HirGlobImports.declared.edge.Key.{Key}
+use Rattle.hir_collector_rules.specs.HirGlobImports.declared.edge.Slot.{Slot}
+use Rattle.hir_collector_rules.specs.HirGlobImports.declared.edge.Key.TheVariants.{Types, Values, Macros}
+use Rattle.hir_collector_rules.proofs.HirGlobImports.Exact.{exact_slot}
+use Rattle.hir_collector_rules.proofs.HirGlobImports.Settling.{same_itself}
+use Rattle.hir_collector_rules.specs.HirImportRules.Changes.{forgotten, forgotten_in}
 use Rattle.hir_def_collector_laws.specs.Globs.{glob_by, is_open_in}
 use Rattle.hir_def_collector_laws.proofs.Places.{now_with, still_with, still_without}
 

@@ -1,43 +1,43 @@
 -- Where a glob brought what a name stands for, it is noted along which edge: in each scope of a map.
 use Rattle.std.proofs.Common.{◌≡◌, ◌≢◌, ◌∙◌, ℕ, Bool, true, false, cond, List, [], ◌∷◌, ◌++◌, Option, None, Some, is_some, option_and_then, slice_get}
 use Rattle.std.proofs.Common.{if◌then◌else◌, refl, sym, ap, subst, true≢false}
-use Rattle.hir_base.specs.contracts.ids.ModuleDefIdPartialEq.TheImpl as module_def
-use Rattle.hir_base.specs.contracts.macro_kind.MacroIdPartialEq.TheImpl as makro
-use Rattle.hir_base.specs.declared.macro_kind.MacroId.{MacroId}
-use Rattle.hir_base.specs.declared.ids.MapId.{MapId}
-use Rattle.hir_base.specs.declared.ids.ModuleDefId.{ModuleDefId}
-use Rattle.hir_base.specs.declared.ids.TraitId.{TraitId}
-use Rattle.hir_base.specs.declared.ids.ModuleDefId.TheVariants as definitions
-use Rattle.hir_scope.specs.contracts.imports.ImportOrExternCratePartialEq.TheImpl as item_import
-use Rattle.hir_scope.specs.contracts.imports.ImportOrGlobPartialEq.TheImpl as glob_import
-use Rattle.hir_scope.specs.Bindings.{Candidate, macro_candidate, type_candidate, value_candidate, with_item_definition, with_item_visibility, written_places}
-use Rattle.hir_scope.specs.Entries.{item_at}
-use Rattle.hir_scope.specs.Globs.{GlobNames, Place, has_place, with_place, without_place}
-use Rattle.hir_scope.specs.ImportRecords.{is_glob}
-use Rattle.hir_scope.specs.Imports.{glob_of}
-use Rattle.hir_scope.specs.PerNs.{Item, macros_only, types_only, value_import, values_only}
-use Rattle.hir_scope.specs.Scope.{ScopeValue, empty_scope}
-use Rattle.hir_scope.specs.Scope.Push.{pushed_globs, pushed_scope, taken_macro, taken_type, taken_value}
-use Rattle.hir_scope.specs.declared.imports.ImportOrDef.TheVariants as reached
-use Rattle.hir_scope.specs.declared.imports.ImportOrExternCrate.{ImportOrExternCrate}
-use Rattle.hir_scope.specs.declared.imports.ImportOrGlob.{ImportOrGlob}
-use Rattle.hir_scope.specs.declared.per_ns.PerNs.{PerNs}
-use Rattle.hir_scope.specs.declared.visibility.Visibility.{Visibility}
-use Rattle.hir_scope.specs.declared.imports.ImportOrExternCrate.TheVariants as ways
-use Rattle.hir_scope.specs.declared.imports.ImportOrGlob.TheVariants as value_ways
-use Rattle.hir_scope.proofs.Pushes.{pushed-macros, pushed-types, pushed-values}
-use Rattle.hir_def_map_rules.specs.Declaration.{listed}
-use Rattle.hir_def_map_rules.specs.State.{ModuleValue, changed_at, globs_in, place_at, pushed_module, with_module_scope}
-use Rattle.hir_def_map_rules.specs.declared.declaration.Declaration.{Declaration as Listing}
-use Rattle.hir_def_map_rules.specs.declared.declaration.Declaration.TheVariants as listings
-use Rattle.hir_glob_imports.specs.Keys.{same_slot, slot_at}
-use Rattle.hir_glob_imports.specs.Rules.{BroughtBy, with_brought}
-use Rattle.hir_glob_imports.specs.declared.edge.Brought.{Brought}
-use Rattle.hir_glob_imports.specs.declared.edge.Edge.{Edge}
-use Rattle.hir_glob_imports.specs.declared.edge.Key.{Key}
-use Rattle.hir_glob_imports.specs.declared.edge.Key.TheVariants.{Types, Values, Macros, Unnamed}
-use Rattle.hir_import_rules.specs.Changes.{forgotten}
-use Rattle.hir_import_rules.specs.Names.{with_macro, with_macro_vis, with_type, with_type_vis, with_value, with_value_vis}
+use Rattle.hir_collector_rules.specs.HirIds.contracts.ids.ModuleDefIdPartialEq.TheImpl as module_def
+use Rattle.hir_collector_rules.specs.HirIds.contracts.macro_kind.MacroIdPartialEq.TheImpl as makro
+use Rattle.hir_collector_rules.specs.HirIds.declared.macro_kind.MacroId.{MacroId}
+use Rattle.hir_collector_rules.specs.HirIds.declared.ids.MapId.{MapId}
+use Rattle.hir_collector_rules.specs.HirIds.declared.ids.ModuleDefId.{ModuleDefId}
+use Rattle.hir_collector_rules.specs.HirIds.declared.ids.TraitId.{TraitId}
+use Rattle.hir_collector_rules.specs.HirIds.declared.ids.ModuleDefId.TheVariants as definitions
+use Rattle.hir_collector_rules.specs.HirPerNs.contracts.imports.ImportOrExternCratePartialEq.TheImpl as item_import
+use Rattle.hir_collector_rules.specs.HirPerNs.contracts.imports.ImportOrGlobPartialEq.TheImpl as glob_import
+use Rattle.hir_collector_rules.specs.HirScope.Bindings.{Candidate, macro_candidate, type_candidate, value_candidate, with_item_definition, with_item_visibility, written_places}
+use Rattle.hir_collector_rules.specs.HirScope.Entries.{item_at}
+use Rattle.hir_collector_rules.specs.HirScope.Globs.{GlobNames, Place, has_place, with_place, without_place}
+use Rattle.hir_collector_rules.specs.HirScope.ImportRecords.{is_glob}
+use Rattle.hir_collector_rules.specs.HirPerNs.Imports.{glob_of}
+use Rattle.hir_collector_rules.specs.HirPerNs.PerNs.{Item, macros_only, types_only, value_import, values_only}
+use Rattle.hir_collector_rules.specs.HirScope.Scope.{ScopeValue, empty_scope}
+use Rattle.hir_collector_rules.specs.HirScope.Scope.Push.{pushed_globs, pushed_scope, taken_macro, taken_type, taken_value}
+use Rattle.hir_collector_rules.specs.HirPerNs.declared.imports.ImportOrDef.TheVariants as reached
+use Rattle.hir_collector_rules.specs.HirPerNs.declared.imports.ImportOrExternCrate.{ImportOrExternCrate}
+use Rattle.hir_collector_rules.specs.HirPerNs.declared.imports.ImportOrGlob.{ImportOrGlob}
+use Rattle.hir_collector_rules.specs.HirPerNs.declared.per_ns.PerNs.{PerNs}
+use Rattle.hir_collector_rules.specs.HirPerNs.declared.visibility.Visibility.{Visibility}
+use Rattle.hir_collector_rules.specs.HirPerNs.declared.imports.ImportOrExternCrate.TheVariants as ways
+use Rattle.hir_collector_rules.specs.HirPerNs.declared.imports.ImportOrGlob.TheVariants as value_ways
+use Rattle.hir_collector_rules.proofs.HirScope.Pushes.{pushed-macros, pushed-types, pushed-values}
+use Rattle.hir_collector_rules.specs.HirDefMapRules.Declaration.{listed}
+use Rattle.hir_collector_rules.specs.HirDefMapRules.State.{ModuleValue, changed_at, globs_in, place_at, pushed_module, with_module_scope}
+use Rattle.hir_collector_rules.specs.HirDefMapRules.declared.declaration.Declaration.{Declaration as Listing}
+use Rattle.hir_collector_rules.specs.HirDefMapRules.declared.declaration.Declaration.TheVariants as listings
+use Rattle.hir_collector_rules.specs.HirGlobImports.Keys.{same_slot, slot_at}
+use Rattle.hir_collector_rules.specs.HirGlobImports.Rules.{BroughtBy, with_brought}
+use Rattle.hir_collector_rules.specs.HirGlobImports.declared.edge.Brought.{Brought}
+use Rattle.hir_collector_rules.specs.HirGlobImports.declared.edge.Edge.{Edge}
+use Rattle.hir_collector_rules.specs.HirGlobImports.declared.edge.Key.{Key}
+use Rattle.hir_collector_rules.specs.HirGlobImports.declared.edge.Key.TheVariants.{Types, Values, Macros, Unnamed}
+use Rattle.hir_collector_rules.specs.HirImportRules.Changes.{forgotten}
+use Rattle.hir_collector_rules.specs.HirImportRules.Names.{with_macro, with_macro_vis, with_type, with_type_vis, with_value, with_value_vis}
 use Rattle.hir_def_collector_laws.specs.Globs.{glob_of_value}
 use Rattle.hir_def_collector_laws.proofs.ModuleLists.{IsChanged, IsOfLonger, changed-at, changed_one, newest, of_longer, older, other_one}
 use Rattle.hir_def_collector_laws.proofs.Noted.{AreNotedIn, GivesAll, IsAsOpen, IsExplicit, KeepsEdges, copied_here, explicit_here, forgot_macros, forgot_types}

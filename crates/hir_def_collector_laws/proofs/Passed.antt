@@ -9,16 +9,16 @@ use Rattle.std.specs.Ordering.{is_eq, match_ordering}
 use Rattle.std.specs.Str.{bytes_eq}
 use Rattle.std.specs.declared.cmp.Ordering.{Ordering}
 use Rattle.std.specs.declared.cmp.Ordering.TheVariants.{Less, Equal, Greater}
-use Rattle.hir_base.specs.ModPath.{Path}
-use Rattle.hir_base.specs.contracts.ast_id.AstIdOrd.TheImpl as ast_order
-use Rattle.hir_base.specs.contracts.ast_id.AstIdOrd.TheImpl.Laws.{total-law as ast_total}
-use Rattle.hir_base.specs.declared.ast_id.AstId.{AstId}
-use Rattle.hir_base.specs.declared.mod_path.PathKind.{PathKind}
-use Rattle.hir_base.specs.declared.mod_path.PathKind.TheVariants as roots
-use Rattle.hir_item_tree.specs.Collected.{Numbered}
-use Rattle.hir_def_map_rules.specs.Macros.{helpers_at, with_derive_helper, with_helper}
-use Rattle.hir_def_map_rules.specs.State.{CrateData, Map}
-use Rattle.hir_def_map_rules.specs.declared.derive_helpers.DeriveHelper.{DeriveHelper}
+use Rattle.hir_collector_rules.specs.HirBase.ModPath.{Path}
+use Rattle.hir_collector_rules.specs.HirIds.contracts.ast_id.AstIdOrd.TheImpl as ast_order
+use Rattle.hir_collector_rules.specs.HirIds.contracts.ast_id.AstIdOrd.TheImpl.Laws.{total-law as ast_total}
+use Rattle.hir_collector_rules.specs.HirIds.declared.ast_id.AstId.{AstId}
+use Rattle.hir_collector_rules.specs.HirBase.declared.mod_path.PathKind.{PathKind}
+use Rattle.hir_collector_rules.specs.HirBase.declared.mod_path.PathKind.TheVariants as roots
+use Rattle.hir_collector_rules.specs.HirItemTree.Collected.{Numbered}
+use Rattle.hir_collector_rules.specs.HirDefMapRules.Macros.{helpers_at, with_derive_helper, with_helper}
+use Rattle.hir_collector_rules.specs.HirDefMapRules.State.{CrateData, Map}
+use Rattle.hir_collector_rules.specs.HirMapParts.declared.derive_helpers.DeriveHelper.{DeriveHelper}
 use Rattle.hir_collector_rules.specs.Attributes.{first_looked_up, is_always_passed, is_helper, is_helper_among, is_named_by, is_passed, is_tool, next_among}
 use Rattle.hir_collector_rules.specs.BuiltinAttributes.{is_inert}
 use Rattle.hir_collector_rules.specs.Changes.{Change, lists, makes, gives_variants, begins_paths, reaches, awaits, ends, settles, changes_imports, adds_textual}

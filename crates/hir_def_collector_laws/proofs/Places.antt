@@ -8,14 +8,14 @@ use Rattle.std.specs.declared.cmp.Ordering.{Ordering}
 use Rattle.std.specs.declared.cmp.Ordering.TheVariants.{Less, Equal, Greater}
 use Rattle.std.proofs.lemmas.Cmp.{tied_itself, nat_list_cmp_total}
 use Rattle.std.proofs.lemmas.Map.Lookups.{exact_bytes}
-use Rattle.hir_base.specs.contracts.ids.MapIdPartialEq.TheImpl as map_id
-use Rattle.hir_base.specs.contracts.ids.ModuleIdEq.TheImpl.Laws.{laws-law as module_laws}
-use Rattle.hir_base.specs.contracts.ids.ModuleIdOrd.TheImpl as module_order
-use Rattle.hir_base.specs.contracts.ids.ModuleIdOrd.TheImpl.Laws.{matches_eq-law as module_ties}
-use Rattle.hir_base.specs.contracts.ids.ModuleIdPartialEq.TheImpl as module_id
-use Rattle.hir_base.specs.declared.ids.ModuleId.{ModuleId}
-use Rattle.hir_def_map_rules.specs.Inner.OverlayLaws.{exact_map}
-use Rattle.hir_scope.specs.Globs.{Place, has_place, place_cmp, with_place, without_place}
+use Rattle.hir_collector_rules.specs.HirIds.contracts.ids.MapIdPartialEq.TheImpl as map_id
+use Rattle.hir_collector_rules.specs.HirIds.contracts.ids.ModuleIdEq.TheImpl.Laws.{laws-law as module_laws}
+use Rattle.hir_collector_rules.specs.HirIds.contracts.ids.ModuleIdOrd.TheImpl as module_order
+use Rattle.hir_collector_rules.specs.HirIds.contracts.ids.ModuleIdOrd.TheImpl.Laws.{matches_eq-law as module_ties}
+use Rattle.hir_collector_rules.specs.HirIds.contracts.ids.ModuleIdPartialEq.TheImpl as module_id
+use Rattle.hir_collector_rules.specs.HirIds.declared.ids.ModuleId.{ModuleId}
+use Rattle.hir_collector_rules.specs.HirDefMapRules.Inner.OverlayLaws.{exact_map}
+use Rattle.hir_collector_rules.specs.HirScope.Globs.{Place, has_place, place_cmp, with_place, without_place}
 
 -- ---- places that compare as equal are one
 

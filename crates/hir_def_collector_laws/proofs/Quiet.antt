@@ -1,20 +1,20 @@
 -- A module in which no call is to be visited, and none waits, stays so: no expansion declares anything in it.
 use Rattle.std.proofs.Common.{◌≡◌, ◌≢◌, ◌<◌, ◌||◌, ◌+◌, ℕ, zero, suc, Bool, true, false, List, [], ◌∷◌, ◌++◌, length, slice_get, Option, None, Some, sym, subst}
 use Rattle.std.proofs.Common.{arith, append_assoc}
-use Rattle.hir_base.specs.ModPath.{Path}
-use Rattle.hir_base.specs.declared.ids.AdtId.{AdtId}
-use Rattle.hir_base.specs.declared.ast_id.AstId.{AstId}
-use Rattle.hir_base.specs.declared.ast_id.AttrId.{AttrId}
-use Rattle.hir_use_tree.specs.UseTree.{count_of}
-use Rattle.hir_item_tree.specs.Collected.{Numbered, is_enabled}
-use Rattle.hir_item_tree.specs.Kinds.{item_head}
-use Rattle.hir_item_tree.specs.KeptForest.{Head, KeptForest, KeptItem, constant, enumeration, extern_block, extern_crate, function, holder, implementation}
-use Rattle.hir_item_tree.specs.KeptForest.{import, inline_module, item, leaf, macro_call, macro_def, macro_rules, no_items, outline_module, static_item}
-use Rattle.hir_item_tree.specs.KeptForest.{structure, trait_item, type_alias, union_structure}
-use Rattle.hir_mod_dir.specs.Directory.{Directory}
-use Rattle.hir_mod_dir.specs.ModuleFiles.{inline_directory}
-use Rattle.hir_def_map_rules.specs.Overlay.{Maps}
-use Rattle.hir_import_rules.specs.Rules.{acts as import_acts}
+use Rattle.hir_collector_rules.specs.HirBase.ModPath.{Path}
+use Rattle.hir_collector_rules.specs.HirIds.declared.ids.AdtId.{AdtId}
+use Rattle.hir_collector_rules.specs.HirIds.declared.ast_id.AstId.{AstId}
+use Rattle.hir_collector_rules.specs.HirIds.declared.ast_id.AttrId.{AttrId}
+use Rattle.hir_collector_rules.specs.HirUseTree.UseTree.{count_of}
+use Rattle.hir_collector_rules.specs.HirItemTree.Collected.{Numbered, is_enabled}
+use Rattle.hir_collector_rules.specs.HirItemTree.Kinds.{item_head}
+use Rattle.hir_collector_rules.specs.HirItemTree.KeptForest.{Head, KeptForest, KeptItem, constant, enumeration, extern_block, extern_crate, function, holder, implementation}
+use Rattle.hir_collector_rules.specs.HirItemTree.KeptForest.{import, inline_module, item, leaf, macro_call, macro_def, macro_rules, no_items, outline_module, static_item}
+use Rattle.hir_collector_rules.specs.HirItemTree.KeptForest.{structure, trait_item, type_alias, union_structure}
+use Rattle.hir_collector_rules.specs.HirModDir.Directory.{Directory}
+use Rattle.hir_collector_rules.specs.HirModDir.ModuleFiles.{inline_directory}
+use Rattle.hir_collector_rules.specs.HirDefMapRules.Overlay.{Maps}
+use Rattle.hir_collector_rules.specs.HirImportRules.Rules.{acts as import_acts}
 use Rattle.hir_collector_rules.specs.declared.macro_directive.MacroDirective.{MacroDirective}
 use Rattle.hir_collector_rules.specs.declared.site.Site.{Site}
 use Rattle.hir_collector_rules.specs.Attributes.{AreAlwaysPassed, attr_id, is_always_passed, is_passed, item_node}

@@ -7,60 +7,60 @@ use Rattle.std.specs.Prelude.{nat_eq}
 use Rattle.std.proofs.Common.{◌+◌, Contains, suc, refl, subst, sym, arith}
 use Rattle.std.proofs.lemmas.List.Elements.{Contains-append_left, Contains-append_right}
 use mathlib.Core.Bool.{true≢false}
-use Rattle.hir_base.specs.ModPath.{Path}
-use Rattle.hir_base.specs.declared.ids.AdtId.{AdtId}
-use Rattle.hir_base.specs.declared.ast_id.AstId.{AstId}
-use Rattle.hir_base.specs.declared.ast_id.AttrId.{AttrId}
-use Rattle.hir_base.specs.declared.ids.Crate.{Crate}
-use Rattle.hir_base.specs.declared.ids.EnumId.{EnumId}
-use Rattle.hir_base.specs.declared.ids.FunctionId.{FunctionId}
-use Rattle.hir_base.specs.declared.macro_kind.MacroId.{MacroId}
-use Rattle.hir_base.specs.declared.ids.ModuleDefId.{ModuleDefId}
-use Rattle.hir_base.specs.declared.ids.ModuleId.{ModuleId}
-use Rattle.hir_base.specs.declared.macro_kind.ProcMacroId.{ProcMacroId}
-use Rattle.hir_base.specs.declared.ids.TraitId.{TraitId}
-use Rattle.hir_base.specs.declared.ast_id.HirFileId.TheVariants.{Macro}
-use Rattle.hir_base.specs.declared.ids.AdtId.TheVariants as adts
-use Rattle.hir_base.specs.declared.ids.ModuleDefId.TheVariants as definitions
-use Rattle.hir_base.specs.declared.macro_kind.MacroId.TheVariants as macros
-use Rattle.hir_item_tree.specs.Imports.{imports_of}
-use Rattle.hir_item_tree.specs.KeptForest.{Head, Leaf, KeptItem, KeptForest, leaf, holder, import, extern_crate, function, structure, union_structure}
-use Rattle.hir_item_tree.specs.KeptForest.{enumeration, constant, static_item, trait_item, implementation, type_alias, outline_module, macro_call, macro_rules}
-use Rattle.hir_item_tree.specs.KeptForest.{macro_def}
-use Rattle.hir_raw_visibility.specs.declared.raw_visibility.RawVisibility.{RawVisibility}
-use Rattle.hir_item_tree.specs.declared.tree_id.TreeId.{TreeId}
-use Rattle.hir_item_tree.specs.declared.tree_id.TreeKey.{TreeKey}
-use Rattle.hir_raw_visibility.specs.declared.raw_visibility.RawVisibility.TheVariants as raws
-use Rattle.hir_use_tree.specs.declared.imports.ImportKind.TheVariants as import_kinds
-use Rattle.hir_mod_dir.specs.Directory.{Directory}
-use Rattle.hir_mod_dir.specs.ModuleFiles.{inline_directory}
-use Rattle.hir_def_map_rules.specs.declared.diagnostics.DefDiagnostic.{DefDiagnostic}
-use Rattle.hir_def_map_rules.specs.declared.derive_helpers.DeriveHelper.{DeriveHelper}
-use Rattle.hir_def_map_rules.specs.declared.origin.ModuleOrigin.{ModuleOrigin}
-use Rattle.hir_scope.specs.ModuleTree.{same_map}
-use Rattle.hir_textual_scope.specs.Macros.{with_macro}
-use Rattle.hir_scope.specs.PerNs.{macros_only, Item}
-use Rattle.hir_scope.specs.declared.imports.GlobId.{GlobId}
-use Rattle.hir_scope.specs.declared.imports.ImportId.{ImportId}
-use Rattle.hir_scope.specs.declared.imports.ImportOrExternCrate.{ImportOrExternCrate}
-use Rattle.hir_scope.specs.declared.per_ns.PerNs.{PerNs}
-use Rattle.hir_scope.specs.declared.visibility.Visibility.{Visibility}
-use Rattle.hir_scope.specs.declared.imports.ImportOrExternCrate.TheVariants as ways
-use Rattle.hir_scope.specs.declared.visibility.Visibility.TheVariants as visibilities
-use Rattle.hir_def_map_rules.specs.Macros.{with_derive_helper, with_exported, with_macro_data, with_macro_def}
-use Rattle.hir_def_map_rules.specs.References.{is_missing, reference_to, test_of, test_visibility, FailsAtItem}
-use Rattle.hir_def_map_rules.specs.Closed.{AreThere, IsClosed, IsThere, PathsLeadToWhatIsThere}
-use Rattle.hir_def_map_rules.specs.WellFormed.{AreWellFormed}
-use Rattle.hir_def_map_rules.proofs.NoneOf.{neither, none_at, none_inserted_last, not_first, not_second}
-use Rattle.hir_def_map_rules.specs.Reaches.{by_import}
-use Rattle.hir_def_map_rules.specs.Scoping.{Resolution, resolution_of}
-use Rattle.hir_def_map_rules.specs.Sources.{HoldsNowhere, HoldsNowhereIn, HoldsOfNone, HoldsOfNoExtern, PathsAnswerFromSources, SourceTest, on_def, on_extern}
-use Rattle.hir_def_map_rules.specs.Sources.{on_extern_entry, on_import, on_macro, on_origin, on_some, on_values, on_variant, on_visibility}
-use Rattle.hir_def_map_rules.specs.State.{CrateData, Local, MacroDataValue, Map, crate_root, new_id, root_of, with_extern, with_prelude}
-use Rattle.hir_def_map_rules.specs.Overlay.{Maps, entry_in, overlay, module_in}
-use Rattle.hir_def_map_rules.proofs.StaysWellFormed.{IsClosed-overlay, LocalIsThere-begins, module_there}
-use Rattle.hir_def_map_rules.proofs.StaysSourced.{HoldsNowhere-overlay, HoldsNowhereIn-enum, HoldsNowhereIn-listed, HoldsNowhereIn-made, HoldsNowhereIn-prelude}
-use Rattle.hir_def_map_rules.specs.Visibilities.{by_visibility, module_seen, path_seen, type_seen}
+use Rattle.hir_collector_rules.specs.HirBase.ModPath.{Path}
+use Rattle.hir_collector_rules.specs.HirIds.declared.ids.AdtId.{AdtId}
+use Rattle.hir_collector_rules.specs.HirIds.declared.ast_id.AstId.{AstId}
+use Rattle.hir_collector_rules.specs.HirIds.declared.ast_id.AttrId.{AttrId}
+use Rattle.hir_collector_rules.specs.HirIds.declared.ids.Crate.{Crate}
+use Rattle.hir_collector_rules.specs.HirIds.declared.ids.EnumId.{EnumId}
+use Rattle.hir_collector_rules.specs.HirIds.declared.ids.FunctionId.{FunctionId}
+use Rattle.hir_collector_rules.specs.HirIds.declared.macro_kind.MacroId.{MacroId}
+use Rattle.hir_collector_rules.specs.HirIds.declared.ids.ModuleDefId.{ModuleDefId}
+use Rattle.hir_collector_rules.specs.HirIds.declared.ids.ModuleId.{ModuleId}
+use Rattle.hir_collector_rules.specs.HirIds.declared.macro_kind.ProcMacroId.{ProcMacroId}
+use Rattle.hir_collector_rules.specs.HirIds.declared.ids.TraitId.{TraitId}
+use Rattle.hir_collector_rules.specs.HirIds.declared.ast_id.HirFileId.TheVariants.{Macro}
+use Rattle.hir_collector_rules.specs.HirIds.declared.ids.AdtId.TheVariants as adts
+use Rattle.hir_collector_rules.specs.HirIds.declared.ids.ModuleDefId.TheVariants as definitions
+use Rattle.hir_collector_rules.specs.HirIds.declared.macro_kind.MacroId.TheVariants as macros
+use Rattle.hir_collector_rules.specs.HirItemTree.Imports.{imports_of}
+use Rattle.hir_collector_rules.specs.HirItemTree.KeptForest.{Head, Leaf, KeptItem, KeptForest, leaf, holder, import, extern_crate, function, structure, union_structure}
+use Rattle.hir_collector_rules.specs.HirItemTree.KeptForest.{enumeration, constant, static_item, trait_item, implementation, type_alias, outline_module, macro_call, macro_rules}
+use Rattle.hir_collector_rules.specs.HirItemTree.KeptForest.{macro_def}
+use Rattle.hir_collector_rules.specs.HirRawVisibility.declared.raw_visibility.RawVisibility.{RawVisibility}
+use Rattle.hir_collector_rules.specs.HirBase.declared.tree_id.TreeId.{TreeId}
+use Rattle.hir_collector_rules.specs.HirBase.declared.tree_id.TreeKey.{TreeKey}
+use Rattle.hir_collector_rules.specs.HirRawVisibility.declared.raw_visibility.RawVisibility.TheVariants as raws
+use Rattle.hir_collector_rules.specs.HirUseTree.declared.imports.ImportKind.TheVariants as import_kinds
+use Rattle.hir_collector_rules.specs.HirModDir.Directory.{Directory}
+use Rattle.hir_collector_rules.specs.HirModDir.ModuleFiles.{inline_directory}
+use Rattle.hir_collector_rules.specs.HirMapParts.declared.diagnostics.DefDiagnostic.{DefDiagnostic}
+use Rattle.hir_collector_rules.specs.HirMapParts.declared.derive_helpers.DeriveHelper.{DeriveHelper}
+use Rattle.hir_collector_rules.specs.HirMapParts.declared.origin.ModuleOrigin.{ModuleOrigin}
+use Rattle.hir_collector_rules.specs.HirPerNs.ModuleTree.{same_map}
+use Rattle.hir_collector_rules.specs.HirTextualScope.Macros.{with_macro}
+use Rattle.hir_collector_rules.specs.HirPerNs.PerNs.{macros_only, Item}
+use Rattle.hir_collector_rules.specs.HirPerNs.declared.imports.GlobId.{GlobId}
+use Rattle.hir_collector_rules.specs.HirPerNs.declared.imports.ImportId.{ImportId}
+use Rattle.hir_collector_rules.specs.HirPerNs.declared.imports.ImportOrExternCrate.{ImportOrExternCrate}
+use Rattle.hir_collector_rules.specs.HirPerNs.declared.per_ns.PerNs.{PerNs}
+use Rattle.hir_collector_rules.specs.HirPerNs.declared.visibility.Visibility.{Visibility}
+use Rattle.hir_collector_rules.specs.HirPerNs.declared.imports.ImportOrExternCrate.TheVariants as ways
+use Rattle.hir_collector_rules.specs.HirPerNs.declared.visibility.Visibility.TheVariants as visibilities
+use Rattle.hir_collector_rules.specs.HirDefMapRules.Macros.{with_derive_helper, with_exported, with_macro_data, with_macro_def}
+use Rattle.hir_collector_rules.specs.HirDefMapRules.References.{is_missing, reference_to, test_of, test_visibility, FailsAtItem}
+use Rattle.hir_collector_rules.specs.HirDefMapRules.Closed.{AreThere, IsClosed, IsThere, PathsLeadToWhatIsThere}
+use Rattle.hir_collector_rules.specs.HirDefMapRules.WellFormed.{AreWellFormed}
+use Rattle.hir_collector_rules.proofs.HirDefMapRules.NoneOf.{neither, none_at, none_inserted_last, not_first, not_second}
+use Rattle.hir_collector_rules.specs.HirDefMapRules.Reaches.{by_import}
+use Rattle.hir_collector_rules.specs.HirDefMapRules.Scoping.{Resolution, resolution_of}
+use Rattle.hir_collector_rules.specs.HirDefMapRules.Sources.{HoldsNowhere, HoldsNowhereIn, HoldsOfNone, HoldsOfNoExtern, PathsAnswerFromSources, SourceTest, on_def, on_extern}
+use Rattle.hir_collector_rules.specs.HirDefMapRules.Sources.{on_extern_entry, on_import, on_macro, on_origin, on_some, on_values, on_variant, on_visibility}
+use Rattle.hir_collector_rules.specs.HirDefMapRules.State.{CrateData, Local, MacroDataValue, Map, crate_root, new_id, root_of, with_extern, with_prelude}
+use Rattle.hir_collector_rules.specs.HirDefMapRules.Overlay.{Maps, entry_in, overlay, module_in}
+use Rattle.hir_collector_rules.proofs.HirDefMapRules.StaysWellFormed.{IsClosed-overlay, LocalIsThere-begins, module_there}
+use Rattle.hir_collector_rules.proofs.HirDefMapRules.StaysSourced.{HoldsNowhere-overlay, HoldsNowhereIn-enum, HoldsNowhereIn-listed, HoldsNowhereIn-made, HoldsNowhereIn-prelude}
+use Rattle.hir_collector_rules.specs.HirDefMapRules.Visibilities.{by_visibility, module_seen, path_seen, type_seen}
 use Rattle.hir_collector_rules.specs.declared.declaration.Declaration.{Declaration}
 use Rattle.hir_collector_rules.specs.declared.source_database.Dependency.{Dependency}
 use Rattle.hir_collector_rules.specs.declared.source_database.Key.{Key}
@@ -68,30 +68,30 @@ use Rattle.hir_collector_rules.specs.declared.macro_directive.MacroDirective.{Ma
 use Rattle.hir_collector_rules.specs.declared.site.Site.{Site}
 use Rattle.hir_collector_rules.specs.declared.start.Start.{Start}
 use Rattle.hir_collector_rules.specs.declared.start.Start.TheVariants as starts
-use Rattle.hir_glob_imports.specs.Moves.{brought_vis, shown as shown_along}
-use Rattle.hir_glob_imports.specs.Rules.{Rule as GlobRule, May as MayAlong, acts as glob_acts, brings, copies, copies_along, follows, follows_along, raises}
-use Rattle.hir_glob_imports.specs.Rules.{raises_along}
-use Rattle.hir_glob_imports.specs.View.{View}
-use Rattle.hir_glob_imports.specs.declared.edge.Bound.{Bound}
-use Rattle.hir_glob_imports.specs.declared.edge.Edge.{Edge}
-use Rattle.hir_glob_imports.specs.declared.edge.Slot.{Slot}
-use Rattle.hir_glob_imports.specs.declared.edge.Target.{Target}
-use Rattle.hir_glob_imports.specs.declared.edge.Key.{Key as GlobKey}
-use Rattle.hir_glob_imports.specs.declared.edge.Key.TheVariants.{Types, Values, Macros, Unnamed}
-use Rattle.hir_glob_imports.specs.declared.edge.Target.TheVariants as targets
-use Rattle.hir_use_tree.specs.UseTree.{count_of}
-use Rattle.hir_import_rules.specs.Changes.{Change as ImportChange, act as act_on_imports, along, keeps_trait, pushes, pushing, records, takes}
-use Rattle.hir_import_rules.specs.Names.{ScopesValue, bound_of, entries_of, is_foreign, scope_table, traits_of, view_of}
-use Rattle.hir_import_rules.specs.Rules.{Rule as ImportRule, May as MayImport, acts as import_acts, goes_along, takes_glob, takes_import}
-use Rattle.hir_import_rules.specs.State.{ImportState, glob_state, scopes_of}
-use Rattle.hir_import_rules.specs.declared.directive.ImportDirective.{ImportDirective}
-use Rattle.hir_import_rules.specs.declared.directive.ImportSource.{ImportSource}
-use Rattle.hir_import_rules.specs.declared.directive.ImportSource.TheVariants as sources
+use Rattle.hir_collector_rules.specs.HirGlobImports.Moves.{brought_vis, shown as shown_along}
+use Rattle.hir_collector_rules.specs.HirGlobImports.Rules.{Rule as GlobRule, May as MayAlong, acts as glob_acts, brings, copies, copies_along, follows, follows_along, raises}
+use Rattle.hir_collector_rules.specs.HirGlobImports.Rules.{raises_along}
+use Rattle.hir_collector_rules.specs.HirGlobImports.View.{View}
+use Rattle.hir_collector_rules.specs.HirGlobImports.declared.edge.Bound.{Bound}
+use Rattle.hir_collector_rules.specs.HirGlobImports.declared.edge.Edge.{Edge}
+use Rattle.hir_collector_rules.specs.HirGlobImports.declared.edge.Slot.{Slot}
+use Rattle.hir_collector_rules.specs.HirGlobImports.declared.edge.Target.{Target}
+use Rattle.hir_collector_rules.specs.HirGlobImports.declared.edge.Key.{Key as GlobKey}
+use Rattle.hir_collector_rules.specs.HirGlobImports.declared.edge.Key.TheVariants.{Types, Values, Macros, Unnamed}
+use Rattle.hir_collector_rules.specs.HirGlobImports.declared.edge.Target.TheVariants as targets
+use Rattle.hir_collector_rules.specs.HirUseTree.UseTree.{count_of}
+use Rattle.hir_collector_rules.specs.HirImportRules.Changes.{Change as ImportChange, act as act_on_imports, along, keeps_trait, pushes, pushing, records, takes}
+use Rattle.hir_collector_rules.specs.HirImportRules.Names.{ScopesValue, bound_of, entries_of, is_foreign, scope_table, traits_of, view_of}
+use Rattle.hir_collector_rules.specs.HirImportRules.Rules.{Rule as ImportRule, May as MayImport, acts as import_acts, goes_along, takes_glob, takes_import}
+use Rattle.hir_collector_rules.specs.HirImportRules.State.{ImportState, glob_state, scopes_of}
+use Rattle.hir_collector_rules.specs.HirImportRules.declared.directive.ImportDirective.{ImportDirective}
+use Rattle.hir_collector_rules.specs.HirImportRules.declared.directive.ImportSource.{ImportSource}
+use Rattle.hir_collector_rules.specs.HirImportRules.declared.directive.ImportSource.TheVariants as sources
 use Rattle.hir_collector_rules.specs.Derivation.{CollectedValue, Ends, leftover_reports}
-use Rattle.hir_import_rules.specs.Directives.{answer_in, answer_to, edge_to, glob_of, is_one_name, kept_by_kind, kept_trait, kind_of, leaf_of, name_of}
-use Rattle.hir_import_rules.specs.Directives.{offered_by, open_items, visibility_of, way_of}
+use Rattle.hir_collector_rules.specs.HirImportRules.Directives.{answer_in, answer_to, edge_to, glob_of, is_one_name, kept_by_kind, kept_trait, kind_of, leaf_of, name_of}
+use Rattle.hir_collector_rules.specs.HirImportRules.Directives.{offered_by, open_items, visibility_of, way_of}
 use Rattle.hir_collector_rules.specs.Imports.{extern_by}
-use Rattle.hir_import_rules.specs.Visibilities.{visibility_in}
+use Rattle.hir_collector_rules.specs.HirImportRules.Visibilities.{visibility_in}
 use Rattle.hir_collector_rules.specs.ItemIds.{enum_id, macro_def_id, macro_rules_id, module_id}
 use Rattle.hir_collector_rules.specs.Items.{constructor_of, declaration_of, declared_by, declared_by_leaf, declared_type, file_origin, inline_origin}
 use Rattle.hir_collector_rules.specs.Items.{own_visibility}
@@ -114,7 +114,7 @@ use Rattle.hir_collector_rules.specs.Steps.{visit, acts, asking, keys_read, maki
 use Rattle.hir_collector_rules.specs.Steps.{inside_file, inside_module}
 use Rattle.hir_def_collector_laws.specs.Whole.{StandsOnWhole}
 use Rattle.hir_collector_rules.specs.Workspace.{Workspace, dependencies_in, transitive_dependencies_in}
-use Rattle.hir_tables.specs.Tables.{TablesValue}
+use Rattle.hir_collector_rules.specs.HirTables.Tables.{TablesValue}
 use Rattle.hir_collector_rules.specs.Keys.{Environment, environment, map_keys}
 use Rattle.hir_collector_rules.specs.ModuleFiles.{file_key}
 use Rattle.hir_collector_rules.specs.declared.source_database.Key.TheVariants as keys

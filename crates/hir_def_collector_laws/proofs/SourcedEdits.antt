@@ -7,45 +7,45 @@ use Rattle.std.specs.List.{list_any}
 use Rattle.std.specs.Map.{lookup}
 use Rattle.std.specs.Ordering.{nat_cmp}
 use Rattle.std.proofs.Common.{refl, subst, sym}
-use Rattle.hir_base.specs.contracts.ids.EnumIdOrd.TheImpl as enum_order
-use Rattle.hir_base.specs.declared.ids.EnumId.{EnumId}
-use Rattle.hir_base.specs.declared.macro_kind.MacroId.{MacroId}
-use Rattle.hir_base.specs.declared.ids.ModuleDefId.{ModuleDefId}
-use Rattle.hir_base.specs.declared.ids.ModuleId.{ModuleId}
-use Rattle.hir_base.specs.declared.ids.ModuleDefId.TheVariants as definitions
-use Rattle.hir_item_tree.specs.Shape.{has_constructor}
-use Rattle.hir_raw_visibility.specs.declared.raw_visibility.VisibilityExplicitness.{VisibilityExplicitness}
-use Rattle.hir_scope.specs.Bindings.{with_item_definition, with_item_visibility}
-use Rattle.hir_scope.specs.ModuleTree.{is_at_or_above, same_crate, same_module}
-use Rattle.hir_scope.specs.PerNs.{Item, with_constructor}
-use Rattle.hir_scope.specs.Visibility.{both_in, either_written, upper_of}
-use Rattle.hir_scope.specs.declared.imports.ImportOrExternCrate.{ImportOrExternCrate}
-use Rattle.hir_scope.specs.declared.imports.ImportOrGlob.{ImportOrGlob}
-use Rattle.hir_scope.specs.declared.item_in_ns.ItemInNs.{ItemInNs}
-use Rattle.hir_scope.specs.declared.per_ns.PerNs.{PerNs}
-use Rattle.hir_scope.specs.declared.visibility.Visibility.{Visibility}
-use Rattle.hir_scope.specs.declared.imports.ImportOrExternCrate.TheVariants as ways
-use Rattle.hir_scope.specs.declared.item_in_ns.ItemInNs.TheVariants as in_ns
-use Rattle.hir_scope.specs.declared.visibility.Visibility.TheVariants as visibilities
-use Rattle.hir_def_map_rules.proofs.NoneOf.{neither, none_at, none_found, none_more, not_first, not_second}
-use Rattle.hir_def_map_rules.proofs.StaysSourced.{HoldsNowhereIn-pushed, HoldsNowhereIn-scope, KeepsScope}
-use Rattle.hir_def_map_rules.specs.Ancestors.{above_in}
-use Rattle.hir_def_map_rules.specs.Overlay.{Maps, Placed, entry_in, overlay}
-use Rattle.hir_def_map_rules.specs.Scoping.Segments.{variant_in}
-use Rattle.hir_def_map_rules.specs.Sources.{HoldsNowhere, HoldsNowhereIn, HoldsOfNone, SourceTest, on_def, on_import, on_macro, on_macro_item, on_macros_in}
-use Rattle.hir_def_map_rules.specs.Sources.{on_some, on_type, on_types_in, on_value, on_value_def, on_value_import, on_values, on_values_in, on_variant}
-use Rattle.hir_def_map_rules.specs.Sources.{on_visibility}
-use Rattle.hir_def_map_rules.specs.State.{Map, ModuleValue, Variants, at_name, entry_of, module_at, numbered, variants_at, with_scope}
-use Rattle.hir_def_map_rules.specs.declared.enum_variants.EnumVariant.{EnumVariant}
-use Rattle.hir_glob_imports.specs.Moves.{same_vis, seen_by}
-use Rattle.hir_glob_imports.specs.View.{View}
-use Rattle.hir_glob_imports.specs.Waves.{Records, adds, edge_with_vis, stays, widens, wider_of}
-use Rattle.hir_glob_imports.specs.declared.edge.Bound.{Bound}
-use Rattle.hir_glob_imports.specs.declared.edge.Edge.{Edge}
-use Rattle.hir_glob_imports.specs.declared.edge.Key.{Key}
-use Rattle.hir_glob_imports.specs.declared.edge.Key.TheVariants.{Types, Values, Macros, Unnamed}
-use Rattle.hir_import_rules.specs.Names.{bound_at, bound_by, items_by, redefined, revised, variant_items}
-use Rattle.hir_import_rules.specs.Visibilities.{greater_in}
+use Rattle.hir_collector_rules.specs.HirIds.contracts.ids.EnumIdOrd.TheImpl as enum_order
+use Rattle.hir_collector_rules.specs.HirIds.declared.ids.EnumId.{EnumId}
+use Rattle.hir_collector_rules.specs.HirIds.declared.macro_kind.MacroId.{MacroId}
+use Rattle.hir_collector_rules.specs.HirIds.declared.ids.ModuleDefId.{ModuleDefId}
+use Rattle.hir_collector_rules.specs.HirIds.declared.ids.ModuleId.{ModuleId}
+use Rattle.hir_collector_rules.specs.HirIds.declared.ids.ModuleDefId.TheVariants as definitions
+use Rattle.hir_collector_rules.specs.HirBase.Shape.{has_constructor}
+use Rattle.hir_collector_rules.specs.HirIds.declared.explicitness.VisibilityExplicitness.{VisibilityExplicitness}
+use Rattle.hir_collector_rules.specs.HirScope.Bindings.{with_item_definition, with_item_visibility}
+use Rattle.hir_collector_rules.specs.HirPerNs.ModuleTree.{is_at_or_above, same_crate, same_module}
+use Rattle.hir_collector_rules.specs.HirPerNs.PerNs.{Item, with_constructor}
+use Rattle.hir_collector_rules.specs.HirPerNs.Visibility.{both_in, either_written, upper_of}
+use Rattle.hir_collector_rules.specs.HirPerNs.declared.imports.ImportOrExternCrate.{ImportOrExternCrate}
+use Rattle.hir_collector_rules.specs.HirPerNs.declared.imports.ImportOrGlob.{ImportOrGlob}
+use Rattle.hir_collector_rules.specs.HirPerNs.declared.item_in_ns.ItemInNs.{ItemInNs}
+use Rattle.hir_collector_rules.specs.HirPerNs.declared.per_ns.PerNs.{PerNs}
+use Rattle.hir_collector_rules.specs.HirPerNs.declared.visibility.Visibility.{Visibility}
+use Rattle.hir_collector_rules.specs.HirPerNs.declared.imports.ImportOrExternCrate.TheVariants as ways
+use Rattle.hir_collector_rules.specs.HirPerNs.declared.item_in_ns.ItemInNs.TheVariants as in_ns
+use Rattle.hir_collector_rules.specs.HirPerNs.declared.visibility.Visibility.TheVariants as visibilities
+use Rattle.hir_collector_rules.proofs.HirDefMapRules.NoneOf.{neither, none_at, none_found, none_more, not_first, not_second}
+use Rattle.hir_collector_rules.proofs.HirDefMapRules.StaysSourced.{HoldsNowhereIn-pushed, HoldsNowhereIn-scope, KeepsScope}
+use Rattle.hir_collector_rules.specs.HirDefMapRules.Ancestors.{above_in}
+use Rattle.hir_collector_rules.specs.HirDefMapRules.Overlay.{Maps, Placed, entry_in, overlay}
+use Rattle.hir_collector_rules.specs.HirDefMapRules.Scoping.Segments.{variant_in}
+use Rattle.hir_collector_rules.specs.HirDefMapRules.Sources.{HoldsNowhere, HoldsNowhereIn, HoldsOfNone, SourceTest, on_def, on_import, on_macro, on_macro_item, on_macros_in}
+use Rattle.hir_collector_rules.specs.HirDefMapRules.Sources.{on_some, on_type, on_types_in, on_value, on_value_def, on_value_import, on_values, on_values_in, on_variant}
+use Rattle.hir_collector_rules.specs.HirDefMapRules.Sources.{on_visibility}
+use Rattle.hir_collector_rules.specs.HirDefMapRules.State.{Map, ModuleValue, Variants, at_name, entry_of, module_at, numbered, variants_at, with_scope}
+use Rattle.hir_collector_rules.specs.HirMapParts.declared.enum_variants.EnumVariant.{EnumVariant}
+use Rattle.hir_collector_rules.specs.HirGlobImports.Moves.{same_vis, seen_by}
+use Rattle.hir_collector_rules.specs.HirGlobImports.View.{View}
+use Rattle.hir_collector_rules.specs.HirGlobImports.Waves.{Records, adds, edge_with_vis, stays, widens, wider_of}
+use Rattle.hir_collector_rules.specs.HirGlobImports.declared.edge.Bound.{Bound}
+use Rattle.hir_collector_rules.specs.HirGlobImports.declared.edge.Edge.{Edge}
+use Rattle.hir_collector_rules.specs.HirGlobImports.declared.edge.Key.{Key}
+use Rattle.hir_collector_rules.specs.HirGlobImports.declared.edge.Key.TheVariants.{Types, Values, Macros, Unnamed}
+use Rattle.hir_collector_rules.specs.HirImportRules.Names.{bound_at, bound_by, items_by, redefined, revised, variant_items}
+use Rattle.hir_collector_rules.specs.HirImportRules.Visibilities.{greater_in}
 use Rattle.hir_collector_rules.proofs.Entries.{none_rewritten}
 use Rattle.hir_collector_rules.proofs.ImportEdits.{Edit, edit, edited, keeps_unnamed, pushes_to, redefines, revises}
 

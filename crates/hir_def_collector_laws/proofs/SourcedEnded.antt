@@ -4,29 +4,29 @@ use Rattle.std.specs.BTreeMap.{is_at}
 use Rattle.std.specs.Cmp.Lexicographic.{slice_cmp}
 use Rattle.std.specs.Map.{remove_entry}
 use Rattle.std.specs.Ordering.{nat_cmp}
-use Rattle.hir_base.specs.declared.macro_kind.BuiltinDeriveImplId.{BuiltinDeriveImplId}
-use Rattle.hir_base.specs.declared.ids.Crate.{Crate}
-use Rattle.hir_base.specs.declared.ids.FunctionId.{FunctionId}
-use Rattle.hir_base.specs.declared.macro_kind.MacroId.{MacroId}
-use Rattle.hir_base.specs.declared.ids.ModuleId.{ModuleId}
-use Rattle.hir_base.specs.declared.ids.ModuleDefId.TheVariants as definitions
-use Rattle.hir_base.specs.contracts.ids.ModuleDefIdPartialEq.TheImpl as module_def
-use Rattle.hir_base.specs.declared.macro_kind.MacroId.TheVariants as macros
-use Rattle.hir_scope.specs.PerNs.{Item}
-use Rattle.hir_scope.specs.Scope.{ScopeValue}
-use Rattle.hir_scope.specs.Scope.Updates.{censored, censored_macros, censored_vis, is_definition}
-use Rattle.hir_scope_table.specs.Entries.{item_at}
-use Rattle.hir_scope.specs.declared.imports.ImportOrExternCrate.{ImportOrExternCrate}
-use Rattle.hir_scope.specs.declared.visibility.Visibility.{Visibility}
-use Rattle.hir_scope.specs.declared.visibility.Visibility.TheVariants.{PubCrate}
-use Rattle.hir_def_map_rules.specs.Closed.{ModuleIsThere}
-use Rattle.hir_def_map_rules.specs.Overlay.{Maps, overlay}
-use Rattle.hir_def_map_rules.specs.Sources.{HoldsNowhereIn, SourceTest, on_def, on_import, on_item, on_macro, on_macro_item, on_some, on_value, on_value_def}
-use Rattle.hir_def_map_rules.specs.Sources.{on_value_import, on_values, on_visibility}
-use Rattle.hir_def_map_rules.specs.State.{Map, with_module_scope, with_scope}
-use Rattle.hir_def_map_rules.proofs.Grown.{length-changed}
-use Rattle.hir_def_map_rules.proofs.NoneOf.{neither, not_first, not_second}
-use Rattle.hir_def_map_rules.proofs.StaysSourced.{HoldsNowhereIn-scope, KeepsScope}
+use Rattle.hir_collector_rules.specs.HirIds.declared.macro_kind.BuiltinDeriveImplId.{BuiltinDeriveImplId}
+use Rattle.hir_collector_rules.specs.HirIds.declared.ids.Crate.{Crate}
+use Rattle.hir_collector_rules.specs.HirIds.declared.ids.FunctionId.{FunctionId}
+use Rattle.hir_collector_rules.specs.HirIds.declared.macro_kind.MacroId.{MacroId}
+use Rattle.hir_collector_rules.specs.HirIds.declared.ids.ModuleId.{ModuleId}
+use Rattle.hir_collector_rules.specs.HirIds.declared.ids.ModuleDefId.TheVariants as definitions
+use Rattle.hir_collector_rules.specs.HirIds.contracts.ids.ModuleDefIdPartialEq.TheImpl as module_def
+use Rattle.hir_collector_rules.specs.HirIds.declared.macro_kind.MacroId.TheVariants as macros
+use Rattle.hir_collector_rules.specs.HirPerNs.PerNs.{Item}
+use Rattle.hir_collector_rules.specs.HirScope.Scope.{ScopeValue}
+use Rattle.hir_collector_rules.specs.HirScope.Scope.Updates.{censored, censored_macros, censored_vis, is_definition}
+use Rattle.hir_collector_rules.specs.HirScopeTable.Entries.{item_at}
+use Rattle.hir_collector_rules.specs.HirPerNs.declared.imports.ImportOrExternCrate.{ImportOrExternCrate}
+use Rattle.hir_collector_rules.specs.HirPerNs.declared.visibility.Visibility.{Visibility}
+use Rattle.hir_collector_rules.specs.HirPerNs.declared.visibility.Visibility.TheVariants.{PubCrate}
+use Rattle.hir_collector_rules.specs.HirDefMapRules.Closed.{ModuleIsThere}
+use Rattle.hir_collector_rules.specs.HirDefMapRules.Overlay.{Maps, overlay}
+use Rattle.hir_collector_rules.specs.HirDefMapRules.Sources.{HoldsNowhereIn, SourceTest, on_def, on_import, on_item, on_macro, on_macro_item, on_some, on_value, on_value_def}
+use Rattle.hir_collector_rules.specs.HirDefMapRules.Sources.{on_value_import, on_values, on_visibility}
+use Rattle.hir_collector_rules.specs.HirDefMapRules.State.{Map, with_module_scope, with_scope}
+use Rattle.hir_collector_rules.proofs.HirDefMapRules.Grown.{length-changed}
+use Rattle.hir_collector_rules.proofs.HirDefMapRules.NoneOf.{neither, not_first, not_second}
+use Rattle.hir_collector_rules.proofs.HirDefMapRules.StaysSourced.{HoldsNowhereIn-scope, KeepsScope}
 use Rattle.hir_collector_rules.specs.declared.exported.ExportedFunction.{ExportedFunction}
 use Rattle.hir_collector_rules.specs.Changes.{with_builtin_derive, with_derived}
 use Rattle.hir_collector_rules.specs.Invocations.{Invocation, with_invocation, with_noted}

@@ -5,41 +5,41 @@ use Rattle.std.specs.List.{list_any}
 use Rattle.std.specs.Ordering.{nat_cmp}
 use Rattle.std.specs.Cmp.Lexicographic.{slice_cmp}
 use Rattle.std.proofs.Common.{refl, subst}
-use Rattle.hir_base.specs.declared.ids.EnumId.{EnumId}
-use Rattle.hir_base.specs.declared.macro_kind.MacroId.{MacroId}
-use Rattle.hir_base.specs.declared.ids.ModuleDefId.{ModuleDefId}
-use Rattle.hir_base.specs.declared.ids.ModuleId.{ModuleId}
-use Rattle.hir_item_tree.specs.KeptForest.{Head, KeptForest, item, no_items}
-use Rattle.hir_use_tree.specs.declared.imports.Import.{Import}
-use Rattle.hir_use_tree.specs.declared.imports.ImportKind.{ImportKind}
-use Rattle.hir_item_tree.specs.declared.shape.FieldsShape.{FieldsShape}
-use Rattle.hir_item_tree.specs.declared.side_lists.VariantItem.{VariantItem}
-use Rattle.hir_raw_visibility.specs.declared.raw_visibility.VisibilityExplicitness.{VisibilityExplicitness}
-use Rattle.hir_item_tree.specs.declared.shape.FieldsShape.TheVariants.{Record, Tuple, Unit as UnitShape}
-use Rattle.hir_use_tree.specs.declared.imports.ImportKind.TheVariants as import_kinds
-use Rattle.hir_scope.specs.ModuleTree.{is_at_or_above, same_crate, same_module}
-use Rattle.hir_scope.specs.PerNs.{keep_item, Item}
-use Rattle.hir_scope.specs.Visibility.{both_in, either_written, lower_of}
-use Rattle.hir_scope.specs.declared.imports.ImportOrExternCrate.{ImportOrExternCrate}
-use Rattle.hir_scope.specs.declared.imports.ImportOrGlob.{ImportOrGlob}
-use Rattle.hir_scope.specs.declared.per_ns.PerNs.{PerNs}
-use Rattle.hir_scope.specs.declared.visibility.Visibility.{Visibility}
-use Rattle.hir_scope.specs.declared.visibility.Visibility.TheVariants as visibilities
-use Rattle.hir_def_map_rules.specs.Ancestors.{above_in}
-use Rattle.hir_def_map_rules.proofs.NoneOf.{neither, none_inserted, not_first, not_second}
-use Rattle.hir_def_map_rules.specs.Scoping.{Resolution}
-use Rattle.hir_def_map_rules.specs.Sources.{HoldsOfNone, SourceTest, on_def, on_import, on_macro, on_macro_item, on_some, on_type, on_value, on_value_def}
-use Rattle.hir_def_map_rules.specs.Sources.{on_value_import, on_values, on_variant, on_visibility}
-use Rattle.hir_def_map_rules.specs.State.{Map, Variants}
-use Rattle.hir_def_map_rules.specs.Overlay.{Maps, overlay}
-use Rattle.hir_import_rules.specs.declared.directive.ImportSource.{ImportSource}
-use Rattle.hir_import_rules.specs.declared.directive.ImportSource.TheVariants as sources
+use Rattle.hir_collector_rules.specs.HirIds.declared.ids.EnumId.{EnumId}
+use Rattle.hir_collector_rules.specs.HirIds.declared.macro_kind.MacroId.{MacroId}
+use Rattle.hir_collector_rules.specs.HirIds.declared.ids.ModuleDefId.{ModuleDefId}
+use Rattle.hir_collector_rules.specs.HirIds.declared.ids.ModuleId.{ModuleId}
+use Rattle.hir_collector_rules.specs.HirItemTree.KeptForest.{Head, KeptForest, item, no_items}
+use Rattle.hir_collector_rules.specs.HirUseTree.declared.imports.Import.{Import}
+use Rattle.hir_collector_rules.specs.HirUseTree.declared.imports.ImportKind.{ImportKind}
+use Rattle.hir_collector_rules.specs.HirBase.declared.shape.FieldsShape.{FieldsShape}
+use Rattle.hir_collector_rules.specs.HirItemTree.declared.side_lists.VariantItem.{VariantItem}
+use Rattle.hir_collector_rules.specs.HirIds.declared.explicitness.VisibilityExplicitness.{VisibilityExplicitness}
+use Rattle.hir_collector_rules.specs.HirBase.declared.shape.FieldsShape.TheVariants.{Record, Tuple, Unit as UnitShape}
+use Rattle.hir_collector_rules.specs.HirUseTree.declared.imports.ImportKind.TheVariants as import_kinds
+use Rattle.hir_collector_rules.specs.HirPerNs.ModuleTree.{is_at_or_above, same_crate, same_module}
+use Rattle.hir_collector_rules.specs.HirPerNs.PerNs.{keep_item, Item}
+use Rattle.hir_collector_rules.specs.HirPerNs.Visibility.{both_in, either_written, lower_of}
+use Rattle.hir_collector_rules.specs.HirPerNs.declared.imports.ImportOrExternCrate.{ImportOrExternCrate}
+use Rattle.hir_collector_rules.specs.HirPerNs.declared.imports.ImportOrGlob.{ImportOrGlob}
+use Rattle.hir_collector_rules.specs.HirPerNs.declared.per_ns.PerNs.{PerNs}
+use Rattle.hir_collector_rules.specs.HirPerNs.declared.visibility.Visibility.{Visibility}
+use Rattle.hir_collector_rules.specs.HirPerNs.declared.visibility.Visibility.TheVariants as visibilities
+use Rattle.hir_collector_rules.specs.HirDefMapRules.Ancestors.{above_in}
+use Rattle.hir_collector_rules.proofs.HirDefMapRules.NoneOf.{neither, none_inserted, not_first, not_second}
+use Rattle.hir_collector_rules.specs.HirDefMapRules.Scoping.{Resolution}
+use Rattle.hir_collector_rules.specs.HirDefMapRules.Sources.{HoldsOfNone, SourceTest, on_def, on_import, on_macro, on_macro_item, on_some, on_type, on_value, on_value_def}
+use Rattle.hir_collector_rules.specs.HirDefMapRules.Sources.{on_value_import, on_values, on_variant, on_visibility}
+use Rattle.hir_collector_rules.specs.HirDefMapRules.State.{Map, Variants}
+use Rattle.hir_collector_rules.specs.HirDefMapRules.Overlay.{Maps, overlay}
+use Rattle.hir_collector_rules.specs.HirImportRules.declared.directive.ImportSource.{ImportSource}
+use Rattle.hir_collector_rules.specs.HirImportRules.declared.directive.ImportSource.TheVariants as sources
 use Rattle.hir_collector_rules.specs.declared.site.Site.{Site}
 use Rattle.hir_collector_rules.specs.Enums.{variant_of, variants_of, with_variant}
-use Rattle.hir_import_rules.specs.Directives.{answer_by_kind, answer_by_source, brought, brought_type, imported, is_of_extern_crate, kept_by_kind}
-use Rattle.hir_import_rules.specs.Directives.{open_items}
+use Rattle.hir_collector_rules.specs.HirImportRules.Directives.{answer_by_kind, answer_by_source, brought, brought_type, imported, is_of_extern_crate, kept_by_kind}
+use Rattle.hir_collector_rules.specs.HirImportRules.Directives.{open_items}
 use Rattle.hir_collector_rules.specs.Imports.{reached_import}
-use Rattle.hir_import_rules.specs.Visibilities.{is_public, lesser_in}
+use Rattle.hir_collector_rules.specs.HirImportRules.Visibilities.{is_public, lesser_in}
 use Rattle.hir_collector_rules.specs.ItemIds.{use_id}
 use Rattle.hir_collector_rules.specs.Items.{constructor_of, declared_struct, declared_type, meet_of}
 use Rattle.hir_collector_rules.specs.State.{Task, Visit, visits, visits_over}

@@ -6,30 +6,30 @@ use Rattle.std.specs.Cmp.Lexicographic.{slice_cmp}
 use Rattle.std.specs.List.{list_any}
 use Rattle.std.specs.Ordering.{nat_cmp}
 use Rattle.std.proofs.Common.{refl}
-use Rattle.hir_base.specs.declared.ids.Crate.{Crate}
-use Rattle.hir_base.specs.declared.ids.ExternCrateId.{ExternCrateId}
-use Rattle.hir_base.specs.declared.macro_kind.MacroId.{MacroId}
-use Rattle.hir_base.specs.declared.ids.ModuleId.{ModuleId}
-use Rattle.hir_base.specs.declared.ids.UseId.{UseId}
-use Rattle.hir_item_tree.specs.Collected.{Numbered}
-use Rattle.hir_item_tree.specs.KeptForest.{Head}
-use Rattle.hir_item_tree.specs.declared.shape.ExternCrateName.{ExternCrateName}
-use Rattle.hir_item_tree.specs.declared.shape.ExternCrateName.TheVariants.{SelfCrate, Name}
-use Rattle.hir_textual_scope.specs.Macros.{with_macro}
-use Rattle.hir_textual_scope.specs.declared.textual_scope.TextualMacro.{TextualMacro}
-use Rattle.hir_scope.specs.Entries.{item_at}
-use Rattle.hir_scope.specs.ModuleTree.{same_crate}
-use Rattle.hir_scope.specs.PerNs.{Item}
-use Rattle.hir_scope.specs.Scope.{ScopeValue}
-use Rattle.hir_scope.specs.declared.imports.ImportOrExternCrate.{ImportOrExternCrate}
-use Rattle.hir_def_map_rules.specs.Overlay.{Maps, Placed}
-use Rattle.hir_def_map_rules.specs.References.{crate_map}
-use Rattle.hir_def_map_rules.specs.Sources.{HoldsNowhere, HoldsNowhereIn, SourceTest, on_extern, on_import, on_legacy_in, on_macro, on_macro_item, on_macro_use}
-use Rattle.hir_def_map_rules.specs.Sources.{on_macros_in, on_some, on_values, on_visibility}
-use Rattle.hir_def_map_rules.specs.State.{Map, ModuleValue, module_at, scope_at, with_name, with_scope}
-use Rattle.hir_def_map_rules.proofs.NoneOf.{neither, none_at, none_found, none_inserted, not_first, not_second}
-use Rattle.hir_def_map_rules.proofs.StaysSourced.{HoldsNowhereIn-scope}
-use Rattle.hir_import_rules.specs.Visibilities.{is_public}
+use Rattle.hir_collector_rules.specs.HirIds.declared.ids.Crate.{Crate}
+use Rattle.hir_collector_rules.specs.HirIds.declared.ids.ExternCrateId.{ExternCrateId}
+use Rattle.hir_collector_rules.specs.HirIds.declared.macro_kind.MacroId.{MacroId}
+use Rattle.hir_collector_rules.specs.HirIds.declared.ids.ModuleId.{ModuleId}
+use Rattle.hir_collector_rules.specs.HirIds.declared.ids.UseId.{UseId}
+use Rattle.hir_collector_rules.specs.HirItemTree.Collected.{Numbered}
+use Rattle.hir_collector_rules.specs.HirItemTree.KeptForest.{Head}
+use Rattle.hir_collector_rules.specs.HirBase.declared.shape.ExternCrateName.{ExternCrateName}
+use Rattle.hir_collector_rules.specs.HirBase.declared.shape.ExternCrateName.TheVariants.{SelfCrate, Name}
+use Rattle.hir_collector_rules.specs.HirTextualScope.Macros.{with_macro}
+use Rattle.hir_collector_rules.specs.HirTextualScope.declared.textual_scope.TextualMacro.{TextualMacro}
+use Rattle.hir_collector_rules.specs.HirScope.Entries.{item_at}
+use Rattle.hir_collector_rules.specs.HirPerNs.ModuleTree.{same_crate}
+use Rattle.hir_collector_rules.specs.HirPerNs.PerNs.{Item}
+use Rattle.hir_collector_rules.specs.HirScope.Scope.{ScopeValue}
+use Rattle.hir_collector_rules.specs.HirPerNs.declared.imports.ImportOrExternCrate.{ImportOrExternCrate}
+use Rattle.hir_collector_rules.specs.HirDefMapRules.Overlay.{Maps, Placed}
+use Rattle.hir_collector_rules.specs.HirDefMapRules.References.{crate_map}
+use Rattle.hir_collector_rules.specs.HirDefMapRules.Sources.{HoldsNowhere, HoldsNowhereIn, SourceTest, on_extern, on_import, on_legacy_in, on_macro, on_macro_item, on_macro_use}
+use Rattle.hir_collector_rules.specs.HirDefMapRules.Sources.{on_macros_in, on_some, on_values, on_visibility}
+use Rattle.hir_collector_rules.specs.HirDefMapRules.State.{Map, ModuleValue, module_at, scope_at, with_name, with_scope}
+use Rattle.hir_collector_rules.proofs.HirDefMapRules.NoneOf.{neither, none_at, none_found, none_inserted, not_first, not_second}
+use Rattle.hir_collector_rules.proofs.HirDefMapRules.StaysSourced.{HoldsNowhereIn-scope}
+use Rattle.hir_collector_rules.specs.HirImportRules.Visibilities.{is_public}
 use Rattle.hir_collector_rules.specs.CrateTop.{listed_under}
 use Rattle.hir_collector_rules.specs.Imports.{dependency_named}
 use Rattle.hir_collector_rules.specs.Macros.{macros_beside, macros_brought, other_scope, public_among, public_at, public_in, public_named, public_one}

@@ -3,16 +3,16 @@ use Rattle.std.specs.Prelude.{◌≡◌, ℕ, zero, suc, ◌≤◌, List, [], �
 use Rattle.std.specs.List.{list_any}
 use Rattle.std.proofs.Common.{Contains, ap, refl, sym, ◌∙◌, arith}
 use mathlib.Core.Bool.{true≢false}
-use Rattle.hir_base.specs.contracts.ids.MapIdPartialEq.TheImpl as map_id
-use Rattle.hir_base.specs.declared.ids.MapId.{MapId}
-use Rattle.hir_base.specs.declared.ids.ModuleId.{ModuleId}
-use Rattle.hir_item_tree.specs.declared.tree_id.TreeKey.{TreeKey}
-use Rattle.hir_def_map_rules.specs.Closed.{ModuleIsThere}
-use Rattle.hir_def_map_rules.specs.Sources.{HoldsNowhereIn, HoldsOfNoExtern, SourceTest, on_import}
-use Rattle.hir_def_map_rules.specs.State.{Map, module_at}
-use Rattle.hir_def_map_rules.specs.Overlay.{Maps, Placed, overlay, placed_in}
-use Rattle.hir_import_rules.specs.declared.directive.ImportDirective.{ImportDirective}
-use Rattle.hir_import_rules.specs.Directives.{way_of}
+use Rattle.hir_collector_rules.specs.HirIds.contracts.ids.MapIdPartialEq.TheImpl as map_id
+use Rattle.hir_collector_rules.specs.HirIds.declared.ids.MapId.{MapId}
+use Rattle.hir_collector_rules.specs.HirIds.declared.ids.ModuleId.{ModuleId}
+use Rattle.hir_collector_rules.specs.HirBase.declared.tree_id.TreeKey.{TreeKey}
+use Rattle.hir_collector_rules.specs.HirDefMapRules.Closed.{ModuleIsThere}
+use Rattle.hir_collector_rules.specs.HirDefMapRules.Sources.{HoldsNowhereIn, HoldsOfNoExtern, SourceTest, on_import}
+use Rattle.hir_collector_rules.specs.HirDefMapRules.State.{Map, module_at}
+use Rattle.hir_collector_rules.specs.HirDefMapRules.Overlay.{Maps, Placed, overlay, placed_in}
+use Rattle.hir_collector_rules.specs.HirImportRules.declared.directive.ImportDirective.{ImportDirective}
+use Rattle.hir_collector_rules.specs.HirImportRules.Directives.{way_of}
 use Rattle.hir_collector_rules.specs.declared.macro_directive.MacroDirective.{MacroDirective}
 use Rattle.hir_collector_rules.specs.State.{State, Task, visits, closes}
 use Rattle.hir_collector_rules.specs.declared.source_database.Key.TheVariants as keys

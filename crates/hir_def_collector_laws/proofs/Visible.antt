@@ -3,42 +3,42 @@ use Rattle.std.specs.Prelude.{◌≡◌, ◌||◌, ◌&&◌, ℕ, zero, suc, Lis
 use Rattle.std.specs.Prelude.{option_map, slice_set, unwrap_or}
 use Rattle.std.specs.List.{list_any}
 use Rattle.std.proofs.Common.{ap, refl, subst, sym}
-use Rattle.hir_base.specs.declared.macro_kind.MacroId.{MacroId}
-use Rattle.hir_base.specs.declared.ids.ModuleDefId.{ModuleDefId}
-use Rattle.hir_base.specs.declared.ids.ModuleId.{ModuleId}
-use Rattle.hir_base.specs.declared.ids.ModuleDefId.TheVariants as definitions
-use Rattle.hir_item_tree.specs.declared.shape.FieldsShape.{FieldsShape}
-use Rattle.hir_raw_visibility.specs.declared.raw_visibility.RawVisibility.{RawVisibility}
-use Rattle.hir_raw_visibility.specs.declared.raw_visibility.VisibilityExplicitness.{VisibilityExplicitness}
-use Rattle.hir_raw_visibility.specs.declared.raw_visibility.RawVisibility.TheVariants as raws
-use Rattle.hir_item_tree.specs.declared.shape.FieldsShape.TheVariants.{Record, Tuple, Unit as UnitShape}
-use Rattle.hir_scope.specs.ModuleTree.{is_at_or_above, same_crate, same_map, same_module}
-use Rattle.hir_scope.specs.PerNs.{Item}
-use Rattle.hir_scope.specs.Visibility.{both_in, either_written, lower_of, upper_of}
-use Rattle.hir_scope.specs.declared.imports.ImportOrExternCrate.{ImportOrExternCrate}
-use Rattle.hir_scope.specs.declared.per_ns.PerNs.{PerNs}
-use Rattle.hir_scope.specs.declared.visibility.Visibility.{Visibility}
-use Rattle.hir_scope.specs.declared.visibility.Visibility.TheVariants as visibilities
+use Rattle.hir_collector_rules.specs.HirIds.declared.macro_kind.MacroId.{MacroId}
+use Rattle.hir_collector_rules.specs.HirIds.declared.ids.ModuleDefId.{ModuleDefId}
+use Rattle.hir_collector_rules.specs.HirIds.declared.ids.ModuleId.{ModuleId}
+use Rattle.hir_collector_rules.specs.HirIds.declared.ids.ModuleDefId.TheVariants as definitions
+use Rattle.hir_collector_rules.specs.HirBase.declared.shape.FieldsShape.{FieldsShape}
+use Rattle.hir_collector_rules.specs.HirRawVisibility.declared.raw_visibility.RawVisibility.{RawVisibility}
+use Rattle.hir_collector_rules.specs.HirIds.declared.explicitness.VisibilityExplicitness.{VisibilityExplicitness}
+use Rattle.hir_collector_rules.specs.HirRawVisibility.declared.raw_visibility.RawVisibility.TheVariants as raws
+use Rattle.hir_collector_rules.specs.HirBase.declared.shape.FieldsShape.TheVariants.{Record, Tuple, Unit as UnitShape}
+use Rattle.hir_collector_rules.specs.HirPerNs.ModuleTree.{is_at_or_above, same_crate, same_map, same_module}
+use Rattle.hir_collector_rules.specs.HirPerNs.PerNs.{Item}
+use Rattle.hir_collector_rules.specs.HirPerNs.Visibility.{both_in, either_written, lower_of, upper_of}
+use Rattle.hir_collector_rules.specs.HirPerNs.declared.imports.ImportOrExternCrate.{ImportOrExternCrate}
+use Rattle.hir_collector_rules.specs.HirPerNs.declared.per_ns.PerNs.{PerNs}
+use Rattle.hir_collector_rules.specs.HirPerNs.declared.visibility.Visibility.{Visibility}
+use Rattle.hir_collector_rules.specs.HirPerNs.declared.visibility.Visibility.TheVariants as visibilities
 use Rattle.hir_def_map.proofs.Joined.{there_in}
-use Rattle.hir_def_map_rules.proofs.NoneOf.{neither, none_at, none_more, not_first, not_second}
-use Rattle.hir_def_map_rules.specs.Ancestors.{above_in}
-use Rattle.hir_def_map_rules.specs.Closed.{IsClosed, IsThere, LocalIsThere, ModuleIsThere, PathsLeadToWhatIsThere, VisibilityIsThere}
-use Rattle.hir_def_map_rules.specs.Overlay.{Maps, overlay}
-use Rattle.hir_def_map_rules.specs.References.{is_missing, reference_to, test_item, test_of, test_visibility, Fails, FailsAtItem, FailsAtMacro}
-use Rattle.hir_def_map_rules.specs.Scoping.{Resolution, resolution_of}
-use Rattle.hir_def_map_rules.specs.Sources.{on_some}
-use Rattle.hir_def_map_rules.specs.State.{Local, Map, root_of}
-use Rattle.hir_def_map_rules.specs.Visibilities.{by_visibility, module_seen, path_seen, type_seen, written_visibility}
-use Rattle.hir_def_map_rules.specs.declared.reference.Reference.{Reference}
-use Rattle.hir_def_map_rules.specs.declared.reference.Reference.TheVariants as named
-use Rattle.hir_glob_imports.specs.Moves.{same_vis}
-use Rattle.hir_glob_imports.specs.View.{View}
-use Rattle.hir_glob_imports.specs.Waves.{Records, adds, edge_with_vis, stays, widens, wider_of}
-use Rattle.hir_glob_imports.specs.declared.edge.Edge.{Edge}
-use Rattle.hir_glob_imports.specs.declared.edge.Target.{Target}
-use Rattle.hir_glob_imports.specs.declared.edge.Target.TheVariants as targets
-use Rattle.hir_import_rules.specs.Directives.{brought, brought_type, imported, is_of_extern_crate}
-use Rattle.hir_import_rules.specs.Visibilities.{greater_in, lesser_in, visibility_in}
+use Rattle.hir_collector_rules.proofs.HirDefMapRules.NoneOf.{neither, none_at, none_more, not_first, not_second}
+use Rattle.hir_collector_rules.specs.HirDefMapRules.Ancestors.{above_in}
+use Rattle.hir_collector_rules.specs.HirDefMapRules.Closed.{IsClosed, IsThere, LocalIsThere, ModuleIsThere, PathsLeadToWhatIsThere, VisibilityIsThere}
+use Rattle.hir_collector_rules.specs.HirDefMapRules.Overlay.{Maps, overlay}
+use Rattle.hir_collector_rules.specs.HirDefMapRules.References.{is_missing, reference_to, test_item, test_of, test_visibility, Fails, FailsAtItem, FailsAtMacro}
+use Rattle.hir_collector_rules.specs.HirDefMapRules.Scoping.{Resolution, resolution_of}
+use Rattle.hir_collector_rules.specs.HirDefMapRules.Sources.{on_some}
+use Rattle.hir_collector_rules.specs.HirDefMapRules.State.{Local, Map, root_of}
+use Rattle.hir_collector_rules.specs.HirDefMapRules.Visibilities.{by_visibility, module_seen, path_seen, type_seen, written_visibility}
+use Rattle.hir_collector_rules.specs.HirDefMapRules.declared.reference.Reference.{Reference}
+use Rattle.hir_collector_rules.specs.HirDefMapRules.declared.reference.Reference.TheVariants as named
+use Rattle.hir_collector_rules.specs.HirGlobImports.Moves.{same_vis}
+use Rattle.hir_collector_rules.specs.HirGlobImports.View.{View}
+use Rattle.hir_collector_rules.specs.HirGlobImports.Waves.{Records, adds, edge_with_vis, stays, widens, wider_of}
+use Rattle.hir_collector_rules.specs.HirGlobImports.declared.edge.Edge.{Edge}
+use Rattle.hir_collector_rules.specs.HirGlobImports.declared.edge.Target.{Target}
+use Rattle.hir_collector_rules.specs.HirGlobImports.declared.edge.Target.TheVariants as targets
+use Rattle.hir_collector_rules.specs.HirImportRules.Directives.{brought, brought_type, imported, is_of_extern_crate}
+use Rattle.hir_collector_rules.specs.HirImportRules.Visibilities.{greater_in, lesser_in, visibility_in}
 use Rattle.hir_collector_rules.specs.Items.{constructor_of, meet_of}
 
 -- what a glob leads out of, where that is no module of the map itself

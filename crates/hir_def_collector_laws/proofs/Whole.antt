@@ -7,98 +7,98 @@ use Rattle.std.specs.Cmp.{second_so}
 use Rattle.std.specs.Prelude.{nat_eq}
 use Rattle.std.specs.Str.{bytes_eq}
 use Rattle.std.specs.Cmp.Lexicographic.{pointwise}
-use Rattle.hir_base.specs.declared.ast_id.AstId.{AstId}
-use Rattle.hir_base.specs.declared.ids.Crate.{Crate}
-use Rattle.hir_base.specs.declared.ids.EnumId.{EnumId}
-use Rattle.hir_base.specs.declared.ids.ExternCrateId.{ExternCrateId}
-use Rattle.hir_base.specs.declared.ids.FunctionId.{FunctionId}
-use Rattle.hir_base.specs.declared.macro_kind.MacroId.{MacroId}
-use Rattle.hir_base.specs.declared.ids.MapId.{MapId}
-use Rattle.hir_base.specs.declared.ids.ModuleDefId.{ModuleDefId}
-use Rattle.hir_base.specs.declared.ids.ModuleId.{ModuleId}
-use Rattle.hir_base.specs.declared.macro_kind.ProcMacroId.{ProcMacroId}
-use Rattle.hir_base.specs.declared.ids.TraitId.{TraitId}
-use Rattle.hir_base.specs.declared.ast_id.AstKind.TheVariants as nodes
-use Rattle.hir_base.specs.declared.ids.AdtId.TheVariants as adts
-use Rattle.hir_base.specs.declared.ids.ModuleDefId.TheVariants as definitions
-use Rattle.hir_base.specs.declared.macro_kind.MacroId.TheVariants as macros
-use Rattle.hir_item_tree.specs.Shape.{has_constructor}
-use Rattle.hir_item_tree.specs.KeptForest.{Head, function, leaf}
-use Rattle.hir_item_tree.specs.Imports.{imports_of}
-use Rattle.hir_item_tree.specs.declared.shape.ExternCrateName.{ExternCrateName}
-use Rattle.hir_raw_visibility.specs.declared.raw_visibility.RawVisibility.{RawVisibility}
-use Rattle.hir_item_tree.specs.declared.shape.ExternCrateName.TheVariants.{SelfCrate, Name}
-use Rattle.hir_scope.specs.declared.imports.GlobId.{GlobId}
-use Rattle.hir_scope.specs.declared.imports.ImportId.{ImportId}
-use Rattle.hir_scope.specs.declared.imports.ImportOrExternCrate.{ImportOrExternCrate}
-use Rattle.hir_scope.specs.declared.item_in_ns.ItemInNs.{ItemInNs}
-use Rattle.hir_scope.specs.declared.per_ns.PerNs.{PerNs}
-use Rattle.hir_scope.specs.declared.visibility.Visibility.{Visibility}
-use Rattle.hir_scope.specs.declared.item_in_ns.ItemInNs.TheVariants as in_ns
-use Rattle.hir_scope.specs.PerNs.{Item, with_constructor, item_of, macros_only}
-use Rattle.hir_scope.specs.ModuleTree.{same_crate}
-use Rattle.hir_scope.specs.declared.visibility.Visibility.TheVariants as visibilities
-use Rattle.hir_def_map_rules.specs.declared.declaration.Declaration.TheVariants as listings
-use Rattle.hir_def_map_rules.specs.declared.declaration.Declaration.{Declaration as Listing}
-use Rattle.hir_def_map_rules.specs.declared.diagnostics.DefDiagnostic.{DefDiagnostic}
-use Rattle.hir_def_map_rules.specs.declared.enum_variants.EnumVariant.{EnumVariant}
-use Rattle.hir_def_map_rules.specs.declared.origin.ModuleOrigin.{ModuleOrigin}
-use Rattle.hir_def_map_rules.specs.declared.reference.Reference.{Reference}
-use Rattle.hir_def_map_rules.specs.declared.reference.Reference.TheVariants as named
-use Rattle.hir_base.specs.contracts.ids.MapIdPartialEq.TheImpl as map_id
-use Rattle.hir_def_map_rules.specs.Sources.{on_some}
-use Rattle.hir_def_map_rules.proofs.Fails.{Fails-nothing}
-use Rattle.hir_def_map_rules.proofs.NoneOf.{neither, none_at, none_inserted_last, none_of_less, not_first, not_second}
-use Rattle.hir_def_map_rules.specs.Inner.OverlayLaws.{same_id}
-use Rattle.hir_def_map_rules.specs.Closed.{AreThere, IsThere, IsClosed, PathsLeadToWhatIsThere, VisibilityIsThere}
-use Rattle.hir_def_map_rules.specs.WellFormed.{AreWellFormed, HasNoDanglingExtern, Extends, HasNoDanglingReference}
-use Rattle.hir_def_map_rules.proofs.WellFormed.{HasNoDanglingExtern-more, IsClosed-well_formed, HasNoDanglingReference-more, held_there, none_missing}
+use Rattle.hir_collector_rules.specs.HirIds.declared.ast_id.AstId.{AstId}
+use Rattle.hir_collector_rules.specs.HirIds.declared.ids.Crate.{Crate}
+use Rattle.hir_collector_rules.specs.HirIds.declared.ids.EnumId.{EnumId}
+use Rattle.hir_collector_rules.specs.HirIds.declared.ids.ExternCrateId.{ExternCrateId}
+use Rattle.hir_collector_rules.specs.HirIds.declared.ids.FunctionId.{FunctionId}
+use Rattle.hir_collector_rules.specs.HirIds.declared.macro_kind.MacroId.{MacroId}
+use Rattle.hir_collector_rules.specs.HirIds.declared.ids.MapId.{MapId}
+use Rattle.hir_collector_rules.specs.HirIds.declared.ids.ModuleDefId.{ModuleDefId}
+use Rattle.hir_collector_rules.specs.HirIds.declared.ids.ModuleId.{ModuleId}
+use Rattle.hir_collector_rules.specs.HirIds.declared.macro_kind.ProcMacroId.{ProcMacroId}
+use Rattle.hir_collector_rules.specs.HirIds.declared.ids.TraitId.{TraitId}
+use Rattle.hir_collector_rules.specs.HirIds.declared.ast_id.AstKind.TheVariants as nodes
+use Rattle.hir_collector_rules.specs.HirIds.declared.ids.AdtId.TheVariants as adts
+use Rattle.hir_collector_rules.specs.HirIds.declared.ids.ModuleDefId.TheVariants as definitions
+use Rattle.hir_collector_rules.specs.HirIds.declared.macro_kind.MacroId.TheVariants as macros
+use Rattle.hir_collector_rules.specs.HirBase.Shape.{has_constructor}
+use Rattle.hir_collector_rules.specs.HirItemTree.KeptForest.{Head, function, leaf}
+use Rattle.hir_collector_rules.specs.HirItemTree.Imports.{imports_of}
+use Rattle.hir_collector_rules.specs.HirBase.declared.shape.ExternCrateName.{ExternCrateName}
+use Rattle.hir_collector_rules.specs.HirRawVisibility.declared.raw_visibility.RawVisibility.{RawVisibility}
+use Rattle.hir_collector_rules.specs.HirBase.declared.shape.ExternCrateName.TheVariants.{SelfCrate, Name}
+use Rattle.hir_collector_rules.specs.HirPerNs.declared.imports.GlobId.{GlobId}
+use Rattle.hir_collector_rules.specs.HirPerNs.declared.imports.ImportId.{ImportId}
+use Rattle.hir_collector_rules.specs.HirPerNs.declared.imports.ImportOrExternCrate.{ImportOrExternCrate}
+use Rattle.hir_collector_rules.specs.HirPerNs.declared.item_in_ns.ItemInNs.{ItemInNs}
+use Rattle.hir_collector_rules.specs.HirPerNs.declared.per_ns.PerNs.{PerNs}
+use Rattle.hir_collector_rules.specs.HirPerNs.declared.visibility.Visibility.{Visibility}
+use Rattle.hir_collector_rules.specs.HirPerNs.declared.item_in_ns.ItemInNs.TheVariants as in_ns
+use Rattle.hir_collector_rules.specs.HirPerNs.PerNs.{Item, with_constructor, item_of, macros_only}
+use Rattle.hir_collector_rules.specs.HirPerNs.ModuleTree.{same_crate}
+use Rattle.hir_collector_rules.specs.HirPerNs.declared.visibility.Visibility.TheVariants as visibilities
+use Rattle.hir_collector_rules.specs.HirDefMapRules.declared.declaration.Declaration.TheVariants as listings
+use Rattle.hir_collector_rules.specs.HirDefMapRules.declared.declaration.Declaration.{Declaration as Listing}
+use Rattle.hir_collector_rules.specs.HirMapParts.declared.diagnostics.DefDiagnostic.{DefDiagnostic}
+use Rattle.hir_collector_rules.specs.HirMapParts.declared.enum_variants.EnumVariant.{EnumVariant}
+use Rattle.hir_collector_rules.specs.HirMapParts.declared.origin.ModuleOrigin.{ModuleOrigin}
+use Rattle.hir_collector_rules.specs.HirDefMapRules.declared.reference.Reference.{Reference}
+use Rattle.hir_collector_rules.specs.HirDefMapRules.declared.reference.Reference.TheVariants as named
+use Rattle.hir_collector_rules.specs.HirIds.contracts.ids.MapIdPartialEq.TheImpl as map_id
+use Rattle.hir_collector_rules.specs.HirDefMapRules.Sources.{on_some}
+use Rattle.hir_collector_rules.proofs.HirDefMapRules.Fails.{Fails-nothing}
+use Rattle.hir_collector_rules.proofs.HirDefMapRules.NoneOf.{neither, none_at, none_inserted_last, none_of_less, not_first, not_second}
+use Rattle.hir_collector_rules.specs.HirDefMapRules.Inner.OverlayLaws.{same_id}
+use Rattle.hir_collector_rules.specs.HirDefMapRules.Closed.{AreThere, IsThere, IsClosed, PathsLeadToWhatIsThere, VisibilityIsThere}
+use Rattle.hir_collector_rules.specs.HirDefMapRules.WellFormed.{AreWellFormed, HasNoDanglingExtern, Extends, HasNoDanglingReference}
+use Rattle.hir_collector_rules.proofs.HirDefMapRules.WellFormed.{HasNoDanglingExtern-more, IsClosed-well_formed, HasNoDanglingReference-more, held_there, none_missing}
 use Rattle.hir_def_map.proofs.Naming.{held_outside}
-use Rattle.hir_def_map_rules.specs.Declaration.{listed}
-use Rattle.hir_def_map_rules.specs.Macros.{with_exported, with_macro_data, with_macro_def}
-use Rattle.hir_def_map_rules.specs.References.{any_own_crate, any_reference_in, crate_map, is_holder_for, is_missing, reference_to, prelude_reference}
-use Rattle.hir_def_map_rules.specs.References.{test_crate, test_of, test_item, test_visibility, FailsAtItem, FailsAtMacro}
-use Rattle.hir_def_map_rules.specs.Reaches.{by_import}
-use Rattle.hir_def_map_rules.specs.Scoping.{Resolution, resolution_of}
-use Rattle.hir_def_map_rules.specs.Scoping.Segments.{variant_in}
-use Rattle.hir_def_map_rules.specs.Scoping.Asking.{local_of}
-use Rattle.hir_def_map_rules.specs.Scoping.Start.{crate_root}
-use Rattle.hir_def_map_rules.specs.State.{CrateData, IsBefore, Local, MacroDataValue, Map, ModuleValue, Variants, entry_at, entry_of, module_at, new_id}
-use Rattle.hir_def_map_rules.specs.State.{new_module, numbered, root_of, with_declared, with_enum, with_extern, with_prelude, with_module, with_scope, at_name}
-use Rattle.hir_def_map_rules.specs.Overlay.{Maps, Placed, entry_in, overlay, placed_in, module_in, variants_in}
-use Rattle.hir_def_map_rules.proofs.StaysWellFormed.{Extends-overlay, Extends-grown, Extends-made, Extends-scope, IsClosed-overlay, LocalIsThere-begins}
-use Rattle.hir_def_map_rules.proofs.StaysWellFormed.{HasNoDanglingReference-prelude, module_there, new_there, Extends-enum}
+use Rattle.hir_collector_rules.specs.HirDefMapRules.Declaration.{listed}
+use Rattle.hir_collector_rules.specs.HirDefMapRules.Macros.{with_exported, with_macro_data, with_macro_def}
+use Rattle.hir_collector_rules.specs.HirDefMapRules.References.{any_own_crate, any_reference_in, crate_map, is_holder_for, is_missing, reference_to, prelude_reference}
+use Rattle.hir_collector_rules.specs.HirDefMapRules.References.{test_crate, test_of, test_item, test_visibility, FailsAtItem, FailsAtMacro}
+use Rattle.hir_collector_rules.specs.HirDefMapRules.Reaches.{by_import}
+use Rattle.hir_collector_rules.specs.HirDefMapRules.Scoping.{Resolution, resolution_of}
+use Rattle.hir_collector_rules.specs.HirDefMapRules.Scoping.Segments.{variant_in}
+use Rattle.hir_collector_rules.specs.HirDefMapRules.Scoping.Asking.{local_of}
+use Rattle.hir_collector_rules.specs.HirDefMapRules.Scoping.Start.{crate_root}
+use Rattle.hir_collector_rules.specs.HirDefMapRules.State.{CrateData, IsBefore, Local, MacroDataValue, Map, ModuleValue, Variants, entry_at, entry_of, module_at, new_id}
+use Rattle.hir_collector_rules.specs.HirDefMapRules.State.{new_module, numbered, root_of, with_declared, with_enum, with_extern, with_prelude, with_module, with_scope, at_name}
+use Rattle.hir_collector_rules.specs.HirDefMapRules.Overlay.{Maps, Placed, entry_in, overlay, placed_in, module_in, variants_in}
+use Rattle.hir_collector_rules.proofs.HirDefMapRules.StaysWellFormed.{Extends-overlay, Extends-grown, Extends-made, Extends-scope, IsClosed-overlay, LocalIsThere-begins}
+use Rattle.hir_collector_rules.proofs.HirDefMapRules.StaysWellFormed.{HasNoDanglingReference-prelude, module_there, new_there, Extends-enum}
 use Rattle.hir_collector_rules.specs.declared.declaration.Declaration.{Declaration}
 use Rattle.hir_collector_rules.specs.declared.source_database.Dependency.{Dependency}
 use Rattle.hir_collector_rules.specs.declared.site.Site.{Site}
 use Rattle.hir_collector_rules.specs.declared.start.Start.{Start}
 use Rattle.hir_collector_rules.specs.declared.start.Start.TheVariants as starts
-use Rattle.hir_glob_imports.specs.Moves.{brought_vis, shown as shown_along}
-use Rattle.hir_glob_imports.specs.declared.edge.Bound.{Bound}
-use Rattle.hir_glob_imports.specs.declared.edge.Edge.{Edge}
-use Rattle.hir_glob_imports.specs.declared.edge.Key.{Key}
-use Rattle.hir_glob_imports.specs.declared.edge.Slot.{Slot}
-use Rattle.hir_glob_imports.specs.declared.edge.Target.{Target}
-use Rattle.hir_glob_imports.specs.Rules.{Rule as GlobRule, acts as glob_acts, copies_along, follows_along, raises_along, May as MayAlong}
-use Rattle.hir_glob_imports.specs.declared.edge.Key.TheVariants.{Types, Values, Macros, Unnamed}
-use Rattle.hir_glob_imports.specs.declared.edge.Target.TheVariants as targets
-use Rattle.hir_import_rules.specs.declared.directive.ImportDirective.{ImportDirective}
-use Rattle.hir_import_rules.specs.declared.directive.ImportSource.{ImportSource}
+use Rattle.hir_collector_rules.specs.HirGlobImports.Moves.{brought_vis, shown as shown_along}
+use Rattle.hir_collector_rules.specs.HirGlobImports.declared.edge.Bound.{Bound}
+use Rattle.hir_collector_rules.specs.HirGlobImports.declared.edge.Edge.{Edge}
+use Rattle.hir_collector_rules.specs.HirGlobImports.declared.edge.Key.{Key}
+use Rattle.hir_collector_rules.specs.HirGlobImports.declared.edge.Slot.{Slot}
+use Rattle.hir_collector_rules.specs.HirGlobImports.declared.edge.Target.{Target}
+use Rattle.hir_collector_rules.specs.HirGlobImports.Rules.{Rule as GlobRule, acts as glob_acts, copies_along, follows_along, raises_along, May as MayAlong}
+use Rattle.hir_collector_rules.specs.HirGlobImports.declared.edge.Key.TheVariants.{Types, Values, Macros, Unnamed}
+use Rattle.hir_collector_rules.specs.HirGlobImports.declared.edge.Target.TheVariants as targets
+use Rattle.hir_collector_rules.specs.HirImportRules.declared.directive.ImportDirective.{ImportDirective}
+use Rattle.hir_collector_rules.specs.HirImportRules.declared.directive.ImportSource.{ImportSource}
 use Rattle.hir_collector_rules.specs.Workspace.{Workspace, dependencies_in, transitive_dependencies_in}
-use Rattle.hir_tables.specs.Tables.{TablesValue}
+use Rattle.hir_collector_rules.specs.HirTables.Tables.{TablesValue}
 use Rattle.hir_collector_rules.specs.Keys.{Environment, environment}
 use Rattle.hir_collector_rules.specs.State.{State, Visit, import_state, Task, visits, behind}
 use Rattle.hir_collector_rules.specs.ItemIds.{enum_id, extern_crate_id, function_id, macro_rules_id, module_id, use_id, macro_def_id, node_of}
 use Rattle.hir_collector_rules.specs.Items.{declaration_of, declared_module, declared_type, file_origin, inline_origin, own_visibility}
-use Rattle.hir_import_rules.specs.Visibilities.{visibility_in, greater_in}
+use Rattle.hir_collector_rules.specs.HirImportRules.Visibilities.{visibility_in, greater_in}
 use Rattle.hir_collector_rules.specs.Enums.{variants_of}
-use Rattle.hir_import_rules.specs.Directives.{answer_in, answer_to, is_one_name, kept_by_kind, kept_trait, kind_of, leaf_of, name_of, offered_by}
-use Rattle.hir_import_rules.specs.Directives.{open_items, visibility_of, edge_to, path_answer, target_among, target_at, target_by}
-use Rattle.hir_import_rules.specs.Changes.{along, keeps_trait, pushes, kept_vis, Change as ImportChange}
-use Rattle.hir_import_rules.specs.Names.{ScopesValue, bound_at, bound_by, bound_of, bound_trait, entries_of, is_foreign, items_by, traits_of}
-use Rattle.hir_import_rules.specs.Names.{variant_items, view_of, is_open, open_vis, scope_table, trait_vis}
-use Rattle.hir_import_rules.specs.Rules.{Rule as ImportRule, May as MayImport, acts as import_acts, goes_along, takes_glob, takes_import}
-use Rattle.hir_import_rules.specs.State.{ImportState, scopes_of, glob_state}
+use Rattle.hir_collector_rules.specs.HirImportRules.Directives.{answer_in, answer_to, is_one_name, kept_by_kind, kept_trait, kind_of, leaf_of, name_of, offered_by}
+use Rattle.hir_collector_rules.specs.HirImportRules.Directives.{open_items, visibility_of, edge_to, path_answer, target_among, target_at, target_by}
+use Rattle.hir_collector_rules.specs.HirImportRules.Changes.{along, keeps_trait, pushes, kept_vis, Change as ImportChange}
+use Rattle.hir_collector_rules.specs.HirImportRules.Names.{ScopesValue, bound_at, bound_by, bound_of, bound_trait, entries_of, is_foreign, items_by, traits_of}
+use Rattle.hir_collector_rules.specs.HirImportRules.Names.{variant_items, view_of, is_open, open_vis, scope_table, trait_vis}
+use Rattle.hir_collector_rules.specs.HirImportRules.Rules.{Rule as ImportRule, May as MayImport, acts as import_acts, goes_along, takes_glob, takes_import}
+use Rattle.hir_collector_rules.specs.HirImportRules.State.{ImportState, scopes_of, glob_state}
 use Rattle.hir_collector_rules.specs.Imports.{crate_import, crate_named, dependency_named}
 use Rattle.hir_collector_rules.specs.Attributes.{proc_macro_id}
 use Rattle.hir_collector_rules.specs.Calls.{error_of}

@@ -6,66 +6,66 @@ use mathlib.Core.Bool.{true≢false}
 use Rattle.std.proofs.Common.{ap, refl, subst, sym, ◌∙◌}
 use Rattle.std.specs.Prelude.{nat_eq}
 use Rattle.std.specs.Cmp.Lexicographic.{pointwise}
-use Rattle.hir_base.specs.declared.ast_id.AstId.{AstId}
-use Rattle.hir_base.specs.declared.ids.Crate.{Crate}
-use Rattle.hir_base.specs.declared.ids.ExternCrateId.{ExternCrateId}
-use Rattle.hir_base.specs.declared.macro_kind.MacroId.{MacroId}
-use Rattle.hir_base.specs.declared.ids.ModuleDefId.{ModuleDefId}
-use Rattle.hir_base.specs.declared.ids.ModuleId.{ModuleId}
-use Rattle.hir_base.specs.declared.ids.TraitId.{TraitId}
-use Rattle.hir_base.specs.declared.ids.UseId.{UseId}
-use Rattle.hir_base.specs.declared.ids.ModuleDefId.TheVariants as definitions
-use Rattle.hir_item_tree.specs.KeptForest.{Head, Leaf, KeptItem, leaf, holder, import, extern_crate, function, structure, union_structure, enumeration}
-use Rattle.hir_item_tree.specs.KeptForest.{constant, static_item, trait_item, implementation, type_alias, outline_module, macro_call, macro_rules, macro_def}
-use Rattle.hir_use_tree.specs.declared.imports.Import.{Import}
-use Rattle.hir_use_tree.specs.declared.imports.ImportKind.{ImportKind}
-use Rattle.hir_use_tree.specs.declared.imports.ImportKind.TheVariants as import_kinds
-use Rattle.hir_raw_visibility.specs.declared.raw_visibility.RawVisibility.{RawVisibility}
-use Rattle.hir_scope.specs.declared.imports.ImportId.{ImportId}
-use Rattle.hir_scope.specs.declared.per_ns.PerNs.{PerNs}
-use Rattle.hir_scope.specs.declared.visibility.Visibility.{Visibility}
-use Rattle.hir_textual_scope.specs.Macros.{with_macro}
-use Rattle.hir_textual_scope.specs.declared.textual_scope.TextualMacro.{TextualMacro}
-use Rattle.hir_scope.specs.Scope.{ScopeValue}
-use Rattle.hir_scope.specs.PerNs.{Item, macros_only}
-use Rattle.hir_def_map_rules.specs.declared.diagnostics.DefDiagnostic.{DefDiagnostic}
-use Rattle.hir_def_map_rules.specs.declared.reference.Reference.{Reference}
-use Rattle.hir_def_map_rules.specs.declared.reference.Reference.TheVariants as named
+use Rattle.hir_collector_rules.specs.HirIds.declared.ast_id.AstId.{AstId}
+use Rattle.hir_collector_rules.specs.HirIds.declared.ids.Crate.{Crate}
+use Rattle.hir_collector_rules.specs.HirIds.declared.ids.ExternCrateId.{ExternCrateId}
+use Rattle.hir_collector_rules.specs.HirIds.declared.macro_kind.MacroId.{MacroId}
+use Rattle.hir_collector_rules.specs.HirIds.declared.ids.ModuleDefId.{ModuleDefId}
+use Rattle.hir_collector_rules.specs.HirIds.declared.ids.ModuleId.{ModuleId}
+use Rattle.hir_collector_rules.specs.HirIds.declared.ids.TraitId.{TraitId}
+use Rattle.hir_collector_rules.specs.HirIds.declared.ids.UseId.{UseId}
+use Rattle.hir_collector_rules.specs.HirIds.declared.ids.ModuleDefId.TheVariants as definitions
+use Rattle.hir_collector_rules.specs.HirItemTree.KeptForest.{Head, Leaf, KeptItem, leaf, holder, import, extern_crate, function, structure, union_structure, enumeration}
+use Rattle.hir_collector_rules.specs.HirItemTree.KeptForest.{constant, static_item, trait_item, implementation, type_alias, outline_module, macro_call, macro_rules, macro_def}
+use Rattle.hir_collector_rules.specs.HirUseTree.declared.imports.Import.{Import}
+use Rattle.hir_collector_rules.specs.HirUseTree.declared.imports.ImportKind.{ImportKind}
+use Rattle.hir_collector_rules.specs.HirUseTree.declared.imports.ImportKind.TheVariants as import_kinds
+use Rattle.hir_collector_rules.specs.HirRawVisibility.declared.raw_visibility.RawVisibility.{RawVisibility}
+use Rattle.hir_collector_rules.specs.HirPerNs.declared.imports.ImportId.{ImportId}
+use Rattle.hir_collector_rules.specs.HirPerNs.declared.per_ns.PerNs.{PerNs}
+use Rattle.hir_collector_rules.specs.HirPerNs.declared.visibility.Visibility.{Visibility}
+use Rattle.hir_collector_rules.specs.HirTextualScope.Macros.{with_macro}
+use Rattle.hir_collector_rules.specs.HirTextualScope.declared.textual_scope.TextualMacro.{TextualMacro}
+use Rattle.hir_collector_rules.specs.HirScope.Scope.{ScopeValue}
+use Rattle.hir_collector_rules.specs.HirPerNs.PerNs.{Item, macros_only}
+use Rattle.hir_collector_rules.specs.HirMapParts.declared.diagnostics.DefDiagnostic.{DefDiagnostic}
+use Rattle.hir_collector_rules.specs.HirDefMapRules.declared.reference.Reference.{Reference}
+use Rattle.hir_collector_rules.specs.HirDefMapRules.declared.reference.Reference.TheVariants as named
 use Rattle.std.specs.Map.{lookup}
-use Rattle.hir_base.specs.contracts.ids.TraitIdPartialEq.TheImpl as trait_id
-use Rattle.hir_def_map_rules.specs.Sources.{on_some}
-use Rattle.hir_def_map_rules.proofs.Fails.{Fails-keep, Fails-nothing, Fails-public, Fails-weaker}
-use Rattle.hir_def_map_rules.proofs.Referred.{module_parts, scope_parts}
-use Rattle.hir_def_map_rules.proofs.NoneOf.{neither, none_at, none_inserted_last, none_of_less, not_first, not_second, none_found}
-use Rattle.hir_def_map_rules.specs.Closed.{AreThere, VisibilityIsThere}
-use Rattle.hir_def_map_rules.specs.WellFormed.{AreWellFormed, HasNoDanglingExtern, Extends, HasNoDanglingReference}
-use Rattle.hir_def_map_rules.proofs.WellFormed.{HasNoDanglingExtern-more, IsClosed-well_formed, HasNoDanglingReference-more, none_missing}
-use Rattle.hir_def_map_rules.specs.Declaration.{listed}
-use Rattle.hir_def_map_rules.specs.Macros.{with_derive_helper, with_exported, with_macro_data, with_macro_def}
-use Rattle.hir_def_map_rules.specs.References.{crate_map, is_missing, reference_to, test_crate, test_of, any_reference_in, are_variants_of, test_visibility}
-use Rattle.hir_def_map_rules.specs.References.{visibility_reference}
-use Rattle.hir_def_map_rules.specs.Scoping.{Resolution}
-use Rattle.hir_def_map_rules.specs.Scoping.Start.{crate_root}
-use Rattle.hir_def_map_rules.specs.State.{Local, Map, ModuleValue, module_at, numbered, with_scope}
-use Rattle.hir_def_map_rules.specs.Overlay.{Maps, overlay}
-use Rattle.hir_def_map_rules.proofs.StaysWellFormed.{Extends-grown, Extends-made, Extends-scope, HasNoDanglingReference-listed, HasNoDanglingReference-made}
-use Rattle.hir_def_map_rules.proofs.StaysWellFormed.{Extends-enum, HasNoDanglingReference-enum, HasNoDanglingReference-scope}
+use Rattle.hir_collector_rules.specs.HirIds.contracts.ids.TraitIdPartialEq.TheImpl as trait_id
+use Rattle.hir_collector_rules.specs.HirDefMapRules.Sources.{on_some}
+use Rattle.hir_collector_rules.proofs.HirDefMapRules.Fails.{Fails-keep, Fails-nothing, Fails-public, Fails-weaker}
+use Rattle.hir_collector_rules.proofs.HirDefMapRules.Referred.{module_parts, scope_parts}
+use Rattle.hir_collector_rules.proofs.HirDefMapRules.NoneOf.{neither, none_at, none_inserted_last, none_of_less, not_first, not_second, none_found}
+use Rattle.hir_collector_rules.specs.HirDefMapRules.Closed.{AreThere, VisibilityIsThere}
+use Rattle.hir_collector_rules.specs.HirDefMapRules.WellFormed.{AreWellFormed, HasNoDanglingExtern, Extends, HasNoDanglingReference}
+use Rattle.hir_collector_rules.proofs.HirDefMapRules.WellFormed.{HasNoDanglingExtern-more, IsClosed-well_formed, HasNoDanglingReference-more, none_missing}
+use Rattle.hir_collector_rules.specs.HirDefMapRules.Declaration.{listed}
+use Rattle.hir_collector_rules.specs.HirDefMapRules.Macros.{with_derive_helper, with_exported, with_macro_data, with_macro_def}
+use Rattle.hir_collector_rules.specs.HirDefMapRules.References.{crate_map, is_missing, reference_to, test_crate, test_of, any_reference_in, are_variants_of, test_visibility}
+use Rattle.hir_collector_rules.specs.HirDefMapRules.References.{visibility_reference}
+use Rattle.hir_collector_rules.specs.HirDefMapRules.Scoping.{Resolution}
+use Rattle.hir_collector_rules.specs.HirDefMapRules.Scoping.Start.{crate_root}
+use Rattle.hir_collector_rules.specs.HirDefMapRules.State.{Local, Map, ModuleValue, module_at, numbered, with_scope}
+use Rattle.hir_collector_rules.specs.HirDefMapRules.Overlay.{Maps, overlay}
+use Rattle.hir_collector_rules.proofs.HirDefMapRules.StaysWellFormed.{Extends-grown, Extends-made, Extends-scope, HasNoDanglingReference-listed, HasNoDanglingReference-made}
+use Rattle.hir_collector_rules.proofs.HirDefMapRules.StaysWellFormed.{Extends-enum, HasNoDanglingReference-enum, HasNoDanglingReference-scope}
 use Rattle.hir_collector_rules.specs.declared.declaration.Declaration.{Declaration}
 use Rattle.hir_collector_rules.specs.declared.source_database.Dependency.{Dependency}
-use Rattle.hir_glob_imports.specs.declared.edge.Bound.{Bound}
-use Rattle.hir_glob_imports.specs.declared.edge.Edge.{Edge}
-use Rattle.hir_glob_imports.specs.Rules.{brings, copies, follows, raises}
-use Rattle.hir_import_rules.specs.declared.directive.ImportDirective.{ImportDirective}
-use Rattle.hir_import_rules.specs.declared.directive.ImportSource.{ImportSource}
-use Rattle.hir_import_rules.specs.declared.directive.ImportSource.TheVariants as sources
+use Rattle.hir_collector_rules.specs.HirGlobImports.declared.edge.Bound.{Bound}
+use Rattle.hir_collector_rules.specs.HirGlobImports.declared.edge.Edge.{Edge}
+use Rattle.hir_collector_rules.specs.HirGlobImports.Rules.{brings, copies, follows, raises}
+use Rattle.hir_collector_rules.specs.HirImportRules.declared.directive.ImportDirective.{ImportDirective}
+use Rattle.hir_collector_rules.specs.HirImportRules.declared.directive.ImportSource.{ImportSource}
+use Rattle.hir_collector_rules.specs.HirImportRules.declared.directive.ImportSource.TheVariants as sources
 use Rattle.hir_collector_rules.specs.State.{State, Visit, import_state}
 use Rattle.hir_collector_rules.specs.ItemIds.{module_id}
 use Rattle.hir_collector_rules.specs.Items.{constructor_of, declared_by, declared_by_leaf, declared_struct, declared_type, own_visibility, declared_value}
-use Rattle.hir_import_rules.specs.Visibilities.{visibility_in, is_public}
-use Rattle.hir_import_rules.specs.Directives.{answer_by_kind, answer_by_source, kept_by_kind, name_of, open_items}
-use Rattle.hir_import_rules.specs.Changes.{act as act_on_imports, along, keeps_trait, pushes, Change as ImportChange, records, takes}
-use Rattle.hir_import_rules.specs.Names.{trait_vis}
-use Rattle.hir_import_rules.specs.State.{ImportState}
+use Rattle.hir_collector_rules.specs.HirImportRules.Visibilities.{visibility_in, is_public}
+use Rattle.hir_collector_rules.specs.HirImportRules.Directives.{answer_by_kind, answer_by_source, kept_by_kind, name_of, open_items}
+use Rattle.hir_collector_rules.specs.HirImportRules.Changes.{act as act_on_imports, along, keeps_trait, pushes, Change as ImportChange, records, takes}
+use Rattle.hir_collector_rules.specs.HirImportRules.Names.{trait_vis}
+use Rattle.hir_collector_rules.specs.HirImportRules.State.{ImportState}
 use Rattle.hir_collector_rules.specs.Imports.{extern_by, reached_import}
 use Rattle.hir_collector_rules.specs.Changes.{Change, lists, makes, gives_variants, begins_paths, reaches, awaits, ends, settles, changes_imports, adds_textual}
 use Rattle.hir_collector_rules.specs.Changes.{takes_textual, defines, describes, helps, lists_derive, notes, exports, uses_macros, tells, goes_on, act, on_map}

@@ -1,20 +1,20 @@
 -- Changes of imports leave a map that names only what is there.
 use Rattle.std.specs.Prelude.{ℕ, Bool, List, [], Option, None, Some}
-use Rattle.hir_scope.specs.Scope.{ScopeValue}
-use Rattle.hir_scope.specs.declared.item_in_ns.ItemInNs.{ItemInNs}
-use Rattle.hir_scope.specs.declared.visibility.Visibility.{Visibility}
-use Rattle.hir_scope.specs.declared.item_in_ns.ItemInNs.TheVariants as in_ns
-use Rattle.hir_def_map_rules.proofs.StaysWellFormed.{HasNoDanglingReference-pushed, HasNoDanglingReference-scope}
-use Rattle.hir_def_map_rules.specs.Closed.{AreThere, IsThere, VisibilityIsThere}
-use Rattle.hir_def_map_rules.specs.Overlay.{Maps, overlay}
-use Rattle.hir_def_map_rules.specs.References.{is_missing}
-use Rattle.hir_def_map_rules.specs.State.{Map, numbered, with_scope}
-use Rattle.hir_def_map_rules.specs.WellFormed.{HasNoDanglingReference}
-use Rattle.hir_def_map_rules.specs.declared.reference.Reference.{Reference}
+use Rattle.hir_collector_rules.specs.HirScope.Scope.{ScopeValue}
+use Rattle.hir_collector_rules.specs.HirPerNs.declared.item_in_ns.ItemInNs.{ItemInNs}
+use Rattle.hir_collector_rules.specs.HirPerNs.declared.visibility.Visibility.{Visibility}
+use Rattle.hir_collector_rules.specs.HirPerNs.declared.item_in_ns.ItemInNs.TheVariants as in_ns
+use Rattle.hir_collector_rules.proofs.HirDefMapRules.StaysWellFormed.{HasNoDanglingReference-pushed, HasNoDanglingReference-scope}
+use Rattle.hir_collector_rules.specs.HirDefMapRules.Closed.{AreThere, IsThere, VisibilityIsThere}
+use Rattle.hir_collector_rules.specs.HirDefMapRules.Overlay.{Maps, overlay}
+use Rattle.hir_collector_rules.specs.HirDefMapRules.References.{is_missing}
+use Rattle.hir_collector_rules.specs.HirDefMapRules.State.{Map, numbered, with_scope}
+use Rattle.hir_collector_rules.specs.HirDefMapRules.WellFormed.{HasNoDanglingReference}
+use Rattle.hir_collector_rules.specs.HirDefMapRules.declared.reference.Reference.{Reference}
 use Rattle.hir_def_map_laws.proofs.Updates.{macro_keeps, macro_vis_keeps, trait_keeps, type_keeps, type_vis_keeps, value_keeps, value_vis_keeps}
-use Rattle.hir_glob_imports.specs.declared.edge.Key.{Key}
-use Rattle.hir_glob_imports.specs.declared.edge.Key.TheVariants.{Types, Values, Macros, Unnamed}
-use Rattle.hir_import_rules.specs.Names.{redefined, revised, with_trait}
+use Rattle.hir_collector_rules.specs.HirGlobImports.declared.edge.Key.{Key}
+use Rattle.hir_collector_rules.specs.HirGlobImports.declared.edge.Key.TheVariants.{Types, Values, Macros, Unnamed}
+use Rattle.hir_collector_rules.specs.HirImportRules.Names.{redefined, revised, with_trait}
 use Rattle.hir_collector_rules.proofs.ImportEdits.{Edit, edit, keeps_unnamed, pushes_to, redefines, revises}
 
 -- ---- what an edit brings is there

@@ -5,30 +5,30 @@ use Rattle.std.specs.Cmp.Lexicographic.{slice_cmp}
 use Rattle.std.specs.List.{list_any}
 use Rattle.std.specs.Map.{remove_entry}
 use Rattle.std.specs.Ordering.{nat_cmp}
-use Rattle.hir_base.specs.declared.ids.Crate.{Crate}
-use Rattle.hir_base.specs.declared.ids.FunctionId.{FunctionId}
-use Rattle.hir_base.specs.declared.macro_kind.MacroId.{MacroId}
-use Rattle.hir_base.specs.declared.ids.ModuleDefId.{ModuleDefId}
-use Rattle.hir_base.specs.declared.ids.TraitId.{TraitId}
-use Rattle.hir_base.specs.declared.ids.ModuleDefId.TheVariants as definitions
-use Rattle.hir_base.specs.contracts.ids.ModuleDefIdPartialEq.TheImpl as module_def
-use Rattle.hir_base.specs.declared.macro_kind.MacroId.TheVariants as macros
-use Rattle.hir_scope.specs.PerNs.{Item}
-use Rattle.hir_scope.specs.Scope.{ScopeValue}
-use Rattle.hir_scope.specs.Scope.Updates.{censored, censored_item, censored_macro, censored_macros, censored_scope, censored_vis, is_definition}
-use Rattle.hir_scope_table.specs.Entries.{item_at}
-use Rattle.hir_scope.specs.declared.imports.ImportId.{ImportId}
-use Rattle.hir_scope.specs.declared.imports.ImportOrExternCrate.{ImportOrExternCrate}
-use Rattle.hir_scope.specs.declared.imports.ImportOrGlob.{ImportOrGlob}
-use Rattle.hir_scope.specs.declared.visibility.Visibility.{Visibility}
-use Rattle.hir_def_map_rules.specs.References.{any_reference_in_scope, is_missing, reference_to, test_item, test_macro, test_of, test_trait, test_visibility}
-use Rattle.hir_def_map_rules.specs.Overlay.{Maps, overlay}
-use Rattle.hir_def_map_rules.specs.State.{with_scope}
-use Rattle.hir_def_map_rules.specs.WellFormed.{Extends, HasNoDanglingReference}
-use Rattle.hir_def_map_rules.specs.declared.reference.Reference.{Reference}
-use Rattle.hir_def_map_rules.proofs.NoneOf.{neither, not_first, not_second}
-use Rattle.hir_def_map_rules.proofs.Referred.{FailsInScope, scope_parts, scope_whole}
-use Rattle.hir_def_map_rules.proofs.StaysWellFormed.{Extends-scope, HasNoDanglingReference-scope}
+use Rattle.hir_collector_rules.specs.HirIds.declared.ids.Crate.{Crate}
+use Rattle.hir_collector_rules.specs.HirIds.declared.ids.FunctionId.{FunctionId}
+use Rattle.hir_collector_rules.specs.HirIds.declared.macro_kind.MacroId.{MacroId}
+use Rattle.hir_collector_rules.specs.HirIds.declared.ids.ModuleDefId.{ModuleDefId}
+use Rattle.hir_collector_rules.specs.HirIds.declared.ids.TraitId.{TraitId}
+use Rattle.hir_collector_rules.specs.HirIds.declared.ids.ModuleDefId.TheVariants as definitions
+use Rattle.hir_collector_rules.specs.HirIds.contracts.ids.ModuleDefIdPartialEq.TheImpl as module_def
+use Rattle.hir_collector_rules.specs.HirIds.declared.macro_kind.MacroId.TheVariants as macros
+use Rattle.hir_collector_rules.specs.HirPerNs.PerNs.{Item}
+use Rattle.hir_collector_rules.specs.HirScope.Scope.{ScopeValue}
+use Rattle.hir_collector_rules.specs.HirScope.Scope.Updates.{censored, censored_item, censored_macro, censored_macros, censored_scope, censored_vis, is_definition}
+use Rattle.hir_collector_rules.specs.HirScopeTable.Entries.{item_at}
+use Rattle.hir_collector_rules.specs.HirPerNs.declared.imports.ImportId.{ImportId}
+use Rattle.hir_collector_rules.specs.HirPerNs.declared.imports.ImportOrExternCrate.{ImportOrExternCrate}
+use Rattle.hir_collector_rules.specs.HirPerNs.declared.imports.ImportOrGlob.{ImportOrGlob}
+use Rattle.hir_collector_rules.specs.HirPerNs.declared.visibility.Visibility.{Visibility}
+use Rattle.hir_collector_rules.specs.HirDefMapRules.References.{any_reference_in_scope, is_missing, reference_to, test_item, test_macro, test_of, test_trait, test_visibility}
+use Rattle.hir_collector_rules.specs.HirDefMapRules.Overlay.{Maps, overlay}
+use Rattle.hir_collector_rules.specs.HirDefMapRules.State.{with_scope}
+use Rattle.hir_collector_rules.specs.HirDefMapRules.WellFormed.{Extends, HasNoDanglingReference}
+use Rattle.hir_collector_rules.specs.HirDefMapRules.declared.reference.Reference.{Reference}
+use Rattle.hir_collector_rules.proofs.HirDefMapRules.NoneOf.{neither, not_first, not_second}
+use Rattle.hir_collector_rules.proofs.HirDefMapRules.Referred.{FailsInScope, scope_parts, scope_whole}
+use Rattle.hir_collector_rules.proofs.HirDefMapRules.StaysWellFormed.{Extends-scope, HasNoDanglingReference-scope}
 use Rattle.hir_collector_rules.specs.declared.exported.ExportedFunction.{ExportedFunction}
 use Rattle.hir_collector_rules.specs.Ended.{ended, exporting_scope, without_function, without_functions}
 use Rattle.hir_collector_rules.specs.State.{Core}

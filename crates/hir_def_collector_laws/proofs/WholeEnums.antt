@@ -9,18 +9,18 @@ use Rattle.std.specs.Ordering.{is_eq, match_ordering, nat_cmp}
 use Rattle.std.specs.declared.cmp.Ordering.{Ordering}
 use Rattle.std.specs.declared.cmp.Ordering.TheVariants.{Less, Equal, Greater}
 use Rattle.std.proofs.Common.{ap, refl, ◌∙◌}
-use Rattle.hir_base.specs.contracts.ids.EnumIdOrd.TheImpl as enum_order
-use Rattle.hir_base.specs.contracts.ids.EnumIdOrd.TheImpl.Laws.{matches_eq-law as enum_ties, total-law as enum_total}
-use Rattle.hir_base.specs.contracts.ids.EnumIdPartialEq.TheImpl as enum_id
-use Rattle.hir_base.specs.contracts.ids.MapIdPartialEq.TheImpl as map_id
-use Rattle.hir_base.specs.declared.ids.EnumId.{EnumId}
-use Rattle.hir_item_tree.specs.declared.side_lists.VariantItem.{VariantItem}
+use Rattle.hir_collector_rules.specs.HirIds.contracts.ids.EnumIdOrd.TheImpl as enum_order
+use Rattle.hir_collector_rules.specs.HirIds.contracts.ids.EnumIdOrd.TheImpl.Laws.{matches_eq-law as enum_ties, total-law as enum_total}
+use Rattle.hir_collector_rules.specs.HirIds.contracts.ids.EnumIdPartialEq.TheImpl as enum_id
+use Rattle.hir_collector_rules.specs.HirIds.contracts.ids.MapIdPartialEq.TheImpl as map_id
+use Rattle.hir_collector_rules.specs.HirIds.declared.ids.EnumId.{EnumId}
+use Rattle.hir_collector_rules.specs.HirItemTree.declared.side_lists.VariantItem.{VariantItem}
 use Rattle.hir_def_map.proofs.Joined.{both}
-use Rattle.hir_def_map_rules.specs.References.{are_variants_of, is_missing}
-use Rattle.hir_def_map_rules.specs.State.{Map, Variants, variants_at, with_enum}
-use Rattle.hir_def_map_rules.specs.Overlay.{Maps, Placed, overlay, placed_in}
-use Rattle.hir_def_map_rules.specs.declared.enum_variants.EnumVariant.{EnumVariant}
-use Rattle.hir_def_map_rules.specs.declared.reference.Reference.TheVariants as named
+use Rattle.hir_collector_rules.specs.HirDefMapRules.References.{are_variants_of, is_missing}
+use Rattle.hir_collector_rules.specs.HirDefMapRules.State.{Map, Variants, variants_at, with_enum}
+use Rattle.hir_collector_rules.specs.HirDefMapRules.Overlay.{Maps, Placed, overlay, placed_in}
+use Rattle.hir_collector_rules.specs.HirMapParts.declared.enum_variants.EnumVariant.{EnumVariant}
+use Rattle.hir_collector_rules.specs.HirDefMapRules.declared.reference.Reference.TheVariants as named
 use Rattle.hir_collector_rules.proofs.Entries.{there_or}
 use Rattle.hir_collector_rules.specs.Enums.{variant_of, variants_of, with_variant}
 

@@ -2,43 +2,43 @@
 use Rattle.std.proofs.Common.{◌≡◌, ◌∙◌, ◌<◌, ◌||◌, ◌+◌, ℕ, zero, suc, slice_get, List, [], ◌∷◌, ◌++◌, length, Bool, true, false, is_some, Option, None, Some}
 use Rattle.std.proofs.Common.{map as list_map, inl, inr, refl, sym, ap, subst, arith, append_assoc, Contains}
 use Rattle.std.proofs.lemmas.List.Elements.{Contains-append_cases, Contains-append_left, Contains-append_right}
-use Rattle.hir_base.specs.ModPath.{Path}
-use Rattle.hir_base.specs.declared.ids.AdtId.{AdtId}
-use Rattle.hir_base.specs.declared.ast_id.AstId.{AstId}
-use Rattle.hir_base.specs.declared.ast_id.AttrId.{AttrId}
-use Rattle.hir_base.specs.declared.ast_id.BlockId.{BlockId}
-use Rattle.hir_base.specs.declared.ids.Crate.{Crate}
-use Rattle.hir_base.specs.declared.macro_kind.MacroId.{MacroId}
-use Rattle.hir_base.specs.declared.ids.MapId.{MapId}
-use Rattle.hir_base.specs.declared.ids.ModuleId.{ModuleId}
-use Rattle.hir_base.specs.declared.ids.UseId.{UseId}
-use Rattle.hir_item_tree.specs.Collected.{Numbered, is_enabled}
-use Rattle.hir_item_tree.specs.Imports.{imports_of}
-use Rattle.hir_item_tree.specs.ItemTree.{Tree}
-use Rattle.hir_item_tree.specs.KeptForest.{Head, Holder, KeptItem, KeptForest, Leaf, constant, enumeration, extern_crate, function, holder, implementation}
-use Rattle.hir_item_tree.specs.KeptForest.{import, inline_module, item, leaf, macro_call, macro_def, macro_rules, no_items, outline_module, static_item}
-use Rattle.hir_item_tree.specs.KeptForest.{structure, trait_item, type_alias, union_structure}
-use Rattle.hir_item_tree.specs.Kinds.{item_head}
-use Rattle.hir_use_tree.specs.UseTree.{count_of}
-use Rattle.hir_item_tree.specs.UseTree.{UseTree}
-use Rattle.hir_item_tree.specs.declared.shape.ExternCrateName.{ExternCrateName}
-use Rattle.hir_item_tree.specs.declared.tree_id.TreeId.{TreeId}
-use Rattle.hir_item_tree.specs.declared.tree_id.TreeKey.{TreeKey}
-use Rattle.hir_use_tree.specs.declared.imports.Import.{Import}
-use Rattle.hir_use_tree.specs.declared.imports.ImportAlias.{ImportAlias}
-use Rattle.hir_mod_dir.specs.Directory.{Directory}
-use Rattle.hir_mod_dir.specs.ModuleFiles.{inline_directory}
-use Rattle.hir_tables.specs.Tables.{TablesValue}
-use Rattle.hir_def_map_rules.specs.Overlay.{Maps}
-use Rattle.hir_def_map_rules.specs.State.{CrateData, Map, numbered}
-use Rattle.hir_glob_imports.specs.Rules.{Act, brings, copies, follows, raises}
-use Rattle.hir_glob_imports.specs.View.{View}
-use Rattle.hir_glob_imports.specs.Waves.{Records, widens, stays, adds}
-use Rattle.hir_glob_imports.specs.declared.edge.Edge.{Edge}
-use Rattle.hir_import_rules.specs.Changes.{Change as ImportChange, along, keeps_trait, pushes, records, takes}
-use Rattle.hir_import_rules.specs.Directives.{glob_of}
-use Rattle.hir_import_rules.specs.Rules.{Rule as ImportRule, May as MayImport, acts as import_acts, goes_along, takes_glob, takes_import}
-use Rattle.hir_import_rules.specs.declared.directive.ImportDirective.{ImportDirective}
+use Rattle.hir_collector_rules.specs.HirBase.ModPath.{Path}
+use Rattle.hir_collector_rules.specs.HirIds.declared.ids.AdtId.{AdtId}
+use Rattle.hir_collector_rules.specs.HirIds.declared.ast_id.AstId.{AstId}
+use Rattle.hir_collector_rules.specs.HirIds.declared.ast_id.AttrId.{AttrId}
+use Rattle.hir_collector_rules.specs.HirIds.declared.ast_id.BlockId.{BlockId}
+use Rattle.hir_collector_rules.specs.HirIds.declared.ids.Crate.{Crate}
+use Rattle.hir_collector_rules.specs.HirIds.declared.macro_kind.MacroId.{MacroId}
+use Rattle.hir_collector_rules.specs.HirIds.declared.ids.MapId.{MapId}
+use Rattle.hir_collector_rules.specs.HirIds.declared.ids.ModuleId.{ModuleId}
+use Rattle.hir_collector_rules.specs.HirIds.declared.ids.UseId.{UseId}
+use Rattle.hir_collector_rules.specs.HirItemTree.Collected.{Numbered, is_enabled}
+use Rattle.hir_collector_rules.specs.HirItemTree.Imports.{imports_of}
+use Rattle.hir_collector_rules.specs.HirItemTree.ItemTree.{Tree}
+use Rattle.hir_collector_rules.specs.HirItemTree.KeptForest.{Head, Holder, KeptItem, KeptForest, Leaf, constant, enumeration, extern_crate, function, holder, implementation}
+use Rattle.hir_collector_rules.specs.HirItemTree.KeptForest.{import, inline_module, item, leaf, macro_call, macro_def, macro_rules, no_items, outline_module, static_item}
+use Rattle.hir_collector_rules.specs.HirItemTree.KeptForest.{structure, trait_item, type_alias, union_structure}
+use Rattle.hir_collector_rules.specs.HirItemTree.Kinds.{item_head}
+use Rattle.hir_collector_rules.specs.HirUseTree.UseTree.{count_of}
+use Rattle.hir_collector_rules.specs.HirItemTree.UseTree.{UseTree}
+use Rattle.hir_collector_rules.specs.HirBase.declared.shape.ExternCrateName.{ExternCrateName}
+use Rattle.hir_collector_rules.specs.HirBase.declared.tree_id.TreeId.{TreeId}
+use Rattle.hir_collector_rules.specs.HirBase.declared.tree_id.TreeKey.{TreeKey}
+use Rattle.hir_collector_rules.specs.HirUseTree.declared.imports.Import.{Import}
+use Rattle.hir_collector_rules.specs.HirUseTree.declared.imports.ImportAlias.{ImportAlias}
+use Rattle.hir_collector_rules.specs.HirModDir.Directory.{Directory}
+use Rattle.hir_collector_rules.specs.HirModDir.ModuleFiles.{inline_directory}
+use Rattle.hir_collector_rules.specs.HirTables.Tables.{TablesValue}
+use Rattle.hir_collector_rules.specs.HirDefMapRules.Overlay.{Maps}
+use Rattle.hir_collector_rules.specs.HirDefMapRules.State.{CrateData, Map, numbered}
+use Rattle.hir_collector_rules.specs.HirGlobImports.Rules.{Act, brings, copies, follows, raises}
+use Rattle.hir_collector_rules.specs.HirGlobImports.View.{View}
+use Rattle.hir_collector_rules.specs.HirGlobImports.Waves.{Records, widens, stays, adds}
+use Rattle.hir_collector_rules.specs.HirGlobImports.declared.edge.Edge.{Edge}
+use Rattle.hir_collector_rules.specs.HirImportRules.Changes.{Change as ImportChange, along, keeps_trait, pushes, records, takes}
+use Rattle.hir_collector_rules.specs.HirImportRules.Directives.{glob_of}
+use Rattle.hir_collector_rules.specs.HirImportRules.Rules.{Rule as ImportRule, May as MayImport, acts as import_acts, goes_along, takes_glob, takes_import}
+use Rattle.hir_collector_rules.specs.HirImportRules.declared.directive.ImportDirective.{ImportDirective}
 use Rattle.hir_collector_rules.specs.declared.source_database.Dependency.{Dependency}
 use Rattle.hir_collector_rules.specs.declared.source_database.Key.{Key}
 use Rattle.hir_collector_rules.specs.declared.macro_directive.MacroDirective.{MacroDirective}

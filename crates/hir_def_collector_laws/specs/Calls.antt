@@ -1,16 +1,16 @@
 -- Where are the macro calls, paths of derives and attributes written that a run came upon?
 use Rattle.std.specs.Prelude.{◌≡◌, ◌<◌, ℕ, true, false, List, Some, length, Contains, slice_get}
-use Rattle.hir_base.specs.ModPath.{Path}
-use Rattle.hir_base.specs.declared.ids.AdtId.{AdtId}
-use Rattle.hir_base.specs.declared.ast_id.AstId.{AstId}
-use Rattle.hir_base.specs.declared.ast_id.AttrId.{AttrId}
-use Rattle.hir_item_tree.specs.Collected.{Numbered, is_enabled}
-use Rattle.hir_item_tree.specs.KeptForest.{Head, KeptItem, leaf, macro_call}
-use Rattle.hir_item_tree.specs.Kinds.{item_head}
-use Rattle.hir_item_tree.specs.declared.tree_id.TreeKey.{TreeKey}
-use Rattle.hir_use_tree.specs.UseTree.{count_of}
-use Rattle.hir_tables.specs.Tables.{TablesValue}
-use Rattle.hir_def_map_rules.specs.Overlay.{Maps}
+use Rattle.hir_collector_rules.specs.HirBase.ModPath.{Path}
+use Rattle.hir_collector_rules.specs.HirIds.declared.ids.AdtId.{AdtId}
+use Rattle.hir_collector_rules.specs.HirIds.declared.ast_id.AstId.{AstId}
+use Rattle.hir_collector_rules.specs.HirIds.declared.ast_id.AttrId.{AttrId}
+use Rattle.hir_collector_rules.specs.HirItemTree.Collected.{Numbered, is_enabled}
+use Rattle.hir_collector_rules.specs.HirItemTree.KeptForest.{Head, KeptItem, leaf, macro_call}
+use Rattle.hir_collector_rules.specs.HirItemTree.Kinds.{item_head}
+use Rattle.hir_collector_rules.specs.HirBase.declared.tree_id.TreeKey.{TreeKey}
+use Rattle.hir_collector_rules.specs.HirUseTree.UseTree.{count_of}
+use Rattle.hir_collector_rules.specs.HirTables.Tables.{TablesValue}
+use Rattle.hir_collector_rules.specs.HirDefMapRules.Overlay.{Maps}
 use Rattle.hir_collector_rules.specs.declared.macro_directive.MacroDirective.{MacroDirective}
 use Rattle.hir_collector_rules.specs.declared.macro_directive.MacroDirectiveKind.{MacroDirectiveKind}
 use Rattle.hir_collector_rules.specs.declared.site.Site.{Site}

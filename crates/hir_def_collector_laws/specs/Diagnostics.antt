@@ -1,13 +1,13 @@
 -- Of what do a run's diagnostics speak?
 use Rattle.std.specs.Prelude.{◌≡◌, ◌<◌, ℕ, length, Contains}
-use Rattle.hir_base.specs.declared.ast_id.AstId.{AstId}
-use Rattle.hir_item_tree.specs.KeptForest.{KeptItem}
-use Rattle.hir_item_tree.specs.Kinds.{item_head, item_kind}
-use Rattle.hir_tables.specs.Tables.{TablesValue}
-use Rattle.hir_def_map_rules.specs.Diagnostics.{DiagnosticValue, diagnostic_view, node_of}
-use Rattle.hir_def_map_rules.specs.Overlay.{Maps}
-use Rattle.hir_def_map_rules.specs.State.{numbered}
-use Rattle.hir_def_map_rules.specs.declared.diagnostics.DefDiagnostic.{DefDiagnostic}
+use Rattle.hir_collector_rules.specs.HirIds.declared.ast_id.AstId.{AstId}
+use Rattle.hir_collector_rules.specs.HirItemTree.KeptForest.{KeptItem}
+use Rattle.hir_collector_rules.specs.HirItemTree.Kinds.{item_head, item_kind}
+use Rattle.hir_collector_rules.specs.HirTables.Tables.{TablesValue}
+use Rattle.hir_collector_rules.specs.HirDefMapRules.Diagnostics.{DiagnosticValue, diagnostic_view, node_of}
+use Rattle.hir_collector_rules.specs.HirDefMapRules.Overlay.{Maps}
+use Rattle.hir_collector_rules.specs.HirDefMapRules.State.{numbered}
+use Rattle.hir_collector_rules.specs.HirMapParts.declared.diagnostics.DefDiagnostic.{DefDiagnostic}
 use Rattle.hir_collector_rules.specs.Derivation.{CollectedValue, Ends}
 use Rattle.hir_collector_rules.specs.Start.{Beginning}
 use Rattle.hir_collector_rules.specs.Workspace.{Workspace}

@@ -1,15 +1,15 @@
 -- Where is written what a run binds?
 use Rattle.std.specs.Prelude.{◌≡◌, false, List, Some, Contains, is_some, not, option_map}
-use Rattle.hir_base.specs.declared.ids.ModuleId.{ModuleId}
-use Rattle.hir_def_map_rules.specs.Closed.{ModuleIsThere}
-use Rattle.hir_def_map_rules.specs.WellFormed.{AreWellFormed}
-use Rattle.hir_def_map_rules.specs.Sources.{HoldsNowhere, HoldsNowhereIn, HoldsOfNoExtern, SourceTest}
-use Rattle.hir_def_map_rules.specs.State.{Map, crate_map}
-use Rattle.hir_def_map_rules.specs.Overlay.{Maps, Placed, overlay}
-use Rattle.hir_def_map_rules.specs.Scoping.Asking.{local_of}
-use Rattle.hir_item_tree.specs.declared.tree_id.TreeId.{TreeId}
-use Rattle.hir_item_tree.specs.declared.tree_id.TreeKey.{TreeKey}
-use Rattle.hir_tables.specs.Tables.{TablesValue, source_under}
+use Rattle.hir_collector_rules.specs.HirIds.declared.ids.ModuleId.{ModuleId}
+use Rattle.hir_collector_rules.specs.HirDefMapRules.Closed.{ModuleIsThere}
+use Rattle.hir_collector_rules.specs.HirDefMapRules.WellFormed.{AreWellFormed}
+use Rattle.hir_collector_rules.specs.HirDefMapRules.Sources.{HoldsNowhere, HoldsNowhereIn, HoldsOfNoExtern, SourceTest}
+use Rattle.hir_collector_rules.specs.HirDefMapRules.State.{Map, crate_map}
+use Rattle.hir_collector_rules.specs.HirDefMapRules.Overlay.{Maps, Placed, overlay}
+use Rattle.hir_collector_rules.specs.HirDefMapRules.Scoping.Asking.{local_of}
+use Rattle.hir_collector_rules.specs.HirBase.declared.tree_id.TreeId.{TreeId}
+use Rattle.hir_collector_rules.specs.HirBase.declared.tree_id.TreeKey.{TreeKey}
+use Rattle.hir_collector_rules.specs.HirTables.Tables.{TablesValue, source_under}
 use Rattle.hir_collector_rules.specs.declared.source_database.Key.{Key}
 use Rattle.hir_collector_rules.specs.declared.start.Start.{Start}
 use Rattle.hir_collector_rules.specs.declared.start.Start.TheVariants as starts

@@ -1,10 +1,10 @@
 -- When does a run leave a map that names only what is there?
 use Rattle.std.specs.Prelude.{◌≡◌, false, true, None}
 use Rattle.std.specs.List.{list_any}
-use Rattle.hir_def_map_rules.specs.WellFormed.{AreWellFormed, HasNoDanglingExtern, HasNoDanglingReference}
-use Rattle.hir_def_map_rules.specs.References.{any_own_crate, is_holder_for, is_missing, test_crate}
-use Rattle.hir_def_map_rules.specs.Overlay.{Maps, overlay}
-use Rattle.hir_tables.specs.Tables.{TablesValue}
+use Rattle.hir_collector_rules.specs.HirDefMapRules.WellFormed.{AreWellFormed, HasNoDanglingExtern, HasNoDanglingReference}
+use Rattle.hir_collector_rules.specs.HirDefMapRules.References.{any_own_crate, is_holder_for, is_missing, test_crate}
+use Rattle.hir_collector_rules.specs.HirDefMapRules.Overlay.{Maps, overlay}
+use Rattle.hir_collector_rules.specs.HirTables.Tables.{TablesValue}
 use Rattle.hir_collector_rules.specs.declared.source_database.Dependency.{Dependency}
 use Rattle.hir_collector_rules.specs.declared.start.Start.{Start}
 use Rattle.hir_collector_rules.specs.Derivation.{CollectedValue, Ends}

@@ -1,11 +1,11 @@
 -- Which items do the sources write that a run asked for?
 use Rattle.std.specs.Prelude.{◌≡◌, ◌≢◌, true, List, None, Contains}
-use Rattle.hir_base.specs.declared.ast_id.MacroCallId.{MacroCallId}
-use Rattle.hir_item_tree.specs.Collected.{is_enabled}
-use Rattle.hir_item_tree.specs.KeptForest.{Head, Holder, KeptItem, KeptForest, holder, item}
-use Rattle.hir_item_tree.specs.declared.tree_id.TreeId.{TreeId}
-use Rattle.hir_item_tree.specs.declared.tree_id.TreeKey.{TreeKey}
-use Rattle.hir_tables.specs.Tables.{TablesValue}
+use Rattle.hir_collector_rules.specs.HirIds.declared.ast_id.MacroCallId.{MacroCallId}
+use Rattle.hir_collector_rules.specs.HirItemTree.Collected.{is_enabled}
+use Rattle.hir_collector_rules.specs.HirItemTree.KeptForest.{Head, Holder, KeptItem, KeptForest, holder, item}
+use Rattle.hir_collector_rules.specs.HirBase.declared.tree_id.TreeId.{TreeId}
+use Rattle.hir_collector_rules.specs.HirBase.declared.tree_id.TreeKey.{TreeKey}
+use Rattle.hir_collector_rules.specs.HirTables.Tables.{TablesValue}
 use Rattle.hir_collector_rules.specs.Calls.{call_tree}
 use Rattle.hir_collector_rules.specs.Derivation.{CollectedValue}
 use Rattle.hir_collector_rules.specs.Keys.{tree_at}

@@ -2,8 +2,8 @@
 use Rattle.std.proofs.Common.{◌≡◌, ◌≢◌, ◌<◌, ◌+◌, ◌⊎◌, inl, inr, ℕ, zero, suc, List, [], ◌∷◌, ◌++◌, length, slice_get, slice_set, Some, refl, sym, ap, subst}
 use Rattle.std.proofs.Common.{arith}
 use Rattle.std.proofs.lemmas.Bool.{cases_lt}
-use Rattle.hir_def_map_rules.specs.State.{new_module}
-use Rattle.hir_def_map_rules.proofs.StaysWellFormed.{length-made}
+use Rattle.hir_collector_rules.specs.HirDefMapRules.State.{new_module}
+use Rattle.hir_collector_rules.proofs.HirDefMapRules.StaysWellFormed.{length-made}
 use Rattle.hir_collector_rules.specs.declared.macro_directive.Fate.{Fate}
 use Rattle.hir_collector_rules.specs.declared.macro_directive.MacroDirective.{MacroDirective}
 use Rattle.hir_collector_rules.specs.declared.macro_directive.Fate.TheVariants.{Waits}

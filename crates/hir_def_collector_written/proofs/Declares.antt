@@ -1,17 +1,17 @@
 -- What an item declares stands for one definition, and carries no import.
 use Rattle.std.proofs.Common.{◌≡◌, ℕ, List, Option, None, Some, refl, ap, subst}
-use Rattle.hir_base.specs.declared.macro_kind.MacroId.{MacroId}
-use Rattle.hir_base.specs.declared.ids.ModuleDefId.{ModuleDefId}
-use Rattle.hir_base.specs.declared.ids.ModuleDefId.TheVariants as definitions
-use Rattle.hir_item_tree.specs.KeptForest.{Head, Holder, KeptItem, Leaf, constant, enumeration, extern_block, extern_crate, function, holder, implementation}
-use Rattle.hir_item_tree.specs.KeptForest.{import, inline_module, leaf, macro_call, macro_def, macro_rules, outline_module, static_item, structure, trait_item}
-use Rattle.hir_item_tree.specs.KeptForest.{type_alias, union_structure}
-use Rattle.hir_scope.specs.PerNs.{Item}
-use Rattle.hir_scope.specs.declared.imports.ImportOrExternCrate.{ImportOrExternCrate}
-use Rattle.hir_scope.specs.declared.imports.ImportOrGlob.{ImportOrGlob}
-use Rattle.hir_scope.specs.declared.visibility.Visibility.{Visibility}
-use Rattle.hir_def_map_rules.specs.Overlay.{Maps}
-use Rattle.hir_def_map_rules.specs.State.{Local, Map}
+use Rattle.hir_collector_rules.specs.HirIds.declared.macro_kind.MacroId.{MacroId}
+use Rattle.hir_collector_rules.specs.HirIds.declared.ids.ModuleDefId.{ModuleDefId}
+use Rattle.hir_collector_rules.specs.HirIds.declared.ids.ModuleDefId.TheVariants as definitions
+use Rattle.hir_collector_rules.specs.HirItemTree.KeptForest.{Head, Holder, KeptItem, Leaf, constant, enumeration, extern_block, extern_crate, function, holder, implementation}
+use Rattle.hir_collector_rules.specs.HirItemTree.KeptForest.{import, inline_module, leaf, macro_call, macro_def, macro_rules, outline_module, static_item, structure, trait_item}
+use Rattle.hir_collector_rules.specs.HirItemTree.KeptForest.{type_alias, union_structure}
+use Rattle.hir_collector_rules.specs.HirPerNs.PerNs.{Item}
+use Rattle.hir_collector_rules.specs.HirPerNs.declared.imports.ImportOrExternCrate.{ImportOrExternCrate}
+use Rattle.hir_collector_rules.specs.HirPerNs.declared.imports.ImportOrGlob.{ImportOrGlob}
+use Rattle.hir_collector_rules.specs.HirPerNs.declared.visibility.Visibility.{Visibility}
+use Rattle.hir_collector_rules.specs.HirDefMapRules.Overlay.{Maps}
+use Rattle.hir_collector_rules.specs.HirDefMapRules.State.{Local, Map}
 use Rattle.hir_collector_rules.specs.declared.declaration.Declaration.{Declaration}
 use Rattle.hir_collector_rules.specs.declared.site.Site.{Site}
 use Rattle.hir_collector_rules.specs.Items.{declared_by, declared_by_leaf, declared_struct, type_declaration, value_declaration}

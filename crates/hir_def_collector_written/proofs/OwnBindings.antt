@@ -1,37 +1,37 @@
 -- Of what names stand for that no import brought, something holds where a run stands, and no glob is noted as what brought it.
 use Rattle.std.proofs.Common.{◌≡◌, ◌∙◌, ℕ, Bool, true, false, List, Option, None, Some, is_some, map as list_map, if◌then◌else◌, refl, sym, ap, subst}
-use Rattle.hir_base.specs.declared.macro_kind.MacroId.{MacroId}
-use Rattle.hir_base.specs.declared.ids.ModuleDefId.{ModuleDefId}
-use Rattle.hir_scope.specs.Entries.{item_at}
-use Rattle.hir_scope.specs.PerNs.{Item, value_import}
-use Rattle.hir_scope.specs.Scope.{ScopeValue}
-use Rattle.hir_scope.specs.declared.imports.GlobId.{GlobId}
-use Rattle.hir_scope.specs.declared.imports.ImportOrExternCrate.{ImportOrExternCrate}
-use Rattle.hir_scope.specs.declared.imports.ImportOrGlob.{ImportOrGlob}
-use Rattle.hir_scope.specs.declared.per_ns.PerNs.{PerNs}
-use Rattle.hir_scope.specs.declared.visibility.Visibility.{Visibility}
-use Rattle.hir_scope.specs.declared.imports.ImportOrExternCrate.TheVariants as ways
-use Rattle.hir_scope.specs.declared.item_in_ns.ItemInNs.TheVariants as in_ns
-use Rattle.hir_def_map_rules.specs.Declaration.{listed}
-use Rattle.hir_def_map_rules.specs.Overlay.{Maps}
-use Rattle.hir_def_map_rules.specs.State.{Map, ModuleValue, changed_at, entry_of, module_at, new_id, new_module, numbered, place_at, pushed_module, with_child}
-use Rattle.hir_def_map_rules.specs.State.{with_module_scope}
-use Rattle.hir_glob_imports.specs.Keys.{same_slot, slot_at}
-use Rattle.hir_glob_imports.specs.Moves.{brought_vis, may_raise}
-use Rattle.hir_glob_imports.specs.Rules.{BroughtBy, Rule as GlobRule, May as MayAlong, acts as glob_acts, brings, copies, copies_along, follows, follows_along}
-use Rattle.hir_glob_imports.specs.Rules.{noted, raises, raises_along}
-use Rattle.hir_glob_imports.specs.View.{bound_in}
-use Rattle.hir_glob_imports.specs.declared.edge.Bound.{Bound}
-use Rattle.hir_glob_imports.specs.declared.edge.Brought.{Brought}
-use Rattle.hir_glob_imports.specs.declared.edge.Key.{Key}
-use Rattle.hir_glob_imports.specs.declared.edge.Slot.{Slot}
-use Rattle.hir_glob_imports.specs.declared.edge.Target.{Target}
-use Rattle.hir_glob_imports.specs.declared.edge.Key.TheVariants.{Types, Values, Macros, Unnamed}
-use Rattle.hir_glob_imports.proofs.Settling.{same_itself}
-use Rattle.hir_import_rules.specs.Changes.{Change as ImportChange, along, forgotten, forgotten_in, keeps_trait, kept_vis, pushes, pushing, records, takes}
-use Rattle.hir_import_rules.specs.ScopeLaws.{vacant_of}
-use Rattle.hir_import_rules.specs.Names.{bound_by, bound_of, entries_of, items_by, scope_table, trait_vis, view_of, with_trait}
-use Rattle.hir_import_rules.specs.State.{ImportState, glob_state, scopes_of}
+use Rattle.hir_collector_rules.specs.HirIds.declared.macro_kind.MacroId.{MacroId}
+use Rattle.hir_collector_rules.specs.HirIds.declared.ids.ModuleDefId.{ModuleDefId}
+use Rattle.hir_collector_rules.specs.HirScope.Entries.{item_at}
+use Rattle.hir_collector_rules.specs.HirPerNs.PerNs.{Item, value_import}
+use Rattle.hir_collector_rules.specs.HirScope.Scope.{ScopeValue}
+use Rattle.hir_collector_rules.specs.HirPerNs.declared.imports.GlobId.{GlobId}
+use Rattle.hir_collector_rules.specs.HirPerNs.declared.imports.ImportOrExternCrate.{ImportOrExternCrate}
+use Rattle.hir_collector_rules.specs.HirPerNs.declared.imports.ImportOrGlob.{ImportOrGlob}
+use Rattle.hir_collector_rules.specs.HirPerNs.declared.per_ns.PerNs.{PerNs}
+use Rattle.hir_collector_rules.specs.HirPerNs.declared.visibility.Visibility.{Visibility}
+use Rattle.hir_collector_rules.specs.HirPerNs.declared.imports.ImportOrExternCrate.TheVariants as ways
+use Rattle.hir_collector_rules.specs.HirPerNs.declared.item_in_ns.ItemInNs.TheVariants as in_ns
+use Rattle.hir_collector_rules.specs.HirDefMapRules.Declaration.{listed}
+use Rattle.hir_collector_rules.specs.HirDefMapRules.Overlay.{Maps}
+use Rattle.hir_collector_rules.specs.HirDefMapRules.State.{Map, ModuleValue, changed_at, entry_of, module_at, new_id, new_module, numbered, place_at, pushed_module, with_child}
+use Rattle.hir_collector_rules.specs.HirDefMapRules.State.{with_module_scope}
+use Rattle.hir_collector_rules.specs.HirGlobImports.Keys.{same_slot, slot_at}
+use Rattle.hir_collector_rules.specs.HirGlobImports.Moves.{brought_vis, may_raise}
+use Rattle.hir_collector_rules.specs.HirGlobImports.Rules.{BroughtBy, Rule as GlobRule, May as MayAlong, acts as glob_acts, brings, copies, copies_along, follows, follows_along}
+use Rattle.hir_collector_rules.specs.HirGlobImports.Rules.{noted, raises, raises_along}
+use Rattle.hir_collector_rules.specs.HirGlobImports.View.{bound_in}
+use Rattle.hir_collector_rules.specs.HirGlobImports.declared.edge.Bound.{Bound}
+use Rattle.hir_collector_rules.specs.HirGlobImports.declared.edge.Brought.{Brought}
+use Rattle.hir_collector_rules.specs.HirGlobImports.declared.edge.Key.{Key}
+use Rattle.hir_collector_rules.specs.HirGlobImports.declared.edge.Slot.{Slot}
+use Rattle.hir_collector_rules.specs.HirGlobImports.declared.edge.Target.{Target}
+use Rattle.hir_collector_rules.specs.HirGlobImports.declared.edge.Key.TheVariants.{Types, Values, Macros, Unnamed}
+use Rattle.hir_collector_rules.proofs.HirGlobImports.Settling.{same_itself}
+use Rattle.hir_collector_rules.specs.HirImportRules.Changes.{Change as ImportChange, along, forgotten, forgotten_in, keeps_trait, kept_vis, pushes, pushing, records, takes}
+use Rattle.hir_collector_rules.specs.HirImportRules.ScopeLaws.{vacant_of}
+use Rattle.hir_collector_rules.specs.HirImportRules.Names.{bound_by, bound_of, entries_of, items_by, scope_table, trait_vis, view_of, with_trait}
+use Rattle.hir_collector_rules.specs.HirImportRules.State.{ImportState, glob_state, scopes_of}
 use Rattle.hir_collector_rules.specs.Changes.{Change, lists, makes, gives_variants, begins_paths, reaches, awaits, ends, settles, changes_imports, adds_textual}
 use Rattle.hir_collector_rules.specs.Changes.{takes_textual, defines, describes, helps, lists_derive, notes, exports, uses_macros, tells, goes_on, act}
 use Rattle.hir_collector_rules.specs.Changes.{with_builtin_derive}

@@ -5,20 +5,20 @@ use Rattle.std.specs.BTreeMap.{insert_entry, is_at}
 use Rattle.std.specs.Cmp.Lexicographic.{slice_cmp}
 use Rattle.std.specs.Map.{set_value}
 use Rattle.std.specs.Ordering.{nat_cmp}
-use Rattle.hir_scope.specs.Bindings.{Candidate, taken, takes as takes_slot, written_items}
-use Rattle.hir_scope.specs.Entries.{item_at, with_entry}
-use Rattle.hir_scope.specs.Globs.{Place, has_place}
-use Rattle.hir_scope.specs.PerNs.{Item}
-use Rattle.hir_scope.proofs.AfterPush.{item_at-with_entry, item_at-with_entry_other}
-use Rattle.hir_scope_table.specs.Table.{rewritten}
-use Rattle.hir_glob_imports.specs.Keys.{same_slot, slot_at}
-use Rattle.hir_glob_imports.specs.Rules.{BroughtBy, with_brought}
-use Rattle.hir_glob_imports.specs.declared.edge.Brought.{Brought}
-use Rattle.hir_glob_imports.specs.declared.edge.Key.{Key}
-use Rattle.hir_glob_imports.specs.declared.edge.Slot.{Slot}
-use Rattle.hir_glob_imports.specs.declared.edge.Key.TheVariants.{Types}
-use Rattle.hir_glob_imports.proofs.Exact.{exact_slot}
-use Rattle.hir_glob_imports.proofs.Settling.{same_itself}
+use Rattle.hir_collector_rules.specs.HirScope.Bindings.{Candidate, taken, takes as takes_slot, written_items}
+use Rattle.hir_collector_rules.specs.HirScope.Entries.{item_at, with_entry}
+use Rattle.hir_collector_rules.specs.HirScope.Globs.{Place, has_place}
+use Rattle.hir_collector_rules.specs.HirPerNs.PerNs.{Item}
+use Rattle.hir_collector_rules.proofs.HirScope.AfterPush.{item_at-with_entry, item_at-with_entry_other}
+use Rattle.hir_collector_rules.specs.HirScopeTable.Table.{rewritten}
+use Rattle.hir_collector_rules.specs.HirGlobImports.Keys.{same_slot, slot_at}
+use Rattle.hir_collector_rules.specs.HirGlobImports.Rules.{BroughtBy, with_brought}
+use Rattle.hir_collector_rules.specs.HirGlobImports.declared.edge.Brought.{Brought}
+use Rattle.hir_collector_rules.specs.HirGlobImports.declared.edge.Key.{Key}
+use Rattle.hir_collector_rules.specs.HirGlobImports.declared.edge.Slot.{Slot}
+use Rattle.hir_collector_rules.specs.HirGlobImports.declared.edge.Key.TheVariants.{Types}
+use Rattle.hir_collector_rules.proofs.HirGlobImports.Exact.{exact_slot}
+use Rattle.hir_collector_rules.proofs.HirGlobImports.Settling.{same_itself}
 
 -- names are the same or not
 one_or_other : (a b : List ℕ) → (a ≡ b) ⊎ (b ≢ a)

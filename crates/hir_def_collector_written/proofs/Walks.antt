@@ -1,12 +1,12 @@
 -- What is to be visited is walked, and what comes of it hangs on the end of a run alone.
 use Rattle.std.proofs.Common.{◌≡◌, ◌≤◌, ℕ, Bool, true, false, List, [], ◌∷◌, ◌++◌, Some, refl, subst, arith, append_assoc}
-use Rattle.hir_item_tree.specs.Collected.{is_enabled}
-use Rattle.hir_item_tree.specs.Kinds.{item_head}
-use Rattle.hir_item_tree.specs.KeptForest.{Head, Holder, KeptForest, KeptItem, Leaf, constant, enumeration, extern_crate, function, holder, implementation}
-use Rattle.hir_item_tree.specs.KeptForest.{import, item, leaf, macro_call, macro_def, macro_rules, no_items, outline_module, static_item, structure, trait_item}
-use Rattle.hir_item_tree.specs.KeptForest.{type_alias, union_structure}
-use Rattle.hir_def_map_rules.specs.Overlay.{Maps}
-use Rattle.hir_def_map_rules.specs.State.{Local, Map}
+use Rattle.hir_collector_rules.specs.HirItemTree.Collected.{is_enabled}
+use Rattle.hir_collector_rules.specs.HirItemTree.Kinds.{item_head}
+use Rattle.hir_collector_rules.specs.HirItemTree.KeptForest.{Head, Holder, KeptForest, KeptItem, Leaf, constant, enumeration, extern_crate, function, holder, implementation}
+use Rattle.hir_collector_rules.specs.HirItemTree.KeptForest.{import, item, leaf, macro_call, macro_def, macro_rules, no_items, outline_module, static_item, structure, trait_item}
+use Rattle.hir_collector_rules.specs.HirItemTree.KeptForest.{type_alias, union_structure}
+use Rattle.hir_collector_rules.specs.HirDefMapRules.Overlay.{Maps}
+use Rattle.hir_collector_rules.specs.HirDefMapRules.State.{Local, Map}
 use Rattle.hir_collector_rules.specs.declared.declaration.Declaration.{Declaration}
 use Rattle.hir_collector_rules.specs.declared.site.Site.{Site}
 use Rattle.hir_collector_rules.specs.Derivation.{CollectedValue}

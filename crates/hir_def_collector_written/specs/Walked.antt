@@ -1,22 +1,22 @@
 -- Which items does a run walk, and which imports does it come upon there?
 use Rattle.std.specs.Prelude.{◌≡◌, ◌≤◌, ℕ, Bool, true, false, List, None, Some, Contains, slice_get}
-use Rattle.hir_base.specs.declared.ast_id.AstId.{AstId}
-use Rattle.hir_base.specs.declared.macro_kind.BuiltinDeriveImplId.{BuiltinDeriveImplId}
-use Rattle.hir_base.specs.declared.ast_id.EditionedFileId.{EditionedFileId}
-use Rattle.hir_base.specs.declared.macro_kind.MacroId.{MacroId}
-use Rattle.hir_item_tree.specs.Collected.{is_enabled}
-use Rattle.hir_item_tree.specs.Imports.{imports_of}
-use Rattle.hir_item_tree.specs.KeptForest.{Head, Holder, KeptForest, KeptItem, Leaf, extern_block, extern_crate, holder, import, inline_module, item, leaf}
-use Rattle.hir_item_tree.specs.KeptForest.{no_items}
-use Rattle.hir_item_tree.specs.UseTree.{UseTree}
-use Rattle.hir_item_tree.specs.declared.tree_id.TreeId.{TreeId}
-use Rattle.hir_use_tree.specs.declared.imports.Import.{Import}
-use Rattle.hir_mod_dir.specs.Directory.{Directory}
-use Rattle.hir_mod_dir.specs.ModuleFiles.{inline_directory}
-use Rattle.hir_tables.specs.Tables.{TablesValue}
-use Rattle.hir_def_map_rules.specs.Overlay.{Maps}
-use Rattle.hir_def_map_rules.specs.State.{Map, ModuleValue, module_at}
-use Rattle.hir_def_map_rules.specs.declared.origin.ModuleOrigin.TheVariants as origins
+use Rattle.hir_collector_rules.specs.HirIds.declared.ast_id.AstId.{AstId}
+use Rattle.hir_collector_rules.specs.HirIds.declared.macro_kind.BuiltinDeriveImplId.{BuiltinDeriveImplId}
+use Rattle.hir_collector_rules.specs.HirIds.declared.ast_id.EditionedFileId.{EditionedFileId}
+use Rattle.hir_collector_rules.specs.HirIds.declared.macro_kind.MacroId.{MacroId}
+use Rattle.hir_collector_rules.specs.HirItemTree.Collected.{is_enabled}
+use Rattle.hir_collector_rules.specs.HirItemTree.Imports.{imports_of}
+use Rattle.hir_collector_rules.specs.HirItemTree.KeptForest.{Head, Holder, KeptForest, KeptItem, Leaf, extern_block, extern_crate, holder, import, inline_module, item, leaf}
+use Rattle.hir_collector_rules.specs.HirItemTree.KeptForest.{no_items}
+use Rattle.hir_collector_rules.specs.HirItemTree.UseTree.{UseTree}
+use Rattle.hir_collector_rules.specs.HirBase.declared.tree_id.TreeId.{TreeId}
+use Rattle.hir_collector_rules.specs.HirUseTree.declared.imports.Import.{Import}
+use Rattle.hir_collector_rules.specs.HirModDir.Directory.{Directory}
+use Rattle.hir_collector_rules.specs.HirModDir.ModuleFiles.{inline_directory}
+use Rattle.hir_collector_rules.specs.HirTables.Tables.{TablesValue}
+use Rattle.hir_collector_rules.specs.HirDefMapRules.Overlay.{Maps}
+use Rattle.hir_collector_rules.specs.HirDefMapRules.State.{Map, ModuleValue, module_at}
+use Rattle.hir_collector_rules.specs.HirMapParts.declared.origin.ModuleOrigin.TheVariants as origins
 use Rattle.hir_collector_rules.specs.declared.macro_directive.Fate.TheVariants.{GivenUp, Handled}
 use Rattle.hir_collector_rules.specs.declared.macro_directive.MacroDirective.{MacroDirective}
 use Rattle.hir_collector_rules.specs.declared.site.Site.{Site}

@@ -1,8 +1,8 @@
 -- What falls with a map, in one step or more.
 use Rattle.std.proofs.Common.{◌≡◌, ◌∙◌, ap, true}
-use Rattle.hir_base.specs.declared.ids.MapId.{MapId}
-use Rattle.hir_def_map.specs.Removal.{Depends, FallsWith, Names}
-use Rattle.hir_def_map.specs.Removal.Depends.{itself, through}
+use Rattle.hir_nameres.specs.HirIds.declared.ids.MapId.{MapId}
+use Rattle.hir_nameres.specs.Removal.{Depends, FallsWith, Names}
+use Rattle.hir_nameres.specs.Removal.Depends.{itself, through}
 
 pub falls_itself : (names : Names) (id : MapId) → FallsWith names id id
 falls_itself names id falls f up = f

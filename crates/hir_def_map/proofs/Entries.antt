@@ -7,14 +7,14 @@ use Rattle.std.specs.Option.{option_map}
 use Rattle.std.specs.BTreeMap.{BTreeMap, get, is_at, Updates}
 use Rattle.std.specs.Map.{lookup}
 use Rattle.std.specs.BTreeSet.{BTreeSet, btree_set_len, contains}
-use Rattle.hir_base.specs.declared.ids.MapId.{MapId}
-use Rattle.hir_base.specs.contracts.ids.MapIdOrd.TheImpl as map_order
+use Rattle.hir_nameres.specs.HirIds.declared.ids.MapId.{MapId}
+use Rattle.hir_nameres.specs.HirIds.contracts.ids.MapIdOrd.TheImpl as map_order
 use Rattle.hir_def_map.specs.Types.{Dependents, Finished}
 use Rattle.hir_def_map_rules.specs.State.{Local, Map}
 use Rattle.hir_def_map_rules.specs.References.{is_well_formed}
 use Rattle.hir_def_map.specs.Insertion.{may_join}
-use Rattle.hir_def_map.specs.World.{finished_in, placed_of}
-use Rattle.hir_def_map.specs.Removal.{lists_in, lists_of}
+use Rattle.hir_nameres.specs.World.{finished_in, placed_of}
+use Rattle.hir_nameres.specs.Removal.{lists_in, lists_of}
 use Rattle.hir_def_map.specs.Inner.Dependents.{Enters, has_id, is_dependent, is_entry, IsEntered, IsIndexed, IsSame, IsSameBut, Leaves}
 use Rattle.hir_def_map.proofs.Joined.{own_id, same_id}
 

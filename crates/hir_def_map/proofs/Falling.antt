@@ -5,17 +5,17 @@ use mathlib.Core.Bool.{true≢false}
 use Rattle.std.specs.Option.{option_map}
 use Rattle.std.specs.List.{list_any}
 use Rattle.std.specs.BTreeMap.{BTreeMap, get, is_at, Updates}
-use Rattle.hir_base.specs.declared.ids.MapId.{MapId}
-use Rattle.hir_base.specs.declared.ids.ModuleId.{ModuleId}
-use Rattle.hir_base.specs.contracts.ids.MapIdOrd.TheImpl as map_order
-use Rattle.hir_scope.specs.ModuleTree.{same_crate}
+use Rattle.hir_nameres.specs.HirIds.declared.ids.MapId.{MapId}
+use Rattle.hir_nameres.specs.HirIds.declared.ids.ModuleId.{ModuleId}
+use Rattle.hir_nameres.specs.HirIds.contracts.ids.MapIdOrd.TheImpl as map_order
+use Rattle.hir_nameres.specs.HirPerNs.ModuleTree.{same_crate}
 use Rattle.hir_def_map.specs.Types.{Finished}
 use Rattle.hir_def_map_rules.specs.Overlay.{Maps, Placed, holders_of, holders_under}
 use Rattle.hir_def_map_rules.specs.Ancestors.{HolderLeads, IsPlaced, frame_of, frames_of, holders_of_frame}
 use Rattle.hir_def_map_rules.specs.References.{lies_in, refers_to, any_reference}
-use Rattle.hir_def_map.specs.World.{IsChecked, IsFinished, finished_in, placed_of}
-use Rattle.hir_def_map.specs.Removal.{Depends, FallsWith, IsClosed, IsFalling, IsUpward, lacks_some, lists_in, lists_of, refers_in, refers_of}
-use Rattle.hir_def_map.specs.Removal.Depends.{itself, through}
+use Rattle.hir_nameres.specs.World.{IsChecked, IsFinished, finished_in, placed_of}
+use Rattle.hir_nameres.specs.Removal.{Depends, FallsWith, IsClosed, IsFalling, IsUpward, lacks_some, lists_in, lists_of, refers_in, refers_of}
+use Rattle.hir_nameres.specs.Removal.Depends.{itself, through}
 use Rattle.hir_def_map.proofs.Depending.{depends_still, falls_by}
 use Rattle.hir_def_map.proofs.Joined.{finished_kept, holder_named, own_id, same_id}
 use Rattle.hir_def_map.proofs.Naming.{names_finished}

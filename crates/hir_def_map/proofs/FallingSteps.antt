@@ -8,11 +8,11 @@ use Rattle.std.specs.Vec.{vec_capacity, vec_len}
 use Rattle.std.specs.declared.vec.Vec.{Vec}
 use Rattle.std.specs.declared.alloc.Global.{Global}
 use Rattle.std.proofs.lemmas.List.Folds.{list_any-append}
-use Rattle.hir_base.specs.declared.ids.MapId.{MapId}
-use Rattle.hir_base.specs.contracts.ids.MapIdOrd.TheImpl as map_order
+use Rattle.hir_nameres.specs.HirIds.declared.ids.MapId.{MapId}
+use Rattle.hir_nameres.specs.HirIds.contracts.ids.MapIdOrd.TheImpl as map_order
 use Rattle.hir_def_map.specs.Types.{Dependents, Finished}
 use Rattle.hir_def_map.specs.Inner.Dependents.{HasRoom, is_dependent, IsIndexed}
-use Rattle.hir_def_map.specs.Removal.{IsClosed, IsFalling, lacks_some, lists_in, lists_of}
+use Rattle.hir_nameres.specs.Removal.{IsClosed, IsFalling, lacks_some, lists_in, lists_of}
 use Rattle.hir_def_map.proofs.Falling.{Store, at, falling-start, falling-step, lacks_from, which_lacks}
 use Rattle.hir_def_map.proofs.Joined.{own_id, same_id}
 

@@ -9,16 +9,16 @@ use Rattle.std.specs.Ordering.{is_eq}
 use Rattle.std.specs.BTreeMap.{BTreeMap, get, is_at, Updates, IsUnchanged}
 use Rattle.std.specs.Map.{lookup}
 use Rattle.std.specs.Result.{OnOk, OnErr}
-use Rattle.hir_base.specs.declared.ids.Crate.{Crate}
-use Rattle.hir_base.specs.declared.ids.MapId.{MapId}
-use Rattle.hir_base.specs.declared.ids.ModuleDefId.{ModuleDefId}
-use Rattle.hir_base.specs.declared.ids.ModuleId.{ModuleId}
-use Rattle.hir_base.specs.contracts.ids.MapIdOrd.TheImpl as map_order
-use Rattle.hir_base.specs.contracts.ids.MapIdOrd.TheImpl.Laws.{total-law as order_total, matches_eq-law as order_ties}
-use Rattle.hir_base.specs.contracts.ids.MapIdPartialEq.TheImpl as map_id
-use Rattle.hir_scope.specs.ModuleTree.{same_crate}
-use Rattle.hir_scope.specs.PerNs.{Item}
-use Rattle.hir_scope.specs.Scope.{ScopeValue}
+use Rattle.hir_nameres.specs.HirIds.declared.ids.Crate.{Crate}
+use Rattle.hir_nameres.specs.HirIds.declared.ids.MapId.{MapId}
+use Rattle.hir_nameres.specs.HirIds.declared.ids.ModuleDefId.{ModuleDefId}
+use Rattle.hir_nameres.specs.HirIds.declared.ids.ModuleId.{ModuleId}
+use Rattle.hir_nameres.specs.HirIds.contracts.ids.MapIdOrd.TheImpl as map_order
+use Rattle.hir_nameres.specs.HirIds.contracts.ids.MapIdOrd.TheImpl.Laws.{total-law as order_total, matches_eq-law as order_ties}
+use Rattle.hir_nameres.specs.HirIds.contracts.ids.MapIdPartialEq.TheImpl as map_id
+use Rattle.hir_nameres.specs.HirPerNs.ModuleTree.{same_crate}
+use Rattle.hir_nameres.specs.HirPerNs.PerNs.{Item}
+use Rattle.hir_nameres.specs.HirScope.Scope.{ScopeValue}
 use Rattle.hir_def_map.specs.Types.{Finished}
 use Rattle.hir_def_map_rules.specs.declared.reference.Reference.{Reference}
 use Rattle.hir_def_map_rules.specs.declared.reference.Reference.TheVariants as named
@@ -30,8 +30,8 @@ use Rattle.hir_def_map_rules.specs.References.{each_leads_to_root, has_its_paren
 use Rattle.hir_def_map_rules.specs.References.{lies_in, map_of_reference, reference_to, any_reference_in, any_reference_in_scope, any_own_crate, any_reference}
 use Rattle.hir_def_map_rules.specs.References.{prelude_reference, test_child, test_crate, test_extern, test_item, test_macro, test_of, test_trait, test_type}
 use Rattle.hir_def_map_rules.specs.References.{test_value, test_visibility, visibility_reference}
-use Rattle.hir_def_map.specs.World.{IsChecked, IsFinished, finished_in, placed_of}
-use Rattle.hir_def_map.specs.Removal.{FallsWith, lists_in, lists_of, refers_in, refers_of}
+use Rattle.hir_nameres.specs.World.{IsChecked, IsFinished, finished_in, placed_of}
+use Rattle.hir_nameres.specs.Removal.{FallsWith, lists_in, lists_of, refers_in, refers_of}
 use Rattle.hir_def_map.specs.Inner.Recorded.{IsRecordedFor}
 use Rattle.hir_def_map.specs.Insertion.{may_join}
 use Rattle.hir_def_map.proofs.Depending.{falls_in_step, falls_on, falls_still}

@@ -1,5 +1,3 @@
--- single functions
-pub mod Parts
 -- worlds
 pub mod Depending
 pub mod Joined

@@ -4,17 +4,17 @@ use Rattle.std.specs.Cmp.{first_so, second_so}
 use Rattle.std.specs.BTreeMap.{is_at}
 use Rattle.std.proofs.Common.{ap, refl, sym, ◌∙◌}
 use mathlib.Core.Bool.{true≢false}
-use Rattle.hir_base.specs.declared.ids.Crate.{Crate}
-use Rattle.hir_base.specs.declared.ids.MapId.{MapId}
-use Rattle.hir_base.specs.declared.ids.ModuleId.{ModuleId}
-use Rattle.hir_base.specs.contracts.ids.MapIdOrd.TheImpl as map_order
-use Rattle.hir_base.specs.contracts.ids.MapIdPartialEq.TheImpl as map_id
+use Rattle.hir_nameres.specs.HirIds.declared.ids.Crate.{Crate}
+use Rattle.hir_nameres.specs.HirIds.declared.ids.MapId.{MapId}
+use Rattle.hir_nameres.specs.HirIds.declared.ids.ModuleId.{ModuleId}
+use Rattle.hir_nameres.specs.HirIds.contracts.ids.MapIdOrd.TheImpl as map_order
+use Rattle.hir_nameres.specs.HirIds.contracts.ids.MapIdPartialEq.TheImpl as map_id
 use Rattle.hir_def_map_rules.specs.declared.reference.Reference.{Reference}
 use Rattle.hir_def_map_rules.specs.declared.reference.Reference.TheVariants as named
-use Rattle.hir_def_map.specs.WorldParts.{among}
-use Rattle.hir_def_map.specs.Inner.PartLaws.{among-only}
+use Rattle.hir_nameres.specs.WorldParts.{among}
+use Rattle.hir_nameres.specs.Inner.PartLaws.{among-only}
 use Rattle.hir_def_map_rules.specs.Inner.OverlayLaws.{exact_map}
-use Rattle.hir_scope.specs.ModuleTree.{same_crate}
+use Rattle.hir_nameres.specs.HirPerNs.ModuleTree.{same_crate}
 use Rattle.hir_def_map_rules.specs.WellFormed.{HasNoDanglingExtern, Extends, HasNoDanglingReference, is_held_outside}
 use Rattle.hir_def_map_rules.specs.References.{is_well_formed, is_holder_for, is_missing, is_there, lies_in, map_of_reference, refers_to, any_reference}
 use Rattle.hir_def_map_rules.specs.State.{Local, Map, module_at, variants_at}

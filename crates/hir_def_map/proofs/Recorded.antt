@@ -6,24 +6,24 @@ use Rattle.std.specs.List.{list_any}
 use Rattle.std.proofs.lemmas.List.{length-append}
 use Rattle.std.specs.BTreeMap.{BTreeMap, get, is_at}
 use Rattle.std.specs.BTreeSet.{BTreeSet, contains}
-use Rattle.hir_base.specs.declared.ast_id.BlockId.{BlockId}
-use Rattle.hir_base.specs.declared.ids.Crate.{Crate}
-use Rattle.hir_base.specs.declared.ids.MapId.{MapId}
-use Rattle.hir_base.specs.contracts.ids.MapIdOrd.TheImpl as map_order
-use Rattle.hir_base.specs.contracts.ids.MapIdPartialEq.TheImpl as map_id
+use Rattle.hir_nameres.specs.HirIds.declared.ast_id.BlockId.{BlockId}
+use Rattle.hir_nameres.specs.HirIds.declared.ids.Crate.{Crate}
+use Rattle.hir_nameres.specs.HirIds.declared.ids.MapId.{MapId}
+use Rattle.hir_nameres.specs.HirIds.contracts.ids.MapIdOrd.TheImpl as map_order
+use Rattle.hir_nameres.specs.HirIds.contracts.ids.MapIdPartialEq.TheImpl as map_id
 use mathlib.Core.Bool.{true≢false}
-use Rattle.hir_crate_graph.specs.CrateSet.{Gains as CratesGain, has_crate}
+use Rattle.hir_nameres.specs.HirCrateGraph.CrateSet.{Gains as CratesGain, has_crate}
 use Rattle.hir_def_map.specs.Types.{Finished}
 use Rattle.hir_def_map_rules.specs.State.{Local, Map, crate_map}
 use Rattle.hir_def_map.specs.Insertion.{Gains}
 use Rattle.hir_def_map_rules.specs.References.{any_own_crate, any_reference, lies_in, test_crate}
-use Rattle.hir_def_map.specs.Removal.{lists_in, refers_in, refers_of}
-use Rattle.hir_def_map.specs.World.{IsChecked}
+use Rattle.hir_nameres.specs.Removal.{lists_in, refers_in, refers_of}
+use Rattle.hir_nameres.specs.World.{IsChecked}
 use Rattle.hir_def_map.specs.Inner.Recorded.{AreCovered, GainsOnly, IsCovered, IsRecordedFor, Records, is_left_out, is_other}
 use Rattle.hir_def_map_rules.specs.Inner.ReferenceLists.{any_listed}
 use Rattle.hir_def_map_rules.proofs.References.{any-append, any_is}
 use Rattle.hir_def_map.proofs.Depending.{falls_itself}
-use Rattle.hir_scope.specs.ModuleTree.{same_crate}
+use Rattle.hir_nameres.specs.HirPerNs.ModuleTree.{same_crate}
 use Rattle.hir_def_map_rules.specs.Inner.OverlayLaws.{exact_crate, exact_map}
 use Rattle.hir_def_map.proofs.Joined.{both, crate_named, equal_id, own_crate_named, own_id, same_id}
 use Rattle.hir_def_map_rules.proofs.NoneOf.{not_first}

@@ -5,10 +5,10 @@ use mathlib.Core.Bool.{true≢false}
 use Rattle.std.specs.List.{count_by}
 use Rattle.std.specs.BTreeMap.{is_at, Updates}
 use Rattle.std.proofs.lemmas.List.Sums.{sum_by_push}
-use Rattle.hir_base.specs.declared.ids.MapId.{MapId}
-use Rattle.hir_base.specs.contracts.ids.MapIdOrd.TheImpl as map_order
+use Rattle.hir_nameres.specs.HirIds.declared.ids.MapId.{MapId}
+use Rattle.hir_nameres.specs.HirIds.contracts.ids.MapIdOrd.TheImpl as map_order
 use Rattle.hir_def_map.specs.Types.{Finished}
-use Rattle.hir_def_map.specs.Removal.{GainsRemoved, IsFalling, is_removed}
+use Rattle.hir_nameres.specs.Removal.{GainsRemoved, IsFalling, is_removed}
 use Rattle.hir_def_map.proofs.Entries.{either_way}
 use Rattle.hir_def_map.proofs.Falling.{Store, at}
 use Rattle.hir_def_map.proofs.Joined.{own_id, same_id}

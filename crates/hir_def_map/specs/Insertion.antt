@@ -1,8 +1,8 @@
 -- What does an insertion answer?
 use Rattle.std.specs.Prelude.{◌≡◌, ◌&&◌, ◌||◌, Bool, true, false, not, is_some, Result, Ok, Err}
 use Rattle.std.specs.BTreeSet.{BTreeSet, contains}
-use Rattle.hir_base.specs.declared.ids.MapId.{MapId}
-use Rattle.hir_base.specs.contracts.ids.MapIdOrd.TheImpl as map_order
+use Rattle.hir_nameres.specs.HirIds.declared.ids.MapId.{MapId}
+use Rattle.hir_nameres.specs.HirIds.contracts.ids.MapIdOrd.TheImpl as map_order
 use Rattle.hir_def_map.specs.declared.world.insert.InsertError.{InsertError}
 use Rattle.hir_def_map.specs.declared.world.insert.InsertError.TheVariants.{Unchecked, Memory}
 use Rattle.hir_def_map.specs.declared.world.insert.Refused.{Refused}

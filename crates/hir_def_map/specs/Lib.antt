@@ -1,16 +1,16 @@
 -- what is read of a map, and lent of it
-pub mod ModuleIds
-pub mod Lending
+pub use Rattle.hir_nameres.specs.ModuleIds
+pub use Rattle.hir_nameres.specs.Lending
 -- ---- what a path is asked with
-pub mod Scoping
+pub use Rattle.hir_nameres.specs.Scoping
 -- ---- the finished maps
-pub mod World
+pub use Rattle.hir_nameres.specs.World
 pub mod Insertion
-pub mod Removal
+pub use Rattle.hir_nameres.specs.Removal
 pub mod Agreement
 -- a part of them, and that with the current map on top
-pub mod WorldParts
-pub mod DefMaps
+pub use Rattle.hir_nameres.specs.WorldParts
+pub use Rattle.hir_nameres.specs.DefMaps
 -- the types of the crate, under their names
 pub mod Types
 -- ---- words of private code

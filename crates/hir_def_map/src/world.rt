@@ -1,15 +1,13 @@
 //! The maps that are finished.
 ghost use Rattle.std.specs.Prelude.{◌≡◌};
 ghost use Rattle.hir_def_map_rules.specs.Overlay.{no_maps};
-ghost use Rattle.hir_def_map.specs.World.{IsChecked, finished_in};
+ghost use Rattle.hir_nameres.specs.World.{IsChecked, finished_in};
 ghost use Rattle.hir_def_map.specs.Inner.Dependents.{HasRoom, IsIndexed};
 
 pub mod agree;
 pub mod dependents;
-pub mod finished;
 pub mod insert;
 pub mod look_up;
-pub mod part;
 mod recorded;
 mod references;
 pub mod remove;
@@ -17,8 +15,10 @@ mod well_formed;
 
 use dependents::Dependents;
 use finished::Finished;
-use hir_base::ids::MapId;
+use finished_maps::FinishedMaps;
 pub use hir_def_map_rules::reference;
+use hir_nameres::hir_base::ids::MapId;
+pub use hir_nameres::world::{finished, finished_maps, part};
 use std::alloc::Global;
 use std::collections::BTreeMap;
 
@@ -47,5 +47,15 @@ impl World {
             falling: Vec::new(alloc),
             alloc,
         }
+    }
+}
+
+impl FinishedMaps for World {
+    ghost maps_of = { λ world. world.maps };
+
+    ghost checked = { λ world. world.checked };
+
+    fn finished_maps(&self) -> &BTreeMap<MapId, Finished> {
+        &self.maps
     }
 }

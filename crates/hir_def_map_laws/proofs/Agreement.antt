@@ -4,39 +4,39 @@ use Rattle.std.specs.List.{All, list_any}
 use Rattle.std.specs.Option.{option_and_then, option_map}
 use Rattle.std.specs.Prelude.{is_some, not, slice_get}
 use Rattle.std.proofs.lemmas.List.Elements.{All-head, All-tail}
-use Rattle.hir_base.specs.declared.ids.AdtId.{AdtId}
-use Rattle.hir_base.specs.declared.ids.Crate.{Crate}
-use Rattle.hir_base.specs.declared.ids.MapId.{MapId}
-use Rattle.hir_base.specs.declared.ids.ModuleDefId.{ModuleDefId}
-use Rattle.hir_base.specs.declared.mod_path.PathKind.{PathKind}
-use Rattle.hir_base.specs.declared.ids.UseId.{UseId}
-use Rattle.hir_base.specs.declared.ids.AdtId.TheVariants as adts
-use Rattle.hir_base.specs.declared.ids.ModuleId.{ModuleId as AnyModule}
-use Rattle.hir_base.specs.declared.ids.ModuleDefId.TheVariants.{ModuleId, FunctionId, AdtId as AnyAdt, EnumVariantId, ConstId, StaticId, TraitId, TypeAliasId}
-use Rattle.hir_base.specs.declared.ids.ModuleDefId.TheVariants.{BuiltinType, MacroId}
-use Rattle.hir_base.specs.declared.mod_path.PathKind.TheVariants as kinds
-use Rattle.hir_scope.specs.declared.imports.ImportOrExternCrate.{ImportOrExternCrate}
-use Rattle.hir_scope.specs.declared.per_ns.PerNs.{PerNs}
-use Rattle.hir_scope.specs.PerNs.{Item, keep_of, nothing, or_of}
-use Rattle.hir_scope.specs.ModuleTree.{same_block, same_crate}
-use Rattle.hir_scope.specs.Visibility.{is_visible}
-use Rattle.hir_def_map_rules.specs.State.{CrateData, Map, module_at, parent_of, root_of, crate_root}
-use Rattle.hir_def_map_rules.specs.Overlay.{Maps, Placed, entry_in, map_in, parent_in}
-use Rattle.hir_def_map_rules.proofs.WellFormed.{parent_listed}
-use Rattle.hir_def_map_rules.specs.Ancestors.{Frame, above_by, above_in, frame_of, frames_of, holders_by, holders_in}
-use Rattle.hir_def_map_rules.specs.Scoping.Asking.{Asking}
-use Rattle.hir_def_map_rules.specs.Scoping.Blocks.{from_blocks, in_preludes, inherited, joined, with_preludes}
-use Rattle.hir_def_map_rules.specs.Scoping.FirstSegment.{builtin_name, extern_name, is_block_root, legacy_bound, macro_use_bound, name_in_module}
-use Rattle.hir_def_map_rules.specs.Scoping.FirstSegment.{name_in_preludes, name_in_crate_root_or_extern_prelude, of_style, prelude_bound, prelude_name}
-use Rattle.hir_def_map_rules.specs.Scoping.FirstSegment.{prelude_of, shadow_before, unless_block_root, with_builtin}
-use Rattle.hir_def_map_rules.specs.Scoping.Segments.{after_enum, crossing, nearest_non_block_among, nearest_non_block_module, rest, seen, through, through_adt}
-use Rattle.hir_def_map_rules.specs.Scoping.Segments.{through_type, unresolved}
-use Rattle.hir_def_map_rules.specs.Scoping.Start.{abs_from, climb, from_start, is_edition_2015, is_dependency, is_import, is_in_reach, module_bound}
-use Rattle.hir_def_map_rules.specs.Scoping.Start.{is_in_edition_2015, settled_in_block, super_from}
-use Rattle.hir_def_map_rules.specs.declared.path_result.ReachedFixedPoint.TheVariants.{No}
-use Rattle.hir_def_map_rules.specs.declared.path_result.ResolvePathResult.{ResolvePathResult}
+use Rattle.hir_nameres.specs.HirIds.declared.ids.AdtId.{AdtId}
+use Rattle.hir_nameres.specs.HirIds.declared.ids.Crate.{Crate}
+use Rattle.hir_nameres.specs.HirIds.declared.ids.MapId.{MapId}
+use Rattle.hir_nameres.specs.HirIds.declared.ids.ModuleDefId.{ModuleDefId}
+use Rattle.hir_nameres.specs.HirBase.declared.mod_path.PathKind.{PathKind}
+use Rattle.hir_nameres.specs.HirIds.declared.ids.UseId.{UseId}
+use Rattle.hir_nameres.specs.HirIds.declared.ids.AdtId.TheVariants as adts
+use Rattle.hir_nameres.specs.HirIds.declared.ids.ModuleId.{ModuleId as AnyModule}
+use Rattle.hir_nameres.specs.HirIds.declared.ids.ModuleDefId.TheVariants.{ModuleId, FunctionId, AdtId as AnyAdt, EnumVariantId, ConstId, StaticId, TraitId, TypeAliasId}
+use Rattle.hir_nameres.specs.HirIds.declared.ids.ModuleDefId.TheVariants.{BuiltinType, MacroId}
+use Rattle.hir_nameres.specs.HirBase.declared.mod_path.PathKind.TheVariants as kinds
+use Rattle.hir_nameres.specs.HirPerNs.declared.imports.ImportOrExternCrate.{ImportOrExternCrate}
+use Rattle.hir_nameres.specs.HirPerNs.declared.per_ns.PerNs.{PerNs}
+use Rattle.hir_nameres.specs.HirPerNs.PerNs.{Item, keep_of, nothing, or_of}
+use Rattle.hir_nameres.specs.HirPerNs.ModuleTree.{same_block, same_crate}
+use Rattle.hir_nameres.specs.HirPerNs.Visibility.{is_visible}
+use Rattle.hir_nameres.specs.HirDefMapRules.State.{CrateData, Map, module_at, parent_of, root_of, crate_root}
+use Rattle.hir_nameres.specs.HirDefMapRules.Overlay.{Maps, Placed, entry_in, map_in, parent_in}
+use Rattle.hir_nameres.proofs.HirDefMapRules.WellFormed.{parent_listed}
+use Rattle.hir_nameres.specs.HirDefMapRules.Ancestors.{Frame, above_by, above_in, frame_of, frames_of, holders_by, holders_in}
+use Rattle.hir_nameres.specs.HirDefMapRules.Scoping.Asking.{Asking}
+use Rattle.hir_nameres.specs.HirDefMapRules.Scoping.Blocks.{from_blocks, in_preludes, inherited, joined, with_preludes}
+use Rattle.hir_nameres.specs.HirDefMapRules.Scoping.FirstSegment.{builtin_name, extern_name, is_block_root, legacy_bound, macro_use_bound, name_in_module}
+use Rattle.hir_nameres.specs.HirDefMapRules.Scoping.FirstSegment.{name_in_preludes, name_in_crate_root_or_extern_prelude, of_style, prelude_bound, prelude_name}
+use Rattle.hir_nameres.specs.HirDefMapRules.Scoping.FirstSegment.{prelude_of, shadow_before, unless_block_root, with_builtin}
+use Rattle.hir_nameres.specs.HirDefMapRules.Scoping.Segments.{after_enum, crossing, nearest_non_block_among, nearest_non_block_module, rest, seen, through, through_adt}
+use Rattle.hir_nameres.specs.HirDefMapRules.Scoping.Segments.{through_type, unresolved}
+use Rattle.hir_nameres.specs.HirDefMapRules.Scoping.Start.{abs_from, climb, from_start, is_edition_2015, is_dependency, is_import, is_in_reach, module_bound}
+use Rattle.hir_nameres.specs.HirDefMapRules.Scoping.Start.{is_in_edition_2015, settled_in_block, super_from}
+use Rattle.hir_nameres.specs.HirDefMapRules.declared.path_result.ReachedFixedPoint.TheVariants.{No}
+use Rattle.hir_nameres.specs.HirDefMapRules.declared.path_result.ResolvePathResult.{ResolvePathResult}
 use Rattle.hir_def_map_laws.specs.Paths.{data_of, AgreeOnName}
-use Rattle.hir_def_map.specs.Scoping.Slots.{prelude_module_of}
+use Rattle.hir_nameres.specs.Scoping.Slots.{prelude_module_of}
 
 -- ---- parents, read off frames
 

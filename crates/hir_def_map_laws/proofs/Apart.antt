@@ -7,27 +7,27 @@ use Rattle.std.specs.Option.{option_and_then, option_copied, option_map}
 use Rattle.std.specs.Prelude.{is_some, not}
 use Rattle.std.proofs.lemmas.List.Elements.{All-cons, All-nil}
 use mathlib.Core.Bool.{true≢false}
-use Rattle.hir_base.specs.declared.ids.Crate.{Crate}
-use Rattle.hir_base.specs.declared.ids.MapId.{MapId}
-use Rattle.hir_base.specs.declared.ids.ModuleId.{ModuleId}
-use Rattle.hir_base.specs.declared.ids.UseId.{UseId}
-use Rattle.hir_base.specs.contracts.ids.MapIdOrd.TheImpl as map_order
-use Rattle.hir_base.specs.contracts.ids.MapIdPartialEq.TheImpl as map_id
-use Rattle.hir_def_map_rules.specs.Inner.OverlayLaws.{exact_map}
-use Rattle.hir_def_map.specs.Inner.PartLaws.{among-only}
-use Rattle.hir_def_map_rules.specs.Ancestors.{frame_of, frames_of, holders_in, holders_of_frame}
-use Rattle.hir_def_map_rules.specs.References.{any_reference, any_reference_besides, any_reference_in, each_leads_to_root, has_its_parents, has_its_variants}
-use Rattle.hir_def_map_rules.specs.References.{is_holder_for, is_missing, is_well_formed, prelude_reference, test_of}
-use Rattle.hir_def_map_rules.specs.State.{ModuleValue, module_at}
-use Rattle.hir_def_map_rules.specs.Overlay.{Maps, Placed, map_in, module_in, overlay, placed_in}
-use Rattle.hir_def_map.specs.Scoping.Slots.{is_in, prelude_module_of}
-use Rattle.hir_def_map.specs.World.{IsChecked, finished_in, placed_of}
-use Rattle.hir_def_map.specs.WorldParts.{among, limited_to, part_of}
-use Rattle.hir_def_map.specs.declared.world.finished.Finished.{Finished}
-use Rattle.hir_def_map_rules.specs.declared.reference.Reference.{Reference}
-use Rattle.hir_def_map_rules.specs.declared.reference.Reference.TheVariants as named
-use Rattle.hir_def_map_rules.proofs.NoneOf.{none_at, not_first, not_second}
-use Rattle.hir_def_map_rules.proofs.Referred.{module_less}
+use Rattle.hir_nameres.specs.HirIds.declared.ids.Crate.{Crate}
+use Rattle.hir_nameres.specs.HirIds.declared.ids.MapId.{MapId}
+use Rattle.hir_nameres.specs.HirIds.declared.ids.ModuleId.{ModuleId}
+use Rattle.hir_nameres.specs.HirIds.declared.ids.UseId.{UseId}
+use Rattle.hir_nameres.specs.HirIds.contracts.ids.MapIdOrd.TheImpl as map_order
+use Rattle.hir_nameres.specs.HirIds.contracts.ids.MapIdPartialEq.TheImpl as map_id
+use Rattle.hir_nameres.specs.HirDefMapRules.Inner.OverlayLaws.{exact_map}
+use Rattle.hir_nameres.specs.Inner.PartLaws.{among-only}
+use Rattle.hir_nameres.specs.HirDefMapRules.Ancestors.{frame_of, frames_of, holders_in, holders_of_frame}
+use Rattle.hir_nameres.specs.HirDefMapRules.References.{any_reference, any_reference_besides, any_reference_in, each_leads_to_root, has_its_parents, has_its_variants}
+use Rattle.hir_nameres.specs.HirDefMapRules.References.{is_holder_for, is_missing, is_well_formed, prelude_reference, test_of}
+use Rattle.hir_nameres.specs.HirDefMapRules.State.{ModuleValue, module_at}
+use Rattle.hir_nameres.specs.HirDefMapRules.Overlay.{Maps, Placed, map_in, module_in, overlay, placed_in}
+use Rattle.hir_nameres.specs.Scoping.Slots.{is_in, prelude_module_of}
+use Rattle.hir_nameres.specs.World.{IsChecked, finished_in, placed_of}
+use Rattle.hir_nameres.specs.WorldParts.{among, limited_to, part_of}
+use Rattle.hir_nameres.specs.declared.world.finished.Finished.{Finished}
+use Rattle.hir_nameres.specs.HirDefMapRules.declared.reference.Reference.{Reference}
+use Rattle.hir_nameres.specs.HirDefMapRules.declared.reference.Reference.TheVariants as named
+use Rattle.hir_nameres.proofs.HirDefMapRules.NoneOf.{none_at, not_first, not_second}
+use Rattle.hir_nameres.proofs.HirDefMapRules.Referred.{module_less}
 use Rattle.hir_def_map_laws.proofs.Whole.{elsewhere}
 use Rattle.hir_def_map_laws.specs.ReadLaw.{KeepApart, PartsKeepApart, SomeMapsKeepApart, WorldsKeepApart, is_named_in}
 
@@ -198,9 +198,9 @@ pub parts_apart : PartsKeepApart
 unfolding part_of
 parts_apart part own absent = go (option_copied part.crates)
   where
-    whole : KeepApart (finished_in part.world.now.maps) own
-    whole = KeepApart-world part.world.now.maps own part.world.now.checked absent
+    whole : KeepApart (finished_in part.maps.now) own
+    whole = KeepApart-world part.maps.now own part.checked absent
 
-    go : (o : Option (List Crate)) → KeepApart (limited_to o part.holders.now (finished_in part.world.now.maps)) own
+    go : (o : Option (List Crate)) → KeepApart (limited_to o part.holders.now (finished_in part.maps.now)) own
     go None = whole
-    go (Some crates) = some_apart crates part.holders.now (finished_in part.world.now.maps) own whole
+    go (Some crates) = some_apart crates part.holders.now (finished_in part.maps.now) own whole

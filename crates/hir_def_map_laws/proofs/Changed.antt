@@ -5,29 +5,29 @@ use Rattle.std.specs.Option.{option_and_then, option_map}
 use Rattle.std.specs.Prelude.{is_some, map as list_map}
 use Rattle.std.proofs.lemmas.List.Elements.{All-cons, All-head, All-nil, All-tail}
 use mathlib.Core.Bool.{true≢false}
-use Rattle.hir_base.specs.declared.ids.Crate.{Crate}
-use Rattle.hir_base.specs.declared.ids.EnumId.{EnumId}
-use Rattle.hir_base.specs.declared.ids.MapId.{MapId}
-use Rattle.hir_base.specs.declared.ids.ModuleId.{ModuleId as AnyModule}
-use Rattle.hir_base.specs.contracts.ids.MapIdPartialEq.TheImpl as map_id
-use Rattle.hir_scope.specs.ModuleTree.{same_crate, same_module}
-use Rattle.hir_scope.specs.PerNs.{keep_of}
-use Rattle.hir_scope.specs.Visibility.{is_visible, stands_for}
-use Rattle.hir_scope.specs.declared.visibility.Visibility.{Visibility}
-use Rattle.hir_scope.specs.declared.visibility.Visibility.TheVariants.{Module, PubCrate, Public}
-use Rattle.hir_def_map_rules.specs.Inner.OverlayLaws.{exact_map}
-use Rattle.hir_def_map_rules.specs.Ancestors.{above_in, above_inside, above_under, frame_of, frames_of, holders_in, holders_of_frame, numbers_above, numbers_of}
-use Rattle.hir_def_map_rules.specs.Scoping.FirstSegment.{is_block_root, legacy_of}
-use Rattle.hir_def_map_rules.specs.Scoping.Segments.{nearest_non_block_among, nearest_non_block_module, seen, variant_in}
-use Rattle.hir_def_map_rules.specs.Scoping.Start.{climb, is_dependency, is_edition_2015, is_in_edition_2015, is_in_reach}
-use Rattle.hir_def_map_rules.specs.State.{Map, ModuleValue, Variants, at_name, entry_at, entry_of, module_at, numbered, parent_at, parent_of, variants_at}
-use Rattle.hir_def_map_rules.specs.Overlay.{Maps, Placed, overlay, entry_in, holders_of, holders_or, holders_under, map_in, module_in, parent_in, placed_in}
-use Rattle.hir_def_map_rules.specs.declared.reference.Reference.{Reference}
-use Rattle.hir_def_map_rules.specs.declared.reference.Reference.TheVariants as named
-use Rattle.hir_def_map_rules.specs.References.{any_reference_in, test_of, Fails}
-use Rattle.hir_def_map_rules.proofs.Referred.{entry_fails, module_parts}
+use Rattle.hir_nameres.specs.HirIds.declared.ids.Crate.{Crate}
+use Rattle.hir_nameres.specs.HirIds.declared.ids.EnumId.{EnumId}
+use Rattle.hir_nameres.specs.HirIds.declared.ids.MapId.{MapId}
+use Rattle.hir_nameres.specs.HirIds.declared.ids.ModuleId.{ModuleId as AnyModule}
+use Rattle.hir_nameres.specs.HirIds.contracts.ids.MapIdPartialEq.TheImpl as map_id
+use Rattle.hir_nameres.specs.HirPerNs.ModuleTree.{same_crate, same_module}
+use Rattle.hir_nameres.specs.HirPerNs.PerNs.{keep_of}
+use Rattle.hir_nameres.specs.HirPerNs.Visibility.{is_visible, stands_for}
+use Rattle.hir_nameres.specs.HirPerNs.declared.visibility.Visibility.{Visibility}
+use Rattle.hir_nameres.specs.HirPerNs.declared.visibility.Visibility.TheVariants.{Module, PubCrate, Public}
+use Rattle.hir_nameres.specs.HirDefMapRules.Inner.OverlayLaws.{exact_map}
+use Rattle.hir_nameres.specs.HirDefMapRules.Ancestors.{above_in, above_inside, above_under, frame_of, frames_of, holders_in, holders_of_frame, numbers_above, numbers_of}
+use Rattle.hir_nameres.specs.HirDefMapRules.Scoping.FirstSegment.{is_block_root, legacy_of}
+use Rattle.hir_nameres.specs.HirDefMapRules.Scoping.Segments.{nearest_non_block_among, nearest_non_block_module, seen, variant_in}
+use Rattle.hir_nameres.specs.HirDefMapRules.Scoping.Start.{climb, is_dependency, is_edition_2015, is_in_edition_2015, is_in_reach}
+use Rattle.hir_nameres.specs.HirDefMapRules.State.{Map, ModuleValue, Variants, at_name, entry_at, entry_of, module_at, numbered, parent_at, parent_of, variants_at}
+use Rattle.hir_nameres.specs.HirDefMapRules.Overlay.{Maps, Placed, overlay, entry_in, holders_of, holders_or, holders_under, map_in, module_in, parent_in, placed_in}
+use Rattle.hir_nameres.specs.HirDefMapRules.declared.reference.Reference.{Reference}
+use Rattle.hir_nameres.specs.HirDefMapRules.declared.reference.Reference.TheVariants as named
+use Rattle.hir_nameres.specs.HirDefMapRules.References.{any_reference_in, test_of, Fails}
+use Rattle.hir_nameres.proofs.HirDefMapRules.Referred.{entry_fails, module_parts}
 use Rattle.hir_def_map_laws.specs.ReadLaw.{KeepApart, is_named_in}
-use Rattle.hir_def_map.specs.Scoping.Slots.{is_in, prelude_module_of}
+use Rattle.hir_nameres.specs.Scoping.Slots.{is_in, prelude_module_of}
 
 pub either-false : {P : Type 0} (b : Bool) → b ≡ true → b ≡ false → P
 either-false b e f = absurd (true≢false (sym e ∙ f))

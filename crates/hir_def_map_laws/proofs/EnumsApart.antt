@@ -1,25 +1,25 @@
 -- What is read of a map, whatever variants its enums have.
 use Rattle.std.proofs.Common.{◌≡◌, ◌∙◌, ap, refl, ℕ, zero, suc, List, Bool, true, false, ◌||◌, cond, Option, None, Some}
 use Rattle.std.specs.Option.{option_and_then, option_map}
-use Rattle.hir_base.specs.declared.ids.Crate.{Crate}
-use Rattle.hir_base.specs.declared.ids.EnumId.{EnumId}
-use Rattle.hir_base.specs.declared.ids.MapId.{MapId}
-use Rattle.hir_base.specs.declared.ids.UseId.{UseId}
-use Rattle.hir_base.specs.declared.ids.ModuleId.{ModuleId as AnyModule}
-use Rattle.hir_base.specs.contracts.ids.MapIdPartialEq.TheImpl as map_id
-use Rattle.hir_scope.specs.ModuleTree.{same_crate}
-use Rattle.hir_scope.specs.PerNs.{keep_of, or_of}
-use Rattle.hir_scope.specs.Visibility.{is_visible}
-use Rattle.hir_scope.specs.declared.per_ns.PerNs.{PerNs}
-use Rattle.hir_def_map_rules.specs.Ancestors.{above_by, above_in, frame_of, frames_of, holders_by, holders_in}
-use Rattle.hir_def_map_rules.specs.Overlay.{Maps, Placed, entry_in, map_in, module_in, overlay, parent_in, placed_in}
-use Rattle.hir_def_map_rules.specs.Scoping.Asking.{Asking}
-use Rattle.hir_def_map_rules.specs.Scoping.FirstSegment.{builtin_name, extern_name, legacy_bound, legacy_of, macro_use_bound, macro_use_of}
-use Rattle.hir_def_map_rules.specs.Scoping.FirstSegment.{name_in_crate_root_or_extern_prelude, name_in_module, name_in_preludes, of_style, prelude_bound}
-use Rattle.hir_def_map_rules.specs.Scoping.FirstSegment.{prelude_name, prelude_of, shadow_before, unless_block_root, with_builtin}
-use Rattle.hir_def_map_rules.specs.Scoping.Segments.{nearest_non_block_among, nearest_non_block_module, seen}
-use Rattle.hir_def_map_rules.specs.Scoping.Start.{climb, is_dependency, is_in_edition_2015, is_in_reach}
-use Rattle.hir_def_map_rules.specs.State.{Map, ModuleValue, Variants, crate_root, entry_of, module_at, parent_of}
+use Rattle.hir_nameres.specs.HirIds.declared.ids.Crate.{Crate}
+use Rattle.hir_nameres.specs.HirIds.declared.ids.EnumId.{EnumId}
+use Rattle.hir_nameres.specs.HirIds.declared.ids.MapId.{MapId}
+use Rattle.hir_nameres.specs.HirIds.declared.ids.UseId.{UseId}
+use Rattle.hir_nameres.specs.HirIds.declared.ids.ModuleId.{ModuleId as AnyModule}
+use Rattle.hir_nameres.specs.HirIds.contracts.ids.MapIdPartialEq.TheImpl as map_id
+use Rattle.hir_nameres.specs.HirPerNs.ModuleTree.{same_crate}
+use Rattle.hir_nameres.specs.HirPerNs.PerNs.{keep_of, or_of}
+use Rattle.hir_nameres.specs.HirPerNs.Visibility.{is_visible}
+use Rattle.hir_nameres.specs.HirPerNs.declared.per_ns.PerNs.{PerNs}
+use Rattle.hir_nameres.specs.HirDefMapRules.Ancestors.{above_by, above_in, frame_of, frames_of, holders_by, holders_in}
+use Rattle.hir_nameres.specs.HirDefMapRules.Overlay.{Maps, Placed, entry_in, map_in, module_in, overlay, parent_in, placed_in}
+use Rattle.hir_nameres.specs.HirDefMapRules.Scoping.Asking.{Asking}
+use Rattle.hir_nameres.specs.HirDefMapRules.Scoping.FirstSegment.{builtin_name, extern_name, legacy_bound, legacy_of, macro_use_bound, macro_use_of}
+use Rattle.hir_nameres.specs.HirDefMapRules.Scoping.FirstSegment.{name_in_crate_root_or_extern_prelude, name_in_module, name_in_preludes, of_style, prelude_bound}
+use Rattle.hir_nameres.specs.HirDefMapRules.Scoping.FirstSegment.{prelude_name, prelude_of, shadow_before, unless_block_root, with_builtin}
+use Rattle.hir_nameres.specs.HirDefMapRules.Scoping.Segments.{nearest_non_block_among, nearest_non_block_module, seen}
+use Rattle.hir_nameres.specs.HirDefMapRules.Scoping.Start.{climb, is_dependency, is_in_edition_2015, is_in_reach}
+use Rattle.hir_nameres.specs.HirDefMapRules.State.{Map, ModuleValue, Variants, crate_root, entry_of, module_at, parent_of}
 
 module _ (finished : Maps) (map : Map) (enums : List (EnumId × Variants)) where
   -- the map with other enums, and as it is

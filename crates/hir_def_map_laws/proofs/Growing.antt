@@ -1,13 +1,13 @@
 -- A map that grows keeps its modules, and the variants of the enums that names stand for.
 use Rattle.std.proofs.Common.{◌≡◌, ◌∙◌, sym, refl, length, Bool, false, Option, None, Some}
 use Rattle.std.specs.Prelude.{is_some, not}
-use Rattle.hir_base.specs.declared.ids.EnumId.{EnumId}
-use Rattle.hir_def_map_rules.specs.State.{Map, Variants, entry_at, variants_at}
-use Rattle.hir_def_map_rules.specs.Overlay.{Maps}
-use Rattle.hir_def_map_rules.specs.declared.reference.Reference.{Reference}
-use Rattle.hir_def_map_rules.specs.declared.reference.Reference.TheVariants as named
+use Rattle.hir_nameres.specs.HirIds.declared.ids.EnumId.{EnumId}
+use Rattle.hir_nameres.specs.HirDefMapRules.State.{Map, Variants, entry_at, variants_at}
+use Rattle.hir_nameres.specs.HirDefMapRules.Overlay.{Maps}
+use Rattle.hir_nameres.specs.HirDefMapRules.declared.reference.Reference.{Reference}
+use Rattle.hir_nameres.specs.HirDefMapRules.declared.reference.Reference.TheVariants as named
 use Rattle.hir_def_map_laws.proofs.Changed.{Change, has_others}
-use Rattle.hir_def_map_rules.proofs.Fails.{Fails-weaker}
+use Rattle.hir_nameres.proofs.HirDefMapRules.Fails.{Fails-weaker}
 use Rattle.hir_def_map_laws.proofs.SameAbove.{parent_below, same_numbers_above, same_parent_at}
 use Rattle.hir_def_map_laws.specs.ReadLaw.{Grows, StandsBeside, has_no_variants}
 

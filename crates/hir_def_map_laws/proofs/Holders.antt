@@ -1,21 +1,21 @@
 -- What is asked of a block is asked of its holder too.
 use Rattle.std.proofs.Common.{◌≡◌, ◌∙◌, ap, sym, refl, ◌==◌, ℕ, List, [], ◌∷◌, Bool, true, false, ◌&&◌, ◌||◌, cond, Option, None, Some, max, arith}
 use Rattle.std.specs.Prelude.{is_some, not}
-use Rattle.hir_base.specs.declared.ast_id.BlockId.{BlockId}
-use Rattle.hir_base.specs.declared.mod_path.PathKind.{PathKind}
-use Rattle.hir_base.specs.declared.ids.ModuleId.{ModuleId as AnyModule}
-use Rattle.hir_scope.specs.Bindings.{first_of}
-use Rattle.hir_def_map_rules.specs.Overlay.{Maps}
-use Rattle.hir_def_map_rules.specs.Ancestors.{head_of, holder_in, holders_in, IsPlaced}
-use Rattle.hir_def_map_rules.specs.Scoping.Asking.{Asking}
-use Rattle.hir_def_map_rules.specs.Scoping.Blocks.{either_reached, from_blocks, in_preludes, inherited, joined, later_stop, with_preludes}
-use Rattle.hir_def_map_rules.specs.Scoping.FirstSegment.{is_block_root}
-use Rattle.hir_def_map_rules.specs.State.{crate_root}
-use Rattle.hir_def_map_rules.specs.Scoping.Start.{from_start}
-use Rattle.hir_def_map_rules.specs.declared.path_result.ReachedFixedPoint.{ReachedFixedPoint}
-use Rattle.hir_def_map_rules.specs.declared.path_result.ResolvePathResult.{ResolvePathResult}
-use Rattle.hir_def_map_rules.specs.declared.path_result.ReachedFixedPoint.TheVariants.{Yes, No}
-use Rattle.hir_def_map_rules.proofs.Blocks.{inherited-stop}
+use Rattle.hir_nameres.specs.HirIds.declared.ast_id.BlockId.{BlockId}
+use Rattle.hir_nameres.specs.HirBase.declared.mod_path.PathKind.{PathKind}
+use Rattle.hir_nameres.specs.HirIds.declared.ids.ModuleId.{ModuleId as AnyModule}
+use Rattle.hir_nameres.specs.HirScope.Bindings.{first_of}
+use Rattle.hir_nameres.specs.HirDefMapRules.Overlay.{Maps}
+use Rattle.hir_nameres.specs.HirDefMapRules.Ancestors.{head_of, holder_in, holders_in, IsPlaced}
+use Rattle.hir_nameres.specs.HirDefMapRules.Scoping.Asking.{Asking}
+use Rattle.hir_nameres.specs.HirDefMapRules.Scoping.Blocks.{either_reached, from_blocks, in_preludes, inherited, joined, later_stop, with_preludes}
+use Rattle.hir_nameres.specs.HirDefMapRules.Scoping.FirstSegment.{is_block_root}
+use Rattle.hir_nameres.specs.HirDefMapRules.State.{crate_root}
+use Rattle.hir_nameres.specs.HirDefMapRules.Scoping.Start.{from_start}
+use Rattle.hir_nameres.specs.HirDefMapRules.declared.path_result.ReachedFixedPoint.{ReachedFixedPoint}
+use Rattle.hir_nameres.specs.HirDefMapRules.declared.path_result.ResolvePathResult.{ResolvePathResult}
+use Rattle.hir_nameres.specs.HirDefMapRules.declared.path_result.ReachedFixedPoint.TheVariants.{Yes, No}
+use Rattle.hir_nameres.proofs.HirDefMapRules.Blocks.{inherited-stop}
 
 -- ---- answers of three maps
 

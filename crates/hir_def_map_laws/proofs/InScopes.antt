@@ -2,21 +2,21 @@
 use Rattle.std.proofs.Common.{◌≡◌, ◌∙◌, ap, sym, refl, ℕ, List, [], Bool, true, false, ◌&&◌, Option, None}
 use Rattle.std.specs.Option.{option_and_then}
 use Rattle.std.specs.Prelude.{is_some, slice_get}
-use Rattle.hir_base.specs.declared.ast_id.BlockId.{BlockId}
-use Rattle.hir_base.specs.declared.ids.MapId.{MapId}
-use Rattle.hir_base.specs.declared.ids.ModuleId.{ModuleId}
-use Rattle.hir_base.specs.contracts.ids.MapIdPartialEq.TheImpl as map_id
-use Rattle.hir_def_map_rules.specs.Inner.OverlayLaws.{exact_map}
-use Rattle.hir_def_map_rules.specs.Ancestors.{Frame, frame_of, numbers_above}
-use Rattle.hir_def_map_rules.specs.State.{Map, entry_at, parent_at}
-use Rattle.hir_def_map_rules.specs.Overlay.{Maps, holders_or, holders_under, placed_in}
-use Rattle.hir_def_map.specs.Scoping.Slots.{is_in}
-use Rattle.hir_def_map_rules.specs.declared.reference.Reference.{Reference}
-use Rattle.hir_def_map_rules.specs.declared.reference.Reference.TheVariants as named
-use Rattle.hir_def_map_rules.proofs.Grown.{frame_of-changed}
-use Rattle.hir_def_map_rules.proofs.WellFormed.{parent_listed}
+use Rattle.hir_nameres.specs.HirIds.declared.ast_id.BlockId.{BlockId}
+use Rattle.hir_nameres.specs.HirIds.declared.ids.MapId.{MapId}
+use Rattle.hir_nameres.specs.HirIds.declared.ids.ModuleId.{ModuleId}
+use Rattle.hir_nameres.specs.HirIds.contracts.ids.MapIdPartialEq.TheImpl as map_id
+use Rattle.hir_nameres.specs.HirDefMapRules.Inner.OverlayLaws.{exact_map}
+use Rattle.hir_nameres.specs.HirDefMapRules.Ancestors.{Frame, frame_of, numbers_above}
+use Rattle.hir_nameres.specs.HirDefMapRules.State.{Map, entry_at, parent_at}
+use Rattle.hir_nameres.specs.HirDefMapRules.Overlay.{Maps, holders_or, holders_under, placed_in}
+use Rattle.hir_nameres.specs.Scoping.Slots.{is_in}
+use Rattle.hir_nameres.specs.HirDefMapRules.declared.reference.Reference.{Reference}
+use Rattle.hir_nameres.specs.HirDefMapRules.declared.reference.Reference.TheVariants as named
+use Rattle.hir_nameres.proofs.HirDefMapRules.Grown.{frame_of-changed}
+use Rattle.hir_nameres.proofs.HirDefMapRules.WellFormed.{parent_listed}
 use Rattle.hir_def_map_laws.proofs.Changed.{Change, has_others}
-use Rattle.hir_def_map_rules.proofs.Fails.{Fails-nowhere}
+use Rattle.hir_nameres.proofs.HirDefMapRules.Fails.{Fails-nowhere}
 use Rattle.hir_def_map_laws.specs.ReadLaw.{ChangedModulesDifferInScopes, CrateMapsBeginOutside, CratesAreOutside, DiffersInScopes, KeepApart}
 
 and-no : (b : Bool) → (b && false) ≡ false

@@ -4,48 +4,48 @@ use Rattle.std.specs.Cmp.{unsigned_Decides}
 use Rattle.std.specs.List.{All}
 use Rattle.std.specs.Prelude.{is_some, option_and_then, option_map}
 use Rattle.std.proofs.lemmas.List.Elements.{All-head, All-tail}
-use Rattle.hir_base.specs.ModPath.{Path}
-use Rattle.hir_base.specs.declared.ids.AdtId.{AdtId}
-use Rattle.hir_base.specs.declared.ast_id.BlockId.{BlockId}
-use Rattle.hir_base.specs.declared.ids.EnumId.{EnumId}
-use Rattle.hir_base.specs.declared.ids.ExternCrateId.{ExternCrateId}
-use Rattle.hir_base.specs.declared.ids.MapId.{MapId}
-use Rattle.hir_base.specs.declared.ids.ModuleDefId.{ModuleDefId}
-use Rattle.hir_base.specs.declared.mod_path.PathKind.{PathKind}
-use Rattle.hir_base.specs.declared.ids.AdtId.TheVariants as adts
-use Rattle.hir_base.specs.declared.ids.ModuleId.{ModuleId as AnyModule}
-use Rattle.hir_base.specs.declared.ids.ModuleDefId.TheVariants.{ModuleId, FunctionId, AdtId as AnyAdt, EnumVariantId, ConstId, StaticId, TraitId, TypeAliasId}
-use Rattle.hir_base.specs.declared.ids.ModuleDefId.TheVariants.{BuiltinType, MacroId}
-use Rattle.hir_base.specs.declared.mod_path.PathKind.TheVariants as kinds
-use Rattle.hir_base.specs.contracts.ids.MapIdPartialEq.TheImpl as map_id
-use Rattle.hir_scope.specs.ModuleTree.{same_block, same_crate}
-use Rattle.hir_scope.specs.PerNs.{Item, or_of}
-use Rattle.hir_scope.specs.Visibility.{is_visible}
-use Rattle.hir_scope.specs.declared.imports.ImportOrExternCrate.{ImportOrExternCrate}
-use Rattle.hir_scope.specs.declared.per_ns.PerNs.{PerNs}
-use Rattle.hir_scope.specs.declared.imports.ImportOrExternCrate.TheVariants as ways
-use Rattle.hir_def_map_rules.specs.Inner.OverlayLaws.{same_id}
-use Rattle.hir_def_map_rules.specs.Ancestors.{above_in, holders_in}
-use Rattle.hir_def_map_rules.specs.References.{reference_to, test_of, test_visibility, Fails, FailsAtItem}
-use Rattle.hir_def_map_rules.specs.Scoping.Asking.{Asking}
-use Rattle.hir_def_map_rules.specs.Scoping.Blocks.{from_blocks, inherited}
-use Rattle.hir_def_map_rules.specs.Scoping.FirstSegment.{builtin_name, extern_bound, extern_name, legacy_bound, legacy_of, macro_use_bound, macro_use_name}
-use Rattle.hir_def_map_rules.specs.Scoping.FirstSegment.{macro_use_of, name_in_crate_root_or_extern_prelude, name_in_module, of_style, prelude_name}
-use Rattle.hir_def_map_rules.specs.Scoping.FirstSegment.{shadow_before, unless_block_root, with_builtin}
-use Rattle.hir_def_map_rules.specs.Scoping.Segments.{after_enum, crossing, nearest_non_block_module, rest, seen, through, through_adt, through_module}
-use Rattle.hir_def_map_rules.specs.Scoping.Segments.{through_type, unresolved}
-use Rattle.hir_def_map_rules.specs.Scoping.Start.{abs_from, climb, from_start, is_import, is_in_edition_2015, module_bound, settled_in_block, super_from}
-use Rattle.hir_def_map_rules.specs.State.{Local, Map, at_name, crate_root, numbered}
-use Rattle.hir_def_map_rules.specs.Overlay.{Maps, entry_in, map_in, module_in}
-use Rattle.hir_def_map_rules.specs.declared.path_result.ReachedFixedPoint.TheVariants.{No}
-use Rattle.hir_def_map_rules.specs.declared.reference.Reference.{Reference}
-use Rattle.hir_def_map_rules.specs.declared.path_result.ResolvePathResult.{ResolvePathResult}
-use Rattle.hir_def_map_rules.specs.declared.reference.Reference.TheVariants as named
+use Rattle.hir_nameres.specs.HirBase.ModPath.{Path}
+use Rattle.hir_nameres.specs.HirIds.declared.ids.AdtId.{AdtId}
+use Rattle.hir_nameres.specs.HirIds.declared.ast_id.BlockId.{BlockId}
+use Rattle.hir_nameres.specs.HirIds.declared.ids.EnumId.{EnumId}
+use Rattle.hir_nameres.specs.HirIds.declared.ids.ExternCrateId.{ExternCrateId}
+use Rattle.hir_nameres.specs.HirIds.declared.ids.MapId.{MapId}
+use Rattle.hir_nameres.specs.HirIds.declared.ids.ModuleDefId.{ModuleDefId}
+use Rattle.hir_nameres.specs.HirBase.declared.mod_path.PathKind.{PathKind}
+use Rattle.hir_nameres.specs.HirIds.declared.ids.AdtId.TheVariants as adts
+use Rattle.hir_nameres.specs.HirIds.declared.ids.ModuleId.{ModuleId as AnyModule}
+use Rattle.hir_nameres.specs.HirIds.declared.ids.ModuleDefId.TheVariants.{ModuleId, FunctionId, AdtId as AnyAdt, EnumVariantId, ConstId, StaticId, TraitId, TypeAliasId}
+use Rattle.hir_nameres.specs.HirIds.declared.ids.ModuleDefId.TheVariants.{BuiltinType, MacroId}
+use Rattle.hir_nameres.specs.HirBase.declared.mod_path.PathKind.TheVariants as kinds
+use Rattle.hir_nameres.specs.HirIds.contracts.ids.MapIdPartialEq.TheImpl as map_id
+use Rattle.hir_nameres.specs.HirPerNs.ModuleTree.{same_block, same_crate}
+use Rattle.hir_nameres.specs.HirPerNs.PerNs.{Item, or_of}
+use Rattle.hir_nameres.specs.HirPerNs.Visibility.{is_visible}
+use Rattle.hir_nameres.specs.HirPerNs.declared.imports.ImportOrExternCrate.{ImportOrExternCrate}
+use Rattle.hir_nameres.specs.HirPerNs.declared.per_ns.PerNs.{PerNs}
+use Rattle.hir_nameres.specs.HirPerNs.declared.imports.ImportOrExternCrate.TheVariants as ways
+use Rattle.hir_nameres.specs.HirDefMapRules.Inner.OverlayLaws.{same_id}
+use Rattle.hir_nameres.specs.HirDefMapRules.Ancestors.{above_in, holders_in}
+use Rattle.hir_nameres.specs.HirDefMapRules.References.{reference_to, test_of, test_visibility, Fails, FailsAtItem}
+use Rattle.hir_nameres.specs.HirDefMapRules.Scoping.Asking.{Asking}
+use Rattle.hir_nameres.specs.HirDefMapRules.Scoping.Blocks.{from_blocks, inherited}
+use Rattle.hir_nameres.specs.HirDefMapRules.Scoping.FirstSegment.{builtin_name, extern_bound, extern_name, legacy_bound, legacy_of, macro_use_bound, macro_use_name}
+use Rattle.hir_nameres.specs.HirDefMapRules.Scoping.FirstSegment.{macro_use_of, name_in_crate_root_or_extern_prelude, name_in_module, of_style, prelude_name}
+use Rattle.hir_nameres.specs.HirDefMapRules.Scoping.FirstSegment.{shadow_before, unless_block_root, with_builtin}
+use Rattle.hir_nameres.specs.HirDefMapRules.Scoping.Segments.{after_enum, crossing, nearest_non_block_module, rest, seen, through, through_adt, through_module}
+use Rattle.hir_nameres.specs.HirDefMapRules.Scoping.Segments.{through_type, unresolved}
+use Rattle.hir_nameres.specs.HirDefMapRules.Scoping.Start.{abs_from, climb, from_start, is_import, is_in_edition_2015, module_bound, settled_in_block, super_from}
+use Rattle.hir_nameres.specs.HirDefMapRules.State.{Local, Map, at_name, crate_root, numbered}
+use Rattle.hir_nameres.specs.HirDefMapRules.Overlay.{Maps, entry_in, map_in, module_in}
+use Rattle.hir_nameres.specs.HirDefMapRules.declared.path_result.ReachedFixedPoint.TheVariants.{No}
+use Rattle.hir_nameres.specs.HirDefMapRules.declared.reference.Reference.{Reference}
+use Rattle.hir_nameres.specs.HirDefMapRules.declared.path_result.ResolvePathResult.{ResolvePathResult}
+use Rattle.hir_nameres.specs.HirDefMapRules.declared.reference.Reference.TheVariants as named
 use Rattle.hir_def_map_laws.proofs.Agreement.{bound-in, bound_in}
 use Rattle.hir_def_map_laws.proofs.Growing.{grown}
 use Rattle.hir_def_map_laws.proofs.InScopes.{crates_outside, in_scopes}
-use Rattle.hir_def_map_rules.proofs.Fails.{Fails-in_module, Fails-in_root, Fails-keep, Fails-nothing, Fails-public, Fails-weaker}
-use Rattle.hir_def_map_rules.proofs.NoneOf.{not_first}
+use Rattle.hir_nameres.proofs.HirDefMapRules.Fails.{Fails-in_module, Fails-in_root, Fails-keep, Fails-nothing, Fails-public, Fails-weaker}
+use Rattle.hir_nameres.proofs.HirDefMapRules.NoneOf.{not_first}
 use Rattle.hir_def_map_laws.proofs.Changed.{Change, Here, IsBelow, Out, either-false, entry_here, entry_out, has_other_variants, here_out, holders_out, is_own}
 use Rattle.hir_def_map_laws.proofs.Changed.{legacy_here, legacy_out, names_here, names_out, nearest_here, new, new_map, old, old_map, own, same_2015}
 use Rattle.hir_def_map_laws.proofs.Changed.{same_climb, same_holders, same_nearest, same_prelude_module, same_reach, same_seen, variant_here, variant_out}
@@ -53,10 +53,10 @@ use Rattle.hir_def_map_laws.proofs.Holders.{start-of_crate}
 use Rattle.hir_def_map_laws.proofs.ReadOutside.{Outside, SameFirst, bound_outside, inherited_out, rest_out, through_out}
 use Rattle.hir_def_map_laws.specs.ReadLaw.{AgreeAt, BeginsOutside, IsReadAlike, ReadsDecide, SameInModule, SameInPreludes, ScopesReadAlike, is_named_in}
 use Rattle.hir_def_map_laws.specs.ReadLaw.{with_crates}
-use Rattle.hir_def_map.specs.declared.nameres.path_resolution.slots.Slot.{Slot}
-use Rattle.hir_def_map.specs.declared.nameres.path_resolution.slots.Slot.TheVariants.{Module as of_module, Preludes as of_preludes}
-use Rattle.hir_def_map.specs.Scoping.Slots.{further_slots, is_in, kept_in, module_among, module_by, prelude_module_of, reads, slots_after, slots_from_crates}
-use Rattle.hir_def_map.specs.Scoping.Slots.{slots_from_module, slots_from_root, slots_of, with_prelude_slot, with_slot}
+use Rattle.hir_nameres.specs.declared.nameres.path_resolution.slots.Slot.{Slot}
+use Rattle.hir_nameres.specs.declared.nameres.path_resolution.slots.Slot.TheVariants.{Module as of_module, Preludes as of_preludes}
+use Rattle.hir_nameres.specs.Scoping.Slots.{further_slots, is_in, kept_in, module_among, module_by, prelude_module_of, reads, slots_after, slots_from_crates}
+use Rattle.hir_nameres.specs.Scoping.Slots.{slots_from_module, slots_from_root, slots_of, with_prelude_slot, with_slot}
 
 same_block_itself : (b : Option BlockId) → same_block b b ≡ true
 same_block_itself None = refl

@@ -3,11 +3,11 @@ use Rattle.std.proofs.Common.{◌≡◌, ◌∙◌, ap, sym, subst, refl, ℕ, z
 use Rattle.std.proofs.Common.{Some, arith}
 use Rattle.std.proofs.lemmas.Grind.{common_steps}
 use Rattle.std.specs.Prelude.{slice_get}
-use Rattle.hir_base.specs.declared.ids.MapId.{MapId}
-use Rattle.hir_base.specs.declared.ids.ModuleId.{ModuleId}
-use Rattle.hir_def_map_rules.specs.State.{IsBefore, IsInOrder, Map, ModuleValue, parent_at, parent_of}
-use Rattle.hir_def_map_rules.specs.Overlay.{Maps, Placed, placed_in}
-use Rattle.hir_def_map_rules.specs.Ancestors.{Frame, frame_of, leads_to_root, number_in, numbers_above, step_in, step_to, steps_by, steps_from}
+use Rattle.hir_nameres.specs.HirIds.declared.ids.MapId.{MapId}
+use Rattle.hir_nameres.specs.HirIds.declared.ids.ModuleId.{ModuleId}
+use Rattle.hir_nameres.specs.HirDefMapRules.State.{IsBefore, IsInOrder, Map, ModuleValue, parent_at, parent_of}
+use Rattle.hir_nameres.specs.HirDefMapRules.Overlay.{Maps, Placed, placed_in}
+use Rattle.hir_nameres.specs.HirDefMapRules.Ancestors.{Frame, frame_of, leads_to_root, number_in, numbers_above, step_in, step_to, steps_by, steps_from}
 use Rattle.hir_def_map_laws.proofs.Steps.{number_there, step_listed}
 use Rattle.hir_def_map_laws.specs.ReadLaw.{Grows}
 

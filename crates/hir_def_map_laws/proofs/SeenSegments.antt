@@ -1,13 +1,13 @@
 -- What a segment takes from a module.
 use Rattle.std.proofs.Common.{◌≡◌, ap, refl, ℕ, List, Bool, true, false, cond, Option, None, Some}
-use Rattle.hir_base.specs.declared.ids.ModuleId.{ModuleId}
-use Rattle.hir_scope.specs.PerNs.{Item, keep_item, keep_of}
-use Rattle.hir_scope.specs.declared.per_ns.PerNs.{PerNs}
-use Rattle.hir_scope.specs.declared.visibility.Visibility.{Visibility}
-use Rattle.hir_scope.specs.ModuleTree.{same_crate}
-use Rattle.hir_def_map_rules.specs.Overlay.{Maps, entry_in}
-use Rattle.hir_def_map_rules.specs.Scoping.Segments.{crossing, nearest_non_block_module, seen}
-use Rattle.hir_def_map_rules.specs.declared.path_result.ResolvePathResult.{ResolvePathResult}
+use Rattle.hir_nameres.specs.HirIds.declared.ids.ModuleId.{ModuleId}
+use Rattle.hir_nameres.specs.HirPerNs.PerNs.{Item, keep_item, keep_of}
+use Rattle.hir_nameres.specs.HirPerNs.declared.per_ns.PerNs.{PerNs}
+use Rattle.hir_nameres.specs.HirPerNs.declared.visibility.Visibility.{Visibility}
+use Rattle.hir_nameres.specs.HirPerNs.ModuleTree.{same_crate}
+use Rattle.hir_nameres.specs.HirDefMapRules.Overlay.{Maps, entry_in}
+use Rattle.hir_nameres.specs.HirDefMapRules.Scoping.Segments.{crossing, nearest_non_block_module, seen}
+use Rattle.hir_nameres.specs.HirDefMapRules.declared.path_result.ResolvePathResult.{ResolvePathResult}
 use Rattle.hir_def_map_laws.specs.Paths.{may_see, AreKept, IsKept, TakesHere, TakesThere}
 
 IsKept-keep_item : {D I : Type 0} (test : Visibility → Bool) (o : Option (Item D I)) → IsKept test o (keep_item test o)

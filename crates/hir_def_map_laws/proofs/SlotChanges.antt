@@ -10,37 +10,37 @@ use Rattle.std.specs.declared.cmp.Ordering.{Ordering}
 use Rattle.std.specs.declared.cmp.Ordering.TheVariants.{Less, Equal, Greater}
 use Rattle.std.proofs.lemmas.List.Elements.{All-contains_itself, All-weaker}
 use mathlib.Core.Bool.{true≢false}
-use Rattle.hir_base.specs.contracts.ids.EnumIdOrd.TheImpl as enum_order
-use Rattle.hir_base.specs.contracts.ids.EnumIdOrd.TheImpl.Laws.{total-law as enum_total}
-use Rattle.hir_base.specs.declared.ids.EnumId.{EnumId}
-use Rattle.hir_base.specs.declared.ids.ExternCrateId.{ExternCrateId}
-use Rattle.hir_base.specs.declared.macro_kind.MacroId.{MacroId}
-use Rattle.hir_base.specs.declared.ids.ModuleId.{ModuleId}
-use Rattle.hir_scope.specs.Globs.{GlobNames, Place}
-use Rattle.hir_scope.specs.PerNs.{is_nothing}
-use Rattle.hir_scope.specs.Scope.{ScopeValue}
-use Rattle.hir_scope.specs.Scope.Push.{pushed_scope, taken_candidates, with_unresolved, written_scope}
-use Rattle.hir_scope.specs.Scope.Reads.{last_legacy_at}
-use Rattle.hir_scope.specs.declared.imports.ImportOrExternCrate.{ImportOrExternCrate}
-use Rattle.hir_scope.specs.declared.per_ns.PerNs.{PerNs}
-use Rattle.hir_scope.specs.declared.visibility.Visibility.{Visibility}
-use Rattle.hir_def_map_rules.specs.Declaration.{listed}
-use Rattle.hir_def_map_rules.specs.Scoping.FirstSegment.{legacy_of}
-use Rattle.hir_def_map_rules.specs.State.{Local, Map, ModuleValue, Variants, changed_at, entry_at, module_at, new_id, new_module, numbered, parent_at}
-use Rattle.hir_def_map_rules.specs.State.{parent_of, place_at, pushed, pushed_module, variants_at, with_child, with_enum, with_extern, with_macro_use}
-use Rattle.hir_def_map_rules.specs.State.{with_module, with_module_scope, with_scope}
-use Rattle.hir_def_map_rules.specs.declared.declaration.Declaration.{Declaration}
-use Rattle.hir_def_map_rules.specs.declared.origin.ModuleOrigin.{ModuleOrigin}
-use Rattle.hir_def_map_rules.specs.declared.declaration.Declaration.TheVariants as declaration
-use Rattle.hir_def_map_rules.proofs.Externs.{at_name-with_extern_other}
-use Rattle.hir_def_map_rules.proofs.Grown.{at_name-with_name_other, entry_at-pushed_elsewhere, entry_at-pushed_other, entry_at-with_module, kept}
-use Rattle.hir_def_map_rules.proofs.Listed.{KeepsNames-listed}
+use Rattle.hir_nameres.specs.HirIds.contracts.ids.EnumIdOrd.TheImpl as enum_order
+use Rattle.hir_nameres.specs.HirIds.contracts.ids.EnumIdOrd.TheImpl.Laws.{total-law as enum_total}
+use Rattle.hir_nameres.specs.HirIds.declared.ids.EnumId.{EnumId}
+use Rattle.hir_nameres.specs.HirIds.declared.ids.ExternCrateId.{ExternCrateId}
+use Rattle.hir_nameres.specs.HirIds.declared.macro_kind.MacroId.{MacroId}
+use Rattle.hir_nameres.specs.HirIds.declared.ids.ModuleId.{ModuleId}
+use Rattle.hir_nameres.specs.HirScope.Globs.{GlobNames, Place}
+use Rattle.hir_nameres.specs.HirPerNs.PerNs.{is_nothing}
+use Rattle.hir_nameres.specs.HirScope.Scope.{ScopeValue}
+use Rattle.hir_nameres.specs.HirScope.Scope.Push.{pushed_scope, taken_candidates, with_unresolved, written_scope}
+use Rattle.hir_nameres.specs.HirScope.Scope.Reads.{last_legacy_at}
+use Rattle.hir_nameres.specs.HirPerNs.declared.imports.ImportOrExternCrate.{ImportOrExternCrate}
+use Rattle.hir_nameres.specs.HirPerNs.declared.per_ns.PerNs.{PerNs}
+use Rattle.hir_nameres.specs.HirPerNs.declared.visibility.Visibility.{Visibility}
+use Rattle.hir_nameres.specs.HirDefMapRules.Declaration.{listed}
+use Rattle.hir_nameres.specs.HirDefMapRules.Scoping.FirstSegment.{legacy_of}
+use Rattle.hir_nameres.specs.HirDefMapRules.State.{Local, Map, ModuleValue, Variants, changed_at, entry_at, module_at, new_id, new_module, numbered, parent_at}
+use Rattle.hir_nameres.specs.HirDefMapRules.State.{parent_of, place_at, pushed, pushed_module, variants_at, with_child, with_enum, with_extern, with_macro_use}
+use Rattle.hir_nameres.specs.HirDefMapRules.State.{with_module, with_module_scope, with_scope}
+use Rattle.hir_nameres.specs.HirDefMapRules.declared.declaration.Declaration.{Declaration}
+use Rattle.hir_nameres.specs.HirMapParts.declared.origin.ModuleOrigin.{ModuleOrigin}
+use Rattle.hir_nameres.specs.HirDefMapRules.declared.declaration.Declaration.TheVariants as declaration
+use Rattle.hir_nameres.proofs.HirMapParts.Externs.{at_name-with_extern_other}
+use Rattle.hir_nameres.proofs.HirDefMapRules.Grown.{at_name-with_name_other, entry_at-pushed_elsewhere, entry_at-pushed_other, entry_at-with_module, kept}
+use Rattle.hir_nameres.proofs.HirDefMapRules.Listed.{KeepsNames-listed}
 use Rattle.hir_def_map_laws.specs.ReadLaw.{AgreeAt, Grows}
 use Rattle.hir_def_map_laws.proofs.ReadLaw.{reads_decide}
 use Rattle.hir_def_map_laws.specs.SlotChanges.{ChangesOnly, OtherSlotsDoNotMatter}
-use Rattle.hir_def_map.specs.declared.nameres.path_resolution.slots.Slot.{Slot}
-use Rattle.hir_def_map.specs.declared.nameres.path_resolution.slots.Slot.TheVariants.{Module as of_module, Preludes as of_preludes}
-use Rattle.hir_def_map.specs.Scoping.Slots.{reads}
+use Rattle.hir_nameres.specs.declared.nameres.path_resolution.slots.Slot.{Slot}
+use Rattle.hir_nameres.specs.declared.nameres.path_resolution.slots.Slot.TheVariants.{Module as of_module, Preludes as of_preludes}
+use Rattle.hir_nameres.specs.Scoping.Slots.{reads}
 
 -- a change of modules that leaves what each is in lets a map grow
 pub Grows-changed : (map : Map) (at : ℕ) (change : ModuleValue → ModuleValue) → ((m : ModuleValue) → (change m).parent ≡ m.parent)

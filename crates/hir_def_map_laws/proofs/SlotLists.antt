@@ -13,15 +13,15 @@ use Rattle.std.specs.declared.cmp.Ordering.TheVariants.{Less, Equal, Greater}
 use Rattle.std.proofs.lemmas.List.Elements.{All-contains_itself, All-weaker, Contains-append_left, Contains-append_right}
 use Rattle.std.proofs.lemmas.Map.Lookups.{exact_bytes}
 use mathlib.Core.Bool.{true≢false}
-use Rattle.hir_scope.specs.Bindings.{with_item_definition, with_item_visibility}
-use Rattle.hir_scope.specs.Entries.{item_at}
-use Rattle.hir_scope.specs.Scope.{ScopeValue, binding_of}
-use Rattle.hir_textual_scope.proofs.NewMacro.{other_names_keep_theirs}
-use Rattle.hir_scope.specs.Scope.Reads.{last_legacy_at}
-use Rattle.hir_def_map_rules.specs.Scoping.FirstSegment.{legacy_of}
-use Rattle.hir_def_map_rules.specs.State.{Local, Map, ModuleValue, changed_at, entry_at, entry_of, module_at, numbered, parent_at, parent_of, place_at, pushed}
-use Rattle.hir_def_map_rules.specs.State.{pushed_module, with_module_scope, with_scope}
-use Rattle.hir_def_map_rules.proofs.Grown.{kept}
+use Rattle.hir_nameres.specs.HirScope.Bindings.{with_item_definition, with_item_visibility}
+use Rattle.hir_nameres.specs.HirScope.Entries.{item_at}
+use Rattle.hir_nameres.specs.HirScope.Scope.{ScopeValue, binding_of}
+use Rattle.hir_nameres.proofs.HirTextualScope.NewMacro.{other_names_keep_theirs}
+use Rattle.hir_nameres.specs.HirScope.Scope.Reads.{last_legacy_at}
+use Rattle.hir_nameres.specs.HirDefMapRules.Scoping.FirstSegment.{legacy_of}
+use Rattle.hir_nameres.specs.HirDefMapRules.State.{Local, Map, ModuleValue, changed_at, entry_at, entry_of, module_at, numbered, parent_at, parent_of, place_at, pushed}
+use Rattle.hir_nameres.specs.HirDefMapRules.State.{pushed_module, with_module_scope, with_scope}
+use Rattle.hir_nameres.proofs.HirDefMapRules.Grown.{kept}
 use Rattle.hir_def_map_laws.specs.ReadLaw.{AgreeAt, DiffersInScopes, Grows}
 use Rattle.hir_def_map_laws.proofs.InScopes.{changed_modules}
 use Rattle.hir_def_map_laws.proofs.ReadLaw.{reads_decide, scopes_read}
@@ -31,9 +31,9 @@ use Rattle.hir_def_map_laws.specs.SlotChanges.{OneChangeIsAmongItsSlot, OneScope
 use Rattle.hir_def_map_laws.specs.SlotChanges.{TextualMacrosChangeTheirSlot, TraitsChangeNoScope, TraitsChangeNoSlot, UnreadScopesDoNotMatter}
 use Rattle.hir_def_map_laws.specs.SlotChanges.{UnreadSlotsDoNotMatter, UpdatesChangeTheirScope, UpdatesChangeTheirSlot, with_macro, with_macro_vis}
 use Rattle.hir_def_map_laws.specs.SlotChanges.{with_textual_macro, with_trait, with_type, with_type_vis, with_value, with_value_vis}
-use Rattle.hir_def_map.specs.declared.nameres.path_resolution.slots.Slot.{Slot}
-use Rattle.hir_def_map.specs.declared.nameres.path_resolution.slots.Slot.TheVariants.{Module as of_module, Preludes as of_preludes}
-use Rattle.hir_def_map.specs.Scoping.Slots.{reads}
+use Rattle.hir_nameres.specs.declared.nameres.path_resolution.slots.Slot.{Slot}
+use Rattle.hir_nameres.specs.declared.nameres.path_resolution.slots.Slot.TheVariants.{Module as of_module, Preludes as of_preludes}
+use Rattle.hir_nameres.specs.Scoping.Slots.{reads}
 
 -- ---- one after another
 

@@ -2,14 +2,14 @@
 use Rattle.std.proofs.Common.{◌≡◌, ◌∙◌, ap, sym, refl, ℕ, ◌<◌, Bool, true, false, ◌||◌, cond, nat_lt, Option, None, Some, arith}
 use Rattle.std.proofs.lemmas.Grind.{common_steps}
 use Rattle.std.specs.Option.{option_and_then, option_map}
-use Rattle.hir_base.specs.declared.ids.MapId.{MapId}
-use Rattle.hir_base.specs.declared.ids.ModuleId.{ModuleId}
-use Rattle.hir_base.specs.contracts.ids.MapIdPartialEq.TheImpl as map_id
-use Rattle.hir_def_map_rules.specs.Inner.OverlayLaws.{exact_map, same_id}
-use Rattle.hir_def_map_rules.proofs.WellFormed.{parent_listed}
-use Rattle.hir_def_map_rules.specs.State.{Map, ModuleValue, module_at, numbered, parent_of, IsBefore, IsInOrder}
-use Rattle.hir_def_map_rules.specs.Overlay.{Maps, Placed, alone, no_maps, parent_in, placed_in}
-use Rattle.hir_def_map_rules.specs.Ancestors.{Frame, frame_of, frames_of, leads_to_root, number_in, step_in, step_of, step_to, up_in}
+use Rattle.hir_nameres.specs.HirIds.declared.ids.MapId.{MapId}
+use Rattle.hir_nameres.specs.HirIds.declared.ids.ModuleId.{ModuleId}
+use Rattle.hir_nameres.specs.HirIds.contracts.ids.MapIdPartialEq.TheImpl as map_id
+use Rattle.hir_nameres.specs.HirDefMapRules.Inner.OverlayLaws.{exact_map, same_id}
+use Rattle.hir_nameres.proofs.HirDefMapRules.WellFormed.{parent_listed}
+use Rattle.hir_nameres.specs.HirDefMapRules.State.{Map, ModuleValue, module_at, numbered, parent_of, IsBefore, IsInOrder}
+use Rattle.hir_nameres.specs.HirDefMapRules.Overlay.{Maps, Placed, alone, no_maps, parent_in, placed_in}
+use Rattle.hir_nameres.specs.HirDefMapRules.Ancestors.{Frame, frame_of, frames_of, leads_to_root, number_in, step_in, step_of, step_to, up_in}
 
 -- a step is one to the number of the parent
 pub step_listed : (placed : Placed) (at : ℕ) → step_in (frame_of placed) at ≡ step_to (frame_of placed) at

@@ -1,18 +1,18 @@
 -- Updates of what a name stands for, by what is there.
 use Rattle.std.proofs.Common.{◌≡◌, ℕ, Bool, false, List, Option}
-use Rattle.hir_base.specs.declared.macro_kind.MacroId.{MacroId}
-use Rattle.hir_base.specs.declared.ids.ModuleDefId.{ModuleDefId}
-use Rattle.hir_base.specs.declared.ids.TraitId.{TraitId}
-use Rattle.hir_scope.specs.Scope.{ScopeValue}
-use Rattle.hir_scope.specs.declared.imports.ImportId.{ImportId}
-use Rattle.hir_scope.specs.declared.visibility.Visibility.{Visibility}
-use Rattle.hir_def_map_rules.specs.Overlay.{Maps, overlay}
-use Rattle.hir_def_map_rules.specs.References.{any_reference_in_scope, is_missing, reference_to, test_of, test_visibility}
-use Rattle.hir_def_map_rules.specs.State.{Map}
-use Rattle.hir_def_map_rules.specs.declared.reference.Reference.{Reference}
-use Rattle.hir_def_map_rules.proofs.Referred.{FailsInScope, scope_parts, scope_whole}
-use Rattle.hir_def_map_rules.proofs.ScopeChanges.{defined_fail, macros_defined_fail, macros_seen_fail, seen_fail, trait_fails}
-use Rattle.hir_def_map_rules.proofs.StaysWellFormed.{HasNoDanglingReference-scope}
+use Rattle.hir_nameres.specs.HirIds.declared.macro_kind.MacroId.{MacroId}
+use Rattle.hir_nameres.specs.HirIds.declared.ids.ModuleDefId.{ModuleDefId}
+use Rattle.hir_nameres.specs.HirIds.declared.ids.TraitId.{TraitId}
+use Rattle.hir_nameres.specs.HirScope.Scope.{ScopeValue}
+use Rattle.hir_nameres.specs.HirPerNs.declared.imports.ImportId.{ImportId}
+use Rattle.hir_nameres.specs.HirPerNs.declared.visibility.Visibility.{Visibility}
+use Rattle.hir_nameres.specs.HirDefMapRules.Overlay.{Maps, overlay}
+use Rattle.hir_nameres.specs.HirDefMapRules.References.{any_reference_in_scope, is_missing, reference_to, test_of, test_visibility}
+use Rattle.hir_nameres.specs.HirDefMapRules.State.{Map}
+use Rattle.hir_nameres.specs.HirDefMapRules.declared.reference.Reference.{Reference}
+use Rattle.hir_nameres.proofs.HirDefMapRules.Referred.{FailsInScope, scope_parts, scope_whole}
+use Rattle.hir_nameres.proofs.HirDefMapRules.ScopeChanges.{defined_fail, macros_defined_fail, macros_seen_fail, seen_fail, trait_fails}
+use Rattle.hir_nameres.proofs.HirDefMapRules.StaysWellFormed.{HasNoDanglingReference-scope}
 use Rattle.hir_def_map_laws.specs.Building.{UpdatesNameWhatIsThere}
 use Rattle.hir_def_map_laws.specs.SlotChanges.{with_macro, with_macro_vis, with_trait, with_type, with_type_vis, with_value, with_value_vis}
 

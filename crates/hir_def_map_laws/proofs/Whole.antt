@@ -4,26 +4,26 @@ use Rattle.std.specs.Option.{option_and_then, option_map}
 use Rattle.std.specs.Prelude.{is_some, not}
 use Rattle.std.proofs.lemmas.List.Elements.{All-weaker}
 use mathlib.Core.Bool.{true≢false}
-use Rattle.hir_base.specs.declared.ids.MapId.{MapId}
-use Rattle.hir_base.specs.declared.ids.ModuleId.{ModuleId}
-use Rattle.hir_base.specs.declared.ids.UseId.{UseId}
-use Rattle.hir_base.specs.contracts.ids.MapIdPartialEq.TheImpl as map_id
-use Rattle.hir_def_map_rules.specs.Inner.OverlayLaws.{exact_map, same_id}
-use Rattle.hir_def_map_rules.specs.Ancestors.{holders_in}
-use Rattle.hir_def_map_rules.specs.Closed.{AreThere, ModuleIsThere}
-use Rattle.hir_def_map_rules.specs.WellFormed.{AreWellFormed, HasNoDanglingReference}
-use Rattle.hir_def_map_rules.specs.References.{any_reference_in, is_missing, is_there, map_of_reference, prelude_reference, test_of}
-use Rattle.hir_def_map_rules.specs.State.{Map, ModuleValue, entry_at, entry_of, module_at, numbered, variants_at}
-use Rattle.hir_def_map_rules.specs.Overlay.{Maps, Placed, overlay, entry_in, module_in, placed_in}
-use Rattle.hir_def_map_rules.specs.declared.reference.Reference.{Reference}
-use Rattle.hir_def_map_rules.specs.declared.reference.Reference.TheVariants as named
-use Rattle.hir_def_map_rules.proofs.WellFormed.{IsClosed-well_formed}
-use Rattle.hir_def_map_rules.proofs.StaysWellFormed.{IsClosed-overlay}
-use Rattle.hir_def_map_rules.proofs.Fails.{Fails-weaker}
-use Rattle.hir_def_map_rules.proofs.NoneOf.{none_at}
-use Rattle.hir_def_map_rules.proofs.Referred.{module_less}
+use Rattle.hir_nameres.specs.HirIds.declared.ids.MapId.{MapId}
+use Rattle.hir_nameres.specs.HirIds.declared.ids.ModuleId.{ModuleId}
+use Rattle.hir_nameres.specs.HirIds.declared.ids.UseId.{UseId}
+use Rattle.hir_nameres.specs.HirIds.contracts.ids.MapIdPartialEq.TheImpl as map_id
+use Rattle.hir_nameres.specs.HirDefMapRules.Inner.OverlayLaws.{exact_map, same_id}
+use Rattle.hir_nameres.specs.HirDefMapRules.Ancestors.{holders_in}
+use Rattle.hir_nameres.specs.HirDefMapRules.Closed.{AreThere, ModuleIsThere}
+use Rattle.hir_nameres.specs.HirDefMapRules.WellFormed.{AreWellFormed, HasNoDanglingReference}
+use Rattle.hir_nameres.specs.HirDefMapRules.References.{any_reference_in, is_missing, is_there, map_of_reference, prelude_reference, test_of}
+use Rattle.hir_nameres.specs.HirDefMapRules.State.{Map, ModuleValue, entry_at, entry_of, module_at, numbered, variants_at}
+use Rattle.hir_nameres.specs.HirDefMapRules.Overlay.{Maps, Placed, overlay, entry_in, module_in, placed_in}
+use Rattle.hir_nameres.specs.HirDefMapRules.declared.reference.Reference.{Reference}
+use Rattle.hir_nameres.specs.HirDefMapRules.declared.reference.Reference.TheVariants as named
+use Rattle.hir_nameres.proofs.HirDefMapRules.WellFormed.{IsClosed-well_formed}
+use Rattle.hir_nameres.proofs.HirDefMapRules.StaysWellFormed.{IsClosed-overlay}
+use Rattle.hir_nameres.proofs.HirDefMapRules.Fails.{Fails-weaker}
+use Rattle.hir_nameres.proofs.HirDefMapRules.NoneOf.{none_at}
+use Rattle.hir_nameres.proofs.HirDefMapRules.Referred.{module_less}
 use Rattle.hir_def_map_laws.specs.ReadLaw.{KeepApart, StandsBeside, has_no_variants, is_named_in}
-use Rattle.hir_def_map.specs.Scoping.Slots.{is_in, prelude_module_of}
+use Rattle.hir_nameres.specs.Scoping.Slots.{is_in, prelude_module_of}
 
 missing-not : (b : Bool) → not b ≡ false → b ≡ true
 missing-not true e = refl

@@ -1,27 +1,27 @@
 -- What does building leave of a map?
 use Rattle.std.specs.Prelude.{◌≡◌, ℕ, List, Option, ◌<◌, length, Some, false, true}
-use Rattle.hir_base.specs.declared.ids.EnumId.{EnumId}
-use Rattle.hir_base.specs.declared.macro_kind.MacroId.{MacroId}
-use Rattle.hir_base.specs.declared.ids.ModuleDefId.{ModuleDefId}
-use Rattle.hir_base.specs.declared.ids.ModuleId.{ModuleId}
-use Rattle.hir_base.specs.declared.ids.TraitId.{TraitId}
-use Rattle.hir_scope.specs.Globs.{GlobNames}
-use Rattle.hir_scope.specs.Scope.{ScopeValue}
-use Rattle.hir_scope.specs.declared.imports.ImportId.{ImportId}
-use Rattle.hir_scope.specs.declared.imports.ImportOrExternCrate.{ImportOrExternCrate}
-use Rattle.hir_scope.specs.declared.per_ns.PerNs.{PerNs}
-use Rattle.hir_scope.specs.declared.visibility.Visibility.{Visibility}
-use Rattle.hir_def_map_rules.specs.Ancestors.{above_in, holders_in}
-use Rattle.hir_def_map_rules.specs.Listed.{KeepsNames}
-use Rattle.hir_def_map_rules.specs.Overlay.{Maps, overlay}
-use Rattle.hir_def_map_rules.specs.Closed.{AreThere, IsThere, VisibilityIsThere}
-use Rattle.hir_def_map_rules.specs.References.{any_reference_in_scope, are_variants_of, is_missing}
-use Rattle.hir_def_map_rules.specs.WellFormed.{HasNoDanglingReference}
-use Rattle.hir_def_map_rules.specs.Sources.{SourceTest, HoldsOfNone, HoldsNowhereIn, on_import, on_some, on_origin, on_values, on_variant}
-use Rattle.hir_def_map_rules.specs.State.{Map, pushed, with_scope, new_module, numbered, with_module, Variants, with_enum}
-use Rattle.hir_def_map_rules.specs.Declaration.{listed}
-use Rattle.hir_def_map_rules.specs.declared.declaration.Declaration.{Declaration}
-use Rattle.hir_def_map_rules.specs.declared.origin.ModuleOrigin.{ModuleOrigin}
+use Rattle.hir_nameres.specs.HirIds.declared.ids.EnumId.{EnumId}
+use Rattle.hir_nameres.specs.HirIds.declared.macro_kind.MacroId.{MacroId}
+use Rattle.hir_nameres.specs.HirIds.declared.ids.ModuleDefId.{ModuleDefId}
+use Rattle.hir_nameres.specs.HirIds.declared.ids.ModuleId.{ModuleId}
+use Rattle.hir_nameres.specs.HirIds.declared.ids.TraitId.{TraitId}
+use Rattle.hir_nameres.specs.HirScope.Globs.{GlobNames}
+use Rattle.hir_nameres.specs.HirScope.Scope.{ScopeValue}
+use Rattle.hir_nameres.specs.HirPerNs.declared.imports.ImportId.{ImportId}
+use Rattle.hir_nameres.specs.HirPerNs.declared.imports.ImportOrExternCrate.{ImportOrExternCrate}
+use Rattle.hir_nameres.specs.HirPerNs.declared.per_ns.PerNs.{PerNs}
+use Rattle.hir_nameres.specs.HirPerNs.declared.visibility.Visibility.{Visibility}
+use Rattle.hir_nameres.specs.HirDefMapRules.Ancestors.{above_in, holders_in}
+use Rattle.hir_nameres.specs.HirDefMapRules.Listed.{KeepsNames}
+use Rattle.hir_nameres.specs.HirDefMapRules.Overlay.{Maps, overlay}
+use Rattle.hir_nameres.specs.HirDefMapRules.Closed.{AreThere, IsThere, VisibilityIsThere}
+use Rattle.hir_nameres.specs.HirDefMapRules.References.{any_reference_in_scope, are_variants_of, is_missing}
+use Rattle.hir_nameres.specs.HirDefMapRules.WellFormed.{HasNoDanglingReference}
+use Rattle.hir_nameres.specs.HirDefMapRules.Sources.{SourceTest, HoldsOfNone, HoldsNowhereIn, on_import, on_some, on_origin, on_values, on_variant}
+use Rattle.hir_nameres.specs.HirDefMapRules.State.{Map, pushed, with_scope, new_module, numbered, with_module, Variants, with_enum}
+use Rattle.hir_nameres.specs.HirDefMapRules.Declaration.{listed}
+use Rattle.hir_nameres.specs.HirDefMapRules.declared.declaration.Declaration.{Declaration}
+use Rattle.hir_nameres.specs.HirMapParts.declared.origin.ModuleOrigin.{ModuleOrigin}
 use Rattle.hir_def_map_laws.specs.SlotChanges.{with_macro, with_macro_vis, with_trait, with_type, with_type_vis, with_value, with_value_vis}
 
 -- the same lies above each module, and the same modules hold its map

@@ -1,26 +1,26 @@
 -- What holds of every path?
 use Rattle.std.specs.Prelude.{◌≡◌, ℕ, List, Option, option_map, Bool, false, None, Some, IsTrue, true, is_some}
 use Rattle.std.specs.List.{All}
-use Rattle.hir_base.specs.ModPath.{Path}
-use Rattle.hir_base.specs.declared.ids.EnumId.{EnumId}
-use Rattle.hir_base.specs.declared.ids.MapId.{MapId}
-use Rattle.hir_base.specs.declared.ids.ModuleId.{ModuleId}
-use Rattle.hir_scope.specs.ModuleTree.{same_crate}
-use Rattle.hir_scope.specs.Visibility.{is_visible}
-use Rattle.hir_scope.specs.PerNs.{Item}
-use Rattle.hir_scope.specs.declared.per_ns.PerNs.{PerNs}
-use Rattle.hir_scope.specs.declared.visibility.Visibility.{Visibility}
-use Rattle.hir_def_map_rules.specs.Ancestors.{frames_of, above_in, holders_in, holder_in, IsPlaced, frame_of, leads_to_root, up_in}
-use Rattle.hir_def_map_rules.specs.Overlay.{Maps, entry_in, map_in, module_in, Placed, parent_in, alone}
-use Rattle.hir_def_map_rules.specs.Scoping.{resolution_of}
-use Rattle.hir_def_map_rules.specs.Scoping.Asking.{Asking}
-use Rattle.hir_def_map_rules.specs.Scoping.Blocks.{joined, in_preludes}
-use Rattle.hir_def_map_rules.specs.Scoping.FirstSegment.{legacy_of, macro_use_of, is_block_root}
-use Rattle.hir_def_map_rules.specs.Scoping.Segments.{variant_in, seen, through_module, crossing, nearest_non_block_module}
-use Rattle.hir_def_map.specs.Scoping.Slots.{prelude_module_of}
-use Rattle.hir_def_map_rules.specs.Scoping.Start.{from_start}
-use Rattle.hir_def_map_rules.specs.State.{CrateData, Map, crate_root, IsInOrder}
-use Rattle.hir_def_map_rules.specs.declared.path_result.ResolvePathResult.{ResolvePathResult}
+use Rattle.hir_nameres.specs.HirBase.ModPath.{Path}
+use Rattle.hir_nameres.specs.HirIds.declared.ids.EnumId.{EnumId}
+use Rattle.hir_nameres.specs.HirIds.declared.ids.MapId.{MapId}
+use Rattle.hir_nameres.specs.HirIds.declared.ids.ModuleId.{ModuleId}
+use Rattle.hir_nameres.specs.HirPerNs.ModuleTree.{same_crate}
+use Rattle.hir_nameres.specs.HirPerNs.Visibility.{is_visible}
+use Rattle.hir_nameres.specs.HirPerNs.PerNs.{Item}
+use Rattle.hir_nameres.specs.HirPerNs.declared.per_ns.PerNs.{PerNs}
+use Rattle.hir_nameres.specs.HirPerNs.declared.visibility.Visibility.{Visibility}
+use Rattle.hir_nameres.specs.HirDefMapRules.Ancestors.{frames_of, above_in, holders_in, holder_in, IsPlaced, frame_of, leads_to_root, up_in}
+use Rattle.hir_nameres.specs.HirDefMapRules.Overlay.{Maps, entry_in, map_in, module_in, Placed, parent_in, alone}
+use Rattle.hir_nameres.specs.HirDefMapRules.Scoping.{resolution_of}
+use Rattle.hir_nameres.specs.HirDefMapRules.Scoping.Asking.{Asking}
+use Rattle.hir_nameres.specs.HirDefMapRules.Scoping.Blocks.{joined, in_preludes}
+use Rattle.hir_nameres.specs.HirDefMapRules.Scoping.FirstSegment.{legacy_of, macro_use_of, is_block_root}
+use Rattle.hir_nameres.specs.HirDefMapRules.Scoping.Segments.{variant_in, seen, through_module, crossing, nearest_non_block_module}
+use Rattle.hir_nameres.specs.Scoping.Slots.{prelude_module_of}
+use Rattle.hir_nameres.specs.HirDefMapRules.Scoping.Start.{from_start}
+use Rattle.hir_nameres.specs.HirDefMapRules.State.{CrateData, Map, crate_root, IsInOrder}
+use Rattle.hir_nameres.specs.HirDefMapRules.declared.path_result.ResolvePathResult.{ResolvePathResult}
 
 -- ---- names that a path doesn't have
 

@@ -2,38 +2,38 @@
 use Rattle.std.specs.Prelude.{◌≡◌, ℕ, ◌<◌, ◌≤◌, List, length, Bool, false, ◌&&◌, not, is_some, Option, None, Some, map as list_map, option_map}
 use Rattle.std.specs.BTreeMap.{BTreeMap}
 use Rattle.std.specs.List.{All}
-use Rattle.hir_base.specs.ModPath.{Path}
-use Rattle.hir_base.specs.declared.ids.AdtId.{AdtId}
-use Rattle.hir_base.specs.declared.ids.Crate.{Crate}
-use Rattle.hir_base.specs.declared.ids.EnumId.{EnumId}
-use Rattle.hir_base.specs.declared.ids.ExternCrateId.{ExternCrateId}
-use Rattle.hir_base.specs.declared.ids.MapId.{MapId}
-use Rattle.hir_base.specs.declared.ids.ModuleDefId.{ModuleDefId}
-use Rattle.hir_base.specs.declared.ids.ModuleId.{ModuleId}
-use Rattle.hir_base.specs.declared.ids.AdtId.TheVariants as adts
-use Rattle.hir_base.specs.declared.ids.ModuleDefId.TheVariants as definitions
-use Rattle.hir_base.specs.contracts.ids.MapIdPartialEq.TheImpl as map_id
-use Rattle.hir_scope.specs.PerNs.{Item}
-use Rattle.hir_scope.specs.declared.imports.ImportOrExternCrate.{ImportOrExternCrate}
-use Rattle.hir_def_map_rules.specs.Ancestors.{holders_in}
-use Rattle.hir_def_map_rules.specs.WellFormed.{AreWellFormed, HasNoDanglingReference}
-use Rattle.hir_def_map_rules.specs.References.{map_of_reference, any_reference_in, Fails}
-use Rattle.hir_def_map_rules.specs.Reaches.{by_import}
-use Rattle.hir_def_map_rules.specs.Scoping.{Resolution, resolution_of}
-use Rattle.hir_def_map_rules.specs.Scoping.Asking.{Asking}
-use Rattle.hir_def_map_rules.specs.Scoping.FirstSegment.{legacy_of}
-use Rattle.hir_def_map_rules.specs.State.{IsInOrder, Local, Map, ModuleValue, Variants, at_name, changed_at, entry_at, module_at, numbered, parent_at}
-use Rattle.hir_def_map_rules.specs.State.{variants_at}
-use Rattle.hir_def_map_rules.specs.Overlay.{Maps, overlay, map_in, module_in}
-use Rattle.hir_def_map.specs.World.{IsChecked, finished_in}
-use Rattle.hir_def_map.specs.WorldParts.{among, part_of}
-use Rattle.hir_def_map.specs.declared.world.finished.Finished.{Finished}
-use Rattle.hir_def_map.specs.declared.nameres.path_resolution.slots.Slot.{Slot}
-use Rattle.hir_def_map.specs.declared.world.part.WorldPart.{WorldPart}
-use Rattle.hir_def_map_rules.specs.declared.reference.Reference.{Reference}
-use Rattle.hir_def_map_rules.specs.declared.reference.Reference.TheVariants as named
-use Rattle.hir_def_map.specs.declared.nameres.path_resolution.slots.Slot.TheVariants.{Module as of_module, Preludes as of_preludes}
-use Rattle.hir_def_map.specs.Scoping.Slots.{is_in, prelude_module_of, reads}
+use Rattle.hir_nameres.specs.HirBase.ModPath.{Path}
+use Rattle.hir_nameres.specs.HirIds.declared.ids.AdtId.{AdtId}
+use Rattle.hir_nameres.specs.HirIds.declared.ids.Crate.{Crate}
+use Rattle.hir_nameres.specs.HirIds.declared.ids.EnumId.{EnumId}
+use Rattle.hir_nameres.specs.HirIds.declared.ids.ExternCrateId.{ExternCrateId}
+use Rattle.hir_nameres.specs.HirIds.declared.ids.MapId.{MapId}
+use Rattle.hir_nameres.specs.HirIds.declared.ids.ModuleDefId.{ModuleDefId}
+use Rattle.hir_nameres.specs.HirIds.declared.ids.ModuleId.{ModuleId}
+use Rattle.hir_nameres.specs.HirIds.declared.ids.AdtId.TheVariants as adts
+use Rattle.hir_nameres.specs.HirIds.declared.ids.ModuleDefId.TheVariants as definitions
+use Rattle.hir_nameres.specs.HirIds.contracts.ids.MapIdPartialEq.TheImpl as map_id
+use Rattle.hir_nameres.specs.HirPerNs.PerNs.{Item}
+use Rattle.hir_nameres.specs.HirPerNs.declared.imports.ImportOrExternCrate.{ImportOrExternCrate}
+use Rattle.hir_nameres.specs.HirDefMapRules.Ancestors.{holders_in}
+use Rattle.hir_nameres.specs.HirDefMapRules.WellFormed.{AreWellFormed, HasNoDanglingReference}
+use Rattle.hir_nameres.specs.HirDefMapRules.References.{map_of_reference, any_reference_in, Fails}
+use Rattle.hir_nameres.specs.HirDefMapRules.Reaches.{by_import}
+use Rattle.hir_nameres.specs.HirDefMapRules.Scoping.{Resolution, resolution_of}
+use Rattle.hir_nameres.specs.HirDefMapRules.Scoping.Asking.{Asking}
+use Rattle.hir_nameres.specs.HirDefMapRules.Scoping.FirstSegment.{legacy_of}
+use Rattle.hir_nameres.specs.HirDefMapRules.State.{IsInOrder, Local, Map, ModuleValue, Variants, at_name, changed_at, entry_at, module_at, numbered, parent_at}
+use Rattle.hir_nameres.specs.HirDefMapRules.State.{variants_at}
+use Rattle.hir_nameres.specs.HirDefMapRules.Overlay.{Maps, overlay, map_in, module_in}
+use Rattle.hir_nameres.specs.World.{IsChecked, finished_in}
+use Rattle.hir_nameres.specs.WorldParts.{among, part_of}
+use Rattle.hir_nameres.specs.declared.world.finished.Finished.{Finished}
+use Rattle.hir_nameres.specs.declared.nameres.path_resolution.slots.Slot.{Slot}
+use Rattle.hir_nameres.specs.declared.world.part.WorldPart.{WorldPart}
+use Rattle.hir_nameres.specs.HirDefMapRules.declared.reference.Reference.{Reference}
+use Rattle.hir_nameres.specs.HirDefMapRules.declared.reference.Reference.TheVariants as named
+use Rattle.hir_nameres.specs.declared.nameres.path_resolution.slots.Slot.TheVariants.{Module as of_module, Preludes as of_preludes}
+use Rattle.hir_nameres.specs.Scoping.Slots.{is_in, prelude_module_of, reads}
 
 -- ---- a map beside finished ones
 
@@ -203,4 +203,4 @@ SomeMapsKeepApart =
 
 -- nor those of a part of a world
 abbrev pub PartsKeepApart : Type 0
-PartsKeepApart = (part : WorldPart) (own : MapId) → finished_in part.world.now.maps own ≡ None → KeepApart (part_of part) own
+PartsKeepApart = (part : WorldPart) (own : MapId) → finished_in part.maps.now own ≡ None → KeepApart (part_of part) own

@@ -2,20 +2,20 @@
 #![tactic(auto)]
 
 ghost use Rattle.std.specs.Prelude.{◌≡◌, ℕ, true, List};
-ghost use Rattle.hir_base.specs.Laws.{HashesAlike};
-ghost use Rattle.hir_scope.specs.Laws.{GivesItsList};
-ghost use Rattle.hir_def_map_rules.specs.Overlay.{Maps, overlay};
-ghost use Rattle.hir_def_map_rules.specs.References.{is_well_formed};
-ghost use Rattle.hir_def_map_rules.specs.WellFormed.{AreWellFormed, HasNoDanglingExtern, HasNoDanglingReference};
-ghost use Rattle.hir_def_map_rules.specs.Closed.{IsClosed};
-ghost use Rattle.hir_def_map_rules.specs.State.{Local, Map};
+ghost use Rattle.hir_nameres.specs.HirIds.Laws.{HashesAlike};
+ghost use Rattle.hir_nameres.specs.HirScope.Laws.{GivesItsList};
+ghost use Rattle.hir_nameres.specs.HirDefMapRules.Overlay.{Maps, overlay};
+ghost use Rattle.hir_nameres.specs.HirDefMapRules.References.{is_well_formed};
+ghost use Rattle.hir_nameres.specs.HirDefMapRules.WellFormed.{AreWellFormed, HasNoDanglingExtern, HasNoDanglingReference};
+ghost use Rattle.hir_nameres.specs.HirDefMapRules.Closed.{IsClosed};
+ghost use Rattle.hir_nameres.specs.HirDefMapRules.State.{Local, Map};
 ghost use Rattle.hir_def_map_laws.specs.Building.{DeclarationsKeepNames, DeclarationsKeepPlaces, DeclarationsNameWhatIsThere, EnumsKeepToSources, EnumsNameWhatIsThere, ListsKeepToSources, ModulesKeepToSources, ModulesNameWhatIsThere, PushesKeepPlaces, PushesKeepToSources, PushesNameWhatIsThere, ScopesNameWhatIsThere, UpdatesNameWhatIsThere};
 ghost use Rattle.hir_def_map_laws.specs.ReadLaw.{ChangedModulesDifferInScopes, CrateMapsBeginOutside, CratesAreOutside, ImportsReadAlike, PartsKeepApart, ReadsDecide, ScopesReadAlike, SomeMapsKeepApart, UnstoppedReadsDecide, WholeMapsKeepApart, WholeMapsStandBeside, WorldsKeepApart};
 ghost use Rattle.hir_def_map_laws.specs.SlotChanges.{ChangedScopesChangeTheirSlot, ChangesFollowOneAnother, CratesChangeTheirSlot, EnumsChangeNoSlot, ListsChangeNoSlot, MacroUsesChangeTheirSlot, ModulesChangeNoSlot, NothingChangesNoScope, NothingChangesNoSlot, OneChangeIsAmongItsSlot, OneScopeChangeIsAmongItsSlot, OtherSlotsDoNotMatter, PushesChangeTheirScope, PushesChangeTheirSlot, ScopeChangesFollowOneAnother, TextualMacrosChangeTheirSlot, TraitsChangeNoScope, TraitsChangeNoSlot, UnreadScopesDoNotMatter, UnreadSlotsDoNotMatter, UpdatesChangeTheirScope, UpdatesChangeTheirSlot};
 ghost use Rattle.hir_def_map_laws.specs.Paths.{BlocksAskHolders, CratesAskThemselves, InnerModulesAskPreludes, LaterSegmentsAreSeen, RootedStepsLeadToParents, SegmentsAreSeen, StepsLeadToParents, UnnamedBindingsDoNotMatter};
 
-use hir_def_map::nameres::local_def_map::LocalDefMap;
-use hir_def_map::nameres::module_ids::ModuleIds;
+use hir_nameres::nameres::local_def_map::LocalDefMap;
+use hir_nameres::nameres::module_ids::ModuleIds;
 use std::hash::Hash;
 
 /// A path means the same over maps that agree on its names.

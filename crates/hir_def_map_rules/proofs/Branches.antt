@@ -5,7 +5,7 @@ use Rattle.std.proofs.lemmas.List.{append-nil, append_assoc, reverse-append, rev
 use Rattle.std.proofs.lemmas.List.Concat.{flat_map-append}
 use Rattle.std.proofs.lemmas.List.Folds.{flat_map-map}
 use Rattle.std.proofs.lemmas.List.Sums.{fold-append}
-use Rattle.hir_base.specs.declared.ids.ModuleId.{ModuleId}
+use Rattle.hir_scope.specs.HirIds.declared.ids.ModuleId.{ModuleId}
 use Rattle.hir_def_map_rules.specs.State.{Map, ModuleValue, module_at}
 use Rattle.hir_def_map_rules.specs.Dump.{Page, next_page_text, pages_from, pages_within, path_below, text_of}
 use Rattle.hir_def_map_rules.specs.Inner.Branches.{BranchValue, branch_below, branches_below, own_page, pages_in, pages_left, with_pages}

@@ -1,7 +1,7 @@
 -- Climbing, one level at a time.
 use Rattle.std.proofs.Common.{◌≡◌, ℕ, zero, suc, ◌<◌, ◌-◌, ap, sym, arith, Some, None}
 use Rattle.std.specs.Option.{option_and_then}
-use Rattle.hir_base.specs.declared.ids.ModuleId.{ModuleId}
+use Rattle.hir_scope.specs.HirIds.declared.ids.ModuleId.{ModuleId}
 use Rattle.hir_def_map_rules.specs.Overlay.{Maps, parent_in}
 use Rattle.hir_def_map_rules.specs.Scoping.Segments.{nearest_non_block_module}
 use Rattle.hir_def_map_rules.specs.Scoping.Start.{climb}

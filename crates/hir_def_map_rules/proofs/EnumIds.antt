@@ -3,19 +3,19 @@ use Rattle.std.proofs.Common.{◌≡◌, nat_eq, ℕ, Bool, true, ◌&&◌, Opti
 use Rattle.std.specs.Cmp.{unsigned_Decides, first_so, second_so}
 use Rattle.std.specs.Option.{option_eq}
 use denote.Enum.Bare.{same_true}
-use Rattle.hir_base.specs.contracts.ast_id.BlockIdPartialEq.TheImpl as block_id
-use Rattle.hir_base.specs.contracts.ast_id.HirFileIdPartialEq.TheImpl as hir_file
-use Rattle.hir_base.specs.contracts.ast_id.SyntaxIdPartialEq.TheImpl as syntax
-use Rattle.hir_base.specs.contracts.edition.Edition.{the_type as editions}
-use Rattle.hir_base.specs.contracts.ids.EnumIdPartialEq.TheImpl as enum_id
-use Rattle.hir_base.specs.contracts.ids.MapIdPartialEq.TheImpl as map_id
-use Rattle.hir_base.specs.contracts.ids.ModuleIdPartialEq.TheImpl as module_id
-use Rattle.hir_base.specs.declared.ast_id.BlockId.{BlockId}
-use Rattle.hir_base.specs.declared.ids.EnumId.{EnumId}
-use Rattle.hir_base.specs.declared.ast_id.HirFileId.{HirFileId}
-use Rattle.hir_base.specs.declared.ids.ModuleId.{ModuleId}
-use Rattle.hir_base.specs.declared.ast_id.SyntaxId.{SyntaxId}
-use Rattle.hir_base.specs.declared.ast_id.HirFileId.TheVariants as files
+use Rattle.hir_scope.specs.HirIds.contracts.ast_id.BlockIdPartialEq.TheImpl as block_id
+use Rattle.hir_scope.specs.HirIds.contracts.ast_id.HirFileIdPartialEq.TheImpl as hir_file
+use Rattle.hir_scope.specs.HirIds.contracts.ast_id.SyntaxIdPartialEq.TheImpl as syntax
+use Rattle.hir_scope.specs.HirIds.contracts.edition.Edition.{the_type as editions}
+use Rattle.hir_scope.specs.HirIds.contracts.ids.EnumIdPartialEq.TheImpl as enum_id
+use Rattle.hir_scope.specs.HirIds.contracts.ids.MapIdPartialEq.TheImpl as map_id
+use Rattle.hir_scope.specs.HirIds.contracts.ids.ModuleIdPartialEq.TheImpl as module_id
+use Rattle.hir_scope.specs.HirIds.declared.ast_id.BlockId.{BlockId}
+use Rattle.hir_scope.specs.HirIds.declared.ids.EnumId.{EnumId}
+use Rattle.hir_scope.specs.HirIds.declared.ast_id.HirFileId.{HirFileId}
+use Rattle.hir_scope.specs.HirIds.declared.ids.ModuleId.{ModuleId}
+use Rattle.hir_scope.specs.HirIds.declared.ast_id.SyntaxId.{SyntaxId}
+use Rattle.hir_scope.specs.HirIds.declared.ast_id.HirFileId.TheVariants as files
 use Rattle.hir_def_map_rules.specs.Inner.OverlayLaws.{exact_map}
 
 same_nat : (m n : ℕ) → nat_eq m n ≡ true → m ≡ n

@@ -1,30 +1,29 @@
 -- What do a push and one more module leave of a map?
 use Rattle.std.specs.Prelude.{◌≡◌, ◌≢◌, ℕ, zero, suc, ◌<◌, ◌++◌, List, [], ◌∷◌, length, Bool, true, false, not, ◌&&◌, ◌||◌, cond, Option, None, Some, is_some}
 use Rattle.std.specs.Prelude.{map as list_map, option_map, slice_get}
-use Rattle.std.specs.Ordering.{nat_cmp, is_eq, ordering_reverse, match_ordering}
+use Rattle.std.specs.Ordering.{nat_cmp, is_eq, match_ordering}
 use Rattle.std.specs.Cmp.Lexicographic.{slice_cmp}
 use Rattle.std.specs.BTreeMap.{is_at}
 use Rattle.std.specs.Map.{set_value}
 use Rattle.std.specs.declared.cmp.Ordering.{Ordering}
 use Rattle.std.specs.declared.cmp.Ordering.TheVariants.{Less, Equal, Greater}
 use Rattle.std.proofs.Common.{refl, ap, sym, ◌∙◌, arith}
-use Rattle.std.proofs.lemmas.Cmp.{nat_list_cmp_total}
 use Rattle.std.proofs.lemmas.Map.Lookups.{exact_bytes}
-use Rattle.hir_base.specs.declared.macro_kind.MacroId.{MacroId}
-use Rattle.hir_base.specs.declared.ids.MapId.{MapId}
-use Rattle.hir_base.specs.declared.ids.ModuleDefId.{ModuleDefId}
-use Rattle.hir_base.specs.declared.ids.ModuleId.{ModuleId}
-use Rattle.hir_base.specs.contracts.ids.MapIdPartialEq.TheImpl as map_id
-use Rattle.hir_base.specs.contracts.ids.ModuleDefIdPartialEq.TheImpl as module_def
-use Rattle.hir_base.specs.contracts.macro_kind.MacroIdPartialEq.TheImpl as makro
-use Rattle.hir_scope.specs.contracts.imports.ImportOrExternCratePartialEq.TheImpl as import_or_extern_crate
-use Rattle.hir_scope.specs.contracts.imports.ImportOrGlobPartialEq.TheImpl as import_or_glob
-use Rattle.hir_scope.specs.declared.imports.ImportOrDef.{ImportOrDef}
-use Rattle.hir_scope.specs.declared.imports.ImportOrExternCrate.{ImportOrExternCrate}
-use Rattle.hir_scope.specs.declared.imports.ImportOrGlob.{ImportOrGlob}
-use Rattle.hir_scope.specs.declared.per_ns.PerNs.{PerNs}
-use Rattle.hir_scope.specs.declared.visibility.Visibility.{Visibility}
-use Rattle.hir_scope.specs.PerNs.{Item, item_of, value_import}
+use Rattle.hir_scope.specs.HirIds.declared.macro_kind.MacroId.{MacroId}
+use Rattle.hir_scope.specs.HirIds.declared.ids.MapId.{MapId}
+use Rattle.hir_scope.specs.HirIds.declared.ids.ModuleDefId.{ModuleDefId}
+use Rattle.hir_scope.specs.HirIds.declared.ids.ModuleId.{ModuleId}
+use Rattle.hir_scope.specs.HirIds.contracts.ids.MapIdPartialEq.TheImpl as map_id
+use Rattle.hir_scope.specs.HirIds.contracts.ids.ModuleDefIdPartialEq.TheImpl as module_def
+use Rattle.hir_scope.specs.HirIds.contracts.macro_kind.MacroIdPartialEq.TheImpl as makro
+use Rattle.hir_scope.specs.HirPerNs.contracts.imports.ImportOrExternCratePartialEq.TheImpl as import_or_extern_crate
+use Rattle.hir_scope.specs.HirPerNs.contracts.imports.ImportOrGlobPartialEq.TheImpl as import_or_glob
+use Rattle.hir_scope.specs.HirPerNs.declared.imports.ImportOrDef.{ImportOrDef}
+use Rattle.hir_scope.specs.HirPerNs.declared.imports.ImportOrExternCrate.{ImportOrExternCrate}
+use Rattle.hir_scope.specs.HirPerNs.declared.imports.ImportOrGlob.{ImportOrGlob}
+use Rattle.hir_scope.specs.HirPerNs.declared.per_ns.PerNs.{PerNs}
+use Rattle.hir_scope.specs.HirPerNs.declared.visibility.Visibility.{Visibility}
+use Rattle.hir_scope.specs.HirPerNs.PerNs.{Item, item_of, value_import}
 use Rattle.hir_scope.specs.Bindings.{Candidate, Push, after_push, slot_after, is_reresolved_by, takes, macro_candidate, written_places, written_items, taken}
 use Rattle.hir_scope.specs.Bindings.{type_candidate, value_candidate}
 use Rattle.hir_scope.specs.Globs.{GlobNames, Place}
@@ -38,24 +37,9 @@ use Rattle.hir_def_map_rules.specs.State.{new_module, no_globs, numbered, place_
 use Rattle.hir_def_map_rules.specs.State.{with_scope}
 use Rattle.hir_def_map_rules.specs.Overlay.{Maps, overlay, holders_or, holders_under, placed_in}
 use Rattle.hir_def_map_rules.specs.Ancestors.{frame_of, frames_of}
+pub use Rattle.hir_map_parts.proofs.Texts.{same_text, other_text}
 
 -- ---- a list by names, with one more value
-
-equal_to_itself : (o : Ordering) → o ≡ ordering_reverse o → o ≡ Equal
-equal_to_itself Less e = absurd cc
-equal_to_itself Equal e = refl
-equal_to_itself Greater e = absurd cc
-
-pub same_text : (name : List ℕ) → is_at (slice_cmp nat_cmp name) name ≡ true
-same_text name = ap is_eq (equal_to_itself (slice_cmp nat_cmp name name) (nat_list_cmp_total.antisymm name name))
-
-unlike : (o : Ordering) → o ≢ Equal → is_eq o ≡ false
-unlike Less ne = refl
-unlike Equal ne = absurd (ne refl)
-unlike Greater ne = refl
-
-pub other_text : (x y : List ℕ) → x ≢ y → is_at (slice_cmp nat_cmp x) y ≡ false
-other_text x y ne = unlike (slice_cmp nat_cmp x y) (λ e. ne (exact_bytes x y e))
 
 module _ {V : Type 0} where
   -- the value stands at its name

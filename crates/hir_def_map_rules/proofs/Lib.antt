@@ -5,7 +5,6 @@ pub mod Referred
 pub mod EnumIds
 pub mod Grown
 pub mod Listed
-pub mod Externs
 pub mod WellFormed
 pub mod ScopeChanges
 pub mod StaysWellFormed
@@ -20,7 +19,10 @@ pub mod Sourced
 -- single functions
 pub mod Branches
 pub mod Modules
-pub mod Rewrites
-pub mod Copies
 -- worlds
 pub mod References
+pub use Rattle.hir_crate_graph.proofs as HirCrateGraph
+pub use Rattle.hir_map_parts.proofs as HirMapParts
+pub use Rattle.hir_scope.proofs.HirPerNs as HirPerNs
+pub use Rattle.hir_scope.proofs as HirScope
+pub use Rattle.hir_scope.proofs.HirTextualScope as HirTextualScope

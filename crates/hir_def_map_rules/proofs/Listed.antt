@@ -1,7 +1,7 @@
 -- What a declaration that is listed leaves of a map.
 use Rattle.std.specs.Prelude.{◌≡◌, ℕ, List, Option}
 use Rattle.std.proofs.Common.{refl}
-use Rattle.hir_base.specs.declared.ids.MapId.{MapId}
+use Rattle.hir_scope.specs.HirIds.declared.ids.MapId.{MapId}
 use Rattle.hir_scope.specs.Scope.{ScopeValue, binding_of}
 use Rattle.hir_def_map_rules.specs.Ancestors.{frames_of}
 use Rattle.hir_def_map_rules.specs.Declaration.{listed}

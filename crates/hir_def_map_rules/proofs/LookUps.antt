@@ -1,11 +1,11 @@
 -- What look-ups find in several maps.
 use Rattle.std.proofs.Common.{◌≡◌, ◌∙◌, ap, refl, ℕ, Bool, true, false, List, Option, Some, None, cond}
 use Rattle.std.specs.Option.{option_and_then, option_map}
-use Rattle.hir_base.specs.declared.ids.EnumId.{EnumId}
-use Rattle.hir_base.specs.declared.ids.MapId.{MapId}
-use Rattle.hir_base.specs.declared.ids.ModuleId.{ModuleId}
-use Rattle.hir_base.specs.contracts.ids.MapIdPartialEq.TheImpl as map_id
-use Rattle.hir_scope.specs.PerNs.{nothing}
+use Rattle.hir_scope.specs.HirIds.declared.ids.EnumId.{EnumId}
+use Rattle.hir_scope.specs.HirIds.declared.ids.MapId.{MapId}
+use Rattle.hir_scope.specs.HirIds.declared.ids.ModuleId.{ModuleId}
+use Rattle.hir_scope.specs.HirIds.contracts.ids.MapIdPartialEq.TheImpl as map_id
+use Rattle.hir_scope.specs.HirPerNs.PerNs.{nothing}
 use Rattle.hir_def_map_rules.specs.State.{Map, ModuleValue, Variants, at_name, entry_at, entry_of, module_at, numbered, parent_at, parent_of, variants_at}
 use Rattle.hir_def_map_rules.specs.Overlay.{Maps, Placed, overlay, entry_in, holders_or, holders_under, map_in, module_in, parent_in, placed_in, variants_in}
 use Rattle.hir_def_map_rules.specs.Ancestors.{frame_of, frames_of, head_of, holder_in, holders_of_frame, leads_to_root, own_frame, step_in, step_of, up_in}

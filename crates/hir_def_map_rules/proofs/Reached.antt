@@ -4,28 +4,28 @@ use Rattle.std.specs.List.{All}
 use Rattle.std.specs.Option.{option_and_then, option_map}
 use Rattle.std.specs.Prelude.{is_some, not}
 use Rattle.std.proofs.lemmas.List.Elements.{All-head, All-tail}
-use Rattle.hir_base.specs.declared.ids.AdtId.{AdtId}
+use Rattle.hir_scope.specs.HirIds.declared.ids.AdtId.{AdtId}
 use Rattle.hir_base.specs.declared.resolve_mode.BuiltinShadowMode.{BuiltinShadowMode}
-use Rattle.hir_base.specs.declared.ids.Crate.{Crate}
-use Rattle.hir_base.specs.declared.ids.EnumId.{EnumId}
-use Rattle.hir_base.specs.declared.ids.ExternCrateId.{ExternCrateId}
+use Rattle.hir_scope.specs.HirIds.declared.ids.Crate.{Crate}
+use Rattle.hir_scope.specs.HirIds.declared.ids.EnumId.{EnumId}
+use Rattle.hir_scope.specs.HirIds.declared.ids.ExternCrateId.{ExternCrateId}
 use Rattle.hir_base.specs.declared.resolve_mode.MacroSubNs.{MacroSubNs}
-use Rattle.hir_base.specs.declared.ids.ModuleDefId.{ModuleDefId}
+use Rattle.hir_scope.specs.HirIds.declared.ids.ModuleDefId.{ModuleDefId}
 use Rattle.hir_base.specs.declared.mod_path.PathKind.{PathKind}
-use Rattle.hir_base.specs.declared.ids.UseId.{UseId}
-use Rattle.hir_base.specs.declared.ids.AdtId.TheVariants as adts
-use Rattle.hir_base.specs.declared.ids.ModuleId.{ModuleId as AnyModule}
-use Rattle.hir_base.specs.declared.ids.ModuleDefId.TheVariants.{ModuleId, FunctionId, AdtId as AnyAdt, EnumVariantId, ConstId, StaticId, TraitId, TypeAliasId}
-use Rattle.hir_base.specs.declared.ids.ModuleDefId.TheVariants.{BuiltinType, MacroId}
+use Rattle.hir_scope.specs.HirIds.declared.ids.UseId.{UseId}
+use Rattle.hir_scope.specs.HirIds.declared.ids.AdtId.TheVariants as adts
+use Rattle.hir_scope.specs.HirIds.declared.ids.ModuleId.{ModuleId as AnyModule}
+use Rattle.hir_scope.specs.HirIds.declared.ids.ModuleDefId.TheVariants.{ModuleId, FunctionId, AdtId as AnyAdt, EnumVariantId, ConstId, StaticId, TraitId, TypeAliasId}
+use Rattle.hir_scope.specs.HirIds.declared.ids.ModuleDefId.TheVariants.{BuiltinType, MacroId}
 use Rattle.hir_base.specs.declared.mod_path.PathKind.TheVariants as kinds
-use Rattle.hir_item_tree.specs.Shape.{has_constructor}
-use Rattle.hir_scope.specs.declared.imports.ImportOrExternCrate.{ImportOrExternCrate}
-use Rattle.hir_scope.specs.declared.per_ns.PerNs.{PerNs}
-use Rattle.hir_scope.specs.declared.visibility.Visibility.{Visibility}
-use Rattle.hir_scope.specs.declared.imports.ImportOrExternCrate.TheVariants as ways
-use Rattle.hir_scope.specs.PerNs.{Item, item_of, nothing, or_of, with_constructor}
-use Rattle.hir_scope.specs.ModuleTree.{same_block, same_crate}
-use Rattle.hir_scope.specs.Visibility.{is_visible}
+use Rattle.hir_base.specs.Shape.{has_constructor}
+use Rattle.hir_scope.specs.HirPerNs.declared.imports.ImportOrExternCrate.{ImportOrExternCrate}
+use Rattle.hir_scope.specs.HirPerNs.declared.per_ns.PerNs.{PerNs}
+use Rattle.hir_scope.specs.HirPerNs.declared.visibility.Visibility.{Visibility}
+use Rattle.hir_scope.specs.HirPerNs.declared.imports.ImportOrExternCrate.TheVariants as ways
+use Rattle.hir_scope.specs.HirPerNs.PerNs.{Item, item_of, nothing, or_of, with_constructor}
+use Rattle.hir_scope.specs.HirPerNs.ModuleTree.{same_block, same_crate}
+use Rattle.hir_scope.specs.HirPerNs.Visibility.{is_visible}
 use Rattle.hir_def_map_rules.specs.Overlay.{Maps, entry_in, map_in, module_in, parent_in}
 use Rattle.hir_def_map_rules.specs.State.{at_name}
 use Rattle.hir_def_map_rules.specs.Inner.OverlayLaws.{exact_crate}

@@ -7,33 +7,33 @@ use Rattle.std.specs.Ordering.{nat_cmp}
 use Rattle.std.specs.BTreeMap.{is_at}
 use Rattle.std.specs.Cmp.Lexicographic.{pointwise, slice_cmp}
 use Rattle.std.specs.Prelude.{is_some, map as list_map, nat_eq, not, slice_get}
-use Rattle.hir_base.specs.declared.builtin_type.BuiltinType.{BuiltinType as AnyBuiltin}
-use Rattle.hir_base.specs.BuiltinType.{builtin_named}
-use Rattle.hir_base.specs.contracts.ids.EnumIdOrd.TheImpl as enum_order
-use Rattle.hir_base.specs.declared.ids.AdtId.{AdtId}
+use Rattle.hir_scope.specs.HirIds.declared.builtin_type.BuiltinType.{BuiltinType as AnyBuiltin}
+use Rattle.hir_scope.specs.HirIds.BuiltinType.{builtin_named}
+use Rattle.hir_scope.specs.HirIds.contracts.ids.EnumIdOrd.TheImpl as enum_order
+use Rattle.hir_scope.specs.HirIds.declared.ids.AdtId.{AdtId}
 use Rattle.hir_base.specs.declared.resolve_mode.BuiltinShadowMode.{BuiltinShadowMode}
-use Rattle.hir_base.specs.declared.ids.EnumId.{EnumId}
-use Rattle.hir_base.specs.declared.ids.ExternCrateId.{ExternCrateId}
+use Rattle.hir_scope.specs.HirIds.declared.ids.EnumId.{EnumId}
+use Rattle.hir_scope.specs.HirIds.declared.ids.ExternCrateId.{ExternCrateId}
 use Rattle.hir_base.specs.declared.resolve_mode.MacroSubNs.{MacroSubNs}
-use Rattle.hir_base.specs.declared.ids.ModuleDefId.{ModuleDefId}
+use Rattle.hir_scope.specs.HirIds.declared.ids.ModuleDefId.{ModuleDefId}
 use Rattle.hir_base.specs.declared.mod_path.PathKind.{PathKind}
-use Rattle.hir_base.specs.declared.ids.UseId.{UseId}
-use Rattle.hir_base.specs.declared.ids.AdtId.TheVariants as adts
-use Rattle.hir_base.specs.declared.ids.ModuleId.{ModuleId as AnyModule}
-use Rattle.hir_base.specs.declared.ids.ModuleDefId.TheVariants.{ModuleId, FunctionId, AdtId as AnyAdt, EnumVariantId, ConstId, StaticId, TraitId, TypeAliasId}
-use Rattle.hir_base.specs.declared.ids.ModuleDefId.TheVariants.{BuiltinType, MacroId}
-use Rattle.hir_base.specs.declared.macro_kind.MacroId.{MacroId as AnyMacro}
+use Rattle.hir_scope.specs.HirIds.declared.ids.UseId.{UseId}
+use Rattle.hir_scope.specs.HirIds.declared.ids.AdtId.TheVariants as adts
+use Rattle.hir_scope.specs.HirIds.declared.ids.ModuleId.{ModuleId as AnyModule}
+use Rattle.hir_scope.specs.HirIds.declared.ids.ModuleDefId.TheVariants.{ModuleId, FunctionId, AdtId as AnyAdt, EnumVariantId, ConstId, StaticId, TraitId, TypeAliasId}
+use Rattle.hir_scope.specs.HirIds.declared.ids.ModuleDefId.TheVariants.{BuiltinType, MacroId}
+use Rattle.hir_scope.specs.HirIds.declared.macro_kind.MacroId.{MacroId as AnyMacro}
 use Rattle.hir_base.specs.declared.mod_path.PathKind.TheVariants as kinds
-use Rattle.hir_item_tree.specs.Shape.{has_constructor}
-use Rattle.hir_scope.specs.declared.imports.ImportOrExternCrate.{ImportOrExternCrate}
-use Rattle.hir_scope.specs.declared.per_ns.PerNs.{PerNs}
-use Rattle.hir_scope.specs.declared.visibility.Visibility.{Visibility}
-use Rattle.hir_scope.specs.PerNs.{Item, keep_item, keep_of, nothing, or_of, with_constructor}
-use Rattle.hir_scope.specs.ModuleTree.{same_block, same_crate}
+use Rattle.hir_base.specs.Shape.{has_constructor}
+use Rattle.hir_scope.specs.HirPerNs.declared.imports.ImportOrExternCrate.{ImportOrExternCrate}
+use Rattle.hir_scope.specs.HirPerNs.declared.per_ns.PerNs.{PerNs}
+use Rattle.hir_scope.specs.HirPerNs.declared.visibility.Visibility.{Visibility}
+use Rattle.hir_scope.specs.HirPerNs.PerNs.{Item, keep_item, keep_of, nothing, or_of, with_constructor}
+use Rattle.hir_scope.specs.HirPerNs.ModuleTree.{same_block, same_crate}
 use Rattle.hir_scope.specs.Bindings.{first_of}
-use Rattle.hir_textual_scope.specs.Macros.{has_name, macros_of}
-use Rattle.hir_textual_scope.specs.declared.textual_scope.TextualMacro.{TextualMacro}
-use Rattle.hir_scope.specs.Visibility.{is_visible}
+use Rattle.hir_scope.specs.HirTextualScope.Macros.{has_name, macros_of}
+use Rattle.hir_scope.specs.HirTextualScope.declared.textual_scope.TextualMacro.{TextualMacro}
+use Rattle.hir_scope.specs.HirPerNs.Visibility.{is_visible}
 use Rattle.hir_def_map_rules.specs.Overlay.{Maps, Placed, entry_in, map_in, module_in}
 use Rattle.hir_def_map_rules.specs.State.{ModuleValue, Variants, at_name, entry_of, module_at, variants_at}
 use Rattle.hir_def_map_rules.specs.Ancestors.{above_in, holders_in}

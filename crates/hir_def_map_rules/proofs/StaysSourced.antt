@@ -4,24 +4,24 @@ use Rattle.std.specs.List.{list_any}
 use Rattle.std.specs.Ordering.{nat_cmp}
 use Rattle.std.specs.Cmp.Lexicographic.{slice_cmp}
 use Rattle.std.proofs.Common.{refl, subst}
-use Rattle.hir_base.specs.contracts.ids.EnumIdOrd.TheImpl as enum_order
-use Rattle.hir_base.specs.contracts.ids.MapIdPartialEq.TheImpl as map_id
-use Rattle.hir_base.specs.contracts.ids.ModuleDefIdPartialEq.TheImpl as module_def
-use Rattle.hir_base.specs.contracts.macro_kind.MacroIdPartialEq.TheImpl as makro
-use Rattle.hir_base.specs.declared.ids.EnumId.{EnumId}
-use Rattle.hir_base.specs.declared.macro_kind.MacroId.{MacroId}
-use Rattle.hir_base.specs.declared.ids.ModuleDefId.{ModuleDefId}
-use Rattle.hir_base.specs.declared.ids.ModuleId.{ModuleId}
-use Rattle.hir_base.specs.declared.ids.UseId.{UseId}
-use Rattle.hir_textual_scope.specs.declared.textual_scope.TextualMacro.{TextualMacro}
-use Rattle.hir_scope.specs.contracts.imports.ImportOrExternCratePartialEq.TheImpl as item_import
-use Rattle.hir_scope.specs.contracts.imports.ImportOrGlobPartialEq.TheImpl as glob_import
-use Rattle.hir_scope.specs.declared.imports.ImportOrExternCrate.{ImportOrExternCrate}
-use Rattle.hir_scope.specs.declared.imports.ImportOrGlob.{ImportOrGlob}
-use Rattle.hir_scope.specs.declared.per_ns.PerNs.{PerNs}
-use Rattle.hir_scope.specs.declared.visibility.Visibility.{Visibility}
-use Rattle.hir_scope.specs.declared.imports.ImportOrExternCrate.TheVariants as import
-use Rattle.hir_scope.specs.PerNs.{Item, is_nothing, value_import}
+use Rattle.hir_scope.specs.HirIds.contracts.ids.EnumIdOrd.TheImpl as enum_order
+use Rattle.hir_scope.specs.HirIds.contracts.ids.MapIdPartialEq.TheImpl as map_id
+use Rattle.hir_scope.specs.HirIds.contracts.ids.ModuleDefIdPartialEq.TheImpl as module_def
+use Rattle.hir_scope.specs.HirIds.contracts.macro_kind.MacroIdPartialEq.TheImpl as makro
+use Rattle.hir_scope.specs.HirIds.declared.ids.EnumId.{EnumId}
+use Rattle.hir_scope.specs.HirIds.declared.macro_kind.MacroId.{MacroId}
+use Rattle.hir_scope.specs.HirIds.declared.ids.ModuleDefId.{ModuleDefId}
+use Rattle.hir_scope.specs.HirIds.declared.ids.ModuleId.{ModuleId}
+use Rattle.hir_scope.specs.HirIds.declared.ids.UseId.{UseId}
+use Rattle.hir_scope.specs.HirTextualScope.declared.textual_scope.TextualMacro.{TextualMacro}
+use Rattle.hir_scope.specs.HirPerNs.contracts.imports.ImportOrExternCratePartialEq.TheImpl as item_import
+use Rattle.hir_scope.specs.HirPerNs.contracts.imports.ImportOrGlobPartialEq.TheImpl as glob_import
+use Rattle.hir_scope.specs.HirPerNs.declared.imports.ImportOrExternCrate.{ImportOrExternCrate}
+use Rattle.hir_scope.specs.HirPerNs.declared.imports.ImportOrGlob.{ImportOrGlob}
+use Rattle.hir_scope.specs.HirPerNs.declared.per_ns.PerNs.{PerNs}
+use Rattle.hir_scope.specs.HirPerNs.declared.visibility.Visibility.{Visibility}
+use Rattle.hir_scope.specs.HirPerNs.declared.imports.ImportOrExternCrate.TheVariants as import
+use Rattle.hir_scope.specs.HirPerNs.PerNs.{Item, is_nothing, value_import}
 use Rattle.hir_scope.specs.Globs.{GlobNames, Place, has_place}
 use Rattle.hir_scope.specs.ImportRecords.{is_glob}
 use Rattle.hir_scope.specs.Scope.{ScopeValue}

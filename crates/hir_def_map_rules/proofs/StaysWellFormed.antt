@@ -11,19 +11,19 @@ use Rattle.std.specs.Cmp.{first_so, second_so}
 use Rattle.std.specs.BTreeMap.{insert_entry, is_at}
 use Rattle.std.proofs.Common.{ap, inl, inr, refl, subst, sym, ◌∙◌, arith}
 use mathlib.Core.Bool.{true≢false}
-use Rattle.hir_base.specs.declared.ids.EnumId.{EnumId}
-use Rattle.hir_base.specs.declared.ids.ExternCrateId.{ExternCrateId}
-use Rattle.hir_base.specs.declared.ids.MapId.{MapId}
-use Rattle.hir_base.specs.declared.ids.ModuleId.{ModuleId}
-use Rattle.hir_base.specs.declared.ids.UseId.{UseId}
-use Rattle.hir_base.specs.contracts.ids.EnumIdOrd.TheImpl as enum_order
-use Rattle.hir_base.specs.contracts.ids.EnumIdOrd.TheImpl.Laws.{matches_eq-law as enum_ties}
-use Rattle.hir_base.specs.contracts.ids.MapIdPartialEq.TheImpl as map_id
-use Rattle.hir_scope.specs.declared.imports.ImportOrExternCrate.{ImportOrExternCrate}
-use Rattle.hir_scope.specs.declared.per_ns.PerNs.{PerNs}
-use Rattle.hir_scope.specs.declared.visibility.Visibility.{Visibility}
+use Rattle.hir_scope.specs.HirIds.declared.ids.EnumId.{EnumId}
+use Rattle.hir_scope.specs.HirIds.declared.ids.ExternCrateId.{ExternCrateId}
+use Rattle.hir_scope.specs.HirIds.declared.ids.MapId.{MapId}
+use Rattle.hir_scope.specs.HirIds.declared.ids.ModuleId.{ModuleId}
+use Rattle.hir_scope.specs.HirIds.declared.ids.UseId.{UseId}
+use Rattle.hir_scope.specs.HirIds.contracts.ids.EnumIdOrd.TheImpl as enum_order
+use Rattle.hir_scope.specs.HirIds.contracts.ids.EnumIdOrd.TheImpl.Laws.{matches_eq-law as enum_ties}
+use Rattle.hir_scope.specs.HirIds.contracts.ids.MapIdPartialEq.TheImpl as map_id
+use Rattle.hir_scope.specs.HirPerNs.declared.imports.ImportOrExternCrate.{ImportOrExternCrate}
+use Rattle.hir_scope.specs.HirPerNs.declared.per_ns.PerNs.{PerNs}
+use Rattle.hir_scope.specs.HirPerNs.declared.visibility.Visibility.{Visibility}
 use Rattle.hir_scope.specs.Globs.{GlobNames}
-use Rattle.hir_scope.specs.ModuleTree.{same_crate}
+use Rattle.hir_scope.specs.HirPerNs.ModuleTree.{same_crate}
 use Rattle.hir_scope.specs.Scope.{ScopeValue}
 use Rattle.hir_scope.specs.Scope.Push.{pushed_scope}
 use Rattle.hir_def_map_rules.specs.Types.{Declaration, ModuleOrigin, Reference}

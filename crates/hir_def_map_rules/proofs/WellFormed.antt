@@ -12,12 +12,12 @@ use Rattle.std.proofs.lemmas.List.{length-map}
 use Rattle.std.proofs.lemmas.List.Elements.{All-cons, All-nil}
 use Rattle.std.proofs.lemmas.Option.{slice_get-map}
 use mathlib.Core.Bool.{true≢false}
-use Rattle.hir_base.specs.declared.ast_id.BlockId.{BlockId}
-use Rattle.hir_base.specs.declared.ids.Crate.{Crate}
-use Rattle.hir_base.specs.declared.ids.EnumId.{EnumId}
-use Rattle.hir_base.specs.declared.ids.MapId.{MapId}
-use Rattle.hir_base.specs.declared.ids.ModuleId.{ModuleId}
-use Rattle.hir_scope.specs.ModuleTree.{same_crate}
+use Rattle.hir_scope.specs.HirIds.declared.ast_id.BlockId.{BlockId}
+use Rattle.hir_scope.specs.HirIds.declared.ids.Crate.{Crate}
+use Rattle.hir_scope.specs.HirIds.declared.ids.EnumId.{EnumId}
+use Rattle.hir_scope.specs.HirIds.declared.ids.MapId.{MapId}
+use Rattle.hir_scope.specs.HirIds.declared.ids.ModuleId.{ModuleId}
+use Rattle.hir_scope.specs.HirPerNs.ModuleTree.{same_crate}
 use Rattle.hir_def_map_rules.specs.Inner.OverlayLaws.{same_id, exact_crate, frame_holders}
 use Rattle.hir_def_map_rules.specs.Ancestors.{ends_from, ends_within, leads_to_root, number_in, own_frame, parent_number, frames_of}
 use Rattle.hir_def_map_rules.specs.Closed.{AreThere, IsClosed, MapIsThere, ModuleIsThere}
@@ -35,10 +35,10 @@ use Rattle.hir_def_map_rules.proofs.EnumIds.{exact_enum}
 use Rattle.hir_def_map_rules.proofs.Fails.{of_less}
 use Rattle.hir_def_map_rules.proofs.Referred.{entry_fails, module_less, module_parts}
 use Rattle.hir_def_map_rules.proofs.NoneOf.{all_found, neither, none_of_less, not_first, not_second, none_at}
-use Rattle.hir_base.specs.contracts.ids.EnumIdOrd.TheImpl as enum_order
-use Rattle.hir_base.specs.contracts.ids.EnumIdOrd.TheImpl.Laws.{matches_eq-law as enum_ties}
-use Rattle.hir_base.specs.contracts.ids.EnumIdPartialEq.TheImpl as enum_id
-use Rattle.hir_base.specs.contracts.ids.MapIdPartialEq.TheImpl as map_id
+use Rattle.hir_scope.specs.HirIds.contracts.ids.EnumIdOrd.TheImpl as enum_order
+use Rattle.hir_scope.specs.HirIds.contracts.ids.EnumIdOrd.TheImpl.Laws.{matches_eq-law as enum_ties}
+use Rattle.hir_scope.specs.HirIds.contracts.ids.EnumIdPartialEq.TheImpl as enum_id
+use Rattle.hir_scope.specs.HirIds.contracts.ids.MapIdPartialEq.TheImpl as map_id
 use Rattle.hir_def_map_rules.specs.declared.reference.Reference.TheVariants as named
 
 still_there : (a b : Bool) → (a ≡ true → b ≡ true) → not a ≡ false → not b ≡ false

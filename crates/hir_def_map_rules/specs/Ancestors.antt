@@ -1,9 +1,9 @@
 -- Which modules lie above a module?
 use Rattle.std.specs.Prelude.{◌≡◌, ℕ, zero, suc, ◌+◌, ◌++◌, Bool, true, ◌||◌, not, is_some, Option, None, Some, List, [], ◌∷◌, map, length, cond, nat_lt}
 use Rattle.std.specs.Prelude.{slice_get, option_and_then, option_map}
-use Rattle.hir_base.specs.declared.ids.MapId.{MapId}
-use Rattle.hir_base.specs.declared.ids.ModuleId.{ModuleId}
-use Rattle.hir_base.specs.contracts.ids.MapIdPartialEq.TheImpl as map_id
+use Rattle.hir_scope.specs.HirIds.declared.ids.MapId.{MapId}
+use Rattle.hir_scope.specs.HirIds.declared.ids.ModuleId.{ModuleId}
+use Rattle.hir_scope.specs.HirIds.contracts.ids.MapIdPartialEq.TheImpl as map_id
 use Rattle.hir_def_map_rules.specs.State.{Map, ModuleValue, numbered}
 use Rattle.hir_def_map_rules.specs.Overlay.{Maps, Placed}
 

@@ -1,7 +1,7 @@
 -- What comes of asking about modules of maps one after another?
 use Rattle.std.specs.Prelude.{◌≡◌, List, [], ◌∷◌, Option, None, Some, MatchOption}
 use Rattle.std.specs.Borrow.{Bor}
-use Rattle.hir_base.specs.declared.ids.ModuleId.{ModuleId}
+use Rattle.hir_scope.specs.HirIds.declared.ids.ModuleId.{ModuleId}
 use Rattle.hir_def_map_rules.specs.State.{Map}
 use Rattle.hir_def_map_rules.specs.Overlay.{Maps, map_in}
 

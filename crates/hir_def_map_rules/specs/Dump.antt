@@ -1,8 +1,8 @@
 -- How does a map print, with those that hold it?
 use Rattle.std.specs.Prelude.{ℕ, zero, suc, List, [], ◌∷◌, ◌++◌, length, codes, cond, is_some, Option, None, Some}
 use Rattle.std.specs.List.{flat_map}
-use Rattle.hir_base.specs.declared.ids.MapId.{MapId}
-use Rattle.hir_base.specs.declared.ids.ModuleId.{ModuleId}
+use Rattle.hir_scope.specs.HirIds.declared.ids.MapId.{MapId}
+use Rattle.hir_scope.specs.HirIds.declared.ids.ModuleId.{ModuleId}
 use Rattle.hir_scope.specs.Dump.{line_name, dump_of as scope_text}
 use Rattle.hir_scope.specs.Scope.{ScopeValue}
 use Rattle.hir_def_map_rules.specs.State.{Map, ModuleValue, module_at, root_of}

@@ -1,57 +1,38 @@
 -- When are two def maps equal? Part by part, and in each list entry by entry in order.
-use Rattle.std.specs.Prelude.{ℕ, Bool, nat_eq, List, Option}
-use Rattle.std.specs.Bool.{beq}
+use Rattle.std.specs.Prelude.{Option}
 use Rattle.std.specs.Option.{option_eq}
 use Rattle.std.specs.Ordering.{on, eq_of_both}
-use Rattle.std.specs.Cmp.{IsEquivalence, on_equiv, and_equiv, bool_eq_equiv, nat_eq_equiv}
-use Rattle.std.specs.Cmp.Lexicographic.{pointwise, lists_equiv, options_equiv, nat_list_eq_equiv}
-use Rattle.hir_base.specs.contracts.ast_id.AstIdPartialEq.TheImpl as ast_id
-use Rattle.hir_base.specs.contracts.ast_id.AstIdEq.TheImpl.Laws.{laws-law as ast_id_laws}
-use Rattle.hir_base.specs.contracts.edition.EditionPartialEq.TheImpl as edition
-use Rattle.hir_base.specs.contracts.edition.EditionEq.TheImpl.Laws.{laws-law as edition_laws}
-use Rattle.hir_base.specs.contracts.ids.CratePartialEq.TheImpl as krate
-use Rattle.hir_base.specs.contracts.ids.CrateEq.TheImpl.Laws.{laws-law as krate_laws}
-use Rattle.hir_base.specs.declared.ids.ExternCrateId.{ExternCrateId}
-use Rattle.hir_base.specs.declared.ids.ModuleId.{ModuleId}
-use Rattle.hir_base.specs.declared.ids.UseId.{UseId}
-use Rattle.hir_base.specs.contracts.ids.EnumIdPartialEq.TheImpl as enum_id
-use Rattle.hir_base.specs.contracts.ids.EnumIdEq.TheImpl.Laws.{laws-law as enum_id_laws}
-use Rattle.hir_base.specs.contracts.ids.ExternCrateIdPartialEq.TheImpl as extern_crate
-use Rattle.hir_base.specs.contracts.ids.ExternCrateIdEq.TheImpl.Laws.{laws-law as extern_crate_laws}
-use Rattle.hir_base.specs.contracts.ids.FunctionIdPartialEq.TheImpl as function
-use Rattle.hir_base.specs.contracts.ids.FunctionIdEq.TheImpl.Laws.{laws-law as function_laws}
-use Rattle.hir_base.specs.contracts.ids.MapIdPartialEq.TheImpl as map_id
-use Rattle.hir_base.specs.contracts.ids.MapIdEq.TheImpl.Laws.{laws-law as map_id_laws}
-use Rattle.hir_base.specs.contracts.ids.ModuleIdPartialEq.TheImpl as module_id
-use Rattle.hir_base.specs.contracts.ids.ModuleIdEq.TheImpl.Laws.{laws-law as module_id_laws}
-use Rattle.hir_base.specs.contracts.ids.UseIdPartialEq.TheImpl as use_id
-use Rattle.hir_base.specs.contracts.ids.UseIdEq.TheImpl.Laws.{laws-law as use_id_laws}
-use Rattle.hir_base.specs.contracts.macro_kind.MacroIdPartialEq.TheImpl as makro
-use Rattle.hir_base.specs.contracts.macro_kind.MacroIdEq.TheImpl.Laws.{laws-law as makro_laws}
-use Rattle.hir_base.specs.contracts.macro_kind.ProcMacroIdPartialEq.TheImpl as proc_macro
-use Rattle.hir_base.specs.contracts.macro_kind.ProcMacroIdEq.TheImpl.Laws.{laws-law as proc_macro_laws}
+use Rattle.std.specs.Cmp.{IsEquivalence, on_equiv, and_equiv}
+use Rattle.std.specs.Cmp.Lexicographic.{pointwise, lists_equiv, options_equiv}
+use Rattle.hir_scope.specs.HirIds.contracts.ast_id.AstIdPartialEq.TheImpl as ast_id
+use Rattle.hir_scope.specs.HirIds.contracts.ast_id.AstIdEq.TheImpl.Laws.{laws-law as ast_id_laws}
+use Rattle.hir_scope.specs.HirIds.declared.ids.ModuleId.{ModuleId}
+use Rattle.hir_scope.specs.HirIds.declared.ids.UseId.{UseId}
+use Rattle.hir_scope.specs.HirIds.contracts.ids.EnumIdPartialEq.TheImpl as enum_id
+use Rattle.hir_scope.specs.HirIds.contracts.ids.EnumIdEq.TheImpl.Laws.{laws-law as enum_id_laws}
+use Rattle.hir_scope.specs.HirIds.contracts.ids.ExternCrateIdPartialEq.TheImpl as extern_crate
+use Rattle.hir_scope.specs.HirIds.contracts.ids.ExternCrateIdEq.TheImpl.Laws.{laws-law as extern_crate_laws}
+use Rattle.hir_scope.specs.HirIds.contracts.ids.FunctionIdPartialEq.TheImpl as function
+use Rattle.hir_scope.specs.HirIds.contracts.ids.FunctionIdEq.TheImpl.Laws.{laws-law as function_laws}
+use Rattle.hir_scope.specs.HirIds.contracts.ids.MapIdPartialEq.TheImpl as map_id
+use Rattle.hir_scope.specs.HirIds.contracts.ids.MapIdEq.TheImpl.Laws.{laws-law as map_id_laws}
+use Rattle.hir_scope.specs.HirIds.contracts.ids.ModuleIdPartialEq.TheImpl as module_id
+use Rattle.hir_scope.specs.HirIds.contracts.ids.ModuleIdEq.TheImpl.Laws.{laws-law as module_id_laws}
+use Rattle.hir_scope.specs.HirIds.contracts.ids.UseIdPartialEq.TheImpl as use_id
+use Rattle.hir_scope.specs.HirIds.contracts.ids.UseIdEq.TheImpl.Laws.{laws-law as use_id_laws}
+use Rattle.hir_scope.specs.HirIds.contracts.macro_kind.MacroIdPartialEq.TheImpl as makro
+use Rattle.hir_scope.specs.HirIds.contracts.macro_kind.MacroIdEq.TheImpl.Laws.{laws-law as makro_laws}
+use Rattle.hir_scope.specs.HirIds.contracts.macro_kind.ProcMacroIdPartialEq.TheImpl as proc_macro
+use Rattle.hir_scope.specs.HirIds.contracts.macro_kind.ProcMacroIdEq.TheImpl.Laws.{laws-law as proc_macro_laws}
 use Rattle.hir_scope.specs.Inner.Equality.{same_scope, same_scope_equiv}
-use Rattle.hir_scope.specs.contracts.visibility.VisibilityPartialEq.TheImpl as visibility
-use Rattle.hir_scope.specs.contracts.visibility.VisibilityEq.TheImpl.Laws.{laws-law as visibility_laws}
-use Rattle.hir_def_map_rules.specs.contracts.enum_variants.EnumVariantPartialEq.TheImpl as enum_variant
-use Rattle.hir_def_map_rules.specs.contracts.enum_variants.EnumVariantEq.TheImpl.Laws.{laws-law as enum_variant_laws}
-use Rattle.hir_def_map_rules.specs.contracts.origin.ModuleOriginPartialEq.TheImpl as origin
-use Rattle.hir_def_map_rules.specs.contracts.origin.ModuleOriginEq.TheImpl.Laws.{laws-law as origin_laws}
-use Rattle.hir_def_map_rules.specs.Inner.MacroEquality.{same_diagnostics, same_diagnostics_equiv, same_helpers, same_helpers_equiv, same_macro_data}
-use Rattle.hir_def_map_rules.specs.Inner.MacroEquality.{same_macro_data_equiv}
-use Rattle.hir_def_map_rules.specs.State.{CrateData, Local, Map, Modules, ModuleValue, Variants}
-
--- a test of two values
-abbrev Test : Type 0 → Type 0
-Test K = K → K → Bool
-
--- whether two pairs have one first and one second part
-abbrev pub same_pair : {K V : Type 0} → Test K → Test V → Test (K × V)
-same_pair {K} {V} key value = eq_of_both (on (λ (p : K × V). p.0) key) (on (λ (p : K × V). p.1) value)
-
--- a list by names
-abbrev pub same_by_name : {V : Type 0} → Test V → Test (List (List ℕ × V))
-same_by_name value = pointwise (same_pair (pointwise nat_eq) value)
+use Rattle.hir_scope.specs.HirPerNs.contracts.visibility.VisibilityPartialEq.TheImpl as visibility
+use Rattle.hir_scope.specs.HirPerNs.contracts.visibility.VisibilityEq.TheImpl.Laws.{laws-law as visibility_laws}
+use Rattle.hir_map_parts.specs.contracts.origin.ModuleOriginPartialEq.TheImpl as origin
+use Rattle.hir_map_parts.specs.contracts.origin.ModuleOriginEq.TheImpl.Laws.{laws-law as origin_laws}
+use Rattle.hir_map_parts.specs.Inner.MacroEquality.{same_diagnostics, same_diagnostics_equiv, same_helpers, same_helpers_equiv, same_macro_data}
+use Rattle.hir_map_parts.specs.Inner.MacroEquality.{same_macro_data_equiv}
+use Rattle.hir_def_map_rules.specs.State.{Map, Modules, ModuleValue}
+pub use Rattle.hir_map_parts.specs.Equality.{Test, same_pair, same_by_name, same_variants, same_extern, same_local, same_settings, same_flags, same_data, same_pair_equiv, same_by_name_equiv, same_variants_equiv, same_local_equiv, same_data_equiv}
 
 -- whether two modules are written in one place, in one module, to be seen alike
 abbrev pub same_place : Test ModuleValue
@@ -70,34 +51,6 @@ same_module = eq_of_both same_place same_contents
 -- whether the modules of two maps of one id are equal
 abbrev pub same_modules : Test Modules
 same_modules = eq_of_both (on (λ (m : Modules). m.map) map_id.ghosts.eq) (on (λ (m : Modules). m.modules) (pointwise same_module))
-
-abbrev pub same_variants : Test Variants
-same_variants = same_by_name enum_variant.ghosts.eq
-
--- whether two names stand for the same crate, named by the same `extern crate`
-abbrev pub same_extern : Test (List ℕ × (ModuleId × Option ExternCrateId))
-same_extern = same_pair (pointwise nat_eq) (same_pair module_id.ghosts.eq (option_eq extern_crate.ghosts.eq))
-
--- whether two paths may begin with the same crates, which were named in the same order
-abbrev pub same_local : Test Local
-same_local = pointwise same_extern
-
--- whether two crates' tops say the same
-abbrev pub same_settings : Test CrateData
-same_settings =
-    eq_of_both (on (λ (d : CrateData). d.edition) edition.ghosts.eq)
-    (eq_of_both (on (λ (d : CrateData). d.registered_tools) (pointwise (pointwise nat_eq)))
-    (eq_of_both (on (λ (d : CrateData). d.features) (pointwise (pointwise nat_eq)))
-    (on (λ (d : CrateData). d.recursion_limit) nat_eq)))
-
-abbrev pub same_flags : Test CrateData
-same_flags =
-    eq_of_both (on (λ (d : CrateData). d.rustc_coherence_is_core) beq)
-    (eq_of_both (on (λ (d : CrateData). d.no_core) beq)
-    (on (λ (d : CrateData). d.no_std) beq))
-
-abbrev pub same_data : Test CrateData
-same_data = eq_of_both same_settings (eq_of_both same_flags (on (λ (d : CrateData). d.dependencies) (pointwise krate.ghosts.eq)))
 
 -- whether two maps have the same modules and enums under the same id
 abbrev pub same_items : Test Map
@@ -134,12 +87,6 @@ same_def_map = eq_of_both same_items (eq_of_both same_preludes (eq_of_both same_
 
 -- ---- equivalences
 
-same_pair_equiv : {K V : Type 0} {key : Test K} {value : Test V} → IsEquivalence key → IsEquivalence value → IsEquivalence (same_pair key value)
-same_pair_equiv {K} {V} keys values = and_equiv (on_equiv (λ (p : K × V). p.0) keys) (on_equiv (λ (p : K × V). p.1) values)
-
-same_by_name_equiv : {V : Type 0} {value : Test V} → IsEquivalence value → IsEquivalence (same_by_name value)
-same_by_name_equiv values = lists_equiv (same_pair_equiv nat_list_eq_equiv values)
-
 pub same_module_equiv : IsEquivalence same_module
 same_module_equiv =
     and_equiv
@@ -151,25 +98,6 @@ same_module_equiv =
 
 pub same_modules_equiv : IsEquivalence same_modules
 same_modules_equiv = and_equiv (on_equiv (λ (m : Modules). m.map) map_id_laws) (on_equiv (λ (m : Modules). m.modules) (lists_equiv same_module_equiv))
-
-pub same_variants_equiv : IsEquivalence same_variants
-same_variants_equiv = same_by_name_equiv enum_variant_laws
-
-pub same_local_equiv : IsEquivalence same_local
-same_local_equiv = same_by_name_equiv (same_pair_equiv module_id_laws (options_equiv extern_crate_laws))
-
-pub same_data_equiv : IsEquivalence same_data
-same_data_equiv =
-    and_equiv
-    (and_equiv (on_equiv (λ (d : CrateData). d.edition) edition_laws)
-    (and_equiv (on_equiv (λ (d : CrateData). d.registered_tools) (lists_equiv nat_list_eq_equiv))
-    (and_equiv (on_equiv (λ (d : CrateData). d.features) (lists_equiv nat_list_eq_equiv))
-    (on_equiv (λ (d : CrateData). d.recursion_limit) nat_eq_equiv))))
-    (and_equiv
-    (and_equiv (on_equiv (λ (d : CrateData). d.rustc_coherence_is_core) bool_eq_equiv)
-    (and_equiv (on_equiv (λ (d : CrateData). d.no_core) bool_eq_equiv)
-    (on_equiv (λ (d : CrateData). d.no_std) bool_eq_equiv)))
-    (on_equiv (λ (d : CrateData). d.dependencies) (lists_equiv krate_laws)))
 
 pub same_def_map_equiv : IsEquivalence same_def_map
 same_def_map_equiv =

@@ -7,6 +7,4 @@ pub mod LentScopes
 pub mod Branches
 pub mod ReferenceLists
 -- ---- how maps are compared, hashed and stored
-pub mod MacroEquality
-pub mod LocalHash
 pub mod Codes

@@ -1,10 +1,10 @@
 -- ---- what a def map is, and what each building call makes of it
 pub mod State
 pub mod Declaration
-pub mod Origins
+pub use Rattle.hir_map_parts.specs.Origins
 pub mod Building
 pub mod Macros
-pub mod Diagnostics
+pub use Rattle.hir_map_parts.specs.Diagnostics
 -- what is read of a map
 pub mod Reads
 -- what a module keeps once it declares one thing more
@@ -31,3 +31,12 @@ pub mod Sources
 -- ---- words of private code
 pub mod Inner
 pub mod Types
+pub use Rattle.hir_base.specs as HirBase
+pub use Rattle.hir_crate_graph.specs as HirCrateGraph
+pub use Rattle.hir_scope.specs.HirIds as HirIds
+pub use Rattle.hir_map_parts.specs as HirMapParts
+pub use Rattle.hir_scope.specs.HirPerNs as HirPerNs
+pub use Rattle.hir_raw_visibility.specs as HirRawVisibility
+pub use Rattle.hir_scope.specs as HirScope
+pub use Rattle.hir_scope.specs.HirScopeTable as HirScopeTable
+pub use Rattle.hir_scope.specs.HirTextualScope as HirTextualScope

@@ -1,18 +1,19 @@
 -- What becomes of a map's macros, of the attributes that its derives bring, and of what went wrong?
 use Rattle.std.specs.Prelude.{List, [], ◌∷◌, ◌++◌, Option, None, Some, cond}
 use Rattle.std.specs.BTreeMap.{insert_entry, is_at}
-use Rattle.std.specs.Map.{lookup, set_value}
-use Rattle.hir_base.specs.declared.ast_id.AstId.{AstId}
-use Rattle.hir_base.specs.declared.ids.FunctionId.{FunctionId}
-use Rattle.hir_base.specs.declared.macro_kind.MacroId.{MacroId}
-use Rattle.hir_base.specs.declared.macro_kind.ProcMacroId.{ProcMacroId}
-use Rattle.hir_base.specs.contracts.ast_id.AstIdOrd.TheImpl as ast_order
-use Rattle.hir_base.specs.contracts.ids.FunctionIdOrd.TheImpl as function_order
-use Rattle.hir_base.specs.contracts.macro_kind.MacroIdOrd.TheImpl as macro_order
-use Rattle.hir_base.specs.contracts.macro_kind.ProcMacroIdPartialEq.TheImpl as proc_macro
-use Rattle.hir_def_map_rules.specs.declared.derive_helpers.DeriveHelper.{DeriveHelper}
-use Rattle.hir_def_map_rules.specs.declared.diagnostics.DefDiagnostic.{DefDiagnostic}
+use Rattle.std.specs.Map.{lookup}
+use Rattle.hir_scope.specs.HirIds.declared.ast_id.AstId.{AstId}
+use Rattle.hir_scope.specs.HirIds.declared.ids.FunctionId.{FunctionId}
+use Rattle.hir_scope.specs.HirIds.declared.macro_kind.MacroId.{MacroId}
+use Rattle.hir_scope.specs.HirIds.declared.macro_kind.ProcMacroId.{ProcMacroId}
+use Rattle.hir_scope.specs.HirIds.contracts.ast_id.AstIdOrd.TheImpl as ast_order
+use Rattle.hir_scope.specs.HirIds.contracts.ids.FunctionIdOrd.TheImpl as function_order
+use Rattle.hir_scope.specs.HirIds.contracts.macro_kind.MacroIdOrd.TheImpl as macro_order
+use Rattle.hir_scope.specs.HirIds.contracts.macro_kind.ProcMacroIdPartialEq.TheImpl as proc_macro
+use Rattle.hir_map_parts.specs.declared.derive_helpers.DeriveHelper.{DeriveHelper}
+use Rattle.hir_map_parts.specs.declared.diagnostics.DefDiagnostic.{DefDiagnostic}
 use Rattle.hir_def_map_rules.specs.State.{MacroDataValue, Map}
+pub use Rattle.hir_map_parts.specs.Macros.{with_behind}
 
 -- the map with one more diagnostic
 abbrev pub with_diagnostic : Map → DefDiagnostic → Map
@@ -50,11 +51,6 @@ with_macro_data map makro what = record map { macro_data = insert_entry macro_or
 -- the derive helpers on an item
 abbrev pub helpers_at : Map → AstId → Option (List DeriveHelper)
 helpers_at map item = lookup (is_at (ast_order.ghosts.cmp item)) map.derive_helpers
-
--- helpers by items, with one more behind those of an item that has some
-abbrev pub with_behind : List (AstId × List DeriveHelper) → AstId → DeriveHelper → Option (List DeriveHelper) → List (AstId × List DeriveHelper)
-with_behind helpers item helper None = helpers
-with_behind helpers item helper (Some of_item) = set_value (is_at (ast_order.ghosts.cmp item)) helpers (of_item ++ helper ∷ [])
 
 -- helpers by items, with one more behind those of an item
 abbrev pub with_helper : List (AstId × List DeriveHelper) → AstId → DeriveHelper → Option (List DeriveHelper) → List (AstId × List DeriveHelper)

@@ -2,36 +2,35 @@
 use Rattle.std.specs.Prelude.{◌≡◌, ℕ, zero, suc, Bool, true, false, ◌&&◌, ◌||◌, not, is_some, Option, None, Some, List, length, option_map}
 use Rattle.std.specs.List.{list_any, list_all}
 use Rattle.std.specs.BTreeMap.{is_at}
-use Rattle.hir_base.specs.declared.ids.AdtId.TheVariants as adt
-use Rattle.hir_base.specs.declared.ids.Crate.{Crate}
-use Rattle.hir_base.specs.declared.ids.EnumId.{EnumId}
-use Rattle.hir_base.specs.declared.ids.ExternCrateId.{ExternCrateId}
-use Rattle.hir_base.specs.declared.macro_kind.MacroId.{MacroId}
-use Rattle.hir_base.specs.declared.ids.MapId.{MapId}
-use Rattle.hir_base.specs.declared.ids.ModuleDefId.{ModuleDefId}
-use Rattle.hir_base.specs.declared.ids.ModuleId.{ModuleId}
-use Rattle.hir_base.specs.declared.ids.TraitId.{TraitId}
-use Rattle.hir_base.specs.declared.ids.UseId.{UseId}
-use Rattle.hir_base.specs.declared.ids.ModuleDefId.TheVariants as def
-use Rattle.hir_base.specs.contracts.ids.EnumIdPartialEq.TheImpl as enum_id
-use Rattle.hir_base.specs.contracts.ids.MapIdOrd.TheImpl as map_order
-use Rattle.hir_base.specs.contracts.ids.MapIdPartialEq.TheImpl as map_id
-use Rattle.hir_scope.specs.ModuleTree.{same_crate}
+use Rattle.hir_scope.specs.HirIds.declared.ids.AdtId.TheVariants as adt
+use Rattle.hir_scope.specs.HirIds.declared.ids.Crate.{Crate}
+use Rattle.hir_scope.specs.HirIds.declared.ids.EnumId.{EnumId}
+use Rattle.hir_scope.specs.HirIds.declared.ids.ExternCrateId.{ExternCrateId}
+use Rattle.hir_scope.specs.HirIds.declared.macro_kind.MacroId.{MacroId}
+use Rattle.hir_scope.specs.HirIds.declared.ids.MapId.{MapId}
+use Rattle.hir_scope.specs.HirIds.declared.ids.ModuleDefId.{ModuleDefId}
+use Rattle.hir_scope.specs.HirIds.declared.ids.ModuleId.{ModuleId}
+use Rattle.hir_scope.specs.HirIds.declared.ids.TraitId.{TraitId}
+use Rattle.hir_scope.specs.HirIds.declared.ids.UseId.{UseId}
+use Rattle.hir_scope.specs.HirIds.declared.ids.ModuleDefId.TheVariants as def
+use Rattle.hir_scope.specs.HirIds.contracts.ids.MapIdOrd.TheImpl as map_order
+use Rattle.hir_scope.specs.HirIds.contracts.ids.MapIdPartialEq.TheImpl as map_id
+use Rattle.hir_scope.specs.HirPerNs.ModuleTree.{same_crate}
 use Rattle.hir_scope.specs.Scope.{ScopeValue}
-use Rattle.hir_scope.specs.declared.imports.ImportId.{ImportId}
-use Rattle.hir_scope.specs.declared.imports.ImportOrExternCrate.{ImportOrExternCrate}
-use Rattle.hir_scope.specs.declared.imports.ImportOrGlob.{ImportOrGlob}
-use Rattle.hir_scope.specs.declared.per_ns.PerNs.{PerNs}
-use Rattle.hir_scope.specs.declared.visibility.Visibility.{Visibility}
-use Rattle.hir_scope.specs.declared.visibility.Visibility.TheVariants as visibility
-use Rattle.hir_scope.specs.PerNs.{Item}
-use Rattle.hir_def_map_rules.specs.declared.enum_variants.EnumVariant.{EnumVariant}
+use Rattle.hir_scope.specs.HirPerNs.declared.imports.ImportId.{ImportId}
+use Rattle.hir_scope.specs.HirPerNs.declared.imports.ImportOrExternCrate.{ImportOrExternCrate}
+use Rattle.hir_scope.specs.HirPerNs.declared.imports.ImportOrGlob.{ImportOrGlob}
+use Rattle.hir_scope.specs.HirPerNs.declared.per_ns.PerNs.{PerNs}
+use Rattle.hir_scope.specs.HirPerNs.declared.visibility.Visibility.{Visibility}
+use Rattle.hir_scope.specs.HirPerNs.declared.visibility.Visibility.TheVariants as visibility
+use Rattle.hir_scope.specs.HirPerNs.PerNs.{Item}
 use Rattle.hir_def_map_rules.specs.declared.reference.Reference.{Reference}
 use Rattle.hir_def_map_rules.specs.declared.reference.Reference.TheVariants as named
 pub use Rattle.hir_def_map_rules.specs.State.{crate_map}
 use Rattle.hir_def_map_rules.specs.State.{Local, Map, ModuleValue, Variants}
 use Rattle.hir_def_map_rules.specs.Overlay.{Maps, overlay, module_in, variants_in}
 use Rattle.hir_def_map_rules.specs.Ancestors.{leads_to_root, own_frame}
+pub use Rattle.hir_map_parts.specs.References.{are_variants_of}
 
 -- ---- one reference
 
@@ -177,10 +176,6 @@ is_parent_in id (Some p) = map_id.ghosts.eq p.map id
 -- whether each parent lies in the map itself
 abbrev pub has_its_parents : Map → Bool
 has_its_parents map = list_all (λ (m : ModuleValue). is_parent_in map.id m.parent) map.modules
-
--- whether variants are those of an enum
-abbrev pub are_variants_of : EnumId → Variants → Bool
-are_variants_of id variants = list_all (λ (v : List ℕ × EnumVariant). enum_id.ghosts.eq v.1.id.parent id) variants
 
 -- whether each enum has its own variants
 abbrev pub has_its_variants : Map → Bool

@@ -1,6 +1,6 @@
 -- What does a path mean, asked from a module?
 use Rattle.hir_base.specs.ModPath.{Path}
-use Rattle.hir_base.specs.declared.ids.ModuleId.{ModuleId}
+use Rattle.hir_scope.specs.HirIds.declared.ids.ModuleId.{ModuleId}
 use Rattle.hir_def_map_rules.specs.Overlay.{Maps}
 use Rattle.hir_def_map_rules.specs.Scoping.Asking.{Asking as Asked}
 use Rattle.hir_def_map_rules.specs.Scoping.Blocks.{from_blocks}

@@ -1,43 +1,37 @@
 -- What a def map is, and what each building call makes of it.
-use Rattle.std.specs.Prelude.{◌≡◌, ℕ, zero, suc, ◌<◌, ◌≤◌, ◌++◌, List, [], ◌∷◌, length, Option, None, Some, is_some, Bool, false, ◌&&◌, cond, nat_eq, slice_get}
-use Rattle.std.specs.Prelude.{option_and_then, option_map}
-use Rattle.std.specs.Ordering.{nat_cmp}
-use Rattle.std.specs.Cmp.Lexicographic.{pointwise, slice_cmp}
+use Rattle.std.specs.Prelude.{◌≡◌, ℕ, zero, suc, ◌<◌, ◌≤◌, ◌++◌, List, [], ◌∷◌, length, Option, None, Some, is_some, Bool, false, cond, slice_get}
+use Rattle.std.specs.Prelude.{option_map}
 use Rattle.std.specs.BTreeMap.{is_at, insert_entry}
 use Rattle.std.specs.Map.{lookup}
-use Rattle.indexmap.specs.IndexMap.{insert_entry as insert_last}
-use Rattle.hir_base.specs.declared.ast_id.AstId.{AstId}
-use Rattle.hir_base.specs.declared.ids.ConstId.{ConstId}
-use Rattle.hir_base.specs.declared.ids.Crate.{Crate}
-use Rattle.hir_base.specs.declared.edition.Edition.{Edition}
-use Rattle.hir_base.specs.declared.ids.EnumId.{EnumId}
-use Rattle.hir_base.specs.declared.ids.ExternBlockId.{ExternBlockId}
-use Rattle.hir_base.specs.declared.ids.ExternCrateId.{ExternCrateId}
-use Rattle.hir_base.specs.declared.ids.FunctionId.{FunctionId}
-use Rattle.hir_base.specs.declared.ids.ImplId.{ImplId}
-use Rattle.hir_base.specs.declared.macro_kind.MacroId.{MacroId}
-use Rattle.hir_base.specs.declared.ids.MapId.{MapId}
-use Rattle.hir_base.specs.declared.ids.ModuleDefId.{ModuleDefId}
-use Rattle.hir_base.specs.declared.ids.ModuleId.{ModuleId}
-use Rattle.hir_base.specs.declared.macro_kind.ProcMacroId.{ProcMacroId}
-use Rattle.hir_base.specs.declared.ids.UseId.{UseId}
-use Rattle.hir_base.specs.contracts.ids.EnumIdOrd.TheImpl as enum_order
-use Rattle.hir_base.specs.contracts.ids.MapIdPartialEq.TheImpl as map_id
-use Rattle.hir_scope.specs.ModuleTree.{same_crate}
-use Rattle.hir_scope.specs.declared.imports.ImportOrExternCrate.{ImportOrExternCrate}
-use Rattle.hir_scope.specs.declared.per_ns.PerNs.{PerNs}
-use Rattle.hir_scope.specs.declared.visibility.Visibility.{Visibility}
-use Rattle.hir_scope.specs.PerNs.{nothing}
+use Rattle.hir_scope.specs.HirIds.declared.ast_id.AstId.{AstId}
+use Rattle.hir_scope.specs.HirIds.declared.ids.ConstId.{ConstId}
+use Rattle.hir_scope.specs.HirIds.declared.ids.Crate.{Crate}
+use Rattle.hir_scope.specs.HirIds.declared.ids.EnumId.{EnumId}
+use Rattle.hir_scope.specs.HirIds.declared.ids.ExternBlockId.{ExternBlockId}
+use Rattle.hir_scope.specs.HirIds.declared.ids.ExternCrateId.{ExternCrateId}
+use Rattle.hir_scope.specs.HirIds.declared.ids.FunctionId.{FunctionId}
+use Rattle.hir_scope.specs.HirIds.declared.ids.ImplId.{ImplId}
+use Rattle.hir_scope.specs.HirIds.declared.macro_kind.MacroId.{MacroId}
+use Rattle.hir_scope.specs.HirIds.declared.ids.MapId.{MapId}
+use Rattle.hir_scope.specs.HirIds.declared.ids.ModuleDefId.{ModuleDefId}
+use Rattle.hir_scope.specs.HirIds.declared.ids.ModuleId.{ModuleId}
+use Rattle.hir_scope.specs.HirIds.declared.macro_kind.ProcMacroId.{ProcMacroId}
+use Rattle.hir_scope.specs.HirIds.declared.ids.UseId.{UseId}
+use Rattle.hir_scope.specs.HirIds.contracts.ids.EnumIdOrd.TheImpl as enum_order
+use Rattle.hir_scope.specs.HirPerNs.declared.imports.ImportOrExternCrate.{ImportOrExternCrate}
+use Rattle.hir_scope.specs.HirPerNs.declared.per_ns.PerNs.{PerNs}
+use Rattle.hir_scope.specs.HirPerNs.declared.visibility.Visibility.{Visibility}
+use Rattle.hir_scope.specs.HirPerNs.PerNs.{nothing}
 use Rattle.hir_scope.specs.Globs.{GlobNames, Place}
 use Rattle.hir_scope.specs.Scope.{ScopeValue, binding_of, empty_scope}
 use Rattle.hir_scope.specs.Scope.Push.{pushed_scope, pushed_globs, push_changes as scope_changes}
-use Rattle.hir_def_map_rules.specs.declared.block_info.BlockInfo.{BlockInfo}
+use Rattle.hir_map_parts.specs.declared.block_info.BlockInfo.{BlockInfo}
 use Rattle.hir_def_map_rules.specs.declared.declaration.Declaration.TheVariants as declaration
-use Rattle.hir_def_map_rules.specs.declared.derive_helpers.DeriveHelper.{DeriveHelper}
-use Rattle.hir_def_map_rules.specs.declared.diagnostics.DefDiagnostic.{DefDiagnostic}
-use Rattle.hir_def_map_rules.specs.declared.enum_variants.EnumVariant.{EnumVariant}
-use Rattle.hir_def_map_rules.specs.declared.origin.ModuleOrigin.{ModuleOrigin}
+use Rattle.hir_map_parts.specs.declared.derive_helpers.DeriveHelper.{DeriveHelper}
+use Rattle.hir_map_parts.specs.declared.diagnostics.DefDiagnostic.{DefDiagnostic}
+use Rattle.hir_map_parts.specs.declared.origin.ModuleOrigin.{ModuleOrigin}
 use Rattle.hir_def_map_rules.specs.Declaration.{listed}
+pub use Rattle.hir_map_parts.specs.State.{CrateData, new_data, Variants, MacroDataValue, Local, with_extern, at_name, with_name}
 
 -- a module: where it is written, who may see it, what it is in, what it holds by name
 pub record ModuleValue : Type 0 where
@@ -53,43 +47,6 @@ pub record ModuleValue : Type 0 where
 pub record Modules : Type 0 where
   pub map : MapId
   pub modules : List ModuleValue
-
--- the crate-level attributes of a crate, and its transitive dependencies; its blocks have the same
-pub record CrateData : Type 0 where
-  pub edition : Edition
-  -- the tools whose attributes are inert, in the order in which they were registered
-  pub registered_tools : List (List ℕ)
-  -- the unstable features, by name
-  pub features : List (List ℕ)
-  pub rustc_coherence_is_core : Bool
-  pub no_core : Bool
-  pub no_std : Bool
-  -- how deep calls of macros may be nested
-  pub recursion_limit : ℕ
-  -- the transitive dependencies, in ascending order
-  pub dependencies : List Crate
-
--- the data of a crate without crate-level attributes and dependencies
-abbrev pub new_data : Edition → CrateData
-new_data edition = record {
-  edition = edition;
-  registered_tools = [];
-  features = [];
-  rustc_coherence_is_core = false;
-  no_core = false;
-  no_std = false;
-  recursion_limit = 128;
-  dependencies = [];
-}
-
--- an enum's variants by name; of two with one name the later
-abbrev pub Variants : Type 0
-Variants = List (List ℕ × EnumVariant)
-
--- the name of a macro, of a procedural one that under which it is exported, and the attributes that deriving with it brings
-pub record MacroDataValue : Type 0 where
-  pub name : List ℕ
-  pub helpers : List (List ℕ)
 
 -- a def map, finished or still being built
 pub record Map : Type 0 where
@@ -116,23 +73,7 @@ pub record Map : Type 0 where
   pub diagnostics : List DefDiagnostic
   pub crate_data : CrateData
 
--- the crates that a path may begin with, and the `extern crate` that names each, if one does
-abbrev pub Local : Type 0
-Local = List (List ℕ × (ModuleId × Option ExternCrateId))
-
--- the crates once a name stands for a module: a new name comes last, one that is there stays in its place
-abbrev pub with_extern : Local → List ℕ → (ModuleId × Option ExternCrateId) → Local
-with_extern local name entry = insert_last (pointwise nat_eq) local name entry
-
 -- ---- look-ups
-
--- what stands beside a name in a list by names
-abbrev pub at_name : {V : Type 0} → List (List ℕ × V) → List ℕ → Option V
-at_name entries name = lookup (is_at (slice_cmp nat_cmp name)) entries
-
--- the list with a value at a name, in the order of names
-abbrev pub with_name : {V : Type 0} → List (List ℕ × V) → List ℕ → V → List (List ℕ × V)
-with_name entries name value = insert_entry (slice_cmp nat_cmp) entries name value
 
 -- what a name stands for in a module
 abbrev pub entry_of : Option ModuleValue → List ℕ → PerNs

@@ -1,9 +1,9 @@
 -- When has a map no dangling reference?
 use Rattle.std.specs.Prelude.{◌≡◌, ◌<◌, Bool, Option, None, Some, length, not, false, true}
 use Rattle.std.specs.List.{list_any}
-use Rattle.hir_base.specs.declared.ids.MapId.{MapId}
-use Rattle.hir_base.specs.declared.ids.ModuleId.{ModuleId}
-use Rattle.hir_base.specs.contracts.ids.MapIdPartialEq.TheImpl as map_id
+use Rattle.hir_scope.specs.HirIds.declared.ids.MapId.{MapId}
+use Rattle.hir_scope.specs.HirIds.declared.ids.ModuleId.{ModuleId}
+use Rattle.hir_scope.specs.HirIds.contracts.ids.MapIdPartialEq.TheImpl as map_id
 use Rattle.hir_def_map_rules.specs.References.{has_its_variants, is_holder_for, is_missing, any_reference_in, any_own_crate, prelude_reference, test_crate}
 use Rattle.hir_def_map_rules.specs.References.{test_of, test_extern, is_there}
 use Rattle.hir_def_map_rules.specs.State.{Map, IsInOrder, Local}

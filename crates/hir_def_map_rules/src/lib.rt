@@ -1,17 +1,18 @@
 //! What def maps are and what paths mean in them, and the parts that a map is made of.
 #![tactic(auto)]
 
-pub mod add_module_error;
-pub mod block_info;
-pub mod crate_data;
+pub use hir_base;
+pub use hir_crate_graph;
+pub use hir_map_parts::{
+    add_module_error, block_info, crate_data, derive_helpers, diagnostics, enum_variants,
+    local_def_map, macro_data, origin,
+};
+pub use hir_raw_visibility;
+pub use hir_scope;
+pub use hir_scope::hir_textual_scope;
+
 pub mod declaration;
-pub mod derive_helpers;
-pub mod diagnostics;
-pub mod enum_variants;
-pub mod local_def_map;
-pub mod macro_data;
 pub mod module_data;
 pub mod modules_map;
-pub mod origin;
 pub mod path_result;
 pub mod reference;

@@ -8,22 +8,22 @@ use Rattle.std.specs.Option.{option_cmp}
 use Rattle.std.specs.Cmp.Lexicographic.{slice_cmp}
 use Rattle.std.proofs.lemmas.Cmp.{ranked}
 use Rattle.std.proofs.lemmas.Map.Lookups.{exact_bytes}
-use Rattle.hir_base.specs.declared.ast_id.BlockId.{BlockId}
-use Rattle.hir_base.specs.declared.edition.Edition.{Edition}
-use Rattle.hir_base.specs.declared.ast_id.HirFileId.{HirFileId}
-use Rattle.hir_base.specs.declared.ids.MapId.{MapId}
-use Rattle.hir_base.specs.declared.ids.ModuleId.{ModuleId}
-use Rattle.hir_base.specs.declared.ast_id.SyntaxId.{SyntaxId}
-use Rattle.hir_base.specs.declared.ids.TraitId.{TraitId}
-use Rattle.hir_base.specs.declared.ast_id.HirFileId.TheVariants as file
-use Rattle.hir_base.specs.declared.edition.Edition.TheVariants.{Edition2015, Edition2018, Edition2021, Edition2024}
-use Rattle.hir_base.specs.contracts.ast_id.BlockIdOrd.TheImpl as block_order
-use Rattle.hir_base.specs.contracts.ast_id.HirFileIdOrd.TheImpl as file_order
-use Rattle.hir_base.specs.contracts.ast_id.SyntaxIdOrd.TheImpl as syntax_order
-use Rattle.hir_base.specs.contracts.edition.EditionOrd.TheImpl as edition_order
-use Rattle.hir_base.specs.contracts.ids.MapIdOrd.TheImpl as map_order
-use Rattle.hir_base.specs.contracts.ids.ModuleIdOrd.TheImpl as module_order
-use Rattle.hir_base.specs.contracts.ids.TraitIdOrd.TheImpl as trait_order
+use Rattle.hir_scope.specs.HirIds.declared.ast_id.BlockId.{BlockId}
+use Rattle.hir_scope.specs.HirIds.declared.edition.Edition.{Edition}
+use Rattle.hir_scope.specs.HirIds.declared.ast_id.HirFileId.{HirFileId}
+use Rattle.hir_scope.specs.HirIds.declared.ids.MapId.{MapId}
+use Rattle.hir_scope.specs.HirIds.declared.ids.ModuleId.{ModuleId}
+use Rattle.hir_scope.specs.HirIds.declared.ast_id.SyntaxId.{SyntaxId}
+use Rattle.hir_scope.specs.HirIds.declared.ids.TraitId.{TraitId}
+use Rattle.hir_scope.specs.HirIds.declared.ast_id.HirFileId.TheVariants as file
+use Rattle.hir_scope.specs.HirIds.declared.edition.Edition.TheVariants.{Edition2015, Edition2018, Edition2021, Edition2024}
+use Rattle.hir_scope.specs.HirIds.contracts.ast_id.BlockIdOrd.TheImpl as block_order
+use Rattle.hir_scope.specs.HirIds.contracts.ast_id.HirFileIdOrd.TheImpl as file_order
+use Rattle.hir_scope.specs.HirIds.contracts.ast_id.SyntaxIdOrd.TheImpl as syntax_order
+use Rattle.hir_scope.specs.HirIds.contracts.edition.EditionOrd.TheImpl as edition_order
+use Rattle.hir_scope.specs.HirIds.contracts.ids.MapIdOrd.TheImpl as map_order
+use Rattle.hir_scope.specs.HirIds.contracts.ids.ModuleIdOrd.TheImpl as module_order
+use Rattle.hir_scope.specs.HirIds.contracts.ids.TraitIdOrd.TheImpl as trait_order
 use Rattle.hir_glob_imports.specs.Types.{Key, Slot}
 use Rattle.hir_glob_imports.specs.declared.edge.Key.TheVariants.{Types, Values, Macros, Unnamed}
 use Rattle.hir_glob_imports.specs.contracts.edge.KeyOrd.TheImpl as key_order

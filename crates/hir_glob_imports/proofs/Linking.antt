@@ -7,7 +7,7 @@ use Rattle.std.specs.Cmp.{unsigned_Decides}
 use Rattle.std.proofs.lemmas.List.Elements.{Contains-append_cases, Contains-push_cases}
 use Rattle.hir_glob_imports.specs.Types.{Bound, Brought, Edge, EdgesByModule, Key, Slot}
 use Rattle.hir_glob_imports.specs.declared.edge.Target.TheVariants.{Own}
-use Rattle.hir_scope.specs.declared.visibility.Visibility.{Visibility}
+use Rattle.hir_scope.specs.HirPerNs.declared.visibility.Visibility.{Visibility}
 use Rattle.hir_glob_imports.specs.Inner.{Linked, IsIndexed, edges_at, first_matching, matching}
 use Rattle.hir_glob_imports.specs.Keys.{slot_at}
 use Rattle.hir_glob_imports.specs.Moves.{seen_by, shown, update_of}

@@ -3,7 +3,7 @@ use Rattle.std.proofs.Common.{◌≡◌, ◌∙◌, ap, sym, subst, refl, ℕ, B
 use Rattle.std.proofs.Common.{if◌then◌else◌, arith}
 use mathlib.Core.Bool.{true≢false}
 use Rattle.std.specs.Prelude.{Contains, IsSome}
-use Rattle.hir_scope.specs.declared.visibility.Visibility.{Visibility}
+use Rattle.hir_scope.specs.HirPerNs.declared.visibility.Visibility.{Visibility}
 use Rattle.hir_glob_imports.specs.Types.{Bound, Brought, Edge, Key}
 use Rattle.hir_glob_imports.specs.declared.edge.Update.TheVariants.{Nothing, Follow, Raise}
 use Rattle.hir_glob_imports.specs.Keys.{slot_at, is_unnamed}

@@ -4,7 +4,7 @@ use mathlib.Core.Bool.{true≢false}
 use Rattle.std.specs.Prelude.{Contains}
 use Rattle.std.specs.Ordering.{is_eq}
 use Rattle.std.proofs.lemmas.Cmp.{tied_itself}
-use Rattle.hir_scope.specs.declared.visibility.Visibility.{Visibility}
+use Rattle.hir_scope.specs.HirPerNs.declared.visibility.Visibility.{Visibility}
 use Rattle.hir_glob_imports.specs.contracts.edge.SlotOrd.TheImpl.Laws.{total-law as slot_total}
 use Rattle.hir_glob_imports.specs.Types.{Bound, Brought, Edge, Key, Slot, Target, Update}
 use Rattle.hir_glob_imports.specs.declared.edge.Target.TheVariants as target

@@ -1,7 +1,7 @@
 -- What an update that is to be made says of the edge and the slot.
 use Rattle.std.proofs.Common.{◌≡◌, ◌∙◌, ap, sym, subst, refl, ℕ, Bool, true, false, not, ◌||◌, ◌==◌, Option, None, Some, if◌then◌else◌}
 use mathlib.Core.Bool.{true≢false}
-use Rattle.hir_scope.specs.declared.visibility.Visibility.{Visibility}
+use Rattle.hir_scope.specs.HirPerNs.declared.visibility.Visibility.{Visibility}
 use Rattle.hir_glob_imports.specs.Types.{Bound, Brought, Edge, Key, Update}
 use Rattle.hir_glob_imports.specs.declared.edge.Update.TheVariants.{Nothing, Copy, Follow, Raise}
 use Rattle.hir_glob_imports.specs.Keys.{is_unnamed}

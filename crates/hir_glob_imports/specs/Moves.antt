@@ -1,9 +1,9 @@
 -- What is to be done along an edge at a key?
 use Rattle.std.specs.Prelude.{ℕ, Bool, ◌&&◌, ◌||◌, not, ◌==◌, Option, None, Some, if◌then◌else◌}
-use Rattle.hir_scope.specs.contracts.item_in_ns.ItemInNsPartialEq.TheImpl as item_in_ns
-use Rattle.hir_scope.specs.contracts.visibility.VisibilityPartialEq.TheImpl as visibility
-use Rattle.hir_scope.specs.declared.item_in_ns.ItemInNs.{ItemInNs}
-use Rattle.hir_scope.specs.declared.visibility.Visibility.{Visibility}
+use Rattle.hir_scope.specs.HirPerNs.contracts.item_in_ns.ItemInNsPartialEq.TheImpl as item_in_ns
+use Rattle.hir_scope.specs.HirPerNs.contracts.visibility.VisibilityPartialEq.TheImpl as visibility
+use Rattle.hir_scope.specs.HirPerNs.declared.item_in_ns.ItemInNs.{ItemInNs}
+use Rattle.hir_scope.specs.HirPerNs.declared.visibility.Visibility.{Visibility}
 use Rattle.hir_glob_imports.specs.contracts.edge.BoundPartialEq.TheImpl as bound_eq
 use Rattle.hir_glob_imports.specs.declared.edge.Bound.{Bound}
 use Rattle.hir_glob_imports.specs.declared.edge.Brought.{Brought}

@@ -1,7 +1,7 @@
 -- How are the names of modules read, and what do writes leave?
 use Rattle.std.specs.Prelude.{◌≡◌, ℕ, Bool, true, false, Option, None, Some}
-use Rattle.hir_scope.specs.declared.imports.GlobId.{GlobId}
-use Rattle.hir_scope.specs.declared.visibility.Visibility.{Visibility}
+use Rattle.hir_scope.specs.HirPerNs.declared.imports.GlobId.{GlobId}
+use Rattle.hir_scope.specs.HirPerNs.declared.visibility.Visibility.{Visibility}
 use Rattle.hir_glob_imports.specs.declared.edge.Bound.{Bound}
 use Rattle.hir_glob_imports.specs.declared.edge.Key.{Key}
 use Rattle.hir_glob_imports.specs.declared.edge.Slot.{Slot}

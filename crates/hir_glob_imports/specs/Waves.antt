@@ -4,8 +4,8 @@ use Rattle.std.specs.Prelude.{if◌then◌else◌}
 use Rattle.std.specs.BTreeMap.{is_at}
 use Rattle.std.specs.Map.{lookup}
 use Rattle.hir_glob_imports.specs.contracts.edge.SlotOrd.TheImpl as slot_order
-use Rattle.hir_base.specs.declared.ids.TraitId.{TraitId}
-use Rattle.hir_scope.specs.declared.visibility.Visibility.{Visibility}
+use Rattle.hir_scope.specs.HirIds.declared.ids.TraitId.{TraitId}
+use Rattle.hir_scope.specs.HirPerNs.declared.visibility.Visibility.{Visibility}
 use Rattle.hir_glob_imports.specs.declared.edge.Bound.{Bound}
 use Rattle.hir_glob_imports.specs.declared.edge.Brought.{Brought}
 use Rattle.hir_glob_imports.specs.declared.edge.Edge.{Edge}

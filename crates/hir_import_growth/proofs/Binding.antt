@@ -4,31 +4,31 @@ use Rattle.std.proofs.Common.{arith}
 use Rattle.std.proofs.lemmas.Bool.{ltb-true}
 use Rattle.std.specs.Prelude.{IsSome, nat_lt, slice_get}
 use mathlib.Core.Bool.{true≢false}
-use Rattle.hir_base.specs.contracts.ids.ModuleDefIdPartialEq.TheImpl as module_def
-use Rattle.hir_base.specs.contracts.macro_kind.MacroIdPartialEq.TheImpl as makro
-use Rattle.hir_base.specs.declared.macro_kind.MacroId.{MacroId}
-use Rattle.hir_base.specs.declared.ids.ModuleDefId.{ModuleDefId}
-use Rattle.hir_base.specs.declared.ids.TraitId.{TraitId}
-use Rattle.hir_scope.specs.contracts.imports.ImportOrExternCratePartialEq.TheImpl as item_import
-use Rattle.hir_scope.specs.contracts.imports.ImportOrGlobPartialEq.TheImpl as value_import
-use Rattle.hir_scope.specs.declared.imports.ImportId.{ImportId}
-use Rattle.hir_scope.specs.declared.imports.ImportOrExternCrate.{ImportOrExternCrate}
-use Rattle.hir_scope.specs.declared.imports.ImportOrGlob.{ImportOrGlob}
-use Rattle.hir_scope.specs.declared.item_in_ns.ItemInNs.{ItemInNs}
-use Rattle.hir_scope.specs.declared.per_ns.PerNs.{PerNs}
-use Rattle.hir_scope.specs.declared.visibility.Visibility.{Visibility}
-use Rattle.hir_scope.specs.declared.item_in_ns.ItemInNs.TheVariants as in_ns
-use Rattle.hir_scope.specs.Bindings.{Candidate, macro_candidate, taken, takes, type_candidate, value_candidate, written_items}
-use Rattle.hir_scope.specs.Entries.{item_at}
-use Rattle.hir_scope.specs.Globs.{GlobNames, Place, has_place}
-use Rattle.hir_scope.specs.PerNs.{Item}
-use Rattle.hir_scope.specs.Scope.{ScopeValue}
-use Rattle.hir_scope.specs.Scope.Push.{pushed_scope, taken_macro, taken_type, taken_value}
-use Rattle.hir_scope.specs.Scope.Reads.{unnamed_vis}
-use Rattle.hir_scope.proofs.AfterPush.{declarations_stay, item_at-with_entry, item_at-with_entry_other}
-use Rattle.hir_scope.proofs.Pushes.{pushed-macros, pushed-types, pushed-values}
-use Rattle.hir_def_map_rules.proofs.Grown.{length-changed}
-use Rattle.hir_def_map_rules.specs.State.{ModuleValue, globs_after, module_at, place_at, pushed, with_module_scope, with_scope}
+use Rattle.hir_nameres.specs.HirIds.contracts.ids.ModuleDefIdPartialEq.TheImpl as module_def
+use Rattle.hir_nameres.specs.HirIds.contracts.macro_kind.MacroIdPartialEq.TheImpl as makro
+use Rattle.hir_nameres.specs.HirIds.declared.macro_kind.MacroId.{MacroId}
+use Rattle.hir_nameres.specs.HirIds.declared.ids.ModuleDefId.{ModuleDefId}
+use Rattle.hir_nameres.specs.HirIds.declared.ids.TraitId.{TraitId}
+use Rattle.hir_nameres.specs.HirPerNs.contracts.imports.ImportOrExternCratePartialEq.TheImpl as item_import
+use Rattle.hir_nameres.specs.HirPerNs.contracts.imports.ImportOrGlobPartialEq.TheImpl as value_import
+use Rattle.hir_nameres.specs.HirPerNs.declared.imports.ImportId.{ImportId}
+use Rattle.hir_nameres.specs.HirPerNs.declared.imports.ImportOrExternCrate.{ImportOrExternCrate}
+use Rattle.hir_nameres.specs.HirPerNs.declared.imports.ImportOrGlob.{ImportOrGlob}
+use Rattle.hir_nameres.specs.HirPerNs.declared.item_in_ns.ItemInNs.{ItemInNs}
+use Rattle.hir_nameres.specs.HirPerNs.declared.per_ns.PerNs.{PerNs}
+use Rattle.hir_nameres.specs.HirPerNs.declared.visibility.Visibility.{Visibility}
+use Rattle.hir_nameres.specs.HirPerNs.declared.item_in_ns.ItemInNs.TheVariants as in_ns
+use Rattle.hir_nameres.specs.HirScope.Bindings.{Candidate, macro_candidate, taken, takes, type_candidate, value_candidate, written_items}
+use Rattle.hir_nameres.specs.HirScope.Entries.{item_at}
+use Rattle.hir_nameres.specs.HirScope.Globs.{GlobNames, Place, has_place}
+use Rattle.hir_nameres.specs.HirPerNs.PerNs.{Item}
+use Rattle.hir_nameres.specs.HirScope.Scope.{ScopeValue}
+use Rattle.hir_nameres.specs.HirScope.Scope.Push.{pushed_scope, taken_macro, taken_type, taken_value}
+use Rattle.hir_nameres.specs.HirScope.Scope.Reads.{unnamed_vis}
+use Rattle.hir_nameres.proofs.HirScope.AfterPush.{declarations_stay, item_at-with_entry, item_at-with_entry_other}
+use Rattle.hir_nameres.proofs.HirScope.Pushes.{pushed-macros, pushed-types, pushed-values}
+use Rattle.hir_nameres.proofs.HirDefMapRules.Grown.{length-changed}
+use Rattle.hir_nameres.specs.HirDefMapRules.State.{ModuleValue, globs_after, module_at, place_at, pushed, with_module_scope, with_scope}
 use Rattle.hir_glob_imports.specs.Keys.{slot_at}
 use Rattle.hir_glob_imports.specs.View.{bound_in}
 use Rattle.hir_glob_imports.specs.Waves.{IsExplicit}

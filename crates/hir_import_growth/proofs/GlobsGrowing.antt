@@ -4,16 +4,16 @@ use Rattle.std.proofs.lemmas.Bool.Decides.{nat_tests}
 use Rattle.std.proofs.lemmas.Grind.{common_steps}
 use Rattle.std.specs.List.{list_any}
 use Rattle.std.specs.Prelude.{nat_lt, unwrap_or, if◌then◌else◌}
-use Rattle.hir_base.specs.declared.ids.ModuleId.{ModuleId}
-use Rattle.hir_scope.specs.Globs.{GlobNames}
-use Rattle.hir_scope.specs.ModuleTree.{same_crate, same_module}
-use Rattle.hir_scope.specs.Visibility.{both_in, greater_of, is_visible, lesser_of}
-use Rattle.hir_scope.specs.declared.visibility.Visibility.{Visibility}
-use Rattle.hir_scope.specs.declared.visibility.Visibility.TheVariants.{Module, PubCrate, Public}
-use Rattle.hir_def_map_rules.specs.Ancestors.{above_in, holders_in}
-use Rattle.hir_def_map_rules.specs.Inner.OverlayLaws.{same_id}
-use Rattle.hir_def_map_rules.specs.Overlay.{Maps, entry_in, module_in, overlay}
-use Rattle.hir_def_map_rules.specs.State.{Map, numbered}
+use Rattle.hir_nameres.specs.HirIds.declared.ids.ModuleId.{ModuleId}
+use Rattle.hir_nameres.specs.HirScope.Globs.{GlobNames}
+use Rattle.hir_nameres.specs.HirPerNs.ModuleTree.{same_crate, same_module}
+use Rattle.hir_nameres.specs.HirPerNs.Visibility.{both_in, greater_of, is_visible, lesser_of}
+use Rattle.hir_nameres.specs.HirPerNs.declared.visibility.Visibility.{Visibility}
+use Rattle.hir_nameres.specs.HirPerNs.declared.visibility.Visibility.TheVariants.{Module, PubCrate, Public}
+use Rattle.hir_nameres.specs.HirDefMapRules.Ancestors.{above_in, holders_in}
+use Rattle.hir_nameres.specs.HirDefMapRules.Inner.OverlayLaws.{same_id}
+use Rattle.hir_nameres.specs.HirDefMapRules.Overlay.{Maps, entry_in, module_in, overlay}
+use Rattle.hir_nameres.specs.HirDefMapRules.State.{Map, numbered}
 use Rattle.hir_def_map_laws.specs.ReadLaw.{Grows}
 use Rattle.hir_glob_imports.specs.Keys.{is_unnamed}
 use Rattle.hir_glob_imports.specs.Moves.{brought_vis, is_as_seen, raise_of, raise_to, same_def, seen_by, shown, update_of, update_of_brought}

@@ -2,12 +2,12 @@
 use Rattle.std.proofs.Common.{◌≡◌, ◌∙◌, ap, sym, subst, refl, ℕ, ◌<◌, List, length, None, Some, inl, inr, arith}
 use Rattle.std.proofs.lemmas.Bool.{ltb-true}
 use Rattle.std.specs.Prelude.{slice_get}
-use Rattle.hir_base.specs.declared.ids.MapId.{MapId}
-use Rattle.hir_scope.specs.declared.visibility.Visibility.{Visibility}
-use Rattle.hir_scope.specs.declared.visibility.Visibility.TheVariants.{Module, PubCrate, Public}
-use Rattle.hir_def_map_rules.specs.Overlay.{Maps}
-use Rattle.hir_def_map.specs.Scoping.Slots.{is_in}
-use Rattle.hir_def_map_rules.specs.State.{Map, pushed}
+use Rattle.hir_nameres.specs.HirIds.declared.ids.MapId.{MapId}
+use Rattle.hir_nameres.specs.HirPerNs.declared.visibility.Visibility.{Visibility}
+use Rattle.hir_nameres.specs.HirPerNs.declared.visibility.Visibility.TheVariants.{Module, PubCrate, Public}
+use Rattle.hir_nameres.specs.HirDefMapRules.Overlay.{Maps}
+use Rattle.hir_nameres.specs.Scoping.Slots.{is_in}
+use Rattle.hir_nameres.specs.HirDefMapRules.State.{Map, pushed}
 use Rattle.hir_def_map_laws.proofs.SlotLists.{scope_pushed}
 use Rattle.hir_def_map_laws.specs.ReadLaw.{DiffersInScopes}
 use Rattle.hir_glob_imports.specs.Keys.{slot_at}

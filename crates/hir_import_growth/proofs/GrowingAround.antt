@@ -1,15 +1,15 @@
 -- What building leaves of what names stand for.
 use Rattle.std.proofs.Common.{◌≡◌, ◌∙◌, refl, ℕ, zero, suc, ◌≤◌, ◌++◌, List, [], ◌∷◌, Option, None, Some, length, length-append, arith}
 use Rattle.std.specs.Prelude.{slice_get}
-use Rattle.hir_base.specs.declared.ids.TraitId.{TraitId}
-use Rattle.hir_scope.specs.Scope.{ScopeValue, binding_of}
-use Rattle.hir_scope.specs.Scope.Reads.{unnamed_vis}
-use Rattle.hir_def_map_rules.proofs.Grown.{kept, length-changed}
-use Rattle.hir_def_map_rules.specs.Declaration.{listed}
-use Rattle.hir_def_map_rules.specs.State.{ModuleValue, changed_at, entry_of, new_id, new_module, with_child, with_module_scope}
-use Rattle.hir_def_map_rules.specs.declared.declaration.Declaration.{Declaration}
-use Rattle.hir_def_map_rules.specs.declared.declaration.Declaration.TheVariants as declaration
-use Rattle.hir_def_map.specs.declared.nameres.path_resolution.slots.Slot.TheVariants.{Module as of_module}
+use Rattle.hir_nameres.specs.HirIds.declared.ids.TraitId.{TraitId}
+use Rattle.hir_nameres.specs.HirScope.Scope.{ScopeValue, binding_of}
+use Rattle.hir_nameres.specs.HirScope.Scope.Reads.{unnamed_vis}
+use Rattle.hir_nameres.proofs.HirDefMapRules.Grown.{kept, length-changed}
+use Rattle.hir_nameres.specs.HirDefMapRules.Declaration.{listed}
+use Rattle.hir_nameres.specs.HirDefMapRules.State.{ModuleValue, changed_at, entry_of, new_id, new_module, with_child, with_module_scope}
+use Rattle.hir_nameres.specs.HirDefMapRules.declared.declaration.Declaration.{Declaration}
+use Rattle.hir_nameres.specs.HirDefMapRules.declared.declaration.Declaration.TheVariants as declaration
+use Rattle.hir_nameres.specs.declared.nameres.path_resolution.slots.Slot.TheVariants.{Module as of_module}
 use Rattle.hir_def_map_laws.proofs.SlotChanges.{Grows-changed, changes-enum, changes-macro_use, changes-made}
 use Rattle.hir_import_rules.specs.Names.{trait_vis}
 use Rattle.hir_import_growth.specs.Growth.{EnumsGrowAround, ListsGrowAround, MacroUsesGrowAround, ModulesGrowAround, ScopesGrowAround}

@@ -5,23 +5,23 @@ use Rattle.std.specs.List.{All, list_any}
 use Rattle.std.specs.Option.{option_and_then, option_map}
 use Rattle.std.specs.Prelude.{is_some, not, map as list_map}
 use Rattle.std.proofs.lemmas.List.Elements.{All-head, All-tail}
-use Rattle.hir_base.specs.contracts.ids.MapIdPartialEq.TheImpl as map_id
-use Rattle.hir_base.specs.declared.ast_id.BlockId.{BlockId}
-use Rattle.hir_base.specs.declared.ids.Crate.{Crate}
-use Rattle.hir_base.specs.declared.ids.EnumId.{EnumId}
-use Rattle.hir_base.specs.declared.ids.MapId.{MapId}
-use Rattle.hir_base.specs.declared.ids.ModuleId.{ModuleId as AnyModule}
-use Rattle.hir_raw_visibility.specs.declared.raw_visibility.VisibilityExplicitness.{VisibilityExplicitness}
-use Rattle.hir_scope.specs.ModuleTree.{same_crate, same_map, same_module}
-use Rattle.hir_scope.specs.Visibility.{both_in, either_written, greater_of, is_visible, lesser_of, lower_of, stands_for, upper_of}
-use Rattle.hir_scope.specs.declared.visibility.Visibility.{Visibility}
-use Rattle.hir_scope.specs.declared.visibility.Visibility.TheVariants.{Module, PubCrate, Public}
-use Rattle.hir_def_map_rules.specs.Ancestors.{above_in, above_inside, above_under, frame_of, frames_of, holders_in, numbers_of}
-use Rattle.hir_def_map_rules.specs.Inner.OverlayLaws.{frame_holders}
-use Rattle.hir_def_map_rules.specs.Overlay.{Maps, Placed, holders_of, holders_or, holders_under, overlay, placed_in}
-use Rattle.hir_def_map_rules.specs.Scoping.Segments.{variant_in}
-use Rattle.hir_def_map.specs.Scoping.Slots.{is_in}
-use Rattle.hir_def_map_rules.specs.State.{Map, Variants, at_name, numbered, variants_at}
+use Rattle.hir_nameres.specs.HirIds.contracts.ids.MapIdPartialEq.TheImpl as map_id
+use Rattle.hir_nameres.specs.HirIds.declared.ast_id.BlockId.{BlockId}
+use Rattle.hir_nameres.specs.HirIds.declared.ids.Crate.{Crate}
+use Rattle.hir_nameres.specs.HirIds.declared.ids.EnumId.{EnumId}
+use Rattle.hir_nameres.specs.HirIds.declared.ids.MapId.{MapId}
+use Rattle.hir_nameres.specs.HirIds.declared.ids.ModuleId.{ModuleId as AnyModule}
+use Rattle.hir_nameres.specs.HirIds.declared.explicitness.VisibilityExplicitness.{VisibilityExplicitness}
+use Rattle.hir_nameres.specs.HirPerNs.ModuleTree.{same_crate, same_map, same_module}
+use Rattle.hir_nameres.specs.HirPerNs.Visibility.{both_in, either_written, greater_of, is_visible, lesser_of, lower_of, stands_for, upper_of}
+use Rattle.hir_nameres.specs.HirPerNs.declared.visibility.Visibility.{Visibility}
+use Rattle.hir_nameres.specs.HirPerNs.declared.visibility.Visibility.TheVariants.{Module, PubCrate, Public}
+use Rattle.hir_nameres.specs.HirDefMapRules.Ancestors.{above_in, above_inside, above_under, frame_of, frames_of, holders_in, numbers_of}
+use Rattle.hir_nameres.specs.HirDefMapRules.Inner.OverlayLaws.{frame_holders}
+use Rattle.hir_nameres.specs.HirDefMapRules.Overlay.{Maps, Placed, holders_of, holders_or, holders_under, overlay, placed_in}
+use Rattle.hir_nameres.specs.HirDefMapRules.Scoping.Segments.{variant_in}
+use Rattle.hir_nameres.specs.Scoping.Slots.{is_in}
+use Rattle.hir_nameres.specs.HirDefMapRules.State.{Map, Variants, at_name, numbered, variants_at}
 use Rattle.hir_def_map_laws.proofs.SameAbove.{same_numbers_above}
 use Rattle.hir_def_map_laws.specs.ReadLaw.{Grows}
 use Rattle.hir_import_rules.specs.Lasting.{IsOrdered, IsPlaced}

@@ -1,9 +1,9 @@
 -- Where nothing is to be done along an edge at a key, nothing is while the map grows elsewhere.
 use Rattle.std.proofs.Common.{◌≡◌, ◌∙◌, ℕ, ◌<◌, ◌≤◌, length, true, Some}
-use Rattle.hir_base.specs.declared.ids.TraitId.{TraitId}
-use Rattle.hir_scope.specs.Globs.{GlobNames}
-use Rattle.hir_def_map_rules.specs.Overlay.{Maps}
-use Rattle.hir_def_map_rules.specs.State.{Map}
+use Rattle.hir_nameres.specs.HirIds.declared.ids.TraitId.{TraitId}
+use Rattle.hir_nameres.specs.HirScope.Globs.{GlobNames}
+use Rattle.hir_nameres.specs.HirDefMapRules.Overlay.{Maps}
+use Rattle.hir_nameres.specs.HirDefMapRules.State.{Map}
 use Rattle.hir_def_map_laws.specs.ReadLaw.{Grows}
 use Rattle.hir_glob_imports.proofs.OfKind.{sees_from_seen, unnamed_key}
 use Rattle.hir_glob_imports.specs.Keys.{slot_at}

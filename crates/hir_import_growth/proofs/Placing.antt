@@ -9,22 +9,22 @@ use Rattle.std.specs.Cmp.{second_so, unsigned_Decides}
 use Rattle.std.specs.List.{All, list_any}
 use Rattle.std.specs.Option.{option_map}
 use Rattle.std.specs.Prelude.{is_some, nat_lt, unwrap_or}
-use Rattle.hir_base.specs.contracts.ids.MapIdPartialEq.TheImpl as map_id
-use Rattle.hir_base.specs.declared.ast_id.BlockId.{BlockId}
-use Rattle.hir_base.specs.declared.ids.MapId.{MapId}
-use Rattle.hir_base.specs.declared.ids.ModuleId.{ModuleId as AnyModule}
-use Rattle.hir_scope.proofs.Wider.{exact_module}
-use Rattle.hir_scope.specs.Globs.{GlobNames}
-use Rattle.hir_scope.specs.ModuleTree.{is_at_or_above, same_block, same_crate, same_module}
-use Rattle.hir_scope.specs.Visibility.{both_in, greater_of, is_visible, stands_for}
-use Rattle.hir_scope.specs.declared.visibility.Visibility.{Visibility}
-use Rattle.hir_scope.specs.declared.visibility.Visibility.TheVariants.{Module, PubCrate, Public}
-use Rattle.hir_def_map_rules.specs.Ancestors.{above_in, above_inside, above_under, frame_of, frames_of, holders_in, leads_to_root, number_in, numbers_above}
-use Rattle.hir_def_map_rules.specs.Ancestors.{numbers_of, step_in, step_to, steps_by, steps_from}
-use Rattle.hir_def_map_rules.specs.Inner.OverlayLaws.{exact_map, frame_holders, same_id}
-use Rattle.hir_def_map_rules.specs.Overlay.{Maps, Placed, holders_of, overlay, placed_in}
-use Rattle.hir_def_map.specs.Scoping.Slots.{is_in}
-use Rattle.hir_def_map_rules.specs.State.{IsBefore, Map, numbered, parent_at}
+use Rattle.hir_nameres.specs.HirIds.contracts.ids.MapIdPartialEq.TheImpl as map_id
+use Rattle.hir_nameres.specs.HirIds.declared.ast_id.BlockId.{BlockId}
+use Rattle.hir_nameres.specs.HirIds.declared.ids.MapId.{MapId}
+use Rattle.hir_nameres.specs.HirIds.declared.ids.ModuleId.{ModuleId as AnyModule}
+use Rattle.hir_nameres.proofs.HirPerNs.Wider.{exact_module}
+use Rattle.hir_nameres.specs.HirScope.Globs.{GlobNames}
+use Rattle.hir_nameres.specs.HirPerNs.ModuleTree.{is_at_or_above, same_block, same_crate, same_module}
+use Rattle.hir_nameres.specs.HirPerNs.Visibility.{both_in, greater_of, is_visible, stands_for}
+use Rattle.hir_nameres.specs.HirPerNs.declared.visibility.Visibility.{Visibility}
+use Rattle.hir_nameres.specs.HirPerNs.declared.visibility.Visibility.TheVariants.{Module, PubCrate, Public}
+use Rattle.hir_nameres.specs.HirDefMapRules.Ancestors.{above_in, above_inside, above_under, frame_of, frames_of, holders_in, leads_to_root, number_in, numbers_above}
+use Rattle.hir_nameres.specs.HirDefMapRules.Ancestors.{numbers_of, step_in, step_to, steps_by, steps_from}
+use Rattle.hir_nameres.specs.HirDefMapRules.Inner.OverlayLaws.{exact_map, frame_holders, same_id}
+use Rattle.hir_nameres.specs.HirDefMapRules.Overlay.{Maps, Placed, holders_of, overlay, placed_in}
+use Rattle.hir_nameres.specs.Scoping.Slots.{is_in}
+use Rattle.hir_nameres.specs.HirDefMapRules.State.{IsBefore, Map, numbered, parent_at}
 use Rattle.hir_def_map_laws.proofs.SameAbove.{before_at}
 use Rattle.hir_def_map_laws.proofs.SlotChanges.{Grows-itself}
 use Rattle.hir_def_map_laws.proofs.Steps.{number_there, step_listed}

@@ -1,6 +1,6 @@
 -- What does a push change?
 use Rattle.std.specs.Prelude.{◌≡◌, ℕ, Bool, true, false, List, is_some}
-use Rattle.hir_scope.specs.declared.per_ns.PerNs.{PerNs}
+use Rattle.hir_nameres.specs.HirPerNs.declared.per_ns.PerNs.{PerNs}
 use Rattle.hir_glob_imports.specs.Keys.{slot_at}
 use Rattle.hir_glob_imports.specs.View.{View}
 use Rattle.hir_glob_imports.specs.Waves.{IsExplicit}

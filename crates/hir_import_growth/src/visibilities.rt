@@ -1,18 +1,18 @@
 //! What visibilities mean in a map that is built.
 ghost use Rattle.std.specs.Prelude.{◌≡◌};
-ghost use Rattle.hir_def_map.specs.WorldParts.{part_of};
+ghost use Rattle.hir_nameres.specs.WorldParts.{part_of};
 ghost use Rattle.hir_import_rules.specs.Visibilities.{lesser_in, visibility_in};
 
-use hir_base::ids::ModuleId;
-use hir_def_map::def_maps::DefMaps;
-use hir_def_map::nameres::DefMap;
-use hir_def_map::nameres::local_def_map::LocalDefMap;
-use hir_def_map::world::part::WorldPart;
-use hir_item_tree::raw_visibility::RawVisibility;
-use hir_scope::visibility::Visibility;
+use hir_nameres::def_maps::DefMaps;
+use hir_nameres::hir_base::ids::ModuleId;
+use hir_nameres::hir_raw_visibility::raw_visibility::RawVisibility;
+use hir_nameres::hir_scope::visibility::Visibility;
+use hir_nameres::nameres::DefMap;
+use hir_nameres::nameres::local_def_map::LocalDefMap;
+use hir_nameres::world::part::WorldPart;
 
 /// What a visibility means that is written in a module of the map; one whose path leads to no module counts as public.
-#[tactic(auto, unfolding(hir_import_rules::specs::Visibilities::visibility_in, hir_def_map::specs::DefMaps::maps_of))]
+#[tactic(auto, unfolding(hir_import_rules::specs::Visibilities::visibility_in, hir_nameres::specs::DefMaps::maps_of))]
 pub fn visibility(
     map: &DefMap,
     local: &LocalDefMap,
@@ -26,7 +26,7 @@ pub fn visibility(
 }
 
 /// The lesser of two visibilities in the map beside finished ones, if they aren't unrelated.
-#[tactic(auto, unfolding(hir_import_rules::specs::Visibilities::lesser_in, hir_def_map::specs::DefMaps::maps_of))]
+#[tactic(auto, unfolding(hir_import_rules::specs::Visibilities::lesser_in, hir_nameres::specs::DefMaps::maps_of))]
 pub fn lesser(
     map: &DefMap,
     world: WorldPart<'_>,

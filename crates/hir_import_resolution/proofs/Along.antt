@@ -4,7 +4,7 @@ use Rattle.std.specs.Prelude.{Contains, zero, suc, ◌<◌, length, slice_index_
 use Rattle.std.proofs.lemmas.List.Elements.{Contains-append_left, Contains-append_right}
 use Rattle.hir_def_map_rules.specs.Overlay.{Maps}
 use Rattle.hir_def_map_rules.specs.State.{Local}
-use Rattle.hir_def_map.specs.declared.nameres.path_resolution.slots.Slot.{Slot as PathSlot}
+use Rattle.hir_nameres.specs.declared.nameres.path_resolution.slots.Slot.{Slot as PathSlot}
 use Rattle.hir_def_map_laws.specs.SlotChanges.{ScopesChangeAmong}
 use Rattle.hir_glob_imports.specs.Keys.{name_of}
 use Rattle.hir_glob_imports.specs.Rules.{Act, GlobState, May as MayAlong, IsSpent as IsSpentAlong, Rule as GlobRule, Step as StepAlong, Steps as StepsAlong}

@@ -1,10 +1,10 @@
 -- What look-ups find in a map among several.
 use Rattle.std.proofs.Common.{◌≡◌, ◌∙◌, ap, refl, ℕ, Option, None, Some}
 use Rattle.std.specs.Option.{option_and_then, option_map}
-use Rattle.hir_base.specs.declared.ids.EnumId.{EnumId}
-use Rattle.hir_base.specs.declared.ids.ModuleId.{ModuleId}
-use Rattle.hir_base.specs.declared.ids.TraitId.{TraitId}
-use Rattle.hir_scope.specs.Scope.{ScopeValue}
+use Rattle.hir_nameres.specs.HirIds.declared.ids.EnumId.{EnumId}
+use Rattle.hir_nameres.specs.HirIds.declared.ids.ModuleId.{ModuleId}
+use Rattle.hir_nameres.specs.HirIds.declared.ids.TraitId.{TraitId}
+use Rattle.hir_nameres.specs.HirScope.Scope.{ScopeValue}
 use Rattle.hir_def_map_rules.specs.Overlay.{Maps, Placed, map_in, module_in, variants_in}
 use Rattle.hir_def_map_rules.specs.State.{Map, ModuleValue, module_at, scope_at, variants_at}
 use Rattle.hir_glob_imports.specs.declared.edge.Key.{Key}

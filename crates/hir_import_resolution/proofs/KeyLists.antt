@@ -11,25 +11,25 @@ use Rattle.std.specs.declared.cmp.Ordering.{Ordering}
 use Rattle.std.specs.declared.cmp.Ordering.TheVariants.{Less, Equal, Greater}
 use Rattle.std.proofs.lemmas.List.Elements.{Contains-append_left, Contains-append_right, Contains-push}
 use Rattle.std.proofs.lemmas.Map.Lookups.{exact_bytes}
-use Rattle.hir_base.specs.contracts.ids.TraitIdPartialEq.TheImpl as trait_id
-use Rattle.hir_base.specs.declared.ids.ModuleDefId.TheVariants as definitions
-use Rattle.hir_base.specs.declared.ids.TraitId.{TraitId}
-use Rattle.hir_item_tree.specs.Shape.{has_constructor}
-use Rattle.hir_scope.specs.Entries.{item_at}
-use Rattle.hir_scope.specs.PerNs.{Item, keep_item, with_constructor}
-use Rattle.hir_scope.specs.Scope.{ScopeValue, binding_of}
-use Rattle.hir_scope.specs.Scope.Reads.{traits_among, unnamed_vis}
-use Rattle.hir_scope.specs.declared.imports.ImportId.{ImportId}
-use Rattle.hir_scope.specs.declared.item_in_ns.ItemInNs.{ItemInNs}
-use Rattle.hir_scope.specs.declared.per_ns.Namespace.{Namespace}
-use Rattle.hir_scope.specs.declared.per_ns.PerNs.{PerNs}
-use Rattle.hir_scope.specs.declared.visibility.Visibility.{Visibility}
-use Rattle.hir_scope.specs.declared.item_in_ns.ItemInNs.TheVariants as in_ns
-use Rattle.hir_scope.specs.declared.per_ns.Namespace.TheVariants as namespaces
-use Rattle.hir_scope.specs.declared.visibility.Visibility.TheVariants.{Public}
+use Rattle.hir_nameres.specs.HirIds.contracts.ids.TraitIdPartialEq.TheImpl as trait_id
+use Rattle.hir_nameres.specs.HirIds.declared.ids.ModuleDefId.TheVariants as definitions
+use Rattle.hir_nameres.specs.HirIds.declared.ids.TraitId.{TraitId}
+use Rattle.hir_nameres.specs.HirBase.Shape.{has_constructor}
+use Rattle.hir_nameres.specs.HirScope.Entries.{item_at}
+use Rattle.hir_nameres.specs.HirPerNs.PerNs.{Item, keep_item, with_constructor}
+use Rattle.hir_nameres.specs.HirScope.Scope.{ScopeValue, binding_of}
+use Rattle.hir_nameres.specs.HirScope.Scope.Reads.{traits_among, unnamed_vis}
+use Rattle.hir_nameres.specs.HirPerNs.declared.imports.ImportId.{ImportId}
+use Rattle.hir_nameres.specs.HirPerNs.declared.item_in_ns.ItemInNs.{ItemInNs}
+use Rattle.hir_nameres.specs.HirPerNs.declared.per_ns.Namespace.{Namespace}
+use Rattle.hir_nameres.specs.HirPerNs.declared.per_ns.PerNs.{PerNs}
+use Rattle.hir_nameres.specs.HirPerNs.declared.visibility.Visibility.{Visibility}
+use Rattle.hir_nameres.specs.HirPerNs.declared.item_in_ns.ItemInNs.TheVariants as in_ns
+use Rattle.hir_nameres.specs.HirPerNs.declared.per_ns.Namespace.TheVariants as namespaces
+use Rattle.hir_nameres.specs.HirPerNs.declared.visibility.Visibility.TheVariants.{Public}
 use Rattle.hir_def_map_rules.specs.Overlay.{module_in, overlay, variants_in}
 use Rattle.hir_def_map_rules.specs.State.{ModuleValue, Variants, at_name, entry_of, module_at}
-use Rattle.hir_def_map_rules.specs.declared.enum_variants.EnumVariant.{EnumVariant}
+use Rattle.hir_nameres.specs.HirMapParts.declared.enum_variants.EnumVariant.{EnumVariant}
 use Rattle.hir_glob_imports.specs.declared.edge.Key.{Key}
 use Rattle.hir_glob_imports.specs.declared.edge.Target.{Target}
 use Rattle.hir_glob_imports.specs.declared.edge.Key.TheVariants.{Types, Values, Macros, Unnamed}

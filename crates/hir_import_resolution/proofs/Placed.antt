@@ -2,10 +2,10 @@
 use Rattle.std.proofs.Common.{◌≡◌, ◌∙◌, ap, sym, subst, ℕ, List, length, Option, None, Some}
 use Rattle.std.specs.Option.{option_map}
 use Rattle.std.specs.Prelude.{slice_get}
-use Rattle.hir_base.specs.declared.ids.MapId.{MapId}
-use Rattle.hir_base.specs.declared.ids.TraitId.{TraitId}
-use Rattle.hir_scope.specs.declared.per_ns.PerNs.{PerNs}
-use Rattle.hir_scope.specs.declared.visibility.Visibility.{Visibility}
+use Rattle.hir_nameres.specs.HirIds.declared.ids.MapId.{MapId}
+use Rattle.hir_nameres.specs.HirIds.declared.ids.TraitId.{TraitId}
+use Rattle.hir_nameres.specs.HirPerNs.declared.per_ns.PerNs.{PerNs}
+use Rattle.hir_nameres.specs.HirPerNs.declared.visibility.Visibility.{Visibility}
 use Rattle.hir_def_map_rules.specs.Overlay.{Maps}
 use Rattle.hir_def_map_rules.specs.State.{module_at}
 use Rattle.hir_def_map_laws.specs.ReadLaw.{DiffersInScopes}

@@ -6,13 +6,13 @@ use Rattle.std.specs.Option.{option_and_then, option_map}
 use Rattle.std.specs.Prelude.{slice_get, slice_index_or, slice_set}
 use Rattle.std.specs.declared.alloc.Global.{Global}
 use Rattle.std.specs.declared.vec.Vec.{Vec}
-use Rattle.hir_base.specs.declared.ids.MapId.{MapId}
+use Rattle.hir_nameres.specs.HirIds.declared.ids.MapId.{MapId}
 use Rattle.hir_def_map_rules.specs.Overlay.{Maps}
 use Rattle.hir_def_map_rules.specs.Scoping.{Resolution}
 use Rattle.hir_def_map_rules.specs.State.{Local, Map, ModuleValue}
-use Rattle.hir_def_map.specs.WorldParts.{part_of}
-use Rattle.hir_def_map.specs.declared.nameres.path_resolution.slots.Slot.{Slot as PathSlot}
-use Rattle.hir_def_map.specs.declared.world.part.WorldPart.{WorldPart}
+use Rattle.hir_nameres.specs.WorldParts.{part_of}
+use Rattle.hir_nameres.specs.declared.nameres.path_resolution.slots.Slot.{Slot as PathSlot}
+use Rattle.hir_nameres.specs.declared.world.part.WorldPart.{WorldPart}
 use Rattle.hir_def_map_laws.proofs.SlotLists.{follow_scopes, no_scope}
 use Rattle.hir_def_map_laws.specs.ReadLaw.{stops_bare}
 use Rattle.hir_def_map_laws.specs.SlotChanges.{ScopesChangeAmong}

@@ -5,17 +5,17 @@ use Rattle.std.specs.Prelude.{Contains, slice_get, slice_set}
 use Rattle.std.specs.Option.{option_and_then}
 use Rattle.std.proofs.lemmas.List.Elements.{All-contains_itself, Contains-append_right}
 use Rattle.std.specs.List.{All}
-use Rattle.hir_base.specs.declared.ids.Crate.{Crate}
-use Rattle.hir_base.specs.declared.ids.ExternCrateId.{ExternCrateId}
-use Rattle.hir_scope.specs.declared.imports.GlobId.{GlobId}
-use Rattle.hir_scope.specs.declared.per_ns.PerNs.{PerNs}
+use Rattle.hir_nameres.specs.HirIds.declared.ids.Crate.{Crate}
+use Rattle.hir_nameres.specs.HirIds.declared.ids.ExternCrateId.{ExternCrateId}
+use Rattle.hir_nameres.specs.HirPerNs.declared.imports.GlobId.{GlobId}
+use Rattle.hir_nameres.specs.HirPerNs.declared.per_ns.PerNs.{PerNs}
 use Rattle.hir_use_tree.specs.declared.imports.ImportKind.TheVariants as kinds
 use Rattle.hir_def_map_rules.specs.Overlay.{Maps, overlay}
 use Rattle.hir_def_map_rules.specs.Reaches.{by_import}
 use Rattle.hir_def_map_rules.specs.Scoping.{Resolution, resolution_of}
-use Rattle.hir_def_map.specs.Scoping.Slots.{reads}
+use Rattle.hir_nameres.specs.Scoping.Slots.{reads}
 use Rattle.hir_def_map_rules.specs.State.{IsInOrder, numbered}
-use Rattle.hir_def_map.specs.declared.nameres.path_resolution.slots.Slot.{Slot as PathSlot}
+use Rattle.hir_nameres.specs.declared.nameres.path_resolution.slots.Slot.{Slot as PathSlot}
 use Rattle.hir_def_map_laws.proofs.EnumsGrow.{unstopped_reads}
 use Rattle.hir_def_map_laws.proofs.SlotLists.{unread_scopes}
 use Rattle.hir_def_map_laws.specs.ReadLaw.{AgreeAt, IsReadAlike, stops_bare}

@@ -1,6 +1,6 @@
 -- Names that went along globs in a resolver.
 use Rattle.std.proofs.Common.{◌≡◌, ap, sym, subst, refl, List}
-use Rattle.hir_def_map.specs.WorldParts.{part_of}
+use Rattle.hir_nameres.specs.WorldParts.{part_of}
 use Rattle.hir_def_map_laws.specs.SlotChanges.{ScopesChangeAmong}
 use Rattle.hir_glob_imports.proofs.OfKind.{kinds_kept}
 use Rattle.hir_glob_imports.specs.Rules.{IsSpent as IsSpentAlong, StepsIn}

@@ -1,7 +1,7 @@
 -- What may happen to imports between two times that they rest?
 use Rattle.std.specs.Prelude.{◌≡◌, ℕ, ◌<◌, ◌≤◌, Bool, true, List, [], None, Some, Contains, length, slice_get}
 use Rattle.hir_def_map_rules.specs.Overlay.{Maps}
-use Rattle.hir_def_map.specs.declared.nameres.path_resolution.slots.Slot.{Slot as PathSlot}
+use Rattle.hir_nameres.specs.declared.nameres.path_resolution.slots.Slot.{Slot as PathSlot}
 use Rattle.hir_def_map_laws.specs.ReadLaw.{AgreeAt, Grows}
 use Rattle.hir_glob_imports.specs.Waves.{GlobsValue, update_at}
 use Rattle.hir_glob_imports.specs.declared.edge.Edge.{Edge}

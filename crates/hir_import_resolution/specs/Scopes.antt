@@ -1,5 +1,5 @@
 -- The scopes of a map that is built, as globs see them.
-use Rattle.hir_def_map.specs.WorldParts.{part_of}
+use Rattle.hir_nameres.specs.WorldParts.{part_of}
 use Rattle.hir_glob_imports.specs.View.{NameTable}
 use Rattle.hir_import_resolution.specs.declared.scopes.OpenScopes.{OpenScopes}
 use Rattle.hir_import_rules.specs.Names.{ScopesValue, copied, followed, raised, view_of}

@@ -2,7 +2,7 @@
 use Rattle.std.specs.Prelude.{◌≡◌, ℕ, ◌<◌, ◌++◌, List, Option, None, Some, length, slice_get}
 use Rattle.hir_def_map_rules.specs.Overlay.{Maps}
 use Rattle.hir_def_map_rules.specs.State.{Local, Map}
-use Rattle.hir_scope.specs.declared.per_ns.PerNs.{PerNs}
+use Rattle.hir_nameres.specs.HirPerNs.declared.per_ns.PerNs.{PerNs}
 use Rattle.hir_import_rules.specs.declared.directive.ImportDirective.{ImportDirective}
 use Rattle.hir_import_rules.specs.Changes.{act, pushes}
 use Rattle.hir_import_rules.specs.Directives.{not_taken}

@@ -1,26 +1,26 @@
 //! What the paths of imports reach, and what imports offer of it.
 ghost use Rattle.std.specs.Prelude.{◌≡◌, option_map};
-ghost use Rattle.hir_def_map.specs.WorldParts.{part_of};
+ghost use Rattle.hir_nameres.specs.WorldParts.{part_of};
 ghost use Rattle.hir_import_rules.specs.Directives.{answer_in, answer_of_crate, brought, brought_type, imported, is_of_extern_crate, kept_by_kind, kept_of, open_items, target_among, target_at, trait_among};
 ghost use Rattle.hir_import_rules.specs.Visibilities.{is_public};
 
-use hir_base::ids::{AdtId, Crate, MapId, ModuleDefId, ModuleId, TraitId};
-use hir_base::mod_path::ModPath;
-use hir_def_map::def_maps::DefMaps;
-use hir_def_map::nameres::DefMap;
-use hir_def_map::nameres::local_def_map::LocalDefMap;
-use hir_def_map::nameres::path_resolution::query::Query;
-use hir_def_map::nameres::path_resolution::{
+use hir_glob_imports::Target;
+pub use hir_import_growth::visibilities::{lesser, visibility};
+use hir_nameres::def_maps::DefMaps;
+use hir_nameres::hir_base::ids::{AdtId, Crate, MapId, ModuleDefId, ModuleId, TraitId};
+use hir_nameres::hir_base::mod_path::ModPath;
+use hir_nameres::hir_scope::imports::ImportOrExternCrate;
+use hir_nameres::hir_scope::per_ns::{Item, PerNs, TypesItem};
+use hir_nameres::hir_scope::visibility::Visibility;
+use hir_nameres::nameres::DefMap;
+use hir_nameres::nameres::local_def_map::LocalDefMap;
+use hir_nameres::nameres::path_resolution::query::Query;
+use hir_nameres::nameres::path_resolution::{
     BuiltinShadowMode, ReachedFixedPoint, ResolveMode, ResolvePathResult,
     ResolvePathResultPrefixInfo,
 };
-use hir_def_map::world::part::WorldPart;
-use hir_glob_imports::Target;
-pub use hir_import_growth::visibilities::{lesser, visibility};
-use hir_item_tree::shape::ImportKind;
-use hir_scope::imports::ImportOrExternCrate;
-use hir_scope::per_ns::{Item, PerNs, TypesItem};
-use hir_scope::visibility::Visibility;
+use hir_nameres::world::part::WorldPart;
+use hir_use_tree::imports::ImportKind;
 
 /// What a path means that a module's import names.
 #[tactic(auto, unfolding(hir_import_rules::specs::Directives::answer_in))]

@@ -6,7 +6,7 @@ ghost use Rattle.hir_worklist.specs.Waking.{IsLonger};
 ghost use Rattle.hir_import_resolution.specs.Inner.Queue.{IsWoken};
 ghost use Rattle.hir_import_resolution.specs.Rounds.{is_lasting};
 
-use hir_def_map::nameres::path_resolution::slots::Slot;
+use hir_nameres::nameres::path_resolution::slots::Slot;
 use hir_worklist::{Watchers, Worklist};
 use std::alloc::{AllocError, Global};
 

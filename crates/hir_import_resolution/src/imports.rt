@@ -1,10 +1,10 @@
 //! Where imports stand.
-use hir_def_map::nameres::DefMap;
-use hir_def_map::nameres::local_def_map::LocalDefMap;
 use hir_glob_imports::GlobImports;
 use hir_import_rules::directive::ImportDirective;
 use hir_import_rules::taken::Taken;
-use hir_scope::glob_imports::PerNsGlobImports;
+use hir_nameres::hir_scope::glob_imports::PerNsGlobImports;
+use hir_nameres::nameres::DefMap;
+use hir_nameres::nameres::local_def_map::LocalDefMap;
 
 /// The imports of a map that is built, and what came of them so far.
 #[derive(Drop)]

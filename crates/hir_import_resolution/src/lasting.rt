@@ -1,11 +1,11 @@
 //! What of imports and globs lasts as the map that has them grows.
 ghost use Rattle.std.specs.Prelude.{◌≡◌, ℕ, true, Some, slice_get};
 ghost use Rattle.hir_def_map_rules.specs.State.{IsInOrder, module_at};
-ghost use Rattle.hir_def_map.specs.WorldParts.{part_of};
-ghost use Rattle.hir_base.specs.declared.ids.TraitId.{TraitId};
-ghost use Rattle.hir_scope.specs.declared.visibility.Visibility.{Visibility};
+ghost use Rattle.hir_nameres.specs.WorldParts.{part_of};
+ghost use Rattle.hir_nameres.specs.HirIds.declared.ids.TraitId.{TraitId};
+ghost use Rattle.hir_nameres.specs.HirPerNs.declared.visibility.Visibility.{Visibility};
 ghost use Rattle.hir_def_map_laws.specs.ReadLaw.{has_no_variants, is_bare, is_bare_def, stops_bare};
-ghost use Rattle.hir_def_map.specs.Scoping.Slots.{slot_of};
+ghost use Rattle.hir_nameres.specs.Scoping.Slots.{slot_of};
 ghost use Rattle.hir_def_map_rules.specs.declared.reference.Reference.TheVariants as named;
 ghost use Rattle.hir_glob_imports.specs.declared.edge.Bound.{Bound};
 ghost use Rattle.hir_glob_imports.specs.declared.edge.Brought.{Brought};
@@ -19,14 +19,14 @@ ghost use Rattle.hir_import_rules.specs.Names.{trait_vis};
 
 use crate::imports::Imports;
 use crate::scopes::{bound_inside, trait_vis};
-use hir_base::ids::{AdtId, EnumId, ModuleDefId, TraitId};
-use hir_def_map::nameres::DefMap;
-use hir_def_map::nameres::path_resolution::ResolvePathResult;
-use hir_def_map::nameres::path_resolution::slots::SlotRef;
-use hir_def_map::world::part::WorldPart;
 use hir_glob_imports::{Edge, GlobImports, Slot, Target};
-use hir_scope::per_ns::TypesItem;
-use hir_scope::visibility::Visibility;
+use hir_nameres::hir_base::ids::{AdtId, EnumId, ModuleDefId, TraitId};
+use hir_nameres::hir_scope::per_ns::TypesItem;
+use hir_nameres::hir_scope::visibility::Visibility;
+use hir_nameres::nameres::DefMap;
+use hir_nameres::nameres::path_resolution::ResolvePathResult;
+use hir_nameres::nameres::path_resolution::slots::SlotRef;
+use hir_nameres::world::part::WorldPart;
 
 /// Whether a module that a visibility names is there, where it lies in a map.
 pub(crate) fn is_placed(map: &DefMap, vis: Visibility) -> bool

@@ -2,16 +2,16 @@
 ghost use Rattle.std.specs.Prelude.{◌≡◌, ◌≤◌, ◌<◌, ℕ, true, IfOk, Some, length, slice_get};
 ghost use Rattle.hir_import_rules.specs.declared.directive.ImportDirective.{ImportDirective};
 ghost use Rattle.hir_def_map_rules.specs.State.{IsInOrder};
-ghost use Rattle.hir_def_map.specs.WorldParts.{part_of};
+ghost use Rattle.hir_nameres.specs.WorldParts.{part_of};
 ghost use Rattle.hir_import_rules.specs.Rest.{IsAtRest, IsSound, IsSpent};
 ghost use Rattle.hir_import_rules.specs.Rules.{Steps};
 ghost use Rattle.hir_import_resolution.specs.Inner.State.{IsApart, state_in};
 
 use crate::imports::Imports;
 use crate::rounds::begin_imports;
-use hir_def_map::world::part::WorldPart;
 use hir_glob_imports::MAX_STEPS;
 use hir_import_rules::error::ImportError;
+use hir_nameres::world::part::WorldPart;
 use std::alloc::Global;
 
 /// Takes imports, in the order in which they were found, until no more comes of them.

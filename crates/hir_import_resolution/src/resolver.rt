@@ -5,7 +5,7 @@
 //! changes queues what is registered there. So an import that isn't queued has read nothing that changed since, and to try
 //! it again would do nothing: when the queue is empty, all imports rest.
 ghost use Rattle.std.specs.Prelude.{◌≡◌, []};
-ghost use Rattle.hir_def_map.specs.WorldParts.{part_of};
+ghost use Rattle.hir_nameres.specs.WorldParts.{part_of};
 ghost use Rattle.hir_import_resolution.specs.Inner.State.{finished_by, queue_by, state_by, state_in};
 
 pub(crate) mod bind;
@@ -18,12 +18,12 @@ use crate::import_queue::ImportQueue;
 use crate::imports::Imports;
 use crate::rounds::Resting;
 use crate::scopes::OpenScopes;
-use hir_def_map::nameres::local_def_map::LocalDefMap;
-use hir_def_map::nameres::path_resolution::slots::Slot;
-use hir_def_map::world::part::WorldPart;
 use hir_glob_imports::GlobImports;
 use hir_import_rules::directive::ImportDirective;
 use hir_import_rules::taken::Taken;
+use hir_nameres::nameres::local_def_map::LocalDefMap;
+use hir_nameres::nameres::path_resolution::slots::Slot;
+use hir_nameres::world::part::WorldPart;
 use hir_worklist::{Watchers, Worklist};
 use std::alloc::Global;
 

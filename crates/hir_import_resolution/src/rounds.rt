@@ -1,7 +1,7 @@
 //! Imports that are resolved round by round, while the map that has them grows between rounds.
 ghost use Rattle.std.specs.Prelude.{◌≡◌, ◌≤◌, ◌<◌, ℕ, [], true, IfOk, None, Some, length, slice_get};
 ghost use Rattle.hir_def_map_rules.specs.State.{IsInOrder};
-ghost use Rattle.hir_def_map.specs.WorldParts.{part_of};
+ghost use Rattle.hir_nameres.specs.WorldParts.{part_of};
 ghost use Rattle.hir_def_map_laws.specs.SlotChanges.{ScopesChangeAmong};
 ghost use Rattle.hir_import_rules.specs.declared.directive.ImportDirective.{ImportDirective};
 ghost use Rattle.hir_import_resolution.specs.Inner.Queue.{IsBegun};
@@ -16,10 +16,10 @@ use crate::import_queue::ImportQueue;
 use crate::imports::Imports;
 use crate::lasting::do_globs_last;
 use crate::resolver::Resolver;
-use hir_def_map::nameres::path_resolution::slots::Slot;
-use hir_def_map::world::part::WorldPart;
 use hir_glob_imports::MAX_STEPS;
 use hir_import_rules::error::ImportError;
+use hir_nameres::nameres::path_resolution::slots::Slot;
+use hir_nameres::world::part::WorldPart;
 use std::alloc::{AllocError, Global};
 
 /// Imports that rest.

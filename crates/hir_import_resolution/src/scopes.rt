@@ -1,10 +1,10 @@
 //! The names that globs read and write: those of a map that is built, and of what its globs reach elsewhere.
 ghost use Rattle.std.specs.Prelude.{◌≡◌, OnOk};
-ghost use Rattle.hir_scope.specs.Entries.{item_at};
-ghost use Rattle.hir_scope.specs.declared.item_in_ns.ItemInNs.TheVariants as in_ns;
+ghost use Rattle.hir_nameres.specs.HirScope.Entries.{item_at};
+ghost use Rattle.hir_nameres.specs.HirPerNs.declared.item_in_ns.ItemInNs.TheVariants as in_ns;
 ghost use Rattle.hir_def_map_rules.specs.Overlay.{entry_in, module_in};
 ghost use Rattle.hir_def_map_rules.specs.State.{module_at, with_scope};
-ghost use Rattle.hir_def_map.specs.WorldParts.{part_of};
+ghost use Rattle.hir_nameres.specs.WorldParts.{part_of};
 ghost use Rattle.hir_import_rules.specs.Names.{bound_by, bound_of, bound_trait, entries_of, is_foreign, is_open, items_by, open_vis, pushed_by, redefined, revised, trait_vis, traits_of, variant_items, with_trait, with_trait_at};
 ghost use Rattle.hir_import_resolution.specs.Scopes.{value_of, with_value};
 ghost use Rattle.hir_import_rules.specs.Visibilities.{greater_in, sees_in};
@@ -15,20 +15,20 @@ mod keys;
 mod writes;
 
 use crate::answers::open_items;
-use hir_base::ids::{MapId, ModuleDefId, ModuleId, TraitId};
-use hir_base::name::Name;
-use hir_def_map::def_maps::DefMaps;
-use hir_def_map::nameres::DefMap;
-use hir_def_map::nameres::enum_variants::EnumVariant;
-use hir_def_map::world::part::WorldPart;
 use hir_glob_imports::{Bound, Key, Names, Slot, Target};
 use hir_import_growth::visibilities::lesser;
-use hir_scope::glob_imports::PerNsGlobImports;
-use hir_scope::imports::{GlobId, ImportId, ImportOrExternCrate};
-use hir_scope::item_in_ns::ItemInNs;
-use hir_scope::item_scope::ItemScope;
-use hir_scope::per_ns::{MacrosItem, PerNs, TypesItem, ValuesItem};
-use hir_scope::visibility::Visibility;
+use hir_nameres::def_maps::DefMaps;
+use hir_nameres::hir_base::ids::{MapId, ModuleDefId, ModuleId, TraitId};
+use hir_nameres::hir_base::name::Name;
+use hir_nameres::hir_scope::glob_imports::PerNsGlobImports;
+use hir_nameres::hir_scope::imports::{GlobId, ImportId, ImportOrExternCrate};
+use hir_nameres::hir_scope::item_in_ns::ItemInNs;
+use hir_nameres::hir_scope::item_scope::ItemScope;
+use hir_nameres::hir_scope::per_ns::{MacrosItem, PerNs, TypesItem, ValuesItem};
+use hir_nameres::hir_scope::visibility::Visibility;
+use hir_nameres::nameres::DefMap;
+use hir_nameres::nameres::enum_variants::EnumVariant;
+use hir_nameres::world::part::WorldPart;
 use std::alloc::{AllocError, Global};
 
 /// The scopes of a map that is built, beside finished maps.
@@ -385,7 +385,7 @@ impl Names for OpenScopes<'_> {
         self.bound_of(of, key)
     }
 
-    #[tactic(auto, unfolding(hir_import_rules::specs::Visibilities::sees_in, hir_def_map::specs::DefMaps::maps_of))]
+    #[tactic(auto, unfolding(hir_import_rules::specs::Visibilities::sees_in, hir_nameres::specs::DefMaps::maps_of))]
     fn sees(&self, at: u32, vis: Visibility) -> bool {
         let from = ModuleId {
             map: self.map.id(),
@@ -401,7 +401,7 @@ impl Names for OpenScopes<'_> {
         }
     }
 
-    #[tactic(auto, unfolding(hir_import_rules::specs::Visibilities::greater_in, hir_def_map::specs::DefMaps::maps_of))]
+    #[tactic(auto, unfolding(hir_import_rules::specs::Visibilities::greater_in, hir_nameres::specs::DefMaps::maps_of))]
     fn greater(&self, one: Visibility, other: Visibility) -> Option<Visibility> {
         let maps = DefMaps::new(self.world, &self.map);
         one.max(&maps, other, self.map.id())

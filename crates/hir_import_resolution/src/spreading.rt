@@ -1,6 +1,6 @@
 //! Names that go along globs while the map that has them grows.
 ghost use Rattle.std.specs.Prelude.{◌≡◌, ◌≤◌, [], Err, IfOk, OnOk};
-ghost use Rattle.hir_def_map.specs.WorldParts.{part_of};
+ghost use Rattle.hir_nameres.specs.WorldParts.{part_of};
 ghost use Rattle.hir_def_map_laws.specs.SlotChanges.{ScopesChangeAmong};
 ghost use Rattle.hir_import_resolution.specs.Inner.State.{path_slots, state_in};
 ghost use Rattle.hir_import_rules.specs.Rest.{BroughtStands, IsClosed, IsSound, IsSpent};
@@ -10,9 +10,9 @@ ghost use Rattle.hir_import_rules.specs.Rules.{Steps};
 use crate::import_queue::ImportQueue;
 use crate::imports::Imports;
 use crate::resolver::Resolver;
-use hir_def_map::world::part::WorldPart;
 use hir_glob_imports::{MAX_STEPS, Slot};
 use hir_import_rules::error::ImportError;
+use hir_nameres::world::part::WorldPart;
 use std::alloc::Global;
 
 /// Lets names go along globs from where it is noted that they have yet to go, until none is left; which slots changed. No

@@ -2,9 +2,9 @@
 use Rattle.std.proofs.Common.{◌≡◌, ap, sym, refl, ℕ, zero, suc, ◌≤◌, List, [], ◌∷◌, length, Some}
 use Rattle.std.specs.Option.{option_map}
 use Rattle.std.specs.Prelude.{slice_get}
-use Rattle.hir_scope.specs.Scope.{ScopeValue}
-use Rattle.hir_def_map_rules.specs.State.{Map, ModuleValue, changed_at, scope_at, with_module_scope, with_scope}
-use Rattle.hir_def_map_rules.proofs.Modules.{changed_at-past}
+use Rattle.hir_nameres.specs.HirScope.Scope.{ScopeValue}
+use Rattle.hir_nameres.specs.HirDefMapRules.State.{Map, ModuleValue, changed_at, scope_at, with_module_scope, with_scope}
+use Rattle.hir_nameres.proofs.HirDefMapRules.Modules.{changed_at-past}
 
 -- what is left behind the scope is in its place
 left_in : (ms : List ModuleValue) (at : ℕ) (scope : ScopeValue) (change : ScopeValue → ScopeValue) → Some scope ≡ option_map (λ (m : ModuleValue). m.scope)

@@ -1,16 +1,16 @@
 -- What of imports and globs lasts as a map grows?
 use Rattle.std.specs.Prelude.{◌≡◌, ℕ, ◌<◌, true, false, List, None, Some, length, slice_get}
 use Rattle.std.specs.List.{All}
-use Rattle.hir_base.specs.declared.ids.ModuleId.{ModuleId}
-use Rattle.hir_scope.specs.Globs.{GlobNames}
-use Rattle.hir_scope.specs.declared.visibility.Visibility.{Visibility}
-use Rattle.hir_scope.specs.declared.visibility.Visibility.TheVariants as visibilities
-use Rattle.hir_def_map_rules.specs.Overlay.{Maps, placed_in}
-use Rattle.hir_def_map.specs.Scoping.Slots.{is_in}
-use Rattle.hir_def_map_rules.specs.State.{IsInOrder, Map}
-use Rattle.hir_def_map.specs.declared.nameres.path_resolution.slots.Slot.{Slot as PathSlot}
-use Rattle.hir_def_map.specs.declared.nameres.path_resolution.slots.Slot.TheVariants.{Module as of_module, Preludes as of_preludes}
-use Rattle.hir_def_map_rules.specs.declared.reference.Reference.TheVariants as named
+use Rattle.hir_nameres.specs.HirIds.declared.ids.ModuleId.{ModuleId}
+use Rattle.hir_nameres.specs.HirScope.Globs.{GlobNames}
+use Rattle.hir_nameres.specs.HirPerNs.declared.visibility.Visibility.{Visibility}
+use Rattle.hir_nameres.specs.HirPerNs.declared.visibility.Visibility.TheVariants as visibilities
+use Rattle.hir_nameres.specs.HirDefMapRules.Overlay.{Maps, placed_in}
+use Rattle.hir_nameres.specs.Scoping.Slots.{is_in}
+use Rattle.hir_nameres.specs.HirDefMapRules.State.{IsInOrder, Map}
+use Rattle.hir_nameres.specs.declared.nameres.path_resolution.slots.Slot.{Slot as PathSlot}
+use Rattle.hir_nameres.specs.declared.nameres.path_resolution.slots.Slot.TheVariants.{Module as of_module, Preludes as of_preludes}
+use Rattle.hir_nameres.specs.HirDefMapRules.declared.reference.Reference.TheVariants as named
 use Rattle.hir_def_map_laws.specs.ReadLaw.{has_no_variants, stops_bare}
 use Rattle.hir_glob_imports.specs.Waves.{AreOfKind}
 use Rattle.hir_glob_imports.specs.declared.edge.Edge.{Edge}

@@ -1,7 +1,7 @@
 -- Where do imports rest?
 use Rattle.std.specs.Prelude.{◌≡◌, ℕ, ◌≤◌, ◌<◌, Some, Contains, length, slice_get}
-use Rattle.hir_def_map_rules.specs.Overlay.{Maps}
-use Rattle.hir_scope.specs.declared.imports.GlobId.{GlobId}
+use Rattle.hir_nameres.specs.HirDefMapRules.Overlay.{Maps}
+use Rattle.hir_nameres.specs.HirPerNs.declared.imports.GlobId.{GlobId}
 use Rattle.hir_glob_imports.specs.Waves.{IsWaved, Stands}
 use Rattle.hir_glob_imports.specs.declared.edge.Brought.{Brought}
 use Rattle.hir_glob_imports.specs.declared.edge.Edge.{Edge}

@@ -1,7 +1,7 @@
 -- The rules by which imports are taken.
 use Rattle.std.specs.Prelude.{◌≡◌, ℕ, true, List, [], ◌∷◌, map, Some, Contains, slice_get}
-use Rattle.hir_scope.specs.declared.imports.GlobId.{GlobId}
-use Rattle.hir_def_map_rules.specs.Overlay.{Maps}
+use Rattle.hir_nameres.specs.HirPerNs.declared.imports.GlobId.{GlobId}
+use Rattle.hir_nameres.specs.HirDefMapRules.Overlay.{Maps}
 use Rattle.hir_glob_imports.specs.Rules.{Rule as GlobRule, May as MayAlong, acts as glob_acts}
 use Rattle.hir_glob_imports.specs.Waves.{Records}
 use Rattle.hir_glob_imports.specs.declared.edge.Edge.{Edge}

@@ -6,31 +6,31 @@ use Rattle.std.specs.Cmp.Lexicographic.{slice_cmp}
 use Rattle.std.specs.Map.{lookup, set_value}
 use Rattle.std.specs.Ordering.{nat_cmp}
 use Rattle.indexmap.specs.IndexMap.{insert_entry as insert_last}
-use Rattle.hir_base.specs.contracts.ids.TraitIdEq.TheImpl.Laws.{laws-law as trait_laws}
-use Rattle.hir_base.specs.contracts.ids.TraitIdOrd.TheImpl.Laws.{matches_eq-law as trait_ties}
-use Rattle.hir_base.specs.contracts.ids.TraitIdPartialEq.TheImpl as trait_id
-use Rattle.hir_base.specs.declared.macro_kind.MacroId.{MacroId}
-use Rattle.hir_base.specs.declared.ids.ModuleDefId.{ModuleDefId}
-use Rattle.hir_base.specs.declared.ids.TraitId.{TraitId}
-use Rattle.hir_base.specs.declared.ids.ModuleDefId.TheVariants as definitions
-use Rattle.hir_scope.specs.Bindings.{first_of, with_item_definition, with_item_visibility}
-use Rattle.hir_scope.specs.Entries.{item_at, with_entry}
-use Rattle.hir_scope.specs.Globs.{GlobNames, Place}
-use Rattle.hir_scope.specs.PerNs.{Item}
-use Rattle.hir_scope.specs.Scope.{ScopeValue, binding_of}
-use Rattle.hir_scope.specs.Scope.Push.{pushed_scope}
-use Rattle.hir_scope.specs.Scope.Reads.{unnamed_vis}
-use Rattle.hir_scope.specs.declared.imports.GlobId.{GlobId}
-use Rattle.hir_scope.specs.declared.imports.ImportId.{ImportId}
-use Rattle.hir_scope.specs.declared.imports.ImportOrExternCrate.{ImportOrExternCrate}
-use Rattle.hir_scope.specs.declared.imports.ImportOrGlob.{ImportOrGlob}
-use Rattle.hir_scope.specs.declared.item_in_ns.ItemInNs.{ItemInNs}
-use Rattle.hir_scope.specs.declared.per_ns.PerNs.{PerNs}
-use Rattle.hir_scope.specs.declared.visibility.Visibility.{Visibility}
-use Rattle.hir_scope.specs.declared.imports.ImportOrExternCrate.TheVariants as ways
-use Rattle.hir_scope.specs.declared.imports.ImportOrGlob.TheVariants as value_ways
-use Rattle.hir_scope.specs.declared.item_in_ns.ItemInNs.TheVariants as in_ns
-use Rattle.hir_scope.proofs.AfterPush.{binding_of-pushed_by_glob, binding_of-pushed_other, item_at-with_entry, item_at-with_entry_other}
+use Rattle.hir_nameres.specs.HirIds.contracts.ids.TraitIdEq.TheImpl.Laws.{laws-law as trait_laws}
+use Rattle.hir_nameres.specs.HirIds.contracts.ids.TraitIdOrd.TheImpl.Laws.{matches_eq-law as trait_ties}
+use Rattle.hir_nameres.specs.HirIds.contracts.ids.TraitIdPartialEq.TheImpl as trait_id
+use Rattle.hir_nameres.specs.HirIds.declared.macro_kind.MacroId.{MacroId}
+use Rattle.hir_nameres.specs.HirIds.declared.ids.ModuleDefId.{ModuleDefId}
+use Rattle.hir_nameres.specs.HirIds.declared.ids.TraitId.{TraitId}
+use Rattle.hir_nameres.specs.HirIds.declared.ids.ModuleDefId.TheVariants as definitions
+use Rattle.hir_nameres.specs.HirScope.Bindings.{first_of, with_item_definition, with_item_visibility}
+use Rattle.hir_nameres.specs.HirScope.Entries.{item_at, with_entry}
+use Rattle.hir_nameres.specs.HirScope.Globs.{GlobNames, Place}
+use Rattle.hir_nameres.specs.HirPerNs.PerNs.{Item}
+use Rattle.hir_nameres.specs.HirScope.Scope.{ScopeValue, binding_of}
+use Rattle.hir_nameres.specs.HirScope.Scope.Push.{pushed_scope}
+use Rattle.hir_nameres.specs.HirScope.Scope.Reads.{unnamed_vis}
+use Rattle.hir_nameres.specs.HirPerNs.declared.imports.GlobId.{GlobId}
+use Rattle.hir_nameres.specs.HirPerNs.declared.imports.ImportId.{ImportId}
+use Rattle.hir_nameres.specs.HirPerNs.declared.imports.ImportOrExternCrate.{ImportOrExternCrate}
+use Rattle.hir_nameres.specs.HirPerNs.declared.imports.ImportOrGlob.{ImportOrGlob}
+use Rattle.hir_nameres.specs.HirPerNs.declared.item_in_ns.ItemInNs.{ItemInNs}
+use Rattle.hir_nameres.specs.HirPerNs.declared.per_ns.PerNs.{PerNs}
+use Rattle.hir_nameres.specs.HirPerNs.declared.visibility.Visibility.{Visibility}
+use Rattle.hir_nameres.specs.HirPerNs.declared.imports.ImportOrExternCrate.TheVariants as ways
+use Rattle.hir_nameres.specs.HirPerNs.declared.imports.ImportOrGlob.TheVariants as value_ways
+use Rattle.hir_nameres.specs.HirPerNs.declared.item_in_ns.ItemInNs.TheVariants as in_ns
+use Rattle.hir_nameres.proofs.HirScope.AfterPush.{binding_of-pushed_by_glob, binding_of-pushed_other, item_at-with_entry, item_at-with_entry_other}
 use Rattle.hir_glob_imports.specs.Keys.{slot_at}
 use Rattle.hir_glob_imports.specs.declared.edge.Bound.{Bound}
 use Rattle.hir_glob_imports.specs.declared.edge.Key.{Key}

@@ -1,8 +1,8 @@
 -- Where do imports stand?
 use Rattle.std.specs.Prelude.{ℕ, ◌+◌, List, None, slice_set}
-use Rattle.hir_scope.specs.Globs.{GlobNames}
-use Rattle.hir_def_map_rules.specs.State.{Local, Map}
-use Rattle.hir_def_map_rules.specs.Overlay.{Maps}
+use Rattle.hir_nameres.specs.HirScope.Globs.{GlobNames}
+use Rattle.hir_nameres.specs.HirDefMapRules.State.{Local, Map}
+use Rattle.hir_nameres.specs.HirDefMapRules.Overlay.{Maps}
 use Rattle.hir_glob_imports.specs.Rules.{BroughtBy, GlobState}
 use Rattle.hir_glob_imports.specs.declared.edge.Edge.{Edge}
 use Rattle.hir_import_rules.specs.declared.directive.ImportDirective.{ImportDirective}

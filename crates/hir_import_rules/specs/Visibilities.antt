@@ -1,14 +1,14 @@
 -- What visibilities mean in a map beside finished ones.
 use Rattle.std.specs.Prelude.{Bool, true, false, Option}
-use Rattle.hir_base.specs.declared.ids.ModuleId.{ModuleId}
-use Rattle.hir_raw_visibility.specs.declared.raw_visibility.RawVisibility.{RawVisibility}
-use Rattle.hir_scope.specs.Visibility.{greater_of, is_visible, lesser_of}
-use Rattle.hir_scope.specs.declared.visibility.Visibility.{Visibility}
-use Rattle.hir_scope.specs.declared.visibility.Visibility.TheVariants as visibilities
-use Rattle.hir_def_map_rules.specs.Ancestors.{above_in, holders_in}
-use Rattle.hir_def_map_rules.specs.State.{Local, Map}
-use Rattle.hir_def_map_rules.specs.Overlay.{Maps, overlay}
-use Rattle.hir_def_map_rules.specs.Visibilities.{written_visibility}
+use Rattle.hir_nameres.specs.HirIds.declared.ids.ModuleId.{ModuleId}
+use Rattle.hir_nameres.specs.HirRawVisibility.declared.raw_visibility.RawVisibility.{RawVisibility}
+use Rattle.hir_nameres.specs.HirPerNs.Visibility.{greater_of, is_visible, lesser_of}
+use Rattle.hir_nameres.specs.HirPerNs.declared.visibility.Visibility.{Visibility}
+use Rattle.hir_nameres.specs.HirPerNs.declared.visibility.Visibility.TheVariants as visibilities
+use Rattle.hir_nameres.specs.HirDefMapRules.Ancestors.{above_in, holders_in}
+use Rattle.hir_nameres.specs.HirDefMapRules.State.{Local, Map}
+use Rattle.hir_nameres.specs.HirDefMapRules.Overlay.{Maps, overlay}
+use Rattle.hir_nameres.specs.HirDefMapRules.Visibilities.{written_visibility}
 
 -- what a visibility means that is written in a module of the map; one whose path leads to no module counts as public
 unfoldable pub visibility_in : Maps → Local → Map → ModuleId → RawVisibility → Visibility

@@ -2,12 +2,13 @@
 ghost use Rattle.std.specs.Prelude.{◌≡◌, IfOk};
 ghost use Rattle.hir_import_rules.specs.Directives.{glob_of, is_one_name, is_plain, is_unnamed, kind_of, leaf_of, name_of, way_of};
 
-use hir_base::ids::{Crate, ExternCrateId};
-use hir_base::mod_path::{ModPath, PathKind};
-use hir_base::name::Name;
-use hir_item_tree::raw_visibility::RawVisibility;
-use hir_item_tree::shape::{ImportAlias, ImportKind};
-use hir_scope::imports::{GlobId, ImportId, ImportOrExternCrate};
+use hir_item_tree::shared_path::SharedPath;
+use hir_nameres::hir_base::ids::{Crate, ExternCrateId};
+use hir_nameres::hir_base::mod_path::PathKind;
+use hir_nameres::hir_base::name::Name;
+use hir_nameres::hir_raw_visibility::raw_visibility::RawVisibility;
+use hir_nameres::hir_scope::imports::{GlobId, ImportId, ImportOrExternCrate};
+use hir_use_tree::imports::{ImportAlias, ImportKind};
 use std::alloc::AllocError;
 
 /// What writes an import.
@@ -32,7 +33,7 @@ pub struct ImportDirective {
     pub home: u32,
     pub source: ImportSource,
     pub visibility: RawVisibility,
-    pub path: ModPath,
+    pub path: SharedPath,
     pub alias: Option<ImportAlias>,
 }
 
@@ -92,7 +93,7 @@ impl ImportDirective {
         match &self.alias {
             Some(ImportAlias::Alias(name)) => Ok(Some(name.clone()?)),
             Some(ImportAlias::Underscore) => Ok(None),
-            None => match self.path.segments().last() {
+            None => match self.path.last() {
                 Some(name) => Ok(Some(name.clone()?)),
                 None => Ok(None),
             },
@@ -108,8 +109,8 @@ impl ImportDirective {
 }
 
 /// Whether a path is one name alone.
-pub fn is_one_name(path: &ModPath) -> bool
+pub fn is_one_name(path: &SharedPath) -> bool
     ensures value { result ≡ is_one_name path.now }
 {
-    matches!(path.kind(), PathKind::Plain) && path.segments().len() == 1
+    matches!(path.kind(), PathKind::Plain) && path.has_one_name()
 }

@@ -2,7 +2,7 @@
 ghost use Rattle.std.specs.Prelude.{◌≡◌};
 ghost use Rattle.hir_import_rules.specs.Directives.{both_of, goes_beyond, is_empty, namespaces_of, no_namespaces};
 
-use hir_scope::per_ns::PerNs;
+use hir_nameres::hir_scope::per_ns::PerNs;
 
 /// A set of namespaces.
 #[derive(Clone, Copy, Debug, PartialEq, Eq)]

@@ -3,8 +3,8 @@ ghost use Rattle.std.specs.Prelude.{◌≡◌, OnOk, Contains, ◌↔◌, IsTrue
 ghost use Rattle.hir_import_rules.specs.Directives.{is_untaken, nothing_taken, taken_after, taken_for};
 
 use crate::namespaces::Namespaces;
-use hir_def_map::nameres::path_resolution::ResolvePathResult;
 use hir_glob_imports::Target;
+use hir_nameres::nameres::path_resolution::ResolvePathResult;
 use std::alloc::{AllocError, Global};
 use std::marker::Model;
 

@@ -1,6 +1,6 @@
 -- What is without bodies and without sides is without sides, and what is without bodies has the same sides.
 use Rattle.std.proofs.Common.{◌≡◌, ◌++◌, refl, sym, ap, ap₂, ◌∙◌, Bool, List}
-use Rattle.hir_base.specs.declared.ast_id.AstKind.{AstKind}
+use Rattle.hir_ids.specs.declared.ast_id.AstKind.{AstKind}
 use Rattle.hir_base.specs.declared.cfg.CfgAtom.{CfgAtom}
 use Rattle.hir_item_tree.specs.Source as written
 use Rattle.hir_item_tree.specs.Source.{NodeHead, Plain, Holder, Item, Items, SourceValue}

@@ -9,17 +9,17 @@ use Rattle.std.specs.Option.{option_and_then, option_eq, option_map}
 use Rattle.std.specs.Ordering.{is_eq}
 use Rattle.std.specs.Result.{OnErr}
 use Rattle.std.specs.declared.cmp.Ordering.{Ordering}
-use Rattle.hir_base.specs.contracts.ast_id.BlockIdPartialEq.TheImpl as block_eq
-use Rattle.hir_base.specs.contracts.ast_id.HirFileIdPartialEq.TheImpl as file_eq
-use Rattle.hir_base.specs.contracts.edition.Edition.{the_type as editions}
-use Rattle.hir_base.specs.contracts.ids.CrateOrd.TheImpl.{ghosts as crates}
-use Rattle.hir_base.specs.contracts.ids.CrateOrd.TheImpl.Laws.{total-law as crates_total, matches_eq-law as crates_tie}
-use Rattle.hir_base.specs.declared.ast_id.BlockId.{BlockId}
-use Rattle.hir_base.specs.declared.ids.Crate.{Crate}
-use Rattle.hir_base.specs.declared.ast_id.HirFileId.{HirFileId}
-use Rattle.hir_base.specs.declared.ast_id.HirFileId.TheVariants.{File, Macro}
-use Rattle.hir_item_tree.specs.contracts.tree_id.TreeIdOrd.TheImpl.{ghosts as ids}
-use Rattle.hir_item_tree.specs.contracts.tree_id.TreeIdOrd.TheImpl.Laws.{total-law as ids_total, matches_eq-law as ids_tie}
+use Rattle.hir_ids.specs.contracts.ast_id.BlockIdPartialEq.TheImpl as block_eq
+use Rattle.hir_ids.specs.contracts.ast_id.HirFileIdPartialEq.TheImpl as file_eq
+use Rattle.hir_ids.specs.contracts.edition.Edition.{the_type as editions}
+use Rattle.hir_ids.specs.contracts.ids.CrateOrd.TheImpl.{ghosts as crates}
+use Rattle.hir_ids.specs.contracts.ids.CrateOrd.TheImpl.Laws.{total-law as crates_total, matches_eq-law as crates_tie}
+use Rattle.hir_ids.specs.declared.ast_id.BlockId.{BlockId}
+use Rattle.hir_ids.specs.declared.ids.Crate.{Crate}
+use Rattle.hir_ids.specs.declared.ast_id.HirFileId.{HirFileId}
+use Rattle.hir_ids.specs.declared.ast_id.HirFileId.TheVariants.{File, Macro}
+use Rattle.hir_base.specs.contracts.tree_id.TreeIdOrd.TheImpl.{ghosts as ids}
+use Rattle.hir_base.specs.contracts.tree_id.TreeIdOrd.TheImpl.Laws.{total-law as ids_total, matches_eq-law as ids_tie}
 use Rattle.hir_item_tree.specs.Types.{TreeId, TreeKey}
 use Rattle.hir_item_tree.specs.Trees.{is_key}
 

@@ -2,7 +2,7 @@
 use Rattle.std.specs.Prelude.{ℕ, Bool, true, false, nat_eq, List, [], ◌∷◌, filter, string_bytes, Option, Some, None, if◌then◌else◌}
 use Rattle.std.specs.List.{list_any, filter_map}
 use Rattle.std.specs.Str.{bytes_eq}
-use Rattle.hir_base.specs.declared.ast_id.AttrId.{AttrId}
+use Rattle.hir_ids.specs.declared.ast_id.AttrId.{AttrId}
 use Rattle.hir_base.specs.declared.mod_path.PathKind.{PathKind}
 use Rattle.hir_base.specs.declared.mod_path.PathKind.TheVariants as roots
 use Rattle.hir_item_tree.specs.declared.raw_attr.AttrInput.{AttrInput}

@@ -3,8 +3,8 @@ use Rattle.std.specs.Prelude.{◌≡◌}
 use Rattle.std.specs.Coded.{Coded, codes}
 use Rattle.std.proofs.Common.{refl, ap₂, arith}
 use base.Stored.{Gv, gnil, gnum, gcons}
-use Rattle.hir_base.specs.declared.macro_kind.MacroExpander.{MacroExpander}
-use Rattle.hir_item_tree.specs.declared.shape.ExternCrateName.{ExternCrateName}
+use Rattle.hir_ids.specs.declared.macro_kind.MacroExpander.{MacroExpander}
+use Rattle.hir_base.specs.declared.shape.ExternCrateName.{ExternCrateName}
 use Rattle.hir_item_tree.specs.KeptForest.{Head, Leaf, Holder, KeptItem, leaf, holder, KeptForest, no_items, item}
 use Rattle.hir_item_tree.specs.ValueCodes.{number, halves, coded_name, coded_id, coded_path, coded_visibility, coded_shape, coded_alias}
 use Rattle.hir_item_tree.specs.UseTreeCodes.{coded_use_tree}

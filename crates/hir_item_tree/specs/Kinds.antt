@@ -1,7 +1,7 @@
 -- What is an item as a tree lends it?
 use Rattle.std.specs.Prelude.{Option, Some, None}
-use Rattle.hir_base.specs.declared.ast_id.AstKind.{AstKind}
-use Rattle.hir_base.specs.declared.ast_id.AstKind.TheVariants as nodes
+use Rattle.hir_ids.specs.declared.ast_id.AstKind.{AstKind}
+use Rattle.hir_ids.specs.declared.ast_id.AstKind.TheVariants as nodes
 use Rattle.hir_use_tree.specs.UseTree.{use_tree_view}
 use Rattle.hir_item_tree.specs.KeptForest.{Head, Leaf, import, extern_crate, function, structure, union_structure, enumeration, constant, static_item}
 use Rattle.hir_item_tree.specs.KeptForest.{trait_item, implementation, type_alias, outline_module, macro_call, macro_rules, macro_def, Holder, extern_block}

@@ -5,7 +5,6 @@ pub use Rattle.hir_use_tree.specs.AliasDisplay
 pub mod Attributes
 pub mod Collected
 pub mod AttrQuery
-pub mod Shape
 pub mod Source
 pub mod KeptForest
 pub mod Rows

@@ -2,7 +2,7 @@
 use Rattle.std.specs.Prelude.{ℕ, Bool, List}
 use Rattle.hir_raw_visibility.specs.declared.raw_visibility.RawVisibility.{RawVisibility}
 use Rattle.hir_base.specs.declared.cfg.CfgAtom.{CfgAtom}
-use Rattle.hir_base.specs.declared.ast_id.SyntaxId.{SyntaxId}
+use Rattle.hir_ids.specs.declared.ast_id.SyntaxId.{SyntaxId}
 use Rattle.hir_item_tree.specs.Attributes.{Attributes}
 use Rattle.hir_item_tree.specs.Source as written
 use Rattle.hir_item_tree.specs.Source.{Holder as WrittenHolder, Item}

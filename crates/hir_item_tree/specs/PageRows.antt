@@ -1,6 +1,6 @@
 -- What does a row print?
 use Rattle.std.specs.Prelude.{ℕ, List}
-use Rattle.hir_base.specs.declared.edition.Edition.{Edition}
+use Rattle.hir_ids.specs.declared.edition.Edition.{Edition}
 use Rattle.hir_raw_visibility.specs.declared.raw_visibility.RawVisibility.{RawVisibility}
 use Rattle.hir_item_tree.specs.Rows.{Content, alone, with_items}
 use Rattle.hir_item_tree.specs.Page.{leaf_word, holder_word, leaf_line, holder_line}

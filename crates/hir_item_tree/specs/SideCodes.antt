@@ -2,7 +2,7 @@
 use Rattle.std.specs.Coded.{Coded, codes, code_by, coded×, coded_bool, coded_list}
 use Rattle.std.specs.Prelude.{Bool, List}
 use Rattle.std.proofs.Common.{refl}
-use Rattle.hir_base.specs.declared.ast_id.AstKind.{AstKind}
+use Rattle.hir_ids.specs.declared.ast_id.AstKind.{AstKind}
 use Rattle.hir_item_tree.specs.declared.check.NodeId.{NodeId}
 use Rattle.hir_item_tree.specs.declared.side_lists.VariantItem.{VariantItem}
 use Rattle.hir_item_tree.specs.Codes.{item_code, item_code_inj}

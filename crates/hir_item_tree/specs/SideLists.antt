@@ -1,5 +1,5 @@
 -- What is kept beside a tree? Variants, associated items, texts of macros and inputs, by node.
-use Rattle.std.specs.Prelude.{ℕ, Bool, true, false, List, [], ◌∷◌, ◌++◌, map, string_bytes, Option, Some, None, if◌then◌else◌, length, not, ◌==◌, ◌||◌}
+use Rattle.std.specs.Prelude.{ℕ, Bool, true, false, List, [], ◌∷◌, ◌++◌, map, unwrap_or, Option, Some, None, if◌then◌else◌, length, not, ◌==◌, ◌||◌}
 use Rattle.hir_item_tree.specs.declared.check.NodeId.{NodeId}
 use Rattle.hir_item_tree.specs.contracts.check.NodeIdPartialEq.TheImpl.{ghosts}
 use Rattle.hir_item_tree.specs.declared.rows.Row.{Row}
@@ -119,11 +119,11 @@ abbrev pub side_view : KeptSide → Side
 side_view sides.Nothing = nothing
 side_view (sides.Variants vs) = variants vs.items
 side_view (sides.Associated rows) = associated (map row_item rows.items)
-side_view (sides.Text text) = macro_text (string_bytes text)
+side_view (sides.Text text) = macro_text text
 
 -- the plain value of an entry
 abbrev pub entry_view : KeptEntry → SideEntry
-entry_view e = record { node = e.node; input = string_bytes e.input; side = side_view e.side }
+entry_view e = record { node = e.node; input = unwrap_or e.input []; side = side_view e.side }
 
 -- the plain value of entries
 abbrev pub entries_view : List KeptEntry → List SideEntry

@@ -1,14 +1,14 @@
 -- What does a source hand in? Plain values: two sources say the same exactly where these are equal.
 use Rattle.std.specs.Prelude.{ℕ, Bool, List, [], ◌∷◌, map, string_bytes, Option, Some, None}
 use Rattle.hir_base.specs.ModPath.{Path}
-use Rattle.hir_base.specs.declared.macro_kind.MacroExpander.{MacroExpander}
-use Rattle.hir_base.specs.declared.ast_id.SyntaxId.{SyntaxId}
+use Rattle.hir_ids.specs.declared.macro_kind.MacroExpander.{MacroExpander}
+use Rattle.hir_ids.specs.declared.ast_id.SyntaxId.{SyntaxId}
 use Rattle.hir_item_tree.specs.Attributes.{Attributes, attributes_view}
 use Rattle.hir_use_tree.specs.UseTree.{UseTree, use_tree_view}
 use Rattle.hir_raw_visibility.specs.declared.raw_visibility.RawVisibility.{RawVisibility}
-use Rattle.hir_item_tree.specs.declared.shape.FieldsShape.{FieldsShape}
+use Rattle.hir_base.specs.declared.shape.FieldsShape.{FieldsShape}
 use Rattle.hir_use_tree.specs.declared.imports.ImportAlias.{ImportAlias}
-use Rattle.hir_item_tree.specs.declared.shape.ExternCrateName.{ExternCrateName}
+use Rattle.hir_base.specs.declared.shape.ExternCrateName.{ExternCrateName}
 use Rattle.hir_item_tree.specs.declared.source.MacroDefinition.{MacroDefinition}
 use Rattle.hir_item_tree.specs.declared.source.Variant.{Variant}
 use Rattle.hir_item_tree.specs.declared.source.Node.{Node, fold-Node}

@@ -1,9 +1,9 @@
 -- What does a source have under a crate?
 use Rattle.std.specs.Prelude.{◌≡◌, Bool, List, Option, is_some, unwrap_or}
 use Rattle.std.specs.Option.{option_and_then}
-use Rattle.hir_base.specs.declared.ast_id.AstKind.TheVariants.{Enum}
+use Rattle.hir_ids.specs.declared.ast_id.AstKind.TheVariants.{Enum}
 use Rattle.hir_base.specs.declared.cfg.CfgAtom.{CfgAtom}
-use Rattle.hir_base.specs.declared.ast_id.SyntaxId.{SyntaxId}
+use Rattle.hir_ids.specs.declared.ast_id.SyntaxId.{SyntaxId}
 use Rattle.hir_item_tree.specs.declared.check.NodeId.{NodeId}
 use Rattle.hir_item_tree.specs.declared.side_lists.VariantItem.{VariantItem}
 use Rattle.hir_item_tree.specs.Attributes.{Attributes}

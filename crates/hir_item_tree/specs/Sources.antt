@@ -2,8 +2,8 @@
 use Rattle.std.specs.Prelude.{◌≡◌, Bool, [], Option, None, unwrap_or}
 use Rattle.hir_base.specs.CfgOptions.{is_set}
 use Rattle.hir_base.specs.declared.cfg.CfgAtom.{CfgAtom}
-use Rattle.hir_base.specs.declared.ids.Crate.{Crate}
-use Rattle.hir_base.specs.declared.ast_id.HirFileId.{HirFileId}
+use Rattle.hir_ids.specs.declared.ids.Crate.{Crate}
+use Rattle.hir_ids.specs.declared.ast_id.HirFileId.{HirFileId}
 use Rattle.hir_item_tree.specs.Attributes.{Attributes, no_attributes}
 use Rattle.hir_item_tree.specs.KeptForest.{no_items, kept_attributes}
 use Rattle.hir_item_tree.specs.Source.{SourceValue, broken}

@@ -1,9 +1,9 @@
 -- Which nodes does a source have, by kind and id, and which of them stood before?
 use Rattle.std.specs.Prelude.{Bool, List, [], ◌∷◌, ◌++◌, map, Option, Some, None, if◌then◌else◌}
 use Rattle.std.specs.List.{list_any}
-use Rattle.hir_base.specs.declared.ast_id.AstKind.{AstKind}
-use Rattle.hir_base.specs.declared.ast_id.SyntaxId.{SyntaxId}
-use Rattle.hir_base.specs.declared.ast_id.AstKind.TheVariants as kinds
+use Rattle.hir_ids.specs.declared.ast_id.AstKind.{AstKind}
+use Rattle.hir_ids.specs.declared.ast_id.SyntaxId.{SyntaxId}
+use Rattle.hir_ids.specs.declared.ast_id.AstKind.TheVariants as kinds
 use Rattle.hir_item_tree.specs.declared.check.NodeId.{NodeId}
 use Rattle.hir_item_tree.specs.Source.{VariantValue, Plain, import, extern_crate, function, structure, union_structure, enumeration, constant, static_item}
 use Rattle.hir_item_tree.specs.Source.{type_alias, outline_module, macro_call, macro_rules, macro_def, Holder, extern_block, trait_item, implementation}

@@ -2,9 +2,9 @@
 use Rattle.std.specs.Prelude.{Bool, Option, option_map, ◌&&◌}
 use Rattle.std.specs.Option.{option_and_then}
 use Rattle.std.specs.BTreeMap.{is_at, get}
-use Rattle.hir_base.specs.contracts.ids.CrateOrd.TheImpl.{ghosts as crates}
-use Rattle.hir_item_tree.specs.contracts.tree_id.TreeIdOrd.TheImpl.{ghosts as ids}
-use Rattle.hir_item_tree.specs.declared.tree_id.TreeKey.{TreeKey}
+use Rattle.hir_ids.specs.contracts.ids.CrateOrd.TheImpl.{ghosts as crates}
+use Rattle.hir_base.specs.contracts.tree_id.TreeIdOrd.TheImpl.{ghosts as ids}
+use Rattle.hir_base.specs.declared.tree_id.TreeKey.{TreeKey}
 use Rattle.hir_item_tree.specs.declared.trees.Trees.{Trees}
 use Rattle.hir_item_tree.specs.SourceTree.{SourceTreeValue}
 

@@ -3,9 +3,9 @@ use Rattle.std.specs.Prelude.{◌≡◌, ℕ, List}
 use Rattle.std.specs.Coded.{Coded, codes, coded_ℕ, coded_list}
 use base.Stored.{Gv, gnum, gcons}
 use Rattle.hir_base.specs.ModPath.{Path}
-use Rattle.hir_base.specs.declared.ast_id.SyntaxId.{SyntaxId}
+use Rattle.hir_ids.specs.declared.ast_id.SyntaxId.{SyntaxId}
 use Rattle.hir_raw_visibility.specs.declared.raw_visibility.RawVisibility.{RawVisibility}
-use Rattle.hir_item_tree.specs.declared.shape.FieldsShape.{FieldsShape}
+use Rattle.hir_base.specs.declared.shape.FieldsShape.{FieldsShape}
 use Rattle.hir_use_tree.specs.declared.imports.ImportAlias.{ImportAlias}
 
 -- a name, by its bytes

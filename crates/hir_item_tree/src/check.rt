@@ -1,7 +1,7 @@
 //! The limits of a source, and its syntax ids.
 ghost use Rattle.std.specs.Prelude.{◌≡◌, ◌≤◌, OnOk};
 ghost use Rattle.std.specs.List.{IsDistinct};
-ghost use Rattle.hir_base.specs.Refusal.{Gives};
+ghost use Rattle.hir_ids.specs.Refusal.{Gives};
 ghost use Rattle.hir_item_tree.specs.Attributes.{attributes_view};
 ghost use Rattle.hir_item_tree.specs.Source.{nodes_view, source_view};
 ghost use Rattle.hir_item_tree.specs.Limits.{size};

@@ -7,7 +7,7 @@ use crate::kinds::{
 /// A kind of item, as a tree lends it.
 pub trait ItemTreeNode<'a> {
     ghost use Rattle.std.specs.Prelude.{◌≡◌, ◌↔◌, IfSome, IsSome};
-    ghost use Rattle.hir_base.specs.declared.ast_id.AstKind.{AstKind};
+    ghost use Rattle.hir_ids.specs.declared.ast_id.AstKind.{AstKind};
     ghost use Rattle.hir_item_tree.specs.declared.kinds.ModItemKind.{ModItemKind};
     ghost use Rattle.hir_item_tree.specs.Kinds.{kind_of};
 
@@ -24,7 +24,7 @@ pub trait ItemTreeNode<'a> {
 }
 
 impl<'a> ItemTreeNode<'a> for Use<'a> {
-    ghost use Rattle.hir_base.specs.declared.ast_id.AstKind.TheVariants as nodes;
+    ghost use Rattle.hir_ids.specs.declared.ast_id.AstKind.TheVariants as nodes;
     ghost use Rattle.hir_item_tree.specs.declared.kinds.ModItemKind.TheVariants as kinds;
 
     ghost node_kind = { nodes.Use };
@@ -40,7 +40,7 @@ impl<'a> ItemTreeNode<'a> for Use<'a> {
 }
 
 impl<'a> ItemTreeNode<'a> for ExternCrate<'a> {
-    ghost use Rattle.hir_base.specs.declared.ast_id.AstKind.TheVariants as nodes;
+    ghost use Rattle.hir_ids.specs.declared.ast_id.AstKind.TheVariants as nodes;
     ghost use Rattle.hir_item_tree.specs.declared.kinds.ModItemKind.TheVariants as kinds;
 
     ghost node_kind = { nodes.ExternCrate };
@@ -56,7 +56,7 @@ impl<'a> ItemTreeNode<'a> for ExternCrate<'a> {
 }
 
 impl<'a> ItemTreeNode<'a> for ExternBlock<'a> {
-    ghost use Rattle.hir_base.specs.declared.ast_id.AstKind.TheVariants as nodes;
+    ghost use Rattle.hir_ids.specs.declared.ast_id.AstKind.TheVariants as nodes;
     ghost use Rattle.hir_item_tree.specs.declared.kinds.ModItemKind.TheVariants as kinds;
 
     ghost node_kind = { nodes.ExternBlock };
@@ -72,7 +72,7 @@ impl<'a> ItemTreeNode<'a> for ExternBlock<'a> {
 }
 
 impl<'a> ItemTreeNode<'a> for Function<'a> {
-    ghost use Rattle.hir_base.specs.declared.ast_id.AstKind.TheVariants as nodes;
+    ghost use Rattle.hir_ids.specs.declared.ast_id.AstKind.TheVariants as nodes;
     ghost use Rattle.hir_item_tree.specs.declared.kinds.ModItemKind.TheVariants as kinds;
 
     ghost node_kind = { nodes.Fn };
@@ -88,7 +88,7 @@ impl<'a> ItemTreeNode<'a> for Function<'a> {
 }
 
 impl<'a> ItemTreeNode<'a> for Struct<'a> {
-    ghost use Rattle.hir_base.specs.declared.ast_id.AstKind.TheVariants as nodes;
+    ghost use Rattle.hir_ids.specs.declared.ast_id.AstKind.TheVariants as nodes;
     ghost use Rattle.hir_item_tree.specs.declared.kinds.ModItemKind.TheVariants as kinds;
 
     ghost node_kind = { nodes.Struct };
@@ -104,7 +104,7 @@ impl<'a> ItemTreeNode<'a> for Struct<'a> {
 }
 
 impl<'a> ItemTreeNode<'a> for Union<'a> {
-    ghost use Rattle.hir_base.specs.declared.ast_id.AstKind.TheVariants as nodes;
+    ghost use Rattle.hir_ids.specs.declared.ast_id.AstKind.TheVariants as nodes;
     ghost use Rattle.hir_item_tree.specs.declared.kinds.ModItemKind.TheVariants as kinds;
 
     ghost node_kind = { nodes.Union };
@@ -120,7 +120,7 @@ impl<'a> ItemTreeNode<'a> for Union<'a> {
 }
 
 impl<'a> ItemTreeNode<'a> for Enum<'a> {
-    ghost use Rattle.hir_base.specs.declared.ast_id.AstKind.TheVariants as nodes;
+    ghost use Rattle.hir_ids.specs.declared.ast_id.AstKind.TheVariants as nodes;
     ghost use Rattle.hir_item_tree.specs.declared.kinds.ModItemKind.TheVariants as kinds;
 
     ghost node_kind = { nodes.Enum };
@@ -136,7 +136,7 @@ impl<'a> ItemTreeNode<'a> for Enum<'a> {
 }
 
 impl<'a> ItemTreeNode<'a> for Const<'a> {
-    ghost use Rattle.hir_base.specs.declared.ast_id.AstKind.TheVariants as nodes;
+    ghost use Rattle.hir_ids.specs.declared.ast_id.AstKind.TheVariants as nodes;
     ghost use Rattle.hir_item_tree.specs.declared.kinds.ModItemKind.TheVariants as kinds;
 
     ghost node_kind = { nodes.Const };
@@ -152,7 +152,7 @@ impl<'a> ItemTreeNode<'a> for Const<'a> {
 }
 
 impl<'a> ItemTreeNode<'a> for Static<'a> {
-    ghost use Rattle.hir_base.specs.declared.ast_id.AstKind.TheVariants as nodes;
+    ghost use Rattle.hir_ids.specs.declared.ast_id.AstKind.TheVariants as nodes;
     ghost use Rattle.hir_item_tree.specs.declared.kinds.ModItemKind.TheVariants as kinds;
 
     ghost node_kind = { nodes.Static };
@@ -168,7 +168,7 @@ impl<'a> ItemTreeNode<'a> for Static<'a> {
 }
 
 impl<'a> ItemTreeNode<'a> for Trait<'a> {
-    ghost use Rattle.hir_base.specs.declared.ast_id.AstKind.TheVariants as nodes;
+    ghost use Rattle.hir_ids.specs.declared.ast_id.AstKind.TheVariants as nodes;
     ghost use Rattle.hir_item_tree.specs.declared.kinds.ModItemKind.TheVariants as kinds;
 
     ghost node_kind = { nodes.Trait };
@@ -184,7 +184,7 @@ impl<'a> ItemTreeNode<'a> for Trait<'a> {
 }
 
 impl<'a> ItemTreeNode<'a> for Impl {
-    ghost use Rattle.hir_base.specs.declared.ast_id.AstKind.TheVariants as nodes;
+    ghost use Rattle.hir_ids.specs.declared.ast_id.AstKind.TheVariants as nodes;
     ghost use Rattle.hir_item_tree.specs.declared.kinds.ModItemKind.TheVariants as kinds;
 
     ghost node_kind = { nodes.Impl };
@@ -200,7 +200,7 @@ impl<'a> ItemTreeNode<'a> for Impl {
 }
 
 impl<'a> ItemTreeNode<'a> for TypeAlias<'a> {
-    ghost use Rattle.hir_base.specs.declared.ast_id.AstKind.TheVariants as nodes;
+    ghost use Rattle.hir_ids.specs.declared.ast_id.AstKind.TheVariants as nodes;
     ghost use Rattle.hir_item_tree.specs.declared.kinds.ModItemKind.TheVariants as kinds;
 
     ghost node_kind = { nodes.TypeAlias };
@@ -216,7 +216,7 @@ impl<'a> ItemTreeNode<'a> for TypeAlias<'a> {
 }
 
 impl<'a> ItemTreeNode<'a> for Mod<'a> {
-    ghost use Rattle.hir_base.specs.declared.ast_id.AstKind.TheVariants as nodes;
+    ghost use Rattle.hir_ids.specs.declared.ast_id.AstKind.TheVariants as nodes;
     ghost use Rattle.hir_item_tree.specs.declared.kinds.ModItemKind.TheVariants as kinds;
 
     ghost node_kind = { nodes.Module };
@@ -232,7 +232,7 @@ impl<'a> ItemTreeNode<'a> for Mod<'a> {
 }
 
 impl<'a> ItemTreeNode<'a> for MacroCall<'a> {
-    ghost use Rattle.hir_base.specs.declared.ast_id.AstKind.TheVariants as nodes;
+    ghost use Rattle.hir_ids.specs.declared.ast_id.AstKind.TheVariants as nodes;
     ghost use Rattle.hir_item_tree.specs.declared.kinds.ModItemKind.TheVariants as kinds;
 
     ghost node_kind = { nodes.MacroCall };
@@ -248,7 +248,7 @@ impl<'a> ItemTreeNode<'a> for MacroCall<'a> {
 }
 
 impl<'a> ItemTreeNode<'a> for MacroRules<'a> {
-    ghost use Rattle.hir_base.specs.declared.ast_id.AstKind.TheVariants as nodes;
+    ghost use Rattle.hir_ids.specs.declared.ast_id.AstKind.TheVariants as nodes;
     ghost use Rattle.hir_item_tree.specs.declared.kinds.ModItemKind.TheVariants as kinds;
 
     ghost node_kind = { nodes.MacroRules };
@@ -264,7 +264,7 @@ impl<'a> ItemTreeNode<'a> for MacroRules<'a> {
 }
 
 impl<'a> ItemTreeNode<'a> for Macro2<'a> {
-    ghost use Rattle.hir_base.specs.declared.ast_id.AstKind.TheVariants as nodes;
+    ghost use Rattle.hir_ids.specs.declared.ast_id.AstKind.TheVariants as nodes;
     ghost use Rattle.hir_item_tree.specs.declared.kinds.ModItemKind.TheVariants as kinds;
 
     ghost node_kind = { nodes.MacroDef };

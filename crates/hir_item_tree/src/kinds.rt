@@ -13,6 +13,7 @@ use hir_base::macro_kind::MacroExpander;
 use hir_base::mod_path::ModPath;
 use hir_base::name::Name;
 use hir_use_tree::imports::{ImportAlias, ImportKind};
+use hir_use_tree::shared_path::SharedPath;
 use hir_use_tree::use_tree::UseTree;
 use std::alloc::{AllocError, Global};
 
@@ -51,7 +52,7 @@ pub struct Use<'a> {
 impl Use<'_> {
     /// Hands out the imports of the item; see `UseTree::expand`.
     pub fn expand<
-        F: FnMut(u32, ModPath, ImportKind, Option<ImportAlias>) -> Result<(), AllocError>,
+        F: FnMut(u32, SharedPath, ImportKind, Option<ImportAlias>) -> Result<(), AllocError>,
     >(&self, alloc: Global, cb: &mut F) -> Result<(), AllocError>
         requires callable { F.IsAlwaysCallable cb.old }
         ensures ok { OnOk result (HandsOut F.step cb.old (imports_of (use_tree_view self.now.use_tree.now)) cb.new) }

@@ -1,8 +1,11 @@
 //! Handed-in syntax, and the tree of items that is kept of it, after rust-analyzer's `item_tree`.
 #![tactic(auto)]
 
+pub use hir_base::tree_id;
 pub use hir_raw_visibility::raw_visibility;
-pub use hir_use_tree::{imports as expand, joined_path, lower as lower_use_tree, use_tree};
+pub use hir_use_tree::{
+    imports as expand, joined_path, lower as lower_use_tree, shared_path, use_tree,
+};
 
 pub mod attr_query;
 pub mod attrs;
@@ -26,7 +29,6 @@ pub mod side_lists;
 pub mod source;
 pub mod source_tree;
 pub mod sources;
-pub mod tree_id;
 pub mod trees;
 
 pub use attrs::{Attr, AttrsOrCfg};
@@ -43,3 +45,4 @@ pub use side_lists::{Side, SideEntry, VariantItem};
 pub use source::{MacroDefinition, Node, NodeKind, Unit, Variant};
 pub use source_tree::SourceTree;
 pub use tree_id::{TreeId, TreeKey};
+pub use trees::KeptTree;

@@ -1,5 +1,5 @@
 //! What is kept beside a tree: variants, associated items, texts of macros and inputs, by node.
-ghost use Rattle.std.specs.Prelude.{◌≡◌, ◌++◌, ◌∷◌, [], true, IfOk, OnOk, map, string_bytes};
+ghost use Rattle.std.specs.Prelude.{◌≡◌, ◌++◌, ◌∷◌, [], true, IfOk, OnOk, map, string_bytes, unwrap_or};
 ghost use Rattle.hir_base.specs.CfgOptions.{is_set};
 ghost use Rattle.hir_item_tree.specs.Source.{node_view, nodes_view, source_view, variant_view};
 ghost use Rattle.hir_item_tree.specs.KeptForest.{kept_item};
@@ -15,6 +15,7 @@ use crate::source::{Node, NodeKind, Source, Variant};
 use hir_base::ast_id::SyntaxId;
 use hir_base::cfg_options::CfgOptions;
 use hir_base::name::Name;
+use hir_base::text::Text;
 use std::alloc::{AllocError, Global};
 
 /// A variant of an enum.
@@ -34,15 +35,14 @@ pub enum Side {
     /// Of a trait or an impl its functions, constants, type aliases and macro calls.
     Associated(Vec<Row>),
     /// Of a macro its text.
-    Text(String),
+    Text(Text),
 }
 
 /// A node, with the input of calls on it, and what is kept beside its item.
 #[derive(Drop)]
 pub struct SideEntry {
     pub node: NodeId,
-    /// Empty where there is none.
-    pub input: String,
+    pub input: Option<Text>,
     pub side: Side,
 }
 
@@ -77,26 +77,26 @@ fn push_entries(
     match &node.kind {
         NodeKind::Enum { variants, .. } => {
             let side = Side::Variants(enabled_variants(alloc, options, variants)?);
-            push_entry(out, node, side)
+            push_entry(alloc, out, node, side)
         }
         NodeKind::MacroRules { definition, .. } | NodeKind::MacroDef { definition, .. } => {
-            let side = Side::Text(definition.text.clone()?);
-            push_entry(out, node, side)
+            let side = Side::Text(Text::from_str(alloc, definition.text.as_str())?);
+            push_entry(alloc, out, node, side)
         }
         NodeKind::ExternBlock { nodes }
         | NodeKind::Module {
             nodes: Some(nodes),
             ..
         } => {
-            push_entry(out, node, Side::Nothing)?;
+            push_entry(alloc, out, node, Side::Nothing)?;
             push_all_entries(alloc, options, out, nodes)
         }
         NodeKind::Trait { items, .. } | NodeKind::Impl { items, .. } => {
             let side = Side::Associated(associated(alloc, options, items)?);
-            push_entry(out, node, side)?;
+            push_entry(alloc, out, node, side)?;
             push_all_entries(alloc, options, out, items)
         }
-        _ => push_entry(out, node, Side::Nothing),
+        _ => push_entry(alloc, out, node, Side::Nothing),
     }
 }
 
@@ -117,18 +117,33 @@ fn push_all_entries(
 }
 
 // Adds the entry of a node, if it says something.
-fn push_entry(out: &mut Vec<SideEntry>, node: &Node, side: Side) -> Result<(), AllocError>
+fn push_entry(
+    alloc: Global,
+    out: &mut Vec<SideEntry>,
+    node: &Node,
+    side: Side,
+) -> Result<(), AllocError>
     ensures ok { OnOk result (entries_view out.new.items ≡ entries_view out.old.items
         ++ entry_list (record { node = node_id (node_kind (node_view node.now)) node.now.id; input = string_bytes node.now.input; side = side_view side })) }
 {
     if node.input.is_empty() && matches!(side, Side::Nothing) {
         return Ok(());
     }
-    let input = node.input.clone()?;
+    let input = input_of(alloc, node)?;
     let kind = node.ast_kind();
     let node = NodeId { kind, id: node.id };
     out.push(SideEntry { node, input, side })?;
     Ok(())
+}
+
+// The input of calls on a node, where it isn't empty.
+fn input_of(alloc: Global, node: &Node) -> Result<Option<Text>, AllocError>
+    ensures value { IfOk result (λ input. unwrap_or input [] ≡ string_bytes node.now.input) }
+{
+    if node.input.is_empty() {
+        return Ok(None);
+    }
+    Ok(Some(Text::from_str(alloc, node.input.as_str())?))
 }
 
 // The variants that no condition disables.

@@ -4,7 +4,7 @@
 //! read, or nobody reads, as a body, is opaque text.
 ghost use Rattle.std.specs.Prelude.{◌≡◌, [], string_bytes};
 ghost use Rattle.hir_raw_visibility.specs.declared.raw_visibility.RawVisibility.TheVariants as RawVisibility;
-ghost use Rattle.hir_raw_visibility.specs.declared.raw_visibility.VisibilityExplicitness.TheVariants.{Implicit};
+ghost use Rattle.hir_ids.specs.declared.explicitness.VisibilityExplicitness.TheVariants.{Implicit};
 
 use crate::raw_attr::RawAttr;
 use crate::raw_visibility::{RawVisibility, VisibilityExplicitness};

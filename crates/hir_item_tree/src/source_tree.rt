@@ -16,6 +16,7 @@ use crate::side_lists::{Side, SideEntry, VariantItem, side_lists};
 use crate::source::Source;
 use hir_base::ast_id::{AstKind, SyntaxId};
 use hir_base::cfg_options::CfgOptions;
+use hir_base::text::Text;
 use std::alloc::{AllocError, Global};
 use std::collections::BTreeMap;
 use std::marker::Model;
@@ -147,7 +148,7 @@ impl SourceTree {
     }
 
     /// The text of a macro.
-    pub fn text(&self, node: NodeId) -> Option<&str>
+    pub fn text(&self, node: NodeId) -> Option<&Text>
         ensures value { option_map (λ text. text.now) result ≡ option_and_then entry_text (side_of self.now node) }
     {
         match self.side(node) {
@@ -157,7 +158,7 @@ impl SourceTree {
     }
 
     /// The input of a call, or of attribute and derive calls on an item, where it isn't empty.
-    pub fn input(&self, node: NodeId) -> Option<&str>
+    pub fn input(&self, node: NodeId) -> Option<&Text>
         ensures value { option_map (λ text. text.now) result ≡ option_and_then entry_input (side_of self.now node) }
     {
         match self.side(node) {
@@ -219,22 +220,21 @@ fn associated_in(entry: &SideEntry) -> Option<&[Row]>
     }
 }
 
-fn text_in(entry: &SideEntry) -> Option<&str>
+fn text_in(entry: &SideEntry) -> Option<&Text>
     ensures value { option_map (λ text. text.now) result ≡ entry_text (entry_view entry.now) }
 {
     match &entry.side {
-        Side::Text(text) => Some(text.as_str()),
+        Side::Text(text) => Some(text),
         _ => None,
     }
 }
 
-fn input_in(entry: &SideEntry) -> Option<&str>
+fn input_in(entry: &SideEntry) -> Option<&Text>
     ensures value { option_map (λ text. text.now) result ≡ entry_input (entry_view entry.now) }
 {
-    if entry.input.is_empty() {
-        None
-    } else {
-        Some(entry.input.as_str())
+    match &entry.input {
+        Some(input) if !input.as_str().is_empty() => Some(input),
+        _ => None,
     }
 }
 

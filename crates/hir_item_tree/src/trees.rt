@@ -3,7 +3,7 @@ ghost use Rattle.std.specs.Prelude.{◌≡◌, ◌↔◌, Some, None, IsSome, Is
 ghost use Rattle.std.specs.Bool.{OnTrue, OnFalse};
 ghost use Rattle.std.specs.BTreeMap.{get};
 ghost use Rattle.std.specs.Option.{option_and_then};
-ghost use Rattle.hir_base.specs.contracts.ids.CrateOrd.TheImpl.{ghosts};
+ghost use Rattle.hir_ids.specs.contracts.ids.CrateOrd.TheImpl.{ghosts};
 ghost use Rattle.hir_item_tree.specs.SideLists.{row_item, entry_associated, entry_text, entry_input};
 ghost use Rattle.hir_item_tree.specs.SourceTree.{side_of, variants_of};
 ghost use Rattle.hir_item_tree.specs.Trees.{is_key, source_at};
@@ -16,6 +16,7 @@ use crate::source_tree::SourceTree;
 use crate::tree_id::{TreeId, TreeKey};
 use hir_base::ast_id::SyntaxId;
 use hir_base::ids::Crate;
+use hir_base::text::Text;
 use std::alloc::{AllocError, Global};
 use std::collections::BTreeMap;
 use std::rc::Rc;
@@ -129,7 +130,7 @@ impl Trees {
             ≡ option_and_then (λ t. option_and_then entry_text (side_of t node)) (source_at self.now key) }
     {
         match self.get(key) {
-            Some(tree) => tree.text(node),
+            Some(tree) => as_str(tree.text(node)),
             None => None,
         }
     }
@@ -140,18 +141,38 @@ impl Trees {
             ≡ option_and_then (λ t. option_and_then entry_input (side_of t node)) (source_at self.now key) }
     {
         match self.get(key) {
-            Some(tree) => tree.input(node),
+            Some(tree) => as_str(tree.input(node)),
             None => None,
         }
     }
 }
 
-impl TreeId {
+/// A text as `&str`, if there is one.
+fn as_str(text: Option<&Text>) -> Option<&str>
+    ensures value { option_map (λ t. t.now) result ≡ option_map (λ t. t.now) text.entry }
+{
+    match text {
+        Some(text) => Some(text.as_str()),
+        None => None,
+    }
+}
+
+/// What has a tree that may be kept.
+pub trait KeptTree: Copy {
+    ghost use Rattle.hir_base.specs.declared.tree_id.TreeId.{TreeId};
+
+    ghost id_of: { Self → TreeId };
+
     /// The tree of the source under a crate, where one is kept.
-    pub fn item_tree(self, trees: &Trees, krate: Crate) -> Option<&ItemTree>
+    fn item_tree(self, trees: &Trees, krate: Crate) -> Option<&ItemTree>
         ensures value { option_map (λ t. t.now) result
-            ≡ option_map (λ t. t.tree) (source_at trees.now (record { krate = krate; id = self })) }
-    {
+            ≡ option_map (λ t. t.tree) (source_at trees.now (record { krate = krate; id = id_of self })) };
+}
+
+impl KeptTree for TreeId {
+    ghost id_of = { λ id. id };
+
+    fn item_tree(self, trees: &Trees, krate: Crate) -> Option<&ItemTree> {
         match trees.get(TreeKey { krate, id: self }) {
             Some(tree) => Some(tree.tree()),
             None => None,

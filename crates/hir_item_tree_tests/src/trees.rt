@@ -7,7 +7,7 @@ use hir_item_tree::check::NodeId;
 use hir_item_tree::source::Source;
 use hir_item_tree::source_tree::SourceTree;
 use hir_item_tree::tree_id::{TreeId, TreeKey};
-use hir_item_tree::trees::Trees;
+use hir_item_tree::trees::{KeptTree, Trees};
 use std::alloc::{AllocError, Global};
 use std::process::Abort;
 use std::rc::Rc;

@@ -2,12 +2,12 @@
 
 use crate::units::{holds, is_text, tree_of};
 use crate::use_trees::{USE_TREES, put_imports};
-use hir_base::mod_path::ModPath;
 use hir_item_tree::expand::Import;
 use hir_item_tree::item_tree::ItemTree;
 use hir_item_tree::kinds::Use;
 use hir_item_tree::rows::ModItemId;
 use hir_item_tree::shape::{ImportAlias, ImportKind};
+use hir_item_tree::shared_path::SharedPath;
 use std::alloc::{AllocError, Global};
 use std::fmt::Write;
 use std::process::Abort;
@@ -18,7 +18,7 @@ fn imports(alloc: Global, item: Use<'_>) -> Result<Vec<Import>, AllocError> {
     let mut imports = Vec::new(alloc);
     item.expand(
         alloc,
-        &mut |place: u32, path: ModPath, kind: ImportKind, alias: Option<ImportAlias>| {
+        &mut |place: u32, path: SharedPath, kind: ImportKind, alias: Option<ImportAlias>| {
             imports.push(Import {
                 place,
                 path,
@@ -42,7 +42,7 @@ fn put_item(
         return Ok(());
     };
     write!(text, "{number}: ")?;
-    put_imports(text, &imports(alloc, item)?)
+    put_imports(alloc, text, &imports(alloc, item)?)
 }
 
 /// What each `use` item of the tree imports; the numbers are those of the tree's items, inner ones first.

@@ -3,6 +3,7 @@ use hir_base::edition::Edition;
 use hir_base::mod_path::{ModPath, PathKind};
 use hir_item_tree::expand::Import;
 use hir_item_tree::shape::{ImportAlias, ImportKind};
+use hir_item_tree::shared_path::SharedPath;
 use hir_item_tree::source::{NodeKind, Source};
 use hir_item_tree::use_tree::{UseTree, UseTreeKind};
 use smallvec::SmallVec;
@@ -16,7 +17,7 @@ fn imports(alloc: Global, tree: &UseTree) -> Result<Vec<Import>, AllocError> {
     let mut imports = Vec::new(alloc);
     tree.expand(
         alloc,
-        &mut |place: u32, path: ModPath, kind: ImportKind, alias: Option<ImportAlias>| {
+        &mut |place: u32, path: SharedPath, kind: ImportKind, alias: Option<ImportAlias>| {
             imports.push(Import {
                 place,
                 path,
@@ -30,10 +31,11 @@ fn imports(alloc: Global, tree: &UseTree) -> Result<Vec<Import>, AllocError> {
 }
 
 /// Adds place, path, kind and alias of an import.
-fn put_import(text: &mut String, import: &Import) -> Result<(), AllocError> {
+fn put_import(alloc: Global, text: &mut String, import: &Import) -> Result<(), AllocError> {
     let place = import.place;
     let kind = import.kind;
-    let path = import.path.display(Edition::Edition2021);
+    let path = import.path.to_path(alloc)?;
+    let path = path.display(Edition::Edition2021);
     write!(text, "{place} {path} {kind:?}")?;
     if let Some(alias) = &import.alias {
         let alias = alias.display(Edition::Edition2021);
@@ -43,9 +45,9 @@ fn put_import(text: &mut String, import: &Import) -> Result<(), AllocError> {
     Ok(())
 }
 
-pub fn put_imports(text: &mut String, imports: &[Import]) -> Result<(), AllocError> {
+pub fn put_imports(alloc: Global, text: &mut String, imports: &[Import]) -> Result<(), AllocError> {
     for import in imports {
-        put_import(text, import)?;
+        put_import(alloc, text, import)?;
     }
     Ok(())
 }
@@ -54,7 +56,7 @@ pub fn put_imports(text: &mut String, imports: &[Import]) -> Result<(), AllocErr
 fn expanded(alloc: Global, tree: &UseTree) -> Result<String, AllocError> {
     let imports = imports(alloc, tree)?;
     let mut text = String::new(alloc);
-    put_imports(&mut text, &imports)?;
+    put_imports(alloc, &mut text, &imports)?;
     Ok(text)
 }
 
@@ -172,7 +174,7 @@ fn count(alloc: Global, tree: &UseTree) -> Result<u32, AllocError> {
     let mut imports = 0u32;
     tree.expand(
         alloc,
-        &mut |_: u32, _: ModPath, _: ImportKind, _: Option<ImportAlias>| {
+        &mut |_: u32, _: SharedPath, _: ImportKind, _: Option<ImportAlias>| {
             imports = imports.saturating_add(1);
             Ok(())
         },

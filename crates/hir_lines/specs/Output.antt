@@ -2,8 +2,8 @@
 use Rattle.std.specs.Prelude.{◌≡◌, ◌≢◌, ◌⊎◌, ℕ, List, [], ◌∷◌, ◌++◌, Option, false}
 use Rattle.std.specs.Io.KnownBytes.{Appends}
 use Rattle.hir_wire.specs.Replies.{text_of, is_fixed}
-use Rattle.hir_wire.specs.declared.reply.Reply.{Reply}
-use Rattle.hir_wire.specs.declared.reply.Reply.TheVariants as reply
+use Rattle.hir_messages.specs.declared.reply.Reply.{Reply}
+use Rattle.hir_messages.specs.declared.reply.Reply.TheVariants as reply
 
 -- the text of a reply and a line end
 abbrev pub reply_line : Reply → List ℕ

@@ -2,7 +2,7 @@
 ghost use Rattle.std.specs.Prelude.{◌≡◌, ◌++◌, ◌∷◌, [], OnOk, IfErr};
 ghost use Rattle.std.specs.Io.KnownBytes.{Appends};
 ghost use Rattle.hir_wire.specs.Replies.{text_of};
-ghost use Rattle.hir_wire.specs.declared.reply.Reply.TheVariants as reply;
+ghost use Rattle.hir_messages.specs.declared.reply.Reply.TheVariants as reply;
 ghost use Rattle.hir_lines.specs.Output.{WritesPart, WritesReply, WritesReplyPart};
 
 use hir_wire::{Reply, fixed_text, reply_text};

@@ -1,5 +1,1 @@
-pub mod Resuming
-pub mod Waiting
-pub mod Queued
-pub mod GivingUp
 pub mod Turning

@@ -1,11 +1,11 @@
 -- What a turn does is done from where it begins, if steps lead from there to where imports rest.
 use Rattle.std.proofs.Common.{ℕ, ◌≤◌, ◌<◌, arith}
-use Rattle.hir_def_map_rules.specs.Overlay.{Maps}
-use Rattle.hir_collector_rules.specs.CallMoves.{rested}
-use Rattle.hir_collector_rules.specs.Keys.{Environment}
-use Rattle.hir_collector_rules.specs.State.{Core, at_rest}
-use Rattle.hir_collector_rules.specs.Steps.{Steps}
-use Rattle.hir_collector_rules.proofs.Moves.{Steps-append}
+use Rattle.hir_mod_collector.specs.HirDefMapRules.Overlay.{Maps}
+use Rattle.hir_mod_collector.specs.HirCollectorRules.CallMoves.{rested}
+use Rattle.hir_mod_collector.specs.HirCollectorRules.Keys.{Environment}
+use Rattle.hir_mod_collector.specs.HirCollectorRules.State.{Core, at_rest}
+use Rattle.hir_mod_collector.specs.HirCollectorRules.Steps.{Steps}
+use Rattle.hir_mod_collector.proofs.HirCollectorRules.Moves.{Steps-append}
 use Rattle.hir_macro_rounds.specs.Turns.{CountsOn, TakesTurn}
 use Rattle.hir_macro_rounds.specs.declared.calls.Turn.{Turn}
 use Rattle.hir_macro_rounds.specs.declared.calls.Turn.TheVariants.{GaveUp, Rests, Round}

@@ -1,31 +1,14 @@
--- What is to be done about what waits, and what a turn does.
-use Rattle.std.specs.Prelude.{◌≡◌, ◌<◌, ◌≤◌, ℕ, true, false, None, Some}
-use Rattle.hir_def_map_rules.specs.Overlay.{Maps}
-use Rattle.hir_macro_rounds.specs.declared.calls.Due.{Due}
+-- What does a turn do?
+use Rattle.std.specs.Prelude.{◌≡◌, ◌<◌, ℕ, false}
+use Rattle.hir_mod_collector.specs.HirDefMapRules.Overlay.{Maps}
 use Rattle.hir_macro_rounds.specs.declared.calls.Turn.{Turn}
 use Rattle.hir_macro_rounds.specs.declared.calls.Turn.TheVariants.{GaveUp, Rests, Round}
-use Rattle.hir_macro_rounds.specs.declared.calls.Due.TheVariants.{Derives, Drops, Nothing, Reaches, Skips, TooDeep}
-use Rattle.hir_collector_rules.specs.declared.macro_directive.MacroDirective.{MacroDirective}
-use Rattle.hir_collector_rules.specs.declared.macro_directive.WaitingItem.{WaitingItem}
-use Rattle.hir_collector_rules.specs.Calls.{called_macro, is_call, is_inert_now, waiting_item}
-use Rattle.hir_collector_rules.specs.Keys.{Environment}
-use Rattle.hir_collector_rules.specs.State.{Core, Run, at_rest, core_in}
-use Rattle.hir_collector_rules.specs.Steps.{IsPassedOver}
+use Rattle.hir_mod_collector.specs.HirCollectorRules.Keys.{Environment}
+use Rattle.hir_mod_collector.specs.HirCollectorRules.State.{Core, Run, core_in}
 use Rattle.hir_import_resolution.specs.declared.import_queue.ImportQueue.{ImportQueue}
-use Rattle.hir_import_rules.specs.Changed.{ChangedValue, joined}
-use Rattle.hir_collector_imports.specs.Waiting.{IsBehind}
-use Rattle.hir_collector_rules.specs.CallMoves.{ComesToRest, EndsInRound, FindsBuiltin, FindsMacro, NoneWaitsBefore}
-
--- what is to be done about what waits: nothing where it reaches nothing; a call that is too deep is dropped; the item of an attribute goes on where that is
--- inert or builtin; a builtin derive stands for an impl; what reaches another macro is expanded, or dropped where it is too deep
-abbrev pub IsDueOf : Maps → Core → MacroDirective → Due → Type 0
-IsDueOf finished c d Nothing =
-    (is_call d ≡ true → d.site.level < c.map.crate_data.recursion_limit) × (called_macro finished c.local c.map d ≡ None) × (is_inert_now c.map d ≡ false)
-IsDueOf finished c d TooDeep = (is_call d ≡ true) × (c.map.crate_data.recursion_limit ≤ d.site.level)
-IsDueOf finished c d Skips = (k : WaitingItem) × (waiting_item d ≡ Some k) × IsPassedOver finished (at_rest c) d
-IsDueOf finished c d (Derives makro) = FindsBuiltin finished c d makro × (waiting_item d ≡ None)
-IsDueOf finished c d (Drops makro) = FindsMacro finished c d makro × (is_call d ≡ false) × (c.map.crate_data.recursion_limit ≤ d.site.level)
-IsDueOf finished c d (Reaches makro) = FindsMacro finished c d makro × (d.site.level < c.map.crate_data.recursion_limit)
+use Rattle.hir_mod_collector.specs.HirImportRules.Changed.{ChangedValue, joined}
+use Rattle.hir_mod_collector.specs.HirCollectorImports.Waiting.{IsBehind}
+use Rattle.hir_mod_collector.specs.HirCollectorRules.CallMoves.{ComesToRest, EndsInRound, NoneWaitsBefore}
 
 -- in a turn a round was gone through, behind which no attribute waits before the same place; or the first attribute that waits was given up; or imports rest,
 -- nothing that waits reaches a macro, and no attribute waits

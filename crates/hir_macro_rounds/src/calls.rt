@@ -1,48 +1,48 @@
 //! Macro calls, derives and attributes: what each expands to, and rounds in which they are tried.
 ghost use Rattle.std.specs.Prelude.{◌≡◌, ◌<◌, ◌≤◌, ℕ, cond, true, false, IfOk, None, OnOk, Some, length, slice_get};
-ghost use Rattle.hir_tables.specs.Tables.{KeepsTables};
-ghost use Rattle.hir_def_map_rules.specs.State.{IsInOrder};
-ghost use Rattle.hir_def_map.specs.WorldParts.{part_of};
-ghost use Rattle.hir_import_rules.specs.Rest.{IsAtRest, IsSound};
-ghost use Rattle.hir_import_growth.specs.Growth.{GlobsLast};
+ghost use Rattle.hir_mod_collector.specs.HirTables.Tables.{KeepsTables};
+ghost use Rattle.hir_mod_collector.specs.HirDefMapRules.State.{IsInOrder};
+ghost use Rattle.hir_mod_collector.specs.HirNameres.WorldParts.{part_of};
+ghost use Rattle.hir_mod_collector.specs.HirImportRules.Rest.{IsAtRest, IsSound};
+ghost use Rattle.hir_mod_collector.specs.HirImportGrowth.Growth.{GlobsLast};
 ghost use Rattle.hir_import_resolution.specs.Rounds.{IsResumable, is_apart as are_apart, is_lasting};
-ghost use Rattle.hir_import_rules.specs.declared.directive.ImportDirective.{ImportDirective};
+ghost use Rattle.hir_mod_collector.specs.HirImportRules.declared.directive.ImportDirective.{ImportDirective};
 ghost use Rattle.hir_worklist.specs.Queue.{count_of};
-ghost use Rattle.hir_import_rules.specs.Changed.{ChangedValue, joined, nothing};
-ghost use Rattle.hir_call_queue.specs.Waking.{GoesOn, IsWoken, is_apart, worklist_of};
-ghost use Rattle.hir_collector_rules.specs.CallMoves.{ComesToRest, IsReady, NoneWaitsBefore, TriesCall, TriesCalls};
-ghost use Rattle.hir_macro_rounds.specs.Turns.{CountsOn, IsDueOf, StaysBehind, TakesTurn};
-ghost use Rattle.hir_collector_rules.specs.Calls.{AreCallsPlaced, LeadsNowhere, call_site, waiting_item};
-ghost use Rattle.hir_collector_rules.specs.declared.macro_directive.MacroDirective.{MacroDirective};
-ghost use Rattle.hir_collector_rules.specs.declared.macro_directive.WaitingItem.{WaitingItem};
-ghost use Rattle.hir_collector_rules.specs.Derivation.{IsSpent};
-ghost use Rattle.hir_collector_rules.specs.Keys.{Environment, IsMeant, environment};
-ghost use Rattle.hir_collector_rules.specs.Moves.{OnceGrown};
-ghost use Rattle.hir_collector_rules.specs.UnknownSources.{LeadsToUnknownSource, ReachesUnknownSource};
-ghost use Rattle.hir_collector_rules.specs.State.{Run, at_rest, core_in, import_state};
-ghost use Rattle.hir_collector_rules.specs.Steps.{CallsMacro, IsDue, Steps};
-ghost use Rattle.hir_collector_imports.specs.Waiting.{IsBehind, IsBetweenPasses, IsGathered, IsStale, IsUpToDate, KeepsApart, LiesApart, item_of};
-ghost use Rattle.hir_collector_state.specs.Waiting.{IsNotedBeside, NotesSlots};
+ghost use Rattle.hir_mod_collector.specs.HirImportRules.Changed.{ChangedValue, joined};
+ghost use Rattle.hir_call_queue.specs.Waking.{GoesOn, is_apart, worklist_of};
+ghost use Rattle.hir_mod_collector.specs.HirCollectorRules.CallMoves.{ComesToRest, IsReady, NoneWaitsBefore, TriesCall, TriesCalls};
+ghost use Rattle.hir_macro_calls.specs.Due.{IsDueOf};
+ghost use Rattle.hir_macro_rounds.specs.Turns.{CountsOn, StaysBehind, TakesTurn};
+ghost use Rattle.hir_mod_collector.specs.HirCollectorRules.Calls.{AreCallsPlaced, call_site, waiting_item};
+ghost use Rattle.hir_mod_collector.specs.HirCollectorRules.declared.macro_directive.MacroDirective.{MacroDirective};
+ghost use Rattle.hir_mod_collector.specs.HirCollectorRules.Derivation.{IsSpent};
+ghost use Rattle.hir_mod_collector.specs.HirCollectorRules.Keys.{Environment, IsMeant, environment};
+ghost use Rattle.hir_mod_collector.specs.HirCollectorRules.Moves.{OnceGrown};
+ghost use Rattle.hir_mod_collector.specs.HirCollectorRules.UnknownSources.{LeadsToUnknownSource, ReachesUnknownSource};
+ghost use Rattle.hir_mod_collector.specs.HirCollectorRules.State.{Run, at_rest, core_in, import_state};
+ghost use Rattle.hir_mod_collector.specs.HirCollectorRules.Steps.{CallsMacro, IsDue, Steps};
+ghost use Rattle.hir_mod_collector.specs.HirCollectorImports.Waiting.{IsBehind, IsBetweenPasses, IsGathered, IsStale, IsUpToDate, KeepsApart, LiesApart};
+ghost use Rattle.hir_mod_collector.specs.HirCollectorState.Waiting.{IsNotedBeside, NotesSlots};
 
 use crate::resume::{give_up, skip};
 use either::Either;
-use hir_base::ast_id::AstId;
-use hir_base::macro_kind::MacroId;
 use hir_call_expansion::expansion::{Expansion, call_site, is_meant, look_at_call, report_failed};
 use hir_call_queue::{CallQueue, Changed};
 use hir_collector_derives::derives::{
     bring_helpers, builtin_impl, derive_builtin, drop_call, drop_reached,
 };
-use hir_collector_imports::settling;
-use hir_collector_rules::macro_directive::{Fate, MacroDirective};
-use hir_collector_rules::source_database::SourceDatabase;
-use hir_collector_rules::start::{CollectError, STEP_LIMIT, StepError};
-use hir_collector_state::def_collector::DefCollector;
-use hir_def_map::world::part::WorldPart;
 use hir_import_resolution::ImportQueue;
+use hir_macro_calls::due::{Due, due_of};
+use hir_macro_calls::queue::{requeue, wake, watch};
+use hir_mod_collector::hir_base::macro_kind::MacroId;
+use hir_mod_collector::hir_collector_imports::settling;
+use hir_mod_collector::hir_collector_rules::macro_directive::{Fate, MacroDirective};
+use hir_mod_collector::hir_collector_rules::source_database::SourceDatabase;
+use hir_mod_collector::hir_collector_rules::start::{CollectError, STEP_LIMIT, StepError};
+use hir_mod_collector::hir_collector_state::def_collector::DefCollector;
+use hir_mod_collector::hir_nameres::world::part::WorldPart;
+use hir_mod_collector::hir_tables::Tables;
 use hir_mod_collector::mod_collector::walk_all;
-use hir_tables::Tables;
-use std::alloc::AllocError;
 
 /// How many rounds may make progress. One more ends a run.
 pub const ROUND_LIMIT: u32 = 8192;
@@ -111,57 +111,6 @@ fn expand<D: SourceDatabase>(
     }
     expand_known(run, db, world, locations, i, call, makro)?;
     Ok(())
-}
-
-/// What is to be done about what waits.
-#[derive(Clone, Copy)]
-enum Due {
-    Nothing,
-    /// It is a call, and deeper than calls may be.
-    TooDeep,
-    /// It is an attribute for which nothing is looked up.
-    Skips,
-    /// It is a path of a derive, and reaches a builtin macro.
-    Derives(MacroId),
-    /// It reaches a macro, is no call, and is deeper than calls may be.
-    Drops(MacroId),
-    /// It reaches a macro.
-    Reaches(MacroId),
-}
-
-/// What is to be done about what reaches a builtin macro that has no expansion.
-fn due_of_builtin(call: &MacroDirective, makro: MacroId) -> Due
-    ensures derives { waiting_item call.now ≡ None → result ≡ Due.Derives makro }
-    ensures skips { (k : WaitingItem) → waiting_item call.now ≡ Some k → result ≡ Due.Skips }
-{
-    if call.waiting_item().is_some() {
-        Due::Skips
-    } else {
-        Due::Derives(makro)
-    }
-}
-
-/// What is to be done about what waits.
-fn due_of(run: &DefCollector, world: WorldPart<'_>, call: &MacroDirective) -> Due
-    ensures value { IsDueOf (part_of world.entry) (core_in run.now) call.now result }
-    ensures below { (makro : MacroId) → result ≡ Due.Reaches makro → call.now.site.level < 4294967295 }
-{
-    if call.is_call() && run.is_too_deep(call) {
-        return Due::TooDeep;
-    }
-    if run.is_inert_now(call) {
-        return Due::Skips;
-    }
-    let Some(makro) = run.called_macro(world, call) else {
-        return Due::Nothing;
-    };
-    if !call.has_expansion(makro) {
-        return due_of_builtin(call, makro);
-    }
-    if run.is_too_deep(call) {
-        return Due::Drops(makro);
-    }
-    Due::Reaches(makro)
 }
 
 /// Does what is to be done about what waits at the place.
@@ -236,52 +185,6 @@ fn try_call<D: SourceDatabase>(
     }
     let call = call.clone()?;
     do_due(run, db, world, locations, i, &call, due)
-}
-
-/// The item that an attribute stands on, where that is what waits.
-fn item_of(call: &MacroDirective) -> Option<AstId>
-    ensures value { result ≡ item_of call.now }
-{
-    match call.waiting_item() {
-        Some(_) => Some(call.ast_id),
-        None => None,
-    }
-}
-
-/// Has the call at the place, if it waits, watch the slots that its path reads, an attribute besides the item that it stands
-/// on.
-fn watch(
-    run: &DefCollector,
-    world: WorldPart<'_>,
-    queue: &mut CallQueue,
-    i: usize,
-) -> Result<(), AllocError>
-    requires apart { LiesApart (part_of world) queue.old (core_in run.now) }
-    requires low { (d : MacroDirective) → slice_get (core_in run.now).calls i ≡ Some d → d.site.home < length (core_in run.now).map.modules }
-    requires in_order { IsInOrder (core_in run.now).map }
-    requires up_to_date { IsUpToDate (part_of world) queue.old (core_in run.now) (Some i) }
-    requires nowhere { LeadsNowhere (part_of world) (at_rest (core_in run.now)) i }
-    ensures up_to_date { OnOk result (IsUpToDate (part_of world.entry) queue.new (core_in run.now) None) }
-    ensures stays { OnOk result (GoesOn queue.old queue.new) }
-{
-    let Some(call) = run.waiting(i) else {
-        return Ok(());
-    };
-    let slots = run.call_slots(world, call);
-    queue.watch(i, slots, run.map().module_count(), item_of(call))?;
-    Ok(())
-}
-
-/// Queues the calls that have read what has changed, which is forgotten then.
-fn wake(run: &mut DefCollector, queue: &mut CallQueue) -> Result<(), AllocError>
-    ensures woken { OnOk result (IsWoken run.old.changed queue.old queue.new) }
-    ensures same { core_in run.new ≡ core_in run.old }
-    ensures globs { run.new.globs ≡ run.old.globs }
-    ensures none { OnOk result (run.new.changed ≡ nothing) }
-{
-    queue.wake(run.changed())?;
-    run.forget_changes();
-    Ok(())
 }
 
 /// Tries the call at the place, which was taken off the queue: whether it was handled. Where it was, what has read what
@@ -394,27 +297,6 @@ fn settle(
     let (mut run, imports) = settling::settle(run, world, apart, imports, grown)?;
     run.rest()?;
     Ok((run, imports))
-}
-
-/// Queues the calls that have read what has changed, and those that came besides.
-fn requeue(
-    run: &mut DefCollector,
-    world: WorldPart<'_>,
-    queue: &mut CallQueue,
-) -> Result<(), AllocError>
-    requires apart { LiesApart (part_of world) queue.old (core_in run.old) }
-    requires stale { IsStale (part_of world) queue.old run.old }
-    requires between { IsBetweenPasses queue.old }
-    requires settled { (core_in run.old).settled ≡ length (core_in run.old).calls }
-    ensures same { core_in run.new ≡ core_in run.old }
-    ensures up_to_date { OnOk result (IsUpToDate (part_of world.entry) queue.new (core_in run.new) None) }
-    ensures between { OnOk result (IsBetweenPasses queue.new) }
-    ensures all { OnOk result (count_of (worklist_of queue.new) ≡ length (core_in run.new).calls) }
-    ensures queue { OnOk result (is_apart queue.new ≡ is_apart queue.old) }
-{
-    wake(run, queue)?;
-    queue.append(run.settled())?;
-    Ok(())
 }
 
 /// What a turn came to.

@@ -1,41 +1,25 @@
 //! Items that go on behind an attribute for which they waited.
-ghost use Rattle.std.specs.Prelude.{◌≡◌, ◌+◌, ◌<◌, ℕ, IfOk, IfSome, None, OnOk, Some, slice_get};
-ghost use Rattle.hir_tables.specs.Tables.{KeepsTables};
-ghost use Rattle.hir_def_map.specs.WorldParts.{part_of};
-ghost use Rattle.hir_import_rules.specs.Rest.{IsAtRest};
-ghost use Rattle.hir_collector_rules.specs.CallMoves.{IsFirstWaiting, IsGivenUp, IsReady, NoneWaits, NoneWaitsBefore};
-ghost use Rattle.hir_collector_rules.specs.Calls.{AreCallsPlaced, IsWaiting, LeadsNowhere, waiting_item};
-ghost use Rattle.hir_collector_rules.specs.Derivation.{IsSpent};
-ghost use Rattle.hir_collector_rules.specs.Moves.{OnceGrown};
-ghost use Rattle.hir_collector_rules.specs.State.{at_rest, core_in, import_state};
-ghost use Rattle.hir_collector_rules.specs.Steps.{IsDue, IsPassedOver, Steps, site_behind};
-ghost use Rattle.hir_collector_state.specs.Waiting.{IsNotedBeside};
+ghost use Rattle.std.specs.Prelude.{◌≡◌, ◌+◌, ◌<◌, ℕ, IfOk, None, OnOk, Some, slice_get};
+ghost use Rattle.hir_mod_collector.specs.HirTables.Tables.{KeepsTables};
+ghost use Rattle.hir_mod_collector.specs.HirNameres.WorldParts.{part_of};
+ghost use Rattle.hir_mod_collector.specs.HirImportRules.Rest.{IsAtRest};
+ghost use Rattle.hir_mod_collector.specs.HirCollectorRules.CallMoves.{IsFirstWaiting, IsGivenUp, IsReady, NoneWaitsBefore};
+ghost use Rattle.hir_mod_collector.specs.HirCollectorRules.Calls.{AreCallsPlaced, IsWaiting, LeadsNowhere, waiting_item};
+ghost use Rattle.hir_mod_collector.specs.HirCollectorRules.Derivation.{IsSpent};
+ghost use Rattle.hir_mod_collector.specs.HirCollectorRules.Moves.{OnceGrown};
+ghost use Rattle.hir_mod_collector.specs.HirCollectorRules.State.{at_rest, core_in, import_state};
+ghost use Rattle.hir_mod_collector.specs.HirCollectorRules.Steps.{IsDue, IsPassedOver, Steps, site_behind};
+ghost use Rattle.hir_mod_collector.specs.HirCollectorState.Waiting.{IsNotedBeside};
 
-use hir_collector_rules::macro_directive::{Fate, MacroDirective, WaitingItem};
-use hir_collector_rules::site::Site;
-use hir_collector_rules::source_database::SourceDatabase;
-use hir_collector_rules::start::StepError;
-use hir_collector_state::def_collector::DefCollector;
-use hir_def_map::nameres::diagnostics::DefDiagnostic;
-use hir_def_map::world::part::WorldPart;
+use hir_macro_calls::waiting::{first_waiting, site_behind};
+use hir_mod_collector::hir_collector_rules::macro_directive::{Fate, MacroDirective, WaitingItem};
+use hir_mod_collector::hir_collector_rules::source_database::SourceDatabase;
+use hir_mod_collector::hir_collector_rules::start::StepError;
+use hir_mod_collector::hir_collector_state::def_collector::DefCollector;
+use hir_mod_collector::hir_nameres::nameres::diagnostics::DefDiagnostic;
+use hir_mod_collector::hir_nameres::world::part::WorldPart;
+use hir_mod_collector::hir_tables::Tables;
 use hir_mod_collector::mod_collector::walk_item;
-use hir_tables::Tables;
-use hir_use_tree::use_tree::place_after;
-use std::alloc::AllocError;
-
-/// Where an item goes on that waited for an attribute: one level deeper.
-fn site_behind(site: &Site) -> Result<Site, AllocError>
-    ensures value { IfOk result (λ deeper. deeper ≡ site_behind site.now) }
-{
-    Ok(Site {
-        home: site.home,
-        tree: site.tree,
-        file: site.file,
-        extern_block: site.extern_block,
-        dir: site.dir.clone()?,
-        level: place_after(site.level, 1),
-    })
-}
 
 /// Lets the item of the attribute at the place go on behind it, since that is inert by now, or builtin: handles the item,
 /// with all that is in it.
@@ -74,23 +58,6 @@ pub fn skip<D: SourceDatabase>(
         item.done,
     )?;
     Ok(())
-}
-
-/// Where the first attribute waits at a place behind the first so many.
-fn first_waiting(run: &DefCollector, first: usize) -> Option<usize>
-    requires first { NoneWaitsBefore (core_in run.now) first }
-    ensures found { IfSome result (λ i. IsFirstWaiting (core_in run.now) i) }
-    ensures below { IfSome result (λ i. i < 18446744073709551615) }
-    ensures none { result ≡ None → NoneWaits (core_in run.now) }
-{
-    let mut i = first;
-    'places: while i < run.call_count() {
-        if run.is_attribute_waiting(i) {
-            return Some(i);
-        }
-        i += 1;
-    }
-    None
 }
 
 /// Gives up the attribute at the place, the first that waits: reports it, and handles its item, with all that is in it.

@@ -5,41 +5,41 @@ use Rattle.std.specs.List.{All}
 use Rattle.std.specs.Option.{IfSome}
 use Rattle.std.specs.Prelude.{is_some}
 use Rattle.std.proofs.lemmas.List.Elements.{All-head, All-tail}
-use Rattle.hir_item_tree.specs.Collected.{is_enabled, numbered}
-use Rattle.hir_item_tree.specs.ItemTree.{Tree}
-use Rattle.hir_base.specs.Cfg.{Cfg}
-use Rattle.hir_def_map_rules.specs.declared.diagnostics.DefDiagnostic.{DefDiagnostic}
-use Rattle.hir_base.specs.declared.ast_id.AstKind.{AstKind}
-use Rattle.hir_base.specs.declared.ast_id.AstKind.TheVariants as nodes
-use Rattle.hir_item_tree.specs.Kinds.{item_head, item_kind, kind_content, kind_of, module_content}
-use Rattle.hir_item_tree.specs.declared.kinds.ExternBlock.{ExternBlock}
-use Rattle.hir_item_tree.specs.declared.kinds.Mod.{Mod}
-use Rattle.hir_item_tree.specs.declared.rows.ModItemId.{ModItemId}
-use Rattle.hir_item_tree.specs.declared.kinds.ModItemKind.{ModItemKind}
-use Rattle.hir_item_tree.specs.declared.kinds.ModKind.{ModKind}
-use Rattle.hir_item_tree.specs.declared.kinds.ModKind.TheVariants.{Inline, Outline}
-use Rattle.hir_item_tree.specs.declared.kinds.ModItemKind.TheVariants as kinds
-use Rattle.hir_item_tree.specs.KeptForest.{Head, KeptItem, KeptForest, all_items, no_items}
-use Rattle.hir_item_tree.specs.Rows.{Content, alone, with_items, numbers_of, items_at, item_of, and_found}
-use Rattle.hir_def_map_rules.specs.Overlay.{Maps}
-use Rattle.hir_def_map_rules.specs.State.{Map}
+use Rattle.hir_collector_state.specs.HirItemTree.Collected.{is_enabled, numbered}
+use Rattle.hir_collector_state.specs.HirItemTree.ItemTree.{Tree}
+use Rattle.hir_collector_state.specs.HirBase.Cfg.{Cfg}
+use Rattle.hir_collector_state.specs.HirMapParts.declared.diagnostics.DefDiagnostic.{DefDiagnostic}
+use Rattle.hir_collector_state.specs.HirIds.declared.ast_id.AstKind.{AstKind}
+use Rattle.hir_collector_state.specs.HirIds.declared.ast_id.AstKind.TheVariants as nodes
+use Rattle.hir_collector_state.specs.HirItemTree.Kinds.{item_head, item_kind, kind_content, kind_of, module_content}
+use Rattle.hir_collector_state.specs.HirItemTree.declared.kinds.ExternBlock.{ExternBlock}
+use Rattle.hir_collector_state.specs.HirItemTree.declared.kinds.Mod.{Mod}
+use Rattle.hir_collector_state.specs.HirItemTree.declared.rows.ModItemId.{ModItemId}
+use Rattle.hir_collector_state.specs.HirItemTree.declared.kinds.ModItemKind.{ModItemKind}
+use Rattle.hir_collector_state.specs.HirItemTree.declared.kinds.ModKind.{ModKind}
+use Rattle.hir_collector_state.specs.HirItemTree.declared.kinds.ModKind.TheVariants.{Inline, Outline}
+use Rattle.hir_collector_state.specs.HirItemTree.declared.kinds.ModItemKind.TheVariants as kinds
+use Rattle.hir_collector_state.specs.HirItemTree.KeptForest.{Head, KeptItem, KeptForest, all_items, no_items}
+use Rattle.hir_collector_state.specs.HirItemTree.Rows.{Content, alone, with_items, numbers_of, items_at, item_of, and_found}
+use Rattle.hir_collector_state.specs.HirDefMapRules.Overlay.{Maps}
+use Rattle.hir_collector_state.specs.HirDefMapRules.State.{Map}
 use Rattle.hir_attr_resolution.specs.declared.attributes.Visited.{Visited}
-use Rattle.hir_collector_rules.specs.Attributes.{adt_of}
-use Rattle.hir_collector_rules.specs.declared.site.Site.{Site}
-use Rattle.hir_collector_rules.specs.Keys.{Environment, absent_source}
-use Rattle.hir_collector_rules.specs.State.{Task, Visit, visits, Core, at_rest, joined, visits_over, counted}
-use Rattle.hir_collector_rules.specs.Start.{is_declared, tree_visits}
-use Rattle.hir_collector_rules.specs.Steps.{Steps, behind, none, drops_item, visit}
-use Rattle.hir_collector_rules.specs.TreeReads.{visits_at, visits_behind, visits_found as one_found, above}
-use Rattle.hir_collector_rules.specs.Reports.{IsUnconfigured}
-use Rattle.hir_collector_rules.specs.ItemIds.{module_id, node_of}
-use Rattle.hir_collector_rules.specs.Derivation.{IsFull, IsSpent, counted_out}
-use Rattle.hir_collector_rules.specs.Moves.{Drops, HandlesAndSpreads, HandlesTooFar, IsPassed, Passes, PassesTooFar, Walks, WalksTooFar, is_single}
+use Rattle.hir_collector_state.specs.HirCollectorRules.Attributes.{adt_of}
+use Rattle.hir_collector_state.specs.HirCollectorRules.declared.site.Site.{Site}
+use Rattle.hir_collector_state.specs.HirCollectorRules.Keys.{Environment, absent_source}
+use Rattle.hir_collector_state.specs.HirCollectorRules.State.{Task, Visit, visits, Core, at_rest, joined, visits_over, counted}
+use Rattle.hir_collector_state.specs.HirCollectorRules.Start.{is_declared, tree_visits}
+use Rattle.hir_collector_state.specs.HirCollectorRules.Steps.{Steps, behind, none, drops_item, visit}
+use Rattle.hir_collector_state.specs.HirCollectorRules.TreeReads.{visits_at, visits_behind, visits_found as one_found, above}
+use Rattle.hir_collector_state.specs.HirCollectorRules.Reports.{IsUnconfigured}
+use Rattle.hir_collector_state.specs.HirCollectorRules.ItemIds.{module_id, node_of}
+use Rattle.hir_collector_state.specs.HirCollectorRules.Derivation.{IsFull, IsSpent, counted_out}
+use Rattle.hir_collector_state.specs.HirCollectorRules.Moves.{Drops, HandlesAndSpreads, HandlesTooFar, IsPassed, Passes, PassesTooFar, Walks, WalksTooFar, is_single}
 use Rattle.hir_attr_resolution.specs.Visiting.{IsVisited}
-use Rattle.hir_collector_rules.proofs.Lists.{drop_at, get_there}
-use Rattle.hir_collector_rules.proofs.Moves.{Steps-append, Steps-one, spent_after}
+use Rattle.hir_collector_state.proofs.HirCollectorRules.Lists.{drop_at, get_there}
+use Rattle.hir_collector_state.proofs.HirCollectorRules.Moves.{Steps-append, Steps-one, spent_after}
 use Rattle.hir_collector_state.proofs.Made.{Goes, made}
-use Rattle.hir_collector_rules.proofs.Grows.{Grows-Steps}
+use Rattle.hir_collector_state.proofs.HirCollectorRules.Grows.{Grows-Steps}
 use Rattle.hir_collector_macros.proofs.Progress.{goes_next, goes_off, is_outline}
 
 -- nothing is anywhere

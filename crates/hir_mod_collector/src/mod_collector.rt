@@ -1,31 +1,26 @@
 //! The walk over the items of a tree.
 ghost use Rattle.std.specs.Prelude.{◌≡◌, ◌<◌, ◌≤◌, true, [], List, length, map, slice_get, OnOk, IfOk, IfSome};
 ghost use Rattle.std.specs.List.{All};
-ghost use Rattle.hir_base.specs.Cfg.{cfg_view};
-ghost use Rattle.hir_item_tree.specs.Collected.{is_enabled};
-ghost use Rattle.hir_item_tree.specs.KeptForest.{KeptItem, all_items, leaf, constant, implementation, macro_call};
-ghost use Rattle.hir_item_tree.specs.Kinds.{item_head, kind_content, kind_of};
-ghost use Rattle.hir_item_tree.specs.Rows.{held_numbers, item_of, numbers_of};
-ghost use Rattle.hir_tables.specs.Tables.{KeepsTables};
-ghost use Rattle.hir_def_map_rules.specs.Overlay.{Maps};
-ghost use Rattle.hir_def_map.specs.WorldParts.{part_of};
-ghost use Rattle.hir_collector_rules.specs.Keys.{Environment};
-ghost use Rattle.hir_collector_rules.specs.ItemIds.{module_id, node_of};
-ghost use Rattle.hir_collector_rules.specs.Calls.{AreCallsPlaced, IsMeantAt};
-ghost use Rattle.hir_collector_rules.specs.Reports.{IsUnconfigured};
-ghost use Rattle.hir_collector_rules.specs.State.{core_in};
-ghost use Rattle.hir_collector_rules.specs.Steps.{visit};
-ghost use Rattle.hir_collector_rules.specs.TreeReads.{head_of, visits_at, visits_behind};
-ghost use Rattle.hir_collector_rules.specs.Moves.{Drops, Handles, HandlesAndSpreads, HandlesTooFar, OnceGrown, Passes, PassesTooFar, Walks, WalksTooFar, is_single};
+ghost use Rattle.hir_collector_state.specs.HirBase.Cfg.{cfg_view};
+ghost use Rattle.hir_collector_state.specs.HirItemTree.Collected.{is_enabled};
+ghost use Rattle.hir_collector_state.specs.HirItemTree.KeptForest.{KeptItem, all_items, leaf, constant, implementation, macro_call};
+ghost use Rattle.hir_collector_state.specs.HirItemTree.Kinds.{item_head, kind_content, kind_of};
+ghost use Rattle.hir_collector_state.specs.HirItemTree.Rows.{held_numbers, item_of, numbers_of};
+ghost use Rattle.hir_collector_state.specs.HirTables.Tables.{KeepsTables};
+ghost use Rattle.hir_collector_state.specs.HirDefMapRules.Overlay.{Maps};
+ghost use Rattle.hir_collector_state.specs.HirNameres.WorldParts.{part_of};
+ghost use Rattle.hir_collector_state.specs.HirCollectorRules.Keys.{Environment};
+ghost use Rattle.hir_collector_state.specs.HirCollectorRules.ItemIds.{module_id, node_of};
+ghost use Rattle.hir_collector_state.specs.HirCollectorRules.Calls.{AreCallsPlaced, IsMeantAt};
+ghost use Rattle.hir_collector_state.specs.HirCollectorRules.Reports.{IsUnconfigured};
+ghost use Rattle.hir_collector_state.specs.HirCollectorRules.State.{core_in};
+ghost use Rattle.hir_collector_state.specs.HirCollectorRules.Steps.{visit};
+ghost use Rattle.hir_collector_state.specs.HirCollectorRules.TreeReads.{head_of, visits_at, visits_behind};
+ghost use Rattle.hir_collector_state.specs.HirCollectorRules.Moves.{Drops, Handles, HandlesAndSpreads, HandlesTooFar, OnceGrown, Passes, PassesTooFar, Walks, WalksTooFar, is_single};
 ghost use Rattle.hir_mod_resolution.specs.Walking.{GoesInside, tasks_of};
 ghost use Rattle.hir_collector_state.specs.Waiting.{IsNoted, IsNotedBeside};
 
 use hir_attr_resolution::attributes::{Visited, adt_of, pass_attributes};
-use hir_base::ast_id::{AstId, AstKind, SyntaxId};
-use hir_base::cfg::CfgExpr;
-use hir_base::ids::{ConstId, ImplId, ItemLoc};
-use hir_base::mod_path::ModPath;
-use hir_base::name::Name;
 use hir_collector_imports::spread_changes;
 use hir_collector_items::declare::{
     declare_const, declare_function, declare_static, declare_struct, declare_trait,
@@ -34,18 +29,25 @@ use hir_collector_items::declare::{
 use hir_collector_items::enums::declare_enum;
 use hir_collector_macros::imports::{reach_extern_crate, reach_use};
 use hir_collector_macros::macros::{close, define_macro, define_rules};
-use hir_collector_rules::macro_directive::{MacroDirective, MacroDirectiveKind};
-use hir_collector_rules::site::{ItemHead, Site, head_at};
-use hir_collector_rules::source_database::SourceDatabase;
-use hir_collector_rules::start::{STEP_LIMIT, StepError};
-use hir_collector_start::diagnostics::unconfigured;
 use hir_collector_state::def_collector::DefCollector;
-use hir_def_map::world::part::WorldPart;
-use hir_item_tree::kinds::{ModItemKind, ModKind};
-use hir_item_tree::rows::ModItemId;
-use hir_item_tree::source_tree::SourceTree;
+use hir_collector_state::hir_base::ast_id::{AstId, AstKind, SyntaxId};
+use hir_collector_state::hir_base::cfg::CfgExpr;
+use hir_collector_state::hir_base::ids::{ConstId, ImplId, ItemLoc};
+use hir_collector_state::hir_base::mod_path::ModPath;
+use hir_collector_state::hir_base::name::Name;
+use hir_collector_state::hir_collector_rules::macro_directive::{
+    MacroDirective, MacroDirectiveKind,
+};
+use hir_collector_state::hir_collector_rules::site::{ItemHead, Site, head_at};
+use hir_collector_state::hir_collector_rules::source_database::SourceDatabase;
+use hir_collector_state::hir_collector_rules::start::{STEP_LIMIT, StepError};
+use hir_collector_state::hir_collector_start::diagnostics::unconfigured;
+use hir_collector_state::hir_item_tree::kinds::{ModItemKind, ModKind};
+use hir_collector_state::hir_item_tree::rows::ModItemId;
+use hir_collector_state::hir_item_tree::source_tree::SourceTree;
+use hir_collector_state::hir_nameres::world::part::WorldPart;
+use hir_collector_state::hir_tables::Tables;
 use hir_mod_resolution::modules::{Inside, enter, visit_inline, visit_outline};
-use hir_tables::Tables;
 use std::rc::Rc;
 
 /// Lists a constant that has no name.

@@ -4,27 +4,27 @@ use Rattle.std.proofs.Common.{refl, sym, ap, subst, arith}
 use Rattle.std.proofs.lemmas.List.{take_all}
 use Rattle.std.specs.Prelude.{option_map}
 use Rattle.std.specs.Option.{option_map_or, option_to_list}
-use Rattle.hir_base.specs.declared.ids.Crate.{Crate}
-use Rattle.hir_base.specs.declared.edition.Edition.{Edition}
-use Rattle.hir_base.specs.declared.ast_id.FileId.{FileId}
-use Rattle.hir_item_tree.specs.SourceTree.{SourceTreeValue}
-use Rattle.hir_mod_dir.specs.declared.candidate.Candidate.{Candidate}
-use Rattle.hir_tables.specs.SourcePlaces.{file}
-use Rattle.hir_tables.specs.Tables.{KeepsTables, TablesValue, file_at}
-use Rattle.hir_tables.proofs.Growth.{KeepsTables-trans}
-use Rattle.hir_def_map_rules.specs.State.{Map}
-use Rattle.hir_def_map_rules.specs.Overlay.{Maps}
-use Rattle.hir_collector_rules.specs.Workspace.{Workspace, seen_of}
-use Rattle.hir_collector_rules.specs.Keys.{environment, of_tree, source_in, source_under}
-use Rattle.hir_collector_rules.specs.ModuleFiles.{AreTried, IsNumberOf, IsTriedFile, LookedAt, ModuleFile, Tried, file_key, file_reading, file_readings}
-use Rattle.hir_collector_rules.specs.ModuleFiles.{file_tree, named_by, taken_by}
-use Rattle.hir_collector_rules.specs.State.{Core}
-use Rattle.hir_collector_rules.specs.Steps.{Sees, keys_read, with_keys}
+use Rattle.hir_collector_state.specs.HirIds.declared.ids.Crate.{Crate}
+use Rattle.hir_collector_state.specs.HirIds.declared.edition.Edition.{Edition}
+use Rattle.hir_collector_state.specs.HirIds.declared.ast_id.FileId.{FileId}
+use Rattle.hir_collector_state.specs.HirItemTree.SourceTree.{SourceTreeValue}
+use Rattle.hir_collector_state.specs.HirModDir.declared.candidate.Candidate.{Candidate}
+use Rattle.hir_collector_state.specs.HirTables.SourcePlaces.{file}
+use Rattle.hir_collector_state.specs.HirTables.Tables.{KeepsTables, TablesValue, file_at}
+use Rattle.hir_collector_state.proofs.HirTables.Growth.{KeepsTables-trans}
+use Rattle.hir_collector_state.specs.HirDefMapRules.State.{Map}
+use Rattle.hir_collector_state.specs.HirDefMapRules.Overlay.{Maps}
+use Rattle.hir_collector_state.specs.HirCollectorRules.Workspace.{Workspace, seen_of}
+use Rattle.hir_collector_state.specs.HirCollectorRules.Keys.{environment, of_tree, source_in, source_under}
+use Rattle.hir_collector_state.specs.HirCollectorRules.ModuleFiles.{AreTried, IsNumberOf, IsTriedFile, LookedAt, ModuleFile, Tried, file_key, file_reading, file_readings}
+use Rattle.hir_collector_state.specs.HirCollectorRules.ModuleFiles.{file_tree, named_by, taken_by}
+use Rattle.hir_collector_state.specs.HirCollectorRules.State.{Core}
+use Rattle.hir_collector_state.specs.HirCollectorRules.Steps.{Sees, keys_read, with_keys}
 use Rattle.hir_mod_resolution.specs.Types.{LookedFile}
-use Rattle.hir_collector_rules.specs.Moves.{Finds, IsHeld, LooksAt, OnceGrown}
+use Rattle.hir_collector_state.specs.HirCollectorRules.Moves.{Finds, IsHeld, LooksAt, OnceGrown}
 use Rattle.hir_mod_resolution.specs.Walking.{looked_view}
-use Rattle.hir_collector_rules.proofs.ModuleFiles.{absent_there, none_there_behind, number_kept}
-use Rattle.hir_collector_rules.proofs.Numbers.{tables_stay}
+use Rattle.hir_collector_state.proofs.HirCollectorRules.ModuleFiles.{absent_there, none_there_behind, number_kept}
+use Rattle.hir_collector_state.proofs.HirCollectorRules.Numbers.{tables_stay}
 use Rattle.hir_mod_resolution.proofs.Outline.{held_grown, held_source}
 
 -- what a file that has a number has is held

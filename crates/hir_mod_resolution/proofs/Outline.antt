@@ -4,50 +4,50 @@ use Rattle.std.proofs.Common.{◌≡◌, ◌∙◌, ℕ, ◌+◌, ◌<◌, ◌�
 use Rattle.std.proofs.Common.{Option, Some, None, refl, sym, ap, subst, arith}
 use Rattle.std.specs.Prelude.{IsSome, option_map}
 use Rattle.std.specs.Option.{option_to_list}
-use Rattle.hir_base.specs.declared.ids.Crate.{Crate}
-use Rattle.hir_base.specs.declared.edition.Edition.{Edition}
-use Rattle.hir_base.specs.declared.ast_id.FileId.{FileId}
-use Rattle.hir_item_tree.specs.Collected.{is_enabled}
-use Rattle.hir_item_tree.specs.ItemTree.{Tree}
-use Rattle.hir_item_tree.specs.KeptForest.{Head, KeptForest, KeptItem, holder, inline_module, leaf, outline_module}
-use Rattle.hir_item_tree.specs.SourceTree.{SourceTreeValue}
-use Rattle.hir_item_tree.specs.declared.tree_id.TreeId.{TreeId}
-use Rattle.hir_mod_dir.specs.Directory.{Directory}
-use Rattle.hir_mod_dir.specs.ModuleFiles.{candidate, candidates_of, child, file_directory, inline_directory, inline_path, is_mod_rs}
-use Rattle.hir_mod_dir.specs.PathText.{joined as joined_path}
-use Rattle.hir_mod_dir.specs.declared.candidate.Candidate.{Candidate}
-use Rattle.hir_tables.specs.SourcePlaces.{SourcePlaceValue, file as file_place}
-use Rattle.hir_tables.specs.Tables.{KeepsTables, TablesValue, file_at, source_of}
-use Rattle.hir_tables.proofs.Growth.{source_of-kept}
-use Rattle.hir_def_map_rules.specs.State.{Map}
-use Rattle.hir_def_map_rules.specs.Overlay.{Maps}
-use Rattle.hir_def_map_rules.specs.declared.diagnostics.DefDiagnostic.{DefDiagnostic}
-use Rattle.hir_def_map_rules.specs.declared.origin.ModuleOrigin.{ModuleOrigin}
-use Rattle.hir_collector_rules.specs.declared.site.Site.{Site}
-use Rattle.hir_collector_rules.specs.Workspace.{Workspace}
-use Rattle.hir_collector_rules.specs.Keys.{Environment, environment, source_in, source_under}
-use Rattle.hir_collector_rules.specs.Items.{file_origin, inline_origin, own_visibility}
-use Rattle.hir_collector_rules.specs.ItemIds.{module_id, node_of}
-use Rattle.hir_base.specs.declared.ast_id.AstKind.TheVariants as nodes
-use Rattle.hir_collector_rules.specs.ModuleFiles.{AreTried, IsFileMeant, IsNumberOf, IsNumbered, IsSearch, ModuleFile, Search, Tried, file_tree, module_file}
-use Rattle.hir_collector_rules.specs.ModuleFiles.{IsTriedFile}
-use Rattle.hir_collector_rules.specs.Macros.{is_macro_use}
-use Rattle.hir_collector_rules.specs.Reports.{IsUnresolvedModule}
-use Rattle.hir_collector_rules.specs.State.{Core, Task, Visit, visits, joined, visits_over}
-use Rattle.hir_collector_rules.specs.Steps.{LooksFor, none, behind, closing, drops_file, inside_file, keys_read, misses_file, module_declaration, opens_file}
-use Rattle.hir_collector_rules.specs.Steps.{opens_module, path_of, search_readings, visit, visits_in_file, visits_inside, with_keys}
-use Rattle.hir_collector_rules.specs.NumberedOut.{IsNumberedOut, LacksFile, lacks_file}
-use Rattle.hir_collector_rules.specs.Derivation.{IsFull, IsSpent, counted_out, numbered_out}
+use Rattle.hir_collector_state.specs.HirIds.declared.ids.Crate.{Crate}
+use Rattle.hir_collector_state.specs.HirIds.declared.edition.Edition.{Edition}
+use Rattle.hir_collector_state.specs.HirIds.declared.ast_id.FileId.{FileId}
+use Rattle.hir_collector_state.specs.HirItemTree.Collected.{is_enabled}
+use Rattle.hir_collector_state.specs.HirItemTree.ItemTree.{Tree}
+use Rattle.hir_collector_state.specs.HirItemTree.KeptForest.{Head, KeptForest, KeptItem, holder, inline_module, leaf, outline_module}
+use Rattle.hir_collector_state.specs.HirItemTree.SourceTree.{SourceTreeValue}
+use Rattle.hir_collector_state.specs.HirBase.declared.tree_id.TreeId.{TreeId}
+use Rattle.hir_collector_state.specs.HirModDir.Directory.{Directory}
+use Rattle.hir_collector_state.specs.HirModDir.ModuleFiles.{candidate, candidates_of, child, file_directory, inline_directory, inline_path, is_mod_rs}
+use Rattle.hir_collector_state.specs.HirModDir.PathText.{joined as joined_path}
+use Rattle.hir_collector_state.specs.HirModDir.declared.candidate.Candidate.{Candidate}
+use Rattle.hir_collector_state.specs.HirTables.SourcePlaces.{SourcePlaceValue, file as file_place}
+use Rattle.hir_collector_state.specs.HirTables.Tables.{KeepsTables, TablesValue, file_at, source_of}
+use Rattle.hir_collector_state.proofs.HirTables.Growth.{source_of-kept}
+use Rattle.hir_collector_state.specs.HirDefMapRules.State.{Map}
+use Rattle.hir_collector_state.specs.HirDefMapRules.Overlay.{Maps}
+use Rattle.hir_collector_state.specs.HirMapParts.declared.diagnostics.DefDiagnostic.{DefDiagnostic}
+use Rattle.hir_collector_state.specs.HirMapParts.declared.origin.ModuleOrigin.{ModuleOrigin}
+use Rattle.hir_collector_state.specs.HirCollectorRules.declared.site.Site.{Site}
+use Rattle.hir_collector_state.specs.HirCollectorRules.Workspace.{Workspace}
+use Rattle.hir_collector_state.specs.HirCollectorRules.Keys.{Environment, environment, source_in, source_under}
+use Rattle.hir_collector_state.specs.HirCollectorRules.Items.{file_origin, inline_origin, own_visibility}
+use Rattle.hir_collector_state.specs.HirCollectorRules.ItemIds.{module_id, node_of}
+use Rattle.hir_collector_state.specs.HirIds.declared.ast_id.AstKind.TheVariants as nodes
+use Rattle.hir_collector_state.specs.HirCollectorRules.ModuleFiles.{AreTried, IsFileMeant, IsNumberOf, IsNumbered, IsSearch, ModuleFile, Search, Tried, file_tree, module_file}
+use Rattle.hir_collector_state.specs.HirCollectorRules.ModuleFiles.{IsTriedFile}
+use Rattle.hir_collector_state.specs.HirCollectorRules.Macros.{is_macro_use}
+use Rattle.hir_collector_state.specs.HirCollectorRules.Reports.{IsUnresolvedModule}
+use Rattle.hir_collector_state.specs.HirCollectorRules.State.{Core, Task, Visit, visits, joined, visits_over}
+use Rattle.hir_collector_state.specs.HirCollectorRules.Steps.{LooksFor, none, behind, closing, drops_file, inside_file, keys_read, misses_file, module_declaration, opens_file}
+use Rattle.hir_collector_state.specs.HirCollectorRules.Steps.{opens_module, path_of, search_readings, visit, visits_in_file, visits_inside, with_keys}
+use Rattle.hir_collector_state.specs.HirCollectorRules.NumberedOut.{IsNumberedOut, LacksFile, lacks_file}
+use Rattle.hir_collector_state.specs.HirCollectorRules.Derivation.{IsFull, IsSpent, counted_out, numbered_out}
 use Rattle.hir_mod_resolution.specs.Types.{Inside}
 use Rattle.hir_mod_resolution.specs.declared.modules.Inside.TheVariants.{Nothing, Held, File}
-use Rattle.hir_collector_rules.specs.Calls.{IsMeantAt}
-use Rattle.hir_collector_rules.specs.Moves.{DropsFile, Finds, Handles, HandlesTooFar, IsHeld, IsPassed, MayTake, OnceGrown, OpensFile, Tells, may_drop}
-use Rattle.hir_collector_rules.specs.Moves.{may_open, opened}
+use Rattle.hir_collector_state.specs.HirCollectorRules.Calls.{IsMeantAt}
+use Rattle.hir_collector_state.specs.HirCollectorRules.Moves.{DropsFile, Finds, Handles, HandlesTooFar, IsHeld, IsPassed, MayTake, OnceGrown, OpensFile, Tells, may_drop}
+use Rattle.hir_collector_state.specs.HirCollectorRules.Moves.{may_open, opened}
 use Rattle.hir_mod_resolution.specs.Walking.{GoesInside, TakesFile, tasks_of}
 use Rattle.hir_collector_state.proofs.Made.{Goes, goes, made, missed_after, opened_after}
-use Rattle.hir_collector_rules.proofs.Grows.{longer_by_module}
-use Rattle.hir_collector_rules.proofs.ModuleFiles.{found_at, numbers_kept}
-use Rattle.hir_collector_rules.proofs.Numbers.{still_out}
+use Rattle.hir_collector_state.proofs.HirCollectorRules.Grows.{longer_by_module}
+use Rattle.hir_collector_state.proofs.HirCollectorRules.ModuleFiles.{found_at, numbers_kept}
+use Rattle.hir_collector_state.proofs.HirCollectorRules.Numbers.{still_out}
 
 -- ---- what is held stays held
 

@@ -1,22 +1,22 @@
 -- What is visited, and what comes next behind it.
 use Rattle.std.specs.Prelude.{◌≡◌, ◌<◌, ◌≤◌, ◌+◌, ℕ, map, ◌||◌, List, [], ◌++◌}
-use Rattle.hir_item_tree.specs.KeptForest.{Head, KeptItem}
-use Rattle.hir_item_tree.specs.Rows.{items_at, numbers_of}
+use Rattle.hir_collector_state.specs.HirItemTree.KeptForest.{Head, KeptItem}
+use Rattle.hir_collector_state.specs.HirItemTree.Rows.{items_at, numbers_of}
 use Rattle.hir_mod_resolution.specs.declared.mod_resolution.FoundFile.{FoundFile}
 use Rattle.hir_mod_resolution.specs.declared.mod_resolution.LookedFile.{LookedFile}
 use Rattle.hir_mod_resolution.specs.declared.modules.Inside.{Inside}
 use Rattle.hir_mod_resolution.specs.declared.modules.Inside.TheVariants.{Nothing, Held, File}
-use Rattle.hir_def_map_rules.specs.Overlay.{Maps}
-use Rattle.hir_collector_rules.specs.declared.site.Site.{Site}
-use Rattle.hir_item_tree.specs.SourceTree.{SourceTreeValue}
-use Rattle.hir_tables.specs.Tables.{TablesValue}
-use Rattle.hir_collector_rules.specs.Workspace.{seen_of}
-use Rattle.hir_collector_rules.specs.ModuleFiles.{LookedAt, ModuleFile}
-use Rattle.hir_collector_rules.specs.Calls.{IsMeantAt}
-use Rattle.hir_collector_rules.specs.Macros.{is_macro_use}
-use Rattle.hir_collector_rules.specs.State.{Core, Task, visits_over}
-use Rattle.hir_collector_rules.specs.Steps.{closing, inside_file}
-use Rattle.hir_collector_rules.specs.Moves.{DropsFile, OpensFile}
+use Rattle.hir_collector_state.specs.HirDefMapRules.Overlay.{Maps}
+use Rattle.hir_collector_state.specs.HirCollectorRules.declared.site.Site.{Site}
+use Rattle.hir_collector_state.specs.HirItemTree.SourceTree.{SourceTreeValue}
+use Rattle.hir_collector_state.specs.HirTables.Tables.{TablesValue}
+use Rattle.hir_collector_state.specs.HirCollectorRules.Workspace.{seen_of}
+use Rattle.hir_collector_state.specs.HirCollectorRules.ModuleFiles.{LookedAt, ModuleFile}
+use Rattle.hir_collector_state.specs.HirCollectorRules.Calls.{IsMeantAt}
+use Rattle.hir_collector_state.specs.HirCollectorRules.Macros.{is_macro_use}
+use Rattle.hir_collector_state.specs.HirCollectorRules.State.{Core, Task, visits_over}
+use Rattle.hir_collector_state.specs.HirCollectorRules.Steps.{closing, inside_file}
+use Rattle.hir_collector_state.specs.HirCollectorRules.Moves.{DropsFile, OpensFile}
 
 -- what a file that was found is
 abbrev pub found_view : FoundFile → ModuleFile

@@ -1,29 +1,29 @@
 //! The files of outline modules.
 ghost use Rattle.std.specs.Prelude.{◌≡◌, ℕ, List, Some, false, map, option_map, IfOk, IfSome, OnOk};
 ghost use Rattle.std.specs.Option.{option_map_or};
-ghost use Rattle.hir_item_tree.specs.Collected.{numbered};
-ghost use Rattle.hir_tables.specs.Tables.{KeepsTables, TablesValue};
-ghost use Rattle.hir_collector_rules.specs.State.{core_in};
-ghost use Rattle.hir_collector_rules.specs.Calls.{AreCallsPlaced};
-ghost use Rattle.hir_collector_rules.specs.ModuleFiles.{IsFileMeant, IsNumberOf, IsTriedFile, file_of_tree, file_tree, named_by, path_attribute, path_in, taken_by};
-ghost use Rattle.hir_collector_rules.specs.Moves.{Finds, IsHeld, LooksAt};
-ghost use Rattle.hir_collector_rules.specs.NumberedOut.{IsNumberedOut};
+ghost use Rattle.hir_collector_state.specs.HirItemTree.Collected.{numbered};
+ghost use Rattle.hir_collector_state.specs.HirTables.Tables.{KeepsTables, TablesValue};
+ghost use Rattle.hir_collector_state.specs.HirCollectorRules.State.{core_in};
+ghost use Rattle.hir_collector_state.specs.HirCollectorRules.Calls.{AreCallsPlaced};
+ghost use Rattle.hir_collector_state.specs.HirCollectorRules.ModuleFiles.{IsFileMeant, IsNumberOf, IsTriedFile, file_of_tree, file_tree, named_by, path_attribute, path_in, taken_by};
+ghost use Rattle.hir_collector_state.specs.HirCollectorRules.Moves.{Finds, IsHeld, LooksAt};
+ghost use Rattle.hir_collector_state.specs.HirCollectorRules.NumberedOut.{IsNumberedOut};
 ghost use Rattle.hir_mod_resolution.specs.Walking.{found_view, looked_view};
 ghost use Rattle.hir_collector_state.specs.Waiting.{IsNoted};
 
-use hir_base::ast_id::{FileId, HirFileId};
-use hir_base::file_path::FilePath;
-use hir_collector_rules::crate_attrs::is_keyed;
-use hir_collector_rules::source_database::{Key, SourceDatabase};
-use hir_collector_rules::start::StepError;
-use hir_collector_start::sources::source_at;
 use hir_collector_state::def_collector::DefCollector;
-use hir_item_tree::attrs::Attr;
-use hir_item_tree::raw_attr::AttrInput;
-use hir_item_tree::source_tree::SourceTree;
-use hir_item_tree::tree_id::TreeId;
-use hir_mod_dir::{Candidate, ModDir, resolve_candidate};
-use hir_tables::Tables;
+use hir_collector_state::hir_base::ast_id::{FileId, HirFileId};
+use hir_collector_state::hir_base::file_path::FilePath;
+use hir_collector_state::hir_collector_rules::crate_attrs::is_keyed;
+use hir_collector_state::hir_collector_rules::source_database::{Key, SourceDatabase};
+use hir_collector_state::hir_collector_rules::start::StepError;
+use hir_collector_state::hir_collector_start::sources::source_at;
+use hir_collector_state::hir_item_tree::attrs::Attr;
+use hir_collector_state::hir_item_tree::raw_attr::AttrInput;
+use hir_collector_state::hir_item_tree::source_tree::SourceTree;
+use hir_collector_state::hir_item_tree::tree_id::TreeId;
+use hir_collector_state::hir_mod_dir::{Candidate, ModDir, resolve_candidate};
+use hir_collector_state::hir_tables::Tables;
 use std::alloc::{AllocError, Global};
 use std::rc::Rc;
 

@@ -1,28 +1,9 @@
 //! Visibilities as they are written, after rust-analyzer's `RawVisibility`.
-ghost use Rattle.std.specs.Prelude.{◌≡◌, ◌↔◌, ◌++◌, IsTrue, IfOk, OnOk};
-ghost use Rattle.hir_raw_visibility.specs.declared.raw_visibility.VisibilityExplicitness.TheVariants.{Explicit};
+ghost use Rattle.std.specs.Prelude.{◌≡◌, ◌++◌, IfOk, OnOk};
 
 use hir_base::mod_path::ModPath;
+pub use hir_ids::explicitness::VisibilityExplicitness;
 use std::alloc::{AllocError, Global};
-
-/// Whether a visibility was written.
-#[derive(Clone, Copy, Debug, PartialEq, Eq, PartialOrd, Ord, Hash)]
-pub enum VisibilityExplicitness {
-    Explicit,
-    Implicit,
-}
-
-impl VisibilityExplicitness {
-    /// Whether it was written.
-    pub fn is_explicit(&self) -> bool
-        ensures value { IsTrue result ↔ (self.now ≡ Explicit) }
-    {
-        match self {
-            VisibilityExplicitness::Explicit => true,
-            VisibilityExplicitness::Implicit => false,
-        }
-    }
-}
 
 /// A visibility as it is written.
 #[derive(Drop)]

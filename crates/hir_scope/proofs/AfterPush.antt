@@ -4,20 +4,20 @@ use Rattle.std.specs.Option.{option_map}
 use Rattle.std.specs.Ordering.{nat_cmp, is_eq}
 use Rattle.std.specs.Cmp.Lexicographic.{slice_cmp}
 use Rattle.std.proofs.lemmas.Cmp.{tied_itself, nat_list_cmp_total}
-use Rattle.hir_base.specs.contracts.ids.ModuleDefIdPartialEq.TheImpl as module_def
-use Rattle.hir_base.specs.contracts.macro_kind.MacroIdPartialEq.TheImpl as makro
-use Rattle.hir_base.specs.declared.macro_kind.MacroId.{MacroId}
-use Rattle.hir_base.specs.declared.ids.ModuleDefId.{ModuleDefId}
-use Rattle.hir_base.specs.declared.ids.ModuleDefId.TheVariants as defs
-use Rattle.hir_scope.specs.contracts.imports.ImportOrExternCratePartialEq.TheImpl as item_import
-use Rattle.hir_scope.specs.contracts.imports.ImportOrGlobPartialEq.TheImpl as glob_import
+use Rattle.hir_ids.specs.contracts.ids.ModuleDefIdPartialEq.TheImpl as module_def
+use Rattle.hir_ids.specs.contracts.macro_kind.MacroIdPartialEq.TheImpl as makro
+use Rattle.hir_ids.specs.declared.macro_kind.MacroId.{MacroId}
+use Rattle.hir_ids.specs.declared.ids.ModuleDefId.{ModuleDefId}
+use Rattle.hir_ids.specs.declared.ids.ModuleDefId.TheVariants as defs
+use Rattle.hir_per_ns.specs.contracts.imports.ImportOrExternCratePartialEq.TheImpl as item_import
+use Rattle.hir_per_ns.specs.contracts.imports.ImportOrGlobPartialEq.TheImpl as glob_import
 use Rattle.hir_scope.specs.Types.{ImportOrDef, ImportOrExternCrate, ImportOrGlob, PerNs}
 use Rattle.hir_scope.specs.Bindings.{Push, Candidate, after_push, first_of, is_reresolved_by, items_by, slot_after, slot_after_candidate, slot_at, taken, takes}
 use Rattle.hir_scope.specs.Bindings.{type_candidate, value_candidate, macro_candidate, written_items, written_places}
 use Rattle.hir_scope.specs.Entries.{any_value, item_at, with_entry}
 use Rattle.hir_scope.specs.Globs.{GlobNames, Place, has_place, no_globs}
 use Rattle.hir_scope.specs.ImportRecords.{is_glob, reached_by, value_reached_by}
-use Rattle.hir_scope.specs.PerNs.{Item, item_of, or_of, value_import, is_nothing}
+use Rattle.hir_per_ns.specs.PerNs.{Item, item_of, or_of, value_import, is_nothing}
 use Rattle.hir_scope.specs.Scope.{ScopeValue, binding_of}
 use Rattle.hir_scope.specs.Scope.Push.{SameDeclarations, binding_after, pushed_scope, pushed_globs, taken_candidates, with_unresolved, written_scope}
 use Rattle.hir_scope.specs.Scope.Reads.{binds_macro, binds_type, binds_value}

@@ -7,11 +7,11 @@ use Rattle.std.specs.declared.cmp.Ordering.TheVariants.{Less, Equal, Greater}
 use Rattle.std.specs.Cmp.Lexicographic.{slice_cmp}
 use Rattle.std.specs.Map.{keys_of}
 use Rattle.std.specs.Ordering.{nat_cmp}
-use Rattle.hir_scope.specs.contracts.imports.ImportOrExternCrateOrd.TheImpl as import_or_extern_crate
-use Rattle.hir_scope.specs.contracts.imports.ImportOrGlobOrd.TheImpl as import_or_glob
+use Rattle.hir_per_ns.specs.contracts.imports.ImportOrExternCrateOrd.TheImpl as import_or_extern_crate
+use Rattle.hir_per_ns.specs.contracts.imports.ImportOrGlobOrd.TheImpl as import_or_glob
 use Rattle.hir_scope.specs.Types.{ImportId, ImportOrExternCrate, ImportOrGlob}
-use Rattle.hir_scope.specs.declared.imports.ImportOrExternCrate.TheVariants as item
-use Rattle.hir_scope.specs.declared.imports.ImportOrGlob.TheVariants as value
+use Rattle.hir_per_ns.specs.declared.imports.ImportOrExternCrate.TheVariants as item
+use Rattle.hir_per_ns.specs.declared.imports.ImportOrGlob.TheVariants as value
 use Rattle.hir_scope.specs.Scope.Entries.{entries_of, scope_names, with_bindings, import_order, imports_among, value_imports_among}
 use Rattle.hir_scope.specs.Scope.{ScopeValue}
 

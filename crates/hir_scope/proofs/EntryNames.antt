@@ -13,7 +13,7 @@ use Rattle.hir_scope.specs.Inner.Entries.{ScopeSlots, bindings_of, items_found, 
 use Rattle.hir_scope.specs.Scope.{ScopeValue, binding_of}
 use Rattle.hir_scope.specs.Scope.Entries.{entries_of, scope_names, with_bindings}
 use Rattle.hir_scope.specs.Slots.{types_in, values_in, macros_in, unresolved_in}
-use Rattle.hir_scope_table.specs.declared.item.Candidate.{Candidate}
+use Rattle.hir_scope_item.specs.declared.item.Candidate.{Candidate}
 use Rattle.hir_scope_table.specs.Inner.Place.{IsKept}
 use Rattle.hir_scope_table.specs.Slots.{named}
 use Rattle.hir_scope_table.specs.Table.{item_entry, pushed_item}

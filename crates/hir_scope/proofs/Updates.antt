@@ -10,20 +10,20 @@ use Rattle.std.specs.List.Sorted.{IsStrictlySortedBy}
 use Rattle.std.specs.Map.{keys_of, lookup, set_value, remove_entry}
 use Rattle.std.proofs.lemmas.Map.Keys.{sorted_head, sorted_tail}
 use Rattle.std.proofs.lemmas.Map.Lookups.{exact_bytes}
-use Rattle.hir_base.specs.declared.macro_kind.MacroId.{MacroId}
-use Rattle.hir_base.specs.declared.ids.ModuleDefId.{ModuleDefId}
-use Rattle.hir_scope.specs.declared.imports.ImportOrExternCrate.{ImportOrExternCrate}
-use Rattle.hir_scope.specs.declared.imports.ImportOrGlob.{ImportOrGlob}
-use Rattle.hir_scope.specs.declared.imports.ImportOrDef.{ImportOrDef}
+use Rattle.hir_ids.specs.declared.macro_kind.MacroId.{MacroId}
+use Rattle.hir_ids.specs.declared.ids.ModuleDefId.{ModuleDefId}
+use Rattle.hir_per_ns.specs.declared.imports.ImportOrExternCrate.{ImportOrExternCrate}
+use Rattle.hir_per_ns.specs.declared.imports.ImportOrGlob.{ImportOrGlob}
+use Rattle.hir_per_ns.specs.declared.imports.ImportOrDef.{ImportOrDef}
 use Rattle.hir_scope.specs.declared.item_scope.push.Candidates.{Candidates}
-use Rattle.hir_scope.specs.contracts.imports.ImportOrExternCrateOrd.TheImpl as item_order
-use Rattle.hir_scope.specs.contracts.imports.ImportOrGlobOrd.TheImpl as value_order
-use Rattle.hir_scope.specs.PerNs as of_scope
+use Rattle.hir_per_ns.specs.contracts.imports.ImportOrExternCrateOrd.TheImpl as item_order
+use Rattle.hir_per_ns.specs.contracts.imports.ImportOrGlobOrd.TheImpl as value_order
+use Rattle.hir_per_ns.specs.PerNs as of_scope
 use Rattle.hir_scope.specs.Scope.{ScopeValue}
 use Rattle.hir_scope.specs.Scope.Push.{written_scope}
 use Rattle.hir_scope_table.specs.Entries.{item_at}
 use Rattle.hir_scope_table.specs.Table.{is_definition, rewritten, without_definition, written_items, written_records}
-use Rattle.hir_scope_table.specs.declared.item.Item.{Item}
+use Rattle.hir_scope_item.specs.declared.item.Item.{Item}
 use Rattle.hir_scope_table.proofs.Pushes.{name-apart}
 use Rattle.hir_scope_table.proofs.Slots.{lookup-below}
 

@@ -1,24 +1,24 @@
 -- What does a push bring to a name in each namespace, and what prevails there?
 use Rattle.std.specs.Prelude.{Option, None, Some, option_map}
-use Rattle.hir_base.specs.declared.macro_kind.MacroId.{MacroId}
-use Rattle.hir_base.specs.declared.ids.ModuleDefId.{ModuleDefId}
-use Rattle.hir_base.specs.declared.ids.ModuleDefId.TheVariants as defs
-use Rattle.hir_base.specs.contracts.ids.ModuleDefIdPartialEq.TheImpl as module_def
-use Rattle.hir_base.specs.contracts.macro_kind.MacroIdPartialEq.TheImpl as makro
-use Rattle.hir_scope_table.specs.declared.item.Candidate.{Candidate as TableCandidate}
-use Rattle.hir_scope_table.specs.declared.item.Push.{Push as TablePush}
-use Rattle.hir_scope_table.specs.Bindings.{Slot as TableSlot}
-use Rattle.hir_scope.specs.contracts.imports.ImportOrExternCratePartialEq.TheImpl as import_or_extern_crate
-use Rattle.hir_scope.specs.contracts.imports.ImportOrGlobPartialEq.TheImpl as import_or_glob
-use Rattle.hir_scope.specs.declared.imports.ImportOrDef.{ImportOrDef}
-use Rattle.hir_scope.specs.declared.imports.ImportOrExternCrate.{ImportOrExternCrate}
-use Rattle.hir_scope.specs.declared.imports.ImportOrGlob.{ImportOrGlob}
-use Rattle.hir_scope.specs.declared.per_ns.PerNs.{PerNs}
-use Rattle.hir_scope.specs.declared.visibility.Visibility.{Visibility}
+use Rattle.hir_ids.specs.declared.macro_kind.MacroId.{MacroId}
+use Rattle.hir_ids.specs.declared.ids.ModuleDefId.{ModuleDefId}
+use Rattle.hir_ids.specs.declared.ids.ModuleDefId.TheVariants as defs
+use Rattle.hir_ids.specs.contracts.ids.ModuleDefIdPartialEq.TheImpl as module_def
+use Rattle.hir_ids.specs.contracts.macro_kind.MacroIdPartialEq.TheImpl as makro
+use Rattle.hir_scope_item.specs.declared.item.Candidate.{Candidate as TableCandidate}
+use Rattle.hir_scope_item.specs.declared.item.Push.{Push as TablePush}
+use Rattle.hir_scope_item.specs.Bindings.{Slot as TableSlot}
+use Rattle.hir_per_ns.specs.contracts.imports.ImportOrExternCratePartialEq.TheImpl as import_or_extern_crate
+use Rattle.hir_per_ns.specs.contracts.imports.ImportOrGlobPartialEq.TheImpl as import_or_glob
+use Rattle.hir_per_ns.specs.declared.imports.ImportOrDef.{ImportOrDef}
+use Rattle.hir_per_ns.specs.declared.imports.ImportOrExternCrate.{ImportOrExternCrate}
+use Rattle.hir_per_ns.specs.declared.imports.ImportOrGlob.{ImportOrGlob}
+use Rattle.hir_per_ns.specs.declared.per_ns.PerNs.{PerNs}
+use Rattle.hir_per_ns.specs.declared.visibility.Visibility.{Visibility}
 use Rattle.hir_scope.specs.ImportRecords.{is_glob, reached_by, value_reached_by}
-use Rattle.hir_scope.specs.PerNs.{Item, item_of, value_import}
-pub use Rattle.hir_scope_table.specs.Bindings.{first_of, is_same_import, is_reresolved_by, changes_slot, slot_after, takes, slot_after_push}
-pub use Rattle.hir_scope_table.specs.Bindings.{with_item_visibility, with_item_definition, history_of, prevailing}
+use Rattle.hir_per_ns.specs.PerNs.{Item, item_of, value_import}
+pub use Rattle.hir_scope_item.specs.Bindings.{first_of, is_same_import, is_reresolved_by, changes_slot, slot_after, takes, slot_after_push}
+pub use Rattle.hir_scope_item.specs.Bindings.{with_item_visibility, with_item_definition, history_of, prevailing}
 pub use Rattle.hir_scope_table.specs.Table.{slot_at, taken, written_items, written_places, written_records, slot_after_candidate, PushesSlot, Records}
 
 -- a push to one namespace: an item, and whether a glob pushes it

@@ -4,21 +4,21 @@ use Rattle.std.specs.List.{flat_map}
 use Rattle.std.specs.Ordering.{nat_cmp}
 use Rattle.std.specs.Cmp.Lexicographic.{slice_cmp}
 use Rattle.std.specs.BTreeSet.{insert_key}
-use Rattle.hir_base.specs.declared.edition.Edition.TheVariants.{Edition2024}
-use Rattle.hir_base.specs.declared.macro_kind.MacroCallStyles.{MacroCallStyles}
-use Rattle.hir_base.specs.declared.macro_kind.MacroId.{MacroId}
-use Rattle.hir_base.specs.declared.ids.ModuleDefId.{ModuleDefId}
-use Rattle.hir_base.specs.declared.ids.TraitId.{TraitId}
-use Rattle.hir_base.specs.MacroKind.{styles_of}
-use Rattle.hir_base.specs.Display.{shown}
+use Rattle.hir_ids.specs.declared.edition.Edition.TheVariants.{Edition2024}
+use Rattle.hir_ids.specs.declared.macro_kind.MacroCallStyles.{MacroCallStyles}
+use Rattle.hir_ids.specs.declared.macro_kind.MacroId.{MacroId}
+use Rattle.hir_ids.specs.declared.ids.ModuleDefId.{ModuleDefId}
+use Rattle.hir_ids.specs.declared.ids.TraitId.{TraitId}
+use Rattle.hir_ids.specs.MacroKind.{styles_of}
+use Rattle.hir_ids.specs.Display.{shown}
 use Rattle.hir_textual_scope.specs.declared.textual_scope.TextualMacro.{TextualMacro}
-use Rattle.hir_scope.specs.declared.imports.ImportId.{ImportId}
-use Rattle.hir_scope.specs.declared.imports.ImportOrExternCrate.{ImportOrExternCrate}
-use Rattle.hir_scope.specs.declared.imports.ImportOrExternCrate.TheVariants as item
-use Rattle.hir_scope.specs.declared.imports.ImportOrGlob.{ImportOrGlob}
-use Rattle.hir_scope.specs.declared.imports.ImportOrGlob.TheVariants as value
-use Rattle.hir_scope.specs.PerNs.{Item, is_nothing}
-use Rattle.hir_scope.specs.declared.per_ns.PerNs.{PerNs}
+use Rattle.hir_per_ns.specs.declared.imports.ImportId.{ImportId}
+use Rattle.hir_per_ns.specs.declared.imports.ImportOrExternCrate.{ImportOrExternCrate}
+use Rattle.hir_per_ns.specs.declared.imports.ImportOrExternCrate.TheVariants as item
+use Rattle.hir_per_ns.specs.declared.imports.ImportOrGlob.{ImportOrGlob}
+use Rattle.hir_per_ns.specs.declared.imports.ImportOrGlob.TheVariants as value
+use Rattle.hir_per_ns.specs.PerNs.{Item, is_nothing}
+use Rattle.hir_per_ns.specs.declared.per_ns.PerNs.{PerNs}
 use Rattle.hir_scope.specs.Scope.{ScopeValue}
 use Rattle.hir_scope.specs.Scope.Reads.{legacy_at}
 use Rattle.hir_scope.specs.Scope.Entries.{entries_of, unnamed_binding}

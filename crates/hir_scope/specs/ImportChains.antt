@@ -1,21 +1,21 @@
 -- Which definition does an import reach in the end?
 use Rattle.std.specs.Prelude.{ℕ, zero, suc, Option, None, Some}
-use Rattle.hir_base.specs.declared.macro_kind.MacroId.{MacroId}
-use Rattle.hir_base.specs.declared.ids.ModuleDefId.{ModuleDefId}
-use Rattle.hir_base.specs.declared.ids.ModuleId.{ModuleId}
-use Rattle.hir_base.specs.declared.ids.ModuleDefId.TheVariants as def
-use Rattle.hir_scope.specs.contracts.imports.ImportOrExternCrateOrd.TheImpl as import_or_extern_crate
-use Rattle.hir_scope.specs.contracts.imports.ImportOrGlobOrd.TheImpl as import_or_glob
-use Rattle.hir_scope.specs.declared.imports.ImportId.{ImportId}
-use Rattle.hir_scope.specs.declared.imports.ImportOrDef.{ImportOrDef}
-use Rattle.hir_scope.specs.declared.imports.ImportOrDef.TheVariants as reached
-use Rattle.hir_scope.specs.declared.imports.ImportOrExternCrate.TheVariants as item
-use Rattle.hir_scope.specs.declared.imports.ImportOrGlob.TheVariants as value
-use Rattle.hir_scope.specs.declared.per_ns.Namespace.{Namespace}
-use Rattle.hir_scope.specs.declared.per_ns.Namespace.TheVariants.{Types, Values, Macros}
-use Rattle.hir_scope.specs.PerNs.{Item}
-use Rattle.hir_scope.specs.declared.per_ns.PerNs.{PerNs}
-use Rattle.hir_scope.specs.declared.visibility.Visibility.TheVariants.{Public}
+use Rattle.hir_ids.specs.declared.macro_kind.MacroId.{MacroId}
+use Rattle.hir_ids.specs.declared.ids.ModuleDefId.{ModuleDefId}
+use Rattle.hir_ids.specs.declared.ids.ModuleId.{ModuleId}
+use Rattle.hir_ids.specs.declared.ids.ModuleDefId.TheVariants as def
+use Rattle.hir_per_ns.specs.contracts.imports.ImportOrExternCrateOrd.TheImpl as import_or_extern_crate
+use Rattle.hir_per_ns.specs.contracts.imports.ImportOrGlobOrd.TheImpl as import_or_glob
+use Rattle.hir_per_ns.specs.declared.imports.ImportId.{ImportId}
+use Rattle.hir_per_ns.specs.declared.imports.ImportOrDef.{ImportOrDef}
+use Rattle.hir_per_ns.specs.declared.imports.ImportOrDef.TheVariants as reached
+use Rattle.hir_per_ns.specs.declared.imports.ImportOrExternCrate.TheVariants as item
+use Rattle.hir_per_ns.specs.declared.imports.ImportOrGlob.TheVariants as value
+use Rattle.hir_per_ns.specs.declared.per_ns.Namespace.{Namespace}
+use Rattle.hir_per_ns.specs.declared.per_ns.Namespace.TheVariants.{Types, Values, Macros}
+use Rattle.hir_per_ns.specs.PerNs.{Item}
+use Rattle.hir_per_ns.specs.declared.per_ns.PerNs.{PerNs}
+use Rattle.hir_per_ns.specs.declared.visibility.Visibility.TheVariants.{Public}
 use Rattle.hir_scope.specs.Entries.{value_at}
 use Rattle.hir_scope.specs.Scope.{ScopeValue}
 

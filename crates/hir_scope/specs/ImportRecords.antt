@@ -1,12 +1,12 @@
 -- What does a scope record of an import?
 use Rattle.std.specs.Prelude.{Bool, true, false, Option, None, Some}
-use Rattle.hir_base.specs.declared.ids.ModuleDefId.{ModuleDefId}
-use Rattle.hir_scope.specs.declared.imports.ImportOrDef.{ImportOrDef}
-use Rattle.hir_scope.specs.declared.imports.ImportOrDef.TheVariants as reached
-use Rattle.hir_scope.specs.declared.imports.ImportOrExternCrate.{ImportOrExternCrate}
-use Rattle.hir_scope.specs.declared.imports.ImportOrExternCrate.TheVariants as brought
-use Rattle.hir_scope.specs.declared.imports.ImportOrGlob.{ImportOrGlob}
-use Rattle.hir_scope.specs.declared.imports.ImportOrGlob.TheVariants as brought_value
+use Rattle.hir_ids.specs.declared.ids.ModuleDefId.{ModuleDefId}
+use Rattle.hir_per_ns.specs.declared.imports.ImportOrDef.{ImportOrDef}
+use Rattle.hir_per_ns.specs.declared.imports.ImportOrDef.TheVariants as reached
+use Rattle.hir_per_ns.specs.declared.imports.ImportOrExternCrate.{ImportOrExternCrate}
+use Rattle.hir_per_ns.specs.declared.imports.ImportOrExternCrate.TheVariants as brought
+use Rattle.hir_per_ns.specs.declared.imports.ImportOrGlob.{ImportOrGlob}
+use Rattle.hir_per_ns.specs.declared.imports.ImportOrGlob.TheVariants as brought_value
 
 -- whether a glob brings something
 abbrev pub is_glob : Option ImportOrExternCrate → Bool

@@ -1,8 +1,8 @@
 -- ---- what a name stands for, and who may see it
-pub mod PerNs
-pub mod Imports
-pub mod ModuleTree
-pub mod Visibility
+pub use Rattle.hir_per_ns.specs.PerNs
+pub use Rattle.hir_per_ns.specs.Imports
+pub use Rattle.hir_per_ns.specs.ModuleTree
+pub use Rattle.hir_per_ns.specs.Visibility
 -- ---- a push, and what prevails
 pub use Rattle.hir_scope_table.specs.Entries
 pub mod ImportRecords
@@ -23,3 +23,7 @@ pub mod Laws
 pub use Rattle.hir_scope_table.specs.Merge
 pub mod Inner
 pub mod Types
+pub use Rattle.hir_ids.specs as HirIds
+pub use Rattle.hir_per_ns.specs as HirPerNs
+pub use Rattle.hir_scope_table.specs as HirScopeTable
+pub use Rattle.hir_textual_scope.specs as HirTextualScope

@@ -4,8 +4,8 @@ ghost use Rattle.std.specs.Cmp.{IsTotalOrder};
 ghost use Rattle.std.specs.List.Sorted.{IsStrictlySortedBy};
 ghost use Rattle.hir_scope.specs.Globs.{place_cmp, has_place};
 
-use hir_base::ids::ModuleId;
-use hir_base::name::Name;
+use hir_ids::ids::ModuleId;
+use hir_ids::name::Name;
 use hir_scope_table::globs::Globs;
 use std::alloc::Global;
 use std::marker::Model;

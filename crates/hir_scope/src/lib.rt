@@ -12,15 +12,12 @@
 //! pushes (`laws`). A push reserves all its memory before it writes: one that is refused changes nothing.
 #![tactic(auto)]
 
+pub use hir_per_ns::{
+    import_conversions, imports, item_in_ns, laws, module_tree, per_ns, per_ns_items, visibility,
+};
+pub use hir_textual_scope;
+
 pub mod glob_imports;
-pub mod import_conversions;
-pub mod imports;
-pub mod item_in_ns;
 pub mod item_scope;
-pub mod laws;
-pub mod module_tree;
-pub mod per_ns;
-pub mod per_ns_items;
 pub mod scopes;
-pub mod visibility;
 pub mod walk_laws;

@@ -2,7 +2,7 @@
 ghost use Rattle.std.specs.Prelude.{List};
 ghost use Rattle.std.specs.Option.{option_copied};
 ghost use Rattle.std.specs.Map.Iter.{deref_pair};
-ghost use Rattle.hir_scope.specs.PerNs.{items_left};
+ghost use Rattle.hir_per_ns.specs.PerNs.{items_left};
 ghost use Rattle.hir_scope.specs.Laws.{BindingsAscend, EntriesAscend, GivesItsList, ImportsAscend};
 
 use crate::imports::{ImportOrExternCrate, ImportOrGlob};
@@ -16,9 +16,9 @@ use crate::item_scope::iter::modules_and_traits::{ModulesInScope, Traits};
 use crate::item_scope::iter::tables::TableEntries;
 use crate::item_scope::macro_calls::DeriveAttributes;
 use crate::per_ns_items::PerNsItems;
-use hir_base::ast_id::{AstId, MacroCallId};
-use hir_base::ids::ModuleDefId;
-use hir_base::macro_kind::MacroId;
+use hir_ids::ast_id::{AstId, MacroCallId};
+use hir_ids::ids::ModuleDefId;
+use hir_ids::macro_kind::MacroId;
 use hir_textual_scope::textual_scope::TextualMacros;
 
 /// Each walk ends, and has then given its list.

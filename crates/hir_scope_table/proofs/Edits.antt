@@ -12,7 +12,7 @@ use Rattle.std.specs.List.Sorted.{IsStrictlySortedBy}
 use Rattle.std.specs.Map.{keys_of, lookup, set_value, remove_entry}
 use Rattle.std.proofs.lemmas.Cmp.{nat_list_cmp_total}
 use Rattle.std.proofs.lemmas.Map.Lookups.{exact_bytes}
-use Rattle.hir_scope_table.specs.Bindings.{first_of}
+use Rattle.hir_scope_item.specs.Bindings.{first_of}
 use Rattle.hir_scope_table.specs.Entries.{any_value, item_at, with_some_entry}
 use Rattle.hir_scope_table.specs.Slots.{Slots, NamedSlots, in_slot, is_vacant, keys_where, named, types_in, values_in, macros_in, unresolved_in}
 use Rattle.hir_scope_table.specs.Inner.Kept.{edited, marked, no_slots, over, slots_at, with_type, with_value, with_macro, without_value, without_value_of}

@@ -4,9 +4,9 @@ use mathlib.Core.Bool.{true≢false}
 use Rattle.std.specs.Cmp.{IsEquivalence}
 use Rattle.std.proofs.lemmas.List.Sums.{fold-append}
 use Rattle.hir_scope_table.specs.Types.{Candidate, Item, Push}
-use Rattle.hir_scope_table.specs.Bindings.{first_of}
-use Rattle.hir_scope_table.specs.Bindings.{is_same_import, Slot, slot_after_push, history_of, from_explicit, is_by_import, run_starts, last_or}
-use Rattle.hir_scope_table.specs.Bindings.{explicit_binding, prevailing}
+use Rattle.hir_scope_item.specs.Bindings.{first_of}
+use Rattle.hir_scope_item.specs.Bindings.{is_same_import, Slot, slot_after_push, history_of, from_explicit, is_by_import, run_starts, last_or}
+use Rattle.hir_scope_item.specs.Bindings.{explicit_binding, prevailing}
 use Rattle.hir_scope_table.specs.Table.{slot_after_candidate, pushes_of}
 
 module _ {I : Type 0} (same_import : I → I → Bool) (imports : IsEquivalence same_import) where

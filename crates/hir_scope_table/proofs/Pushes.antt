@@ -9,9 +9,9 @@ use Rattle.std.specs.Cmp.Lexicographic.{slice_cmp}
 use Rattle.std.specs.List.Sorted.{IsStrictlySortedBy}
 use Rattle.std.proofs.lemmas.Cmp.{tied_itself, nat_list_cmp_total}
 use Rattle.std.proofs.lemmas.Map.Lookups.{exact_bytes}
-use Rattle.hir_base.specs.contracts.ids.ModuleIdOrd.TheImpl as module_id
+use Rattle.hir_ids.specs.contracts.ids.ModuleIdOrd.TheImpl as module_id
 use Rattle.hir_scope_table.specs.Types.{Candidate, Item, Push}
-use Rattle.hir_scope_table.specs.Bindings.{Slot, first_of, is_same_import, takes}
+use Rattle.hir_scope_item.specs.Bindings.{Slot, first_of, is_same_import, takes}
 use Rattle.hir_scope_table.specs.Entries.{item_at, value_at, with_entry}
 use Rattle.hir_scope_table.specs.Globs.{Place, place_cmp, has_place, with_place, without_place}
 use Rattle.hir_scope_table.specs.Table.{Bindings, slot_at, taken, written_items, written_places, written_records, slot_after_candidate, PushesSlot}

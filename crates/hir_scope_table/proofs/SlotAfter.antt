@@ -3,7 +3,7 @@ use Rattle.std.proofs.Common.{◌≡◌, refl, sym, Bool, true, false, not, ◌&
 use mathlib.Core.Bool.{true≢false}
 use Rattle.std.specs.Option.{is_some}
 use Rattle.hir_scope_table.specs.Types.{Candidate, Item}
-use Rattle.hir_scope_table.specs.Bindings.{Slot, first_of, is_reresolved_by, slot_after, takes}
+use Rattle.hir_scope_item.specs.Bindings.{Slot, first_of, is_reresolved_by, slot_after, takes}
 use Rattle.hir_scope_table.specs.Table.{slot_after_candidate}
 
 module _ {D V I : Type 0} (same_def : D → D → Bool) (same_import : I → I → Bool) where

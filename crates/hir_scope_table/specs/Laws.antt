@@ -1,11 +1,11 @@
 -- What holds of the pushes of a name?
 use Rattle.std.specs.Prelude.{◌≡◌, Bool, List, ◌++◌, Option, fold}
 use Rattle.std.specs.declared.cmp.Ordering.{Ordering}
-use Rattle.hir_scope_table.specs.declared.item.Candidate.{Candidate}
-use Rattle.hir_scope_table.specs.declared.item.Push.{Push}
+use Rattle.hir_scope_item.specs.declared.item.Candidate.{Candidate}
+use Rattle.hir_scope_item.specs.declared.item.Push.{Push}
 use Rattle.hir_scope_table.specs.Entries.{value_at}
 use Rattle.hir_scope_table.specs.Table.{last_recorded, written_records}
-use Rattle.hir_scope_table.specs.Bindings.{first_of, Slot, slot_after_push, history_of, prevailing}
+use Rattle.hir_scope_item.specs.Bindings.{first_of, Slot, slot_after_push, history_of, prevailing}
 
 -- pushes that come one after another to a slot leave what prevails among what stood there and the pushes
 abbrev pub ExplicitPrevails : {D I : Type 0} → (V : Type 0) → (D → D → Bool) → (I → I → Bool) → Type 0

@@ -3,7 +3,7 @@ pub mod Entries
 pub mod Slots
 pub mod Probe
 pub mod SlotWalk
-pub mod Bindings
+pub use Rattle.hir_scope_item.specs.Bindings
 pub mod Globs
 pub mod Table
 pub mod Laws

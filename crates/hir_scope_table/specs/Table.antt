@@ -5,10 +5,10 @@ use Rattle.std.specs.Cmp.Lexicographic.{slice_cmp}
 use Rattle.std.specs.BTreeMap.{is_at}
 use Rattle.std.specs.Map.{set_value, remove_entry}
 use Rattle.std.specs.declared.cmp.Ordering.{Ordering}
-use Rattle.hir_scope_table.specs.declared.item.Item.{Item}
-use Rattle.hir_scope_table.specs.declared.item.Push.{Push}
-use Rattle.hir_scope_table.specs.declared.item.Candidate.{Candidate}
-use Rattle.hir_scope_table.specs.Bindings.{Slot, first_of, takes, slot_after_push, history_of, prevailing, with_item_visibility, with_item_definition}
+use Rattle.hir_scope_item.specs.declared.item.Item.{Item}
+use Rattle.hir_scope_item.specs.declared.item.Push.{Push}
+use Rattle.hir_scope_item.specs.declared.item.Candidate.{Candidate}
+use Rattle.hir_scope_item.specs.Bindings.{Slot, first_of, takes, slot_after_push, history_of, prevailing, with_item_visibility, with_item_definition}
 use Rattle.hir_scope_table.specs.Entries.{item_at, value_at, with_some_entry}
 use Rattle.hir_scope_table.specs.Globs.{Place, has_place, with_place, without_place}
 

@@ -1,10 +1,10 @@
 //! A name of a scope, and what it stands for there.
 ghost use Rattle.std.specs.Prelude.{◌≡◌, not, Option, None, IfOk, option_map, option_copied};
 ghost use Rattle.hir_scope_table.specs.Slots.{Slots, is_vacant};
-ghost use Rattle.hir_scope_table.specs.Bindings.{first_of};
+ghost use Rattle.hir_scope_item.specs.Bindings.{first_of};
 ghost use Rattle.hir_scope_table.specs.Inner.Kept.{unboxed, over, marked, no_slots, revised, without_value};
 
-use hir_base::name::Name;
+use hir_ids::name::Name;
 use std::alloc::{AllocError, Global};
 use std::marker::Model;
 

@@ -15,7 +15,7 @@ ghost use Rattle.hir_scope_table.specs.Inner.Place.{BelongsAt, IsKept};
 
 use crate::entry::{Entry, Filling, Revise};
 use crate::probe::{Probe, place_of};
-use hir_base::name::Name;
+use hir_ids::name::Name;
 use std::alloc::{AllocError, Global};
 use std::marker::Model;
 

@@ -6,8 +6,8 @@ ghost use Rattle.hir_scope_table.specs.Globs.{Place, place_cmp, has_place, witho
 ghost use Rattle.hir_scope_table.specs.Inner.Reserved.{IsKeyFor};
 
 use crate::reserved::{add_key, remove_key};
-use hir_base::ids::ModuleId;
-use hir_base::name::Name;
+use hir_ids::ids::ModuleId;
+use hir_ids::name::Name;
 use std::alloc::{AllocError, Global};
 use std::collections::BTreeSet;
 use std::marker::Model;

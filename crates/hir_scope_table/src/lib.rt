@@ -9,10 +9,11 @@
 //! back. The rest needs no memory.
 #![tactic(auto)]
 
+pub use hir_scope_item::item;
+
 pub mod entry;
 pub mod entry_list;
 pub mod globs;
-pub mod item;
 pub mod laws;
 pub mod merge_sorted;
 pub mod probe;

@@ -6,7 +6,7 @@ ghost use Rattle.hir_scope_table.specs.Probe.{binary_digits};
 ghost use Rattle.hir_scope_table.specs.Inner.Place.{BelongsAt, IsKept};
 
 use crate::entry::Entry;
-use hir_base::name::Name;
+use hir_ids::name::Name;
 use std::cmp::Ordering;
 use std::marker::Model;
 

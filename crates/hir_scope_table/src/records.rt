@@ -1,7 +1,7 @@
 //! What the imports of a scope reached, and which pushes change a slot.
 ghost use Rattle.std.specs.Prelude.{◌≡◌, ℕ, List, Option, None, Some, IfOk, OnErr};
-ghost use Rattle.hir_scope_table.specs.declared.item.Item.{Item};
-ghost use Rattle.hir_scope_table.specs.Bindings.{is_reresolved_by, takes};
+ghost use Rattle.hir_scope_item.specs.declared.item.Item.{Item};
+ghost use Rattle.hir_scope_item.specs.Bindings.{is_reresolved_by, takes};
 ghost use Rattle.hir_scope_table.specs.Entries.{item_at};
 ghost use Rattle.hir_scope_table.specs.Globs.{Place, place_cmp, has_place};
 ghost use Rattle.hir_scope_table.specs.Table.{pushed_item, taken, is_globs, record_entry, written_places, written_records};
@@ -10,8 +10,8 @@ ghost use Rattle.hir_scope_table.specs.Inner.Reserved.{IsEntryFor, IsKeyFor};
 use crate::globs::Globs;
 use crate::item::{Candidate, Item};
 use crate::reserved::{Reserved, add_entry, remove_entry, write_entry};
-use hir_base::ids::ModuleId;
-use hir_base::name::Name;
+use hir_ids::ids::ModuleId;
+use hir_ids::name::Name;
 use std::alloc::AllocError;
 use std::collections::BTreeMap;
 

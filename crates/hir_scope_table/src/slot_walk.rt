@@ -5,7 +5,7 @@ ghost use Rattle.hir_scope_table.specs.Slots.{types_in, values_in, macros_in};
 ghost use Rattle.hir_scope_table.specs.SlotWalk.{walk_left};
 
 use crate::entry::Entry;
-use hir_base::name::Name;
+use hir_ids::name::Name;
 
 /// What is left of a walk over the entries that have something in types, in values or in macros.
 ///

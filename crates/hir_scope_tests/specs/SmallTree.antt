@@ -1,11 +1,11 @@
 -- Which modules lie above one another where module 3 is a child of module 1, which holds all blocks, and each other module is a child of its root?
 use Rattle.std.specs.Prelude.{◌≡◌, ◌==◌, ℕ, true, false, Option, None, Some, List, [], ◌∷◌, cond, refl, All}
 use Rattle.std.proofs.lemmas.List.Elements.{All-cons, All-nil}
-use Rattle.hir_base.specs.declared.ast_id.BlockId.{BlockId}
-use Rattle.hir_base.specs.declared.ids.Crate.{Crate}
-use Rattle.hir_base.specs.declared.ids.ModuleId.{ModuleId}
+use Rattle.hir_ids.specs.declared.ast_id.BlockId.{BlockId}
+use Rattle.hir_ids.specs.declared.ids.Crate.{Crate}
+use Rattle.hir_ids.specs.declared.ids.ModuleId.{ModuleId}
 use Rattle.hir_scope.specs.Bindings.{first_of}
-use Rattle.hir_scope.specs.ModuleTree.{chain_from}
+use Rattle.hir_per_ns.specs.ModuleTree.{chain_from}
 
 -- a module by its crate, block and number
 abbrev pub module_at : Crate → Option BlockId → ℕ → ModuleId

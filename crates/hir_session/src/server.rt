@@ -2,7 +2,7 @@
 ghost use Rattle.hir_session_server.specs.Runs.{Converses};
 
 use crate::collector::Collector;
-use hir_lines::output::Fault;
+use hir_session_machine::hir_lines::output::Fault;
 use hir_session_server::server::run_by;
 use std::alloc::Global;
 use std::io::{Read, Write};

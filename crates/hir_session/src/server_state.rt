@@ -1,12 +1,12 @@
 //! What answers lines, with the collector that refreshes its session.
 ghost use Rattle.std.specs.Prelude.{◌≡◌, false};
-ghost use Rattle.hir_wire.specs.Replies.{is_fixed};
-ghost use Rattle.hir_wire.specs.declared.reply.Reply.TheVariants as reply;
+ghost use Rattle.hir_session_machine.specs.HirWire.Replies.{is_fixed};
+ghost use Rattle.hir_session_machine.specs.HirMessages.declared.reply.Reply.TheVariants as reply;
 ghost use Rattle.hir_session_machine.specs.Machine.{first_state, AnswersLine};
 
 use crate::collector::Collector;
+use hir_session_machine::hir_wire::reply::Reply;
 use hir_session_machine::server_state::Machine as MachineCore;
-use hir_wire::reply::Reply;
 use std::alloc::Global;
 use std::marker::Model;
 

@@ -4,24 +4,24 @@
 //! it promises alone.
 ghost use Rattle.std.specs.Prelude.{◌≡◌, ◌≢◌, ◌⊎◌, ◌<◌, ℕ, map, length, false, IfOk, IfErr, OnOk, OnErr, Ok, Err};
 ghost use Rattle.std.specs.Borrow.{sem};
-ghost use Rattle.hir_base.specs.Place.{PlaceValue};
-ghost use Rattle.hir_wire.specs.CommandValue.{crate_input_view};
-ghost use Rattle.hir_wire.specs.declared.reply.Status.TheVariants as status;
-ghost use Rattle.hir_session_state.specs.Beginning.{Begins};
-ghost use Rattle.hir_session_state.specs.Changes.{Refreshes, RefreshesPartly};
-ghost use Rattle.hir_session_state.specs.Crates.{id_of};
-ghost use Rattle.hir_session_state.specs.Due.{HasOverlongRun};
-ghost use Rattle.hir_session_state.specs.Refusals.{verdict_of_new, IsNewMemory};
-ghost use Rattle.hir_session_state.specs.SessionState.{is_marked};
-ghost use Rattle.hir_session_answers.specs.Status.{status_of};
+ghost use Rattle.hir_session_machine.specs.HirBase.Place.{PlaceValue};
+ghost use Rattle.hir_session_machine.specs.HirMessages.CommandValue.{crate_input_view};
+ghost use Rattle.hir_session_machine.specs.HirMessages.declared.reply.Status.TheVariants as status;
+ghost use Rattle.hir_session_machine.specs.HirSessionState.Beginning.{Begins};
+ghost use Rattle.hir_session_machine.specs.HirSessionState.Changes.{Refreshes, RefreshesPartly};
+ghost use Rattle.hir_session_machine.specs.HirSessionState.Crates.{id_of};
+ghost use Rattle.hir_session_machine.specs.HirSessionState.Due.{HasOverlongRun};
+ghost use Rattle.hir_session_machine.specs.HirSessionState.Refusals.{verdict_of_new, IsNewMemory};
+ghost use Rattle.hir_session_machine.specs.HirSessionState.SessionState.{is_marked};
+ghost use Rattle.hir_session_machine.specs.HirSessionAnswers.Status.{status_of};
 ghost use Rattle.hir_session.specs.Lending.{LendsCore};
 
 use crate::collector::Collector;
-use hir_base::place::Place;
-pub use hir_session_core::session::MAX_CRATES;
-use hir_session_core::session::Session as SessionCore;
-use hir_session_state::error::{NewSessionError, RefreshError};
-use hir_wire::command::CrateInput;
+use hir_session_machine::hir_base::place::Place;
+pub use hir_session_machine::hir_session_core::session::MAX_CRATES;
+use hir_session_machine::hir_session_core::session::Session as SessionCore;
+use hir_session_machine::hir_session_state::error::{NewSessionError, RefreshError};
+use hir_session_machine::hir_wire::command::CrateInput;
 use std::alloc::Global;
 use std::marker::Model;
 use std::ops::{Deref, DerefMut};
@@ -35,8 +35,8 @@ pub struct Session {
 }
 
 impl Model for Session {
-    ghost use Rattle.hir_session_state.specs.SessionState.{SessionState};
-    ghost use Rattle.hir_session_state.specs.Codes.{coded_session};
+    ghost use Rattle.hir_session_machine.specs.HirSessionState.SessionState.{SessionState};
+    ghost use Rattle.hir_session_machine.specs.HirSessionState.Codes.{coded_session};
 
     ghost Value = { SessionState };
 

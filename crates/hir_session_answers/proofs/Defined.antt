@@ -3,54 +3,54 @@ use Rattle.std.specs.Prelude.{is_some, slice_get, map}
 use Rattle.std.proofs.Common.{◌≡◌, ◌≢◌, ◌∙◌, ap, sym, subst, refl, ℕ, zero, suc, ◌<◌, ◌≤◌, ◌++◌, true, List, [], ◌∷◌, length, IsSome, Option, None, Some}
 use Rattle.std.proofs.Common.{option_map, arith, Contains}
 use Rattle.std.specs.Option.{option_and_then}
-use Rattle.hir_base.specs.declared.ast_id.AstId.{AstId}
-use Rattle.hir_base.specs.declared.ast_id.BlockId.{BlockId}
-use Rattle.hir_base.specs.declared.ids.Crate.{Crate}
-use Rattle.hir_base.specs.declared.edition.Edition.{Edition}
-use Rattle.hir_base.specs.declared.ast_id.EditionedFileId.{EditionedFileId}
-use Rattle.hir_base.specs.declared.ast_id.FileId.{FileId}
-use Rattle.hir_base.specs.declared.ast_id.HirFileId.{HirFileId}
-use Rattle.hir_base.specs.declared.ast_id.MacroCallId.{MacroCallId}
-use Rattle.hir_base.specs.declared.macro_kind.MacroCallLoc.{MacroCallLoc}
-use Rattle.hir_base.specs.declared.macro_kind.MacroId.{MacroId}
-use Rattle.hir_base.specs.declared.ids.MapId.{MapId}
-use Rattle.hir_base.specs.declared.ids.ModuleId.{ModuleId}
-use Rattle.hir_base.specs.declared.ast_id.HirFileId.TheVariants.{File, Macro}
-use Rattle.hir_base.specs.declared.macro_kind.MacroId.TheVariants as macros
-use Rattle.hir_item_tree.specs.KeptForest.{KeptForest}
-use Rattle.hir_item_tree.specs.declared.tree_id.TreeId.{TreeId}
-use Rattle.hir_item_tree.specs.declared.tree_id.TreeKey.{TreeKey}
-use Rattle.hir_tables.specs.SourcePlaces.{file}
-use Rattle.hir_tables.specs.Tables.{TablesValue, call_at, file_at, source_of}
-use Rattle.hir_def_map_rules.specs.Diagnostics.{call_node}
-use Rattle.hir_def_map_rules.specs.Overlay.{Maps}
-use Rattle.hir_def_map_rules.specs.State.{ModuleValue, module_at}
-use Rattle.hir_def_map_rules.specs.declared.origin.ModuleOrigin.{ModuleOrigin}
-use Rattle.hir_collector_rules.specs.Calls.{AreCallsPlaced, Expanding, IsMeantAt, IsPlacedBelow, call_key, call_kind, call_loc, expansion_readings, kind_by}
-use Rattle.hir_collector_rules.specs.Calls.{text_readings}
-use Rattle.hir_collector_rules.specs.Causes.{HasCause, IsOfCall, IsPassed}
-use Rattle.hir_collector_rules.specs.Causes.HasCause.{root_tree, of_holder, declared_enum, candidate, of_call, dependency}
-use Rattle.hir_collector_rules.specs.Derivation.{CollectedValue, Ends}
-use Rattle.hir_collector_rules.specs.ModuleFiles.{file_key}
-use Rattle.hir_collector_rules.specs.Start.{Beginning, held_keys, holder_keys, holders_by, origin_of, read_by, root_site, tree_key}
-use Rattle.hir_collector_rules.specs.State.{State}
-use Rattle.hir_collector_rules.specs.Steps.{keys_read}
-use Rattle.hir_collector_rules.specs.Workspace.{Workspace}
-use Rattle.hir_collector_rules.specs.declared.macro_directive.MacroDirective.{MacroDirective}
-use Rattle.hir_collector_rules.specs.declared.macro_directive.MacroDirectiveKind.{MacroDirectiveKind}
-use Rattle.hir_collector_rules.specs.declared.site.Site.{Site}
-use Rattle.hir_collector_rules.specs.declared.start.Start.{Start}
-use Rattle.hir_collector_rules.specs.declared.macro_directive.MacroDirectiveKind.TheVariants.{Attr, Derive, FnLike}
-use Rattle.hir_collector_rules.specs.declared.source_database.Key.TheVariants as keys
-use Rattle.hir_collector_rules.specs.declared.start.Start.TheVariants as starts
-use Rattle.hir_collector_rules.proofs.Tried.{call_stays}
-use Rattle.hir_def_collector_laws.specs.Calls.{IsCallBy}
-use Rattle.hir_def_collector_laws.specs.Modules.{HasItems}
-use Rattle.hir_def_collector_laws.specs.Modules.HasItems.{of_root, of_file, inside_item, too_deep, without_file}
-use Rattle.hir_def_collector_laws.specs.Written.{key_of}
-use Rattle.hir_def_collector_laws.proofs.Imports.{calls_are_written}
-use Rattle.hir_def_collector_laws.proofs.Lists.{standing}
-use Rattle.hir_def_collector_laws.proofs.Modules.{modules_list_their_items}
+use Rattle.hir_session_state.specs.HirIds.declared.ast_id.AstId.{AstId}
+use Rattle.hir_session_state.specs.HirIds.declared.ast_id.BlockId.{BlockId}
+use Rattle.hir_session_state.specs.HirIds.declared.ids.Crate.{Crate}
+use Rattle.hir_session_state.specs.HirIds.declared.edition.Edition.{Edition}
+use Rattle.hir_session_state.specs.HirIds.declared.ast_id.EditionedFileId.{EditionedFileId}
+use Rattle.hir_session_state.specs.HirIds.declared.ast_id.FileId.{FileId}
+use Rattle.hir_session_state.specs.HirIds.declared.ast_id.HirFileId.{HirFileId}
+use Rattle.hir_session_state.specs.HirIds.declared.ast_id.MacroCallId.{MacroCallId}
+use Rattle.hir_session_state.specs.HirBase.declared.macro_kind.MacroCallLoc.{MacroCallLoc}
+use Rattle.hir_session_state.specs.HirIds.declared.macro_kind.MacroId.{MacroId}
+use Rattle.hir_session_state.specs.HirIds.declared.ids.MapId.{MapId}
+use Rattle.hir_session_state.specs.HirIds.declared.ids.ModuleId.{ModuleId}
+use Rattle.hir_session_state.specs.HirIds.declared.ast_id.HirFileId.TheVariants.{File, Macro}
+use Rattle.hir_session_state.specs.HirIds.declared.macro_kind.MacroId.TheVariants as macros
+use Rattle.hir_session_state.specs.HirItemTree.KeptForest.{KeptForest}
+use Rattle.hir_session_state.specs.HirBase.declared.tree_id.TreeId.{TreeId}
+use Rattle.hir_session_state.specs.HirBase.declared.tree_id.TreeKey.{TreeKey}
+use Rattle.hir_session_state.specs.HirTables.SourcePlaces.{file}
+use Rattle.hir_session_state.specs.HirTables.Tables.{TablesValue, call_at, file_at, source_of}
+use Rattle.hir_session_state.specs.HirDefMapRules.Diagnostics.{call_node}
+use Rattle.hir_session_state.specs.HirDefMapRules.Overlay.{Maps}
+use Rattle.hir_session_state.specs.HirDefMapRules.State.{ModuleValue, module_at}
+use Rattle.hir_session_state.specs.HirMapParts.declared.origin.ModuleOrigin.{ModuleOrigin}
+use Rattle.hir_session_state.specs.HirCollectorRules.Calls.{AreCallsPlaced, Expanding, IsMeantAt, IsPlacedBelow, call_key, call_kind, call_loc, expansion_readings, kind_by}
+use Rattle.hir_session_state.specs.HirCollectorRules.Calls.{text_readings}
+use Rattle.hir_session_state.specs.HirCollectorRules.Causes.{HasCause, IsOfCall, IsPassed}
+use Rattle.hir_session_state.specs.HirCollectorRules.Causes.HasCause.{root_tree, of_holder, declared_enum, candidate, of_call, dependency}
+use Rattle.hir_session_state.specs.HirCollectorRules.Derivation.{CollectedValue, Ends}
+use Rattle.hir_session_state.specs.HirCollectorRules.ModuleFiles.{file_key}
+use Rattle.hir_session_state.specs.HirCollectorRules.Start.{Beginning, held_keys, holder_keys, holders_by, origin_of, read_by, root_site, tree_key}
+use Rattle.hir_session_state.specs.HirCollectorRules.State.{State}
+use Rattle.hir_session_state.specs.HirCollectorRules.Steps.{keys_read}
+use Rattle.hir_session_state.specs.HirCollectorRules.Workspace.{Workspace}
+use Rattle.hir_session_state.specs.HirCollectorRules.declared.macro_directive.MacroDirective.{MacroDirective}
+use Rattle.hir_session_state.specs.HirCollectorRules.declared.macro_directive.MacroDirectiveKind.{MacroDirectiveKind}
+use Rattle.hir_session_state.specs.HirCollectorRules.declared.site.Site.{Site}
+use Rattle.hir_session_state.specs.HirCollectorRules.declared.start.Start.{Start}
+use Rattle.hir_session_state.specs.HirCollectorRules.declared.macro_directive.MacroDirectiveKind.TheVariants.{Attr, Derive, FnLike}
+use Rattle.hir_session_state.specs.HirCollectorRules.declared.source_database.Key.TheVariants as keys
+use Rattle.hir_session_state.specs.HirCollectorRules.declared.start.Start.TheVariants as starts
+use Rattle.hir_session_state.proofs.HirCollectorRules.Tried.{call_stays}
+use Rattle.hir_session_state.specs.HirDefCollectorLaws.Calls.{IsCallBy}
+use Rattle.hir_session_state.specs.HirDefCollectorLaws.Modules.{HasItems}
+use Rattle.hir_session_state.specs.HirDefCollectorLaws.Modules.HasItems.{of_root, of_file, inside_item, too_deep, without_file}
+use Rattle.hir_session_state.specs.HirDefCollectorLaws.Written.{key_of}
+use Rattle.hir_session_state.proofs.HirDefCollectorLaws.Imports.{calls_are_written}
+use Rattle.hir_session_state.proofs.HirDefCollectorLaws.Lists.{standing}
+use Rattle.hir_session_state.proofs.HirDefCollectorLaws.Modules.{modules_list_their_items}
 use Rattle.hir_session_state.specs.Kept.{Resolution, collected_of}
 use Rattle.hir_session_state.specs.SessionState.{SessionState, beginning_by, beginning_of, finished_of, kept_of, workspace_of, IsSound}
 use Rattle.hir_session_state.specs.Standing.{definition_file, file_around, file_of_module, file_of_origin, file_within, most_calls}

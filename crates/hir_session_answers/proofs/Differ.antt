@@ -3,34 +3,34 @@ use Rattle.std.specs.Prelude.{is_none, if◌then◌else◌}
 use Rattle.std.proofs.Common.{◌≡◌, ◌⊎◌, inl, inr, ℕ, nat_lt, Bool, true, false, cond, List, [], ◌∷◌, ◌++◌, length, Option, None, Some, Result, Ok, option_map}
 use Rattle.std.proofs.Common.{refl, sym, subst, ap, ◌∙◌, Contains}
 use Rattle.std.specs.Option.{option_and_then}
-use Rattle.hir_base.specs.ModPath.{Path}
-use Rattle.hir_base.specs.Place.{PlaceValue}
-use Rattle.hir_base.specs.contracts.ids.MapIdPartialEq.TheImpl as map_id
-use Rattle.hir_base.specs.declared.ast_id.BlockId.{BlockId}
-use Rattle.hir_base.specs.declared.place.BlockPlace.{BlockPlace}
-use Rattle.hir_base.specs.declared.ids.Crate.{Crate}
-use Rattle.hir_base.specs.declared.ids.MapId.{MapId}
-use Rattle.hir_base.specs.declared.ids.ModuleId.{ModuleId}
-use Rattle.hir_base.specs.declared.place.PlaceElement.{PlaceElement}
-use Rattle.hir_base.specs.declared.place.PlaceElement.TheVariants as element
-use Rattle.hir_tables.specs.Tables.{KeepsTables, TablesValue, block_at}
-use Rattle.hir_tables.proofs.Growth.{KeepsTables-refl, KeepsTables-trans}
-use Rattle.hir_def_map.specs.WorldParts.{among, is_of_some}
-use Rattle.hir_def_map.specs.Inner.PartLaws.{among_agrees}
-use Rattle.hir_def_map_rules.specs.Closed.{PathsLeadToWhatIsThere}
-use Rattle.hir_def_map_rules.specs.Inner.OverlayLaws.{exact_map}
-use Rattle.hir_def_map_rules.specs.Sources.{PathsAnswerFromSources}
-use Rattle.hir_def_map_rules.specs.Overlay.{Maps, holders_of, overlay, no_maps}
-use Rattle.hir_def_map_rules.specs.State.{child_at, crate_map, root_of}
-use Rattle.hir_collector_rules.specs.Workspace.{Workspace}
-use Rattle.hir_collector_rules.specs.Keys.{look}
-use Rattle.hir_def_collector_laws.specs.Sources.{RunsBindFromSources}
-use Rattle.hir_collector_rules.specs.declared.source_database.Key.{Key}
-use Rattle.hir_wire.specs.Edits.{EditValue}
-use Rattle.hir_wire.specs.declared.answer.Answer.{Answer}
-use Rattle.hir_wire.specs.declared.command.MacroStyle.{MacroStyle}
-use Rattle.hir_wire.specs.declared.command.Shadow.{Shadow}
-use Rattle.hir_wire.specs.declared.reply.Status.TheVariants as status
+use Rattle.hir_session_state.specs.HirBase.ModPath.{Path}
+use Rattle.hir_session_state.specs.HirBase.Place.{PlaceValue}
+use Rattle.hir_session_state.specs.HirIds.contracts.ids.MapIdPartialEq.TheImpl as map_id
+use Rattle.hir_session_state.specs.HirIds.declared.ast_id.BlockId.{BlockId}
+use Rattle.hir_session_state.specs.HirBase.declared.place.BlockPlace.{BlockPlace}
+use Rattle.hir_session_state.specs.HirIds.declared.ids.Crate.{Crate}
+use Rattle.hir_session_state.specs.HirIds.declared.ids.MapId.{MapId}
+use Rattle.hir_session_state.specs.HirIds.declared.ids.ModuleId.{ModuleId}
+use Rattle.hir_session_state.specs.HirBase.declared.place.PlaceElement.{PlaceElement}
+use Rattle.hir_session_state.specs.HirBase.declared.place.PlaceElement.TheVariants as element
+use Rattle.hir_session_state.specs.HirTables.Tables.{KeepsTables, TablesValue, block_at}
+use Rattle.hir_session_state.proofs.HirTables.Growth.{KeepsTables-refl, KeepsTables-trans}
+use Rattle.hir_session_state.specs.HirNameres.WorldParts.{among, is_of_some}
+use Rattle.hir_session_state.specs.HirNameres.Inner.PartLaws.{among_agrees}
+use Rattle.hir_session_state.specs.HirDefMapRules.Closed.{PathsLeadToWhatIsThere}
+use Rattle.hir_session_state.specs.HirDefMapRules.Inner.OverlayLaws.{exact_map}
+use Rattle.hir_session_state.specs.HirDefMapRules.Sources.{PathsAnswerFromSources}
+use Rattle.hir_session_state.specs.HirDefMapRules.Overlay.{Maps, holders_of, overlay, no_maps}
+use Rattle.hir_session_state.specs.HirDefMapRules.State.{child_at, crate_map, root_of}
+use Rattle.hir_session_state.specs.HirCollectorRules.Workspace.{Workspace}
+use Rattle.hir_session_state.specs.HirCollectorRules.Keys.{look}
+use Rattle.hir_session_state.specs.HirDefCollectorLaws.Sources.{RunsBindFromSources}
+use Rattle.hir_session_state.specs.HirCollectorRules.declared.source_database.Key.{Key}
+use Rattle.hir_session_state.specs.HirMessages.Edits.{EditValue}
+use Rattle.hir_session_state.specs.HirMessages.declared.answer.Answer.{Answer}
+use Rattle.hir_session_state.specs.HirMessages.declared.command.MacroStyle.{MacroStyle}
+use Rattle.hir_session_state.specs.HirMessages.declared.command.Shadow.{Shadow}
+use Rattle.hir_session_state.specs.HirMessages.declared.reply.Status.TheVariants as status
 use Rattle.hir_session_state.specs.declared.error.QueryError.{QueryError}
 use Rattle.hir_session_state.specs.Blocks.{Blocks}
 use Rattle.hir_session_state.specs.Crates.{CrateValue, dependency_maps, transitive_in}

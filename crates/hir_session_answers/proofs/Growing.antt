@@ -3,47 +3,47 @@ use Rattle.std.proofs.Common.{◌≡◌, ◌⊎◌, inl, inr, ℕ, zero, suc, is
 use Rattle.std.proofs.Common.{subst}
 use Rattle.std.specs.List.{cons_option}
 use Rattle.std.specs.Option.{option_and_then}
-use Rattle.hir_base.specs.ModPath.{Path}
-use Rattle.hir_base.specs.declared.ids.AdtId.{AdtId}
-use Rattle.hir_base.specs.declared.ast_id.AstId.{AstId}
-use Rattle.hir_base.specs.declared.ast_id.BlockId.{BlockId}
-use Rattle.hir_base.specs.declared.place.BlockPlace.{BlockPlace}
-use Rattle.hir_base.specs.declared.ids.Crate.{Crate}
-use Rattle.hir_base.specs.declared.ast_id.HirFileId.{HirFileId}
-use Rattle.hir_base.specs.declared.macro_kind.MacroCallLoc.{MacroCallLoc}
-use Rattle.hir_base.specs.declared.macro_kind.MacroId.{MacroId}
-use Rattle.hir_base.specs.declared.ids.ModuleDefId.{ModuleDefId}
-use Rattle.hir_base.specs.declared.ids.ModuleId.{ModuleId}
-use Rattle.hir_base.specs.declared.ast_id.SyntaxId.{SyntaxId}
-use Rattle.hir_base.specs.declared.ast_id.HirFileId.TheVariants.{File, Macro}
-use Rattle.hir_base.specs.declared.ids.AdtId.TheVariants as adt
-use Rattle.hir_base.specs.declared.ids.ModuleDefId.TheVariants as def
-use Rattle.hir_base.specs.declared.macro_kind.MacroId.TheVariants as macro
-use Rattle.hir_scope.specs.PerNs.{Item}
-use Rattle.hir_scope.specs.declared.imports.ImportOrExternCrate.{ImportOrExternCrate}
-use Rattle.hir_scope.specs.declared.imports.ImportOrGlob.{ImportOrGlob}
-use Rattle.hir_scope.specs.declared.visibility.Visibility.{Visibility}
-use Rattle.hir_scope.specs.declared.imports.ImportOrExternCrate.TheVariants as import
-use Rattle.hir_scope.specs.declared.imports.ImportOrGlob.TheVariants as value_import
-use Rattle.hir_scope.specs.declared.visibility.Visibility.TheVariants as vis
-use Rattle.hir_tables.specs.Tables.{TablesValue, KeepsTables, block_at, call_at}
-use Rattle.hir_def_map_rules.specs.Diagnostics.{DiagnosticValue, KindValue, call_node, diagnostic_view, node_of}
-use Rattle.hir_def_map_rules.specs.Scoping.{resolution_of}
-use Rattle.hir_def_map_rules.specs.State.{Local, ModuleValue}
-use Rattle.hir_def_map_rules.specs.Overlay.{Maps, module_in}
-use Rattle.hir_def_map_rules.specs.declared.diagnostics.DefDiagnostic.{DefDiagnostic}
-use Rattle.hir_def_map_rules.specs.declared.origin.ModuleOrigin.{ModuleOrigin}
-use Rattle.hir_def_map_rules.specs.declared.origin.ModuleOrigin.TheVariants as origin
-use Rattle.hir_wire.specs.declared.answer.AnswerItem.{AnswerItem}
-use Rattle.hir_wire.specs.declared.answer.AnswerVisibility.{AnswerVisibility}
-use Rattle.hir_wire.specs.declared.answer.Definition.{Definition}
-use Rattle.hir_wire.specs.declared.diagnostic.Diagnostic.{Diagnostic}
-use Rattle.hir_wire.specs.declared.answer.ImportSource.{ImportSource}
-use Rattle.hir_wire.specs.declared.answer.ItemSource.{ItemSource}
-use Rattle.hir_wire.specs.declared.command.MacroStyle.{MacroStyle}
-use Rattle.hir_wire.specs.declared.command.Shadow.{Shadow}
-use Rattle.hir_wire.specs.declared.answer.SourceItem.{SourceItem}
-use Rattle.hir_wire.specs.declared.answer.SourceKind.{SourceKind}
+use Rattle.hir_session_state.specs.HirBase.ModPath.{Path}
+use Rattle.hir_session_state.specs.HirIds.declared.ids.AdtId.{AdtId}
+use Rattle.hir_session_state.specs.HirIds.declared.ast_id.AstId.{AstId}
+use Rattle.hir_session_state.specs.HirIds.declared.ast_id.BlockId.{BlockId}
+use Rattle.hir_session_state.specs.HirBase.declared.place.BlockPlace.{BlockPlace}
+use Rattle.hir_session_state.specs.HirIds.declared.ids.Crate.{Crate}
+use Rattle.hir_session_state.specs.HirIds.declared.ast_id.HirFileId.{HirFileId}
+use Rattle.hir_session_state.specs.HirBase.declared.macro_kind.MacroCallLoc.{MacroCallLoc}
+use Rattle.hir_session_state.specs.HirIds.declared.macro_kind.MacroId.{MacroId}
+use Rattle.hir_session_state.specs.HirIds.declared.ids.ModuleDefId.{ModuleDefId}
+use Rattle.hir_session_state.specs.HirIds.declared.ids.ModuleId.{ModuleId}
+use Rattle.hir_session_state.specs.HirIds.declared.ast_id.SyntaxId.{SyntaxId}
+use Rattle.hir_session_state.specs.HirIds.declared.ast_id.HirFileId.TheVariants.{File, Macro}
+use Rattle.hir_session_state.specs.HirIds.declared.ids.AdtId.TheVariants as adt
+use Rattle.hir_session_state.specs.HirIds.declared.ids.ModuleDefId.TheVariants as def
+use Rattle.hir_session_state.specs.HirIds.declared.macro_kind.MacroId.TheVariants as macro
+use Rattle.hir_session_state.specs.HirPerNs.PerNs.{Item}
+use Rattle.hir_session_state.specs.HirPerNs.declared.imports.ImportOrExternCrate.{ImportOrExternCrate}
+use Rattle.hir_session_state.specs.HirPerNs.declared.imports.ImportOrGlob.{ImportOrGlob}
+use Rattle.hir_session_state.specs.HirPerNs.declared.visibility.Visibility.{Visibility}
+use Rattle.hir_session_state.specs.HirPerNs.declared.imports.ImportOrExternCrate.TheVariants as import
+use Rattle.hir_session_state.specs.HirPerNs.declared.imports.ImportOrGlob.TheVariants as value_import
+use Rattle.hir_session_state.specs.HirPerNs.declared.visibility.Visibility.TheVariants as vis
+use Rattle.hir_session_state.specs.HirTables.Tables.{TablesValue, KeepsTables, block_at, call_at}
+use Rattle.hir_session_state.specs.HirDefMapRules.Diagnostics.{DiagnosticValue, KindValue, call_node, diagnostic_view, node_of}
+use Rattle.hir_session_state.specs.HirDefMapRules.Scoping.{resolution_of}
+use Rattle.hir_session_state.specs.HirDefMapRules.State.{Local, ModuleValue}
+use Rattle.hir_session_state.specs.HirDefMapRules.Overlay.{Maps, module_in}
+use Rattle.hir_session_state.specs.HirMapParts.declared.diagnostics.DefDiagnostic.{DefDiagnostic}
+use Rattle.hir_session_state.specs.HirMapParts.declared.origin.ModuleOrigin.{ModuleOrigin}
+use Rattle.hir_session_state.specs.HirMapParts.declared.origin.ModuleOrigin.TheVariants as origin
+use Rattle.hir_session_state.specs.HirMessages.declared.answer.AnswerItem.{AnswerItem}
+use Rattle.hir_session_state.specs.HirMessages.declared.answer.AnswerVisibility.{AnswerVisibility}
+use Rattle.hir_session_state.specs.HirMessages.declared.answer.Definition.{Definition}
+use Rattle.hir_session_state.specs.HirMessages.declared.diagnostic.Diagnostic.{Diagnostic}
+use Rattle.hir_session_state.specs.HirMessages.declared.answer.ImportSource.{ImportSource}
+use Rattle.hir_session_state.specs.HirMessages.declared.answer.ItemSource.{ItemSource}
+use Rattle.hir_session_state.specs.HirMessages.declared.command.MacroStyle.{MacroStyle}
+use Rattle.hir_session_state.specs.HirMessages.declared.command.Shadow.{Shadow}
+use Rattle.hir_session_state.specs.HirMessages.declared.answer.SourceItem.{SourceItem}
+use Rattle.hir_session_state.specs.HirMessages.declared.answer.SourceKind.{SourceKind}
 use Rattle.hir_session_answers.specs.Answers.{answer_in, asking_of}
 use Rattle.hir_session_answers.specs.Diagnostics.{diagnostic_source, diagnostic_with, diagnostics_in, node_in, node_source}
 use Rattle.hir_session_answers.specs.DiagnosticsStand.{AreTold}

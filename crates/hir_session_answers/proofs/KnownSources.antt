@@ -1,40 +1,40 @@
 -- The run for a place meets no unknown source, nor does what a trait or an impl holds: what is kept binds only what sources write that have numbers.
 use Rattle.std.specs.Prelude.{is_some, not}
 use Rattle.std.proofs.Common.{◌≡◌, ◌<◌, ℕ, suc, true, false, List, [], length, Option, Some, None, option_map, ap, refl, subst, arith, Contains}
-use Rattle.hir_base.specs.Ids.{container_module}
-use Rattle.hir_base.specs.declared.ast_id.BlockId.{BlockId}
-use Rattle.hir_base.specs.declared.ids.Crate.{Crate}
-use Rattle.hir_base.specs.declared.ids.ItemContainerId.{ItemContainerId}
-use Rattle.hir_base.specs.declared.macro_kind.MacroId.{MacroId}
-use Rattle.hir_base.specs.declared.ids.MapId.{MapId}
-use Rattle.hir_base.specs.declared.ids.ModuleId.{ModuleId}
-use Rattle.hir_base.specs.declared.macro_kind.MacroId.TheVariants as macros
-use Rattle.hir_base.specs.declared.resolve_mode.MacroSubNs.TheVariants as sub_namespaces
-use Rattle.hir_crate_graph.specs.CrateSet.{has_crate}
-use Rattle.hir_item_tree.specs.declared.tree_id.TreeKey.{TreeKey}
-use Rattle.hir_scope.specs.PerNs.{Item}
-use Rattle.hir_scope.specs.declared.imports.ImportOrExternCrate.{ImportOrExternCrate}
-use Rattle.hir_scope.specs.declared.per_ns.PerNs.{PerNs}
-use Rattle.hir_tables.specs.Tables.{KeepsTables, TablesValue, source_under}
-use Rattle.hir_def_map.specs.Inner.PartLaws.{among-only}
-use Rattle.hir_def_map.specs.WorldParts.{among}
-use Rattle.hir_def_map_rules.specs.Overlay.{Maps, Placed, overlay}
-use Rattle.hir_def_map_rules.specs.Scoping.{resolution_of}
-use Rattle.hir_def_map_rules.specs.Scoping.Asking.{local_of}
-use Rattle.hir_def_map_rules.specs.Sources.{HoldsNowhere, HoldsNowhereIn, HoldsOfNoExtern, HoldsOfNone, SourceTest, on_macro, on_macro_item, on_some}
-use Rattle.hir_def_map_rules.specs.State.{crate_map}
-use Rattle.hir_def_map_rules.proofs.NoneOf.{not_first}
-use Rattle.hir_def_map_rules.proofs.StaysSourced.{HoldsNowhere-overlay}
-use Rattle.hir_collector_rules.specs.declared.source_database.Key.TheVariants as keys
+use Rattle.hir_session_state.specs.HirIds.Ids.{container_module}
+use Rattle.hir_session_state.specs.HirIds.declared.ast_id.BlockId.{BlockId}
+use Rattle.hir_session_state.specs.HirIds.declared.ids.Crate.{Crate}
+use Rattle.hir_session_state.specs.HirIds.declared.ids.ItemContainerId.{ItemContainerId}
+use Rattle.hir_session_state.specs.HirIds.declared.macro_kind.MacroId.{MacroId}
+use Rattle.hir_session_state.specs.HirIds.declared.ids.MapId.{MapId}
+use Rattle.hir_session_state.specs.HirIds.declared.ids.ModuleId.{ModuleId}
+use Rattle.hir_session_state.specs.HirIds.declared.macro_kind.MacroId.TheVariants as macros
+use Rattle.hir_session_state.specs.HirBase.declared.resolve_mode.MacroSubNs.TheVariants as sub_namespaces
+use Rattle.hir_session_state.specs.HirCrateGraph.CrateSet.{has_crate}
+use Rattle.hir_session_state.specs.HirBase.declared.tree_id.TreeKey.{TreeKey}
+use Rattle.hir_session_state.specs.HirPerNs.PerNs.{Item}
+use Rattle.hir_session_state.specs.HirPerNs.declared.imports.ImportOrExternCrate.{ImportOrExternCrate}
+use Rattle.hir_session_state.specs.HirPerNs.declared.per_ns.PerNs.{PerNs}
+use Rattle.hir_session_state.specs.HirTables.Tables.{KeepsTables, TablesValue, source_under}
+use Rattle.hir_session_state.specs.HirNameres.Inner.PartLaws.{among-only}
+use Rattle.hir_session_state.specs.HirNameres.WorldParts.{among}
+use Rattle.hir_session_state.specs.HirDefMapRules.Overlay.{Maps, Placed, overlay}
+use Rattle.hir_session_state.specs.HirDefMapRules.Scoping.{resolution_of}
+use Rattle.hir_session_state.specs.HirDefMapRules.Scoping.Asking.{local_of}
+use Rattle.hir_session_state.specs.HirDefMapRules.Sources.{HoldsNowhere, HoldsNowhereIn, HoldsOfNoExtern, HoldsOfNone, SourceTest, on_macro, on_macro_item, on_some}
+use Rattle.hir_session_state.specs.HirDefMapRules.State.{crate_map}
+use Rattle.hir_session_state.proofs.HirDefMapRules.NoneOf.{not_first}
+use Rattle.hir_session_state.proofs.HirDefMapRules.StaysSourced.{HoldsNowhere-overlay}
+use Rattle.hir_session_state.specs.HirCollectorRules.declared.source_database.Key.TheVariants as keys
 use Rattle.hir_assoc_items.specs.AssocItems.{ReachesUnknown, container_of}
 use Rattle.hir_assoc_items.specs.Written.{WrittenValue}
-use Rattle.hir_collector_rules.specs.Calls.{IsMeantAt, by_style, macro_among}
-use Rattle.hir_collector_rules.specs.Keys.{IsMeant, environment}
-use Rattle.hir_collector_rules.specs.Start.{Beginning, holders_by, krate_of, read_by, root_site}
-use Rattle.hir_collector_rules.specs.UnknownSources.{MeetsUnknownSource}
-use Rattle.hir_collector_rules.specs.Workspace.{transitive_dependencies_in}
-use Rattle.hir_collector_rules.proofs.ModuleFiles.{site_kept, source_kept}
-use Rattle.hir_def_collector_laws.specs.Sources.{BeginsClear, unnumbered}
+use Rattle.hir_session_state.specs.HirCollectorRules.Calls.{IsMeantAt, by_style, macro_among}
+use Rattle.hir_session_state.specs.HirCollectorRules.Keys.{IsMeant, environment}
+use Rattle.hir_session_state.specs.HirCollectorRules.Start.{Beginning, holders_by, krate_of, read_by, root_site}
+use Rattle.hir_session_state.specs.HirCollectorRules.UnknownSources.{MeetsUnknownSource}
+use Rattle.hir_session_state.specs.HirCollectorRules.Workspace.{transitive_dependencies_in}
+use Rattle.hir_session_state.proofs.HirCollectorRules.ModuleFiles.{site_kept, source_kept}
+use Rattle.hir_session_state.specs.HirDefCollectorLaws.Sources.{BeginsClear, unnumbered}
 use Rattle.hir_session_state.specs.Crates.{beginning_in, id_of, transitive_in}
 use Rattle.hir_session_state.specs.Kept.{Resolution, collected_of, placed_by}
 use Rattle.hir_session_state.specs.SessionState.{SessionState, finished_of, is_marked, kept_of, read_under, workspace_of, IsSound}

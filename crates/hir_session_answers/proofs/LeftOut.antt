@@ -3,68 +3,68 @@ use Rattle.std.specs.Prelude.{◌≡◌, ℕ, zero, suc, ◌<◌, ◌≤◌, Boo
 use Rattle.std.specs.Prelude.{option_map, option_and_then}
 use Rattle.std.proofs.Common.{ap, arith, refl, subst, sym, ◌∙◌}
 use mathlib.Core.Bool.{true≢false}
-use Rattle.hir_base.specs.ModPath.{Path}
-use Rattle.hir_base.specs.declared.ids.AdtId.{AdtId}
-use Rattle.hir_base.specs.declared.ast_id.AstId.{AstId}
-use Rattle.hir_base.specs.declared.ast_id.BlockId.{BlockId}
-use Rattle.hir_base.specs.declared.place.BlockPlace.{BlockPlace}
-use Rattle.hir_base.specs.declared.ids.Crate.{Crate}
-use Rattle.hir_base.specs.declared.ast_id.EditionedFileId.{EditionedFileId}
-use Rattle.hir_base.specs.declared.ast_id.HirFileId.{HirFileId}
-use Rattle.hir_base.specs.declared.ast_id.MacroCallId.{MacroCallId}
-use Rattle.hir_base.specs.declared.macro_kind.MacroCallLoc.{MacroCallLoc}
-use Rattle.hir_base.specs.declared.macro_kind.MacroId.{MacroId}
-use Rattle.hir_base.specs.declared.ids.MapId.{MapId}
-use Rattle.hir_base.specs.declared.ids.ModuleDefId.{ModuleDefId}
-use Rattle.hir_base.specs.declared.ids.ModuleId.{ModuleId}
-use Rattle.hir_base.specs.declared.ast_id.SyntaxId.{SyntaxId}
-use Rattle.hir_base.specs.declared.ast_id.HirFileId.TheVariants.{File, Macro}
-use Rattle.hir_base.specs.declared.ids.AdtId.TheVariants as adt
-use Rattle.hir_base.specs.declared.ids.ModuleDefId.TheVariants as def
-use Rattle.hir_base.specs.contracts.ids.MapIdPartialEq.TheImpl as map_id
-use Rattle.hir_base.specs.declared.macro_kind.MacroId.TheVariants as macro
-use Rattle.hir_scope.specs.declared.imports.ImportOrExternCrate.{ImportOrExternCrate}
-use Rattle.hir_scope.specs.declared.imports.ImportOrGlob.{ImportOrGlob}
-use Rattle.hir_scope.specs.declared.visibility.Visibility.{Visibility}
-use Rattle.hir_scope.specs.declared.imports.ImportOrExternCrate.TheVariants as import
-use Rattle.hir_scope.specs.declared.imports.ImportOrGlob.TheVariants as value_import
-use Rattle.hir_scope.specs.PerNs.{Item}
-use Rattle.hir_scope.specs.declared.visibility.Visibility.TheVariants as vis
-use Rattle.hir_def_map_rules.specs.Closed.{AreThere, IsThere, ModuleIsThere, PathsLeadToWhatIsThere}
-use Rattle.hir_def_map_rules.specs.WellFormed.{AreWellFormed}
-use Rattle.hir_def_map_rules.specs.References.{is_missing, reference_to, test_of, test_visibility, FailsAtItem}
-use Rattle.hir_def_map_rules.proofs.NoneOf.{none_at, not_first, not_second}
-use Rattle.hir_def_map_rules.specs.Scoping.{resolution_of}
-use Rattle.hir_def_map_rules.specs.Inner.OverlayLaws.{same_id}
-use Rattle.hir_def_map_rules.specs.Scoping.Asking.{Asking, local_of}
-use Rattle.hir_def_map_rules.specs.Sources.{HoldsNowhere, HoldsNowhereIn, HoldsOfNoExtern, HoldsOfNone, PathsAnswerFromSources, SourceTest, on_adt, on_def}
-use Rattle.hir_def_map_rules.specs.Sources.{on_import, on_macro, on_macro_item, on_origin, on_some, on_type, on_value, on_value_def, on_value_import}
-use Rattle.hir_def_map_rules.specs.Sources.{on_visibility}
-use Rattle.hir_def_map_rules.specs.State.{ModuleValue, crate_map, module_at}
-use Rattle.hir_def_map_rules.specs.Overlay.{Maps, Placed, holders_of, overlay, module_in, placed_in}
-use Rattle.hir_def_map_rules.proofs.StaysWellFormed.{Extends-overlay, IsClosed-overlay, LocalIsThere-begins}
-use Rattle.hir_def_map_rules.proofs.StaysSourced.{HoldsNowhere-overlay}
-use Rattle.hir_def_map_rules.specs.declared.origin.ModuleOrigin.{ModuleOrigin}
-use Rattle.hir_def_map_rules.specs.declared.origin.ModuleOrigin.TheVariants as origin
-use Rattle.hir_def_map_rules.specs.declared.reference.Reference.TheVariants as named
-use Rattle.hir_item_tree.specs.declared.tree_id.TreeId.{TreeId}
-use Rattle.hir_item_tree.specs.declared.tree_id.TreeKey.{TreeKey}
-use Rattle.hir_tables.specs.SourcePlaces.{file, block as block_place, expansion}
-use Rattle.hir_tables.specs.Tables.{TablesValue, block_at, call_at, entry_at, source_of as source_of_tree}
-use Rattle.hir_def_map_rules.specs.Diagnostics.{call_node}
-use Rattle.hir_collector_rules.specs.Calls.{AreCallsPlaced, IsPlacedBelow}
-use Rattle.hir_collector_rules.specs.Derivation.{Ends}
-use Rattle.hir_collector_rules.specs.Start.{Beginning, read_by}
-use Rattle.hir_def_collector_laws.specs.Sources.{BeginsClear, IsClearOf, RunsBindFromSources}
-use Rattle.hir_def_collector_laws.specs.Whole.{StandsOnWhole}
-use Rattle.hir_collector_rules.specs.declared.source_database.Key.TheVariants as keys
-use Rattle.hir_wire.specs.declared.answer.AnswerVisibility.{AnswerVisibility}
-use Rattle.hir_wire.specs.declared.answer.Definition.{Definition}
-use Rattle.hir_wire.specs.declared.answer.ImportSource.{ImportSource}
-use Rattle.hir_wire.specs.declared.answer.ItemSource.{ItemSource}
-use Rattle.hir_wire.specs.declared.command.MacroStyle.{MacroStyle}
-use Rattle.hir_wire.specs.declared.command.Shadow.{Shadow}
-use Rattle.hir_wire.specs.declared.answer.SourceKind.{SourceKind}
+use Rattle.hir_session_state.specs.HirBase.ModPath.{Path}
+use Rattle.hir_session_state.specs.HirIds.declared.ids.AdtId.{AdtId}
+use Rattle.hir_session_state.specs.HirIds.declared.ast_id.AstId.{AstId}
+use Rattle.hir_session_state.specs.HirIds.declared.ast_id.BlockId.{BlockId}
+use Rattle.hir_session_state.specs.HirBase.declared.place.BlockPlace.{BlockPlace}
+use Rattle.hir_session_state.specs.HirIds.declared.ids.Crate.{Crate}
+use Rattle.hir_session_state.specs.HirIds.declared.ast_id.EditionedFileId.{EditionedFileId}
+use Rattle.hir_session_state.specs.HirIds.declared.ast_id.HirFileId.{HirFileId}
+use Rattle.hir_session_state.specs.HirIds.declared.ast_id.MacroCallId.{MacroCallId}
+use Rattle.hir_session_state.specs.HirBase.declared.macro_kind.MacroCallLoc.{MacroCallLoc}
+use Rattle.hir_session_state.specs.HirIds.declared.macro_kind.MacroId.{MacroId}
+use Rattle.hir_session_state.specs.HirIds.declared.ids.MapId.{MapId}
+use Rattle.hir_session_state.specs.HirIds.declared.ids.ModuleDefId.{ModuleDefId}
+use Rattle.hir_session_state.specs.HirIds.declared.ids.ModuleId.{ModuleId}
+use Rattle.hir_session_state.specs.HirIds.declared.ast_id.SyntaxId.{SyntaxId}
+use Rattle.hir_session_state.specs.HirIds.declared.ast_id.HirFileId.TheVariants.{File, Macro}
+use Rattle.hir_session_state.specs.HirIds.declared.ids.AdtId.TheVariants as adt
+use Rattle.hir_session_state.specs.HirIds.declared.ids.ModuleDefId.TheVariants as def
+use Rattle.hir_session_state.specs.HirIds.contracts.ids.MapIdPartialEq.TheImpl as map_id
+use Rattle.hir_session_state.specs.HirIds.declared.macro_kind.MacroId.TheVariants as macro
+use Rattle.hir_session_state.specs.HirPerNs.declared.imports.ImportOrExternCrate.{ImportOrExternCrate}
+use Rattle.hir_session_state.specs.HirPerNs.declared.imports.ImportOrGlob.{ImportOrGlob}
+use Rattle.hir_session_state.specs.HirPerNs.declared.visibility.Visibility.{Visibility}
+use Rattle.hir_session_state.specs.HirPerNs.declared.imports.ImportOrExternCrate.TheVariants as import
+use Rattle.hir_session_state.specs.HirPerNs.declared.imports.ImportOrGlob.TheVariants as value_import
+use Rattle.hir_session_state.specs.HirPerNs.PerNs.{Item}
+use Rattle.hir_session_state.specs.HirPerNs.declared.visibility.Visibility.TheVariants as vis
+use Rattle.hir_session_state.specs.HirDefMapRules.Closed.{AreThere, IsThere, ModuleIsThere, PathsLeadToWhatIsThere}
+use Rattle.hir_session_state.specs.HirDefMapRules.WellFormed.{AreWellFormed}
+use Rattle.hir_session_state.specs.HirDefMapRules.References.{is_missing, reference_to, test_of, test_visibility, FailsAtItem}
+use Rattle.hir_session_state.proofs.HirDefMapRules.NoneOf.{none_at, not_first, not_second}
+use Rattle.hir_session_state.specs.HirDefMapRules.Scoping.{resolution_of}
+use Rattle.hir_session_state.specs.HirDefMapRules.Inner.OverlayLaws.{same_id}
+use Rattle.hir_session_state.specs.HirDefMapRules.Scoping.Asking.{Asking, local_of}
+use Rattle.hir_session_state.specs.HirDefMapRules.Sources.{HoldsNowhere, HoldsNowhereIn, HoldsOfNoExtern, HoldsOfNone, PathsAnswerFromSources, SourceTest, on_adt, on_def}
+use Rattle.hir_session_state.specs.HirDefMapRules.Sources.{on_import, on_macro, on_macro_item, on_origin, on_some, on_type, on_value, on_value_def, on_value_import}
+use Rattle.hir_session_state.specs.HirDefMapRules.Sources.{on_visibility}
+use Rattle.hir_session_state.specs.HirDefMapRules.State.{ModuleValue, crate_map, module_at}
+use Rattle.hir_session_state.specs.HirDefMapRules.Overlay.{Maps, Placed, holders_of, overlay, module_in, placed_in}
+use Rattle.hir_session_state.proofs.HirDefMapRules.StaysWellFormed.{Extends-overlay, IsClosed-overlay, LocalIsThere-begins}
+use Rattle.hir_session_state.proofs.HirDefMapRules.StaysSourced.{HoldsNowhere-overlay}
+use Rattle.hir_session_state.specs.HirMapParts.declared.origin.ModuleOrigin.{ModuleOrigin}
+use Rattle.hir_session_state.specs.HirMapParts.declared.origin.ModuleOrigin.TheVariants as origin
+use Rattle.hir_session_state.specs.HirDefMapRules.declared.reference.Reference.TheVariants as named
+use Rattle.hir_session_state.specs.HirBase.declared.tree_id.TreeId.{TreeId}
+use Rattle.hir_session_state.specs.HirBase.declared.tree_id.TreeKey.{TreeKey}
+use Rattle.hir_session_state.specs.HirTables.SourcePlaces.{file, block as block_place, expansion}
+use Rattle.hir_session_state.specs.HirTables.Tables.{TablesValue, block_at, call_at, entry_at, source_of as source_of_tree}
+use Rattle.hir_session_state.specs.HirDefMapRules.Diagnostics.{call_node}
+use Rattle.hir_session_state.specs.HirCollectorRules.Calls.{AreCallsPlaced, IsPlacedBelow}
+use Rattle.hir_session_state.specs.HirCollectorRules.Derivation.{Ends}
+use Rattle.hir_session_state.specs.HirCollectorRules.Start.{Beginning, read_by}
+use Rattle.hir_session_state.specs.HirDefCollectorLaws.Sources.{BeginsClear, IsClearOf, RunsBindFromSources}
+use Rattle.hir_session_state.specs.HirDefCollectorLaws.Whole.{StandsOnWhole}
+use Rattle.hir_session_state.specs.HirCollectorRules.declared.source_database.Key.TheVariants as keys
+use Rattle.hir_session_state.specs.HirMessages.declared.answer.AnswerVisibility.{AnswerVisibility}
+use Rattle.hir_session_state.specs.HirMessages.declared.answer.Definition.{Definition}
+use Rattle.hir_session_state.specs.HirMessages.declared.answer.ImportSource.{ImportSource}
+use Rattle.hir_session_state.specs.HirMessages.declared.answer.ItemSource.{ItemSource}
+use Rattle.hir_session_state.specs.HirMessages.declared.command.MacroStyle.{MacroStyle}
+use Rattle.hir_session_state.specs.HirMessages.declared.command.Shadow.{Shadow}
+use Rattle.hir_session_state.specs.HirMessages.declared.answer.SourceKind.{SourceKind}
 use Rattle.hir_session_answers.specs.Answers.{answer_in, asking_of}
 use Rattle.hir_session_answers.specs.LeavesOut.{LeavesNothingOut}
 use Rattle.hir_session_state.specs.Kept.{collected_of, placed_by}
@@ -80,8 +80,8 @@ use Rattle.hir_session_state.proofs.Holding.{start_holders}
 use Rattle.hir_session_state.proofs.Standing.{at_module, block_begun, kept_gives, module_there}
 use Rattle.hir_session_state.proofs.Truth.{one_value}
 use Rattle.hir_session_state.proofs.Worlds.{AgreeOn-refl}
-use Rattle.hir_def_map.specs.WorldParts.{among}
-use Rattle.hir_base.specs.Place.{PlaceValue}
+use Rattle.hir_session_state.specs.HirNameres.WorldParts.{among}
+use Rattle.hir_session_state.specs.HirBase.Place.{PlaceValue}
 use Rattle.hir_session_state.specs.Crates.{transitive_in}
 use Rattle.hir_session_answers.proofs.ReadMaps.{krate_is, own_apart, rank, read_whole, reads, stood_on_whole}
 

@@ -1,17 +1,17 @@
 -- Items that are listed stand on what is kept.
 use Rattle.std.specs.Prelude.{cond, is_none, slice_get}
 use Rattle.std.proofs.Common.{◌≡◌, ◌∙◌, ap, sym, refl, ℕ, Bool, true, false, Option, Some, None, Result, Ok, Err}
-use Rattle.hir_base.specs.ModPath.{Path}
-use Rattle.hir_base.specs.Place.{PlaceValue}
-use Rattle.hir_base.specs.declared.ids.ImplId.{ImplId}
-use Rattle.hir_base.specs.declared.ids.ModuleId.{ModuleId}
-use Rattle.hir_base.specs.declared.ids.TraitId.{TraitId}
-use Rattle.hir_def_map_rules.specs.Overlay.{overlay}
-use Rattle.hir_def_map_rules.specs.Scoping.{resolution_of}
-use Rattle.hir_wire.specs.declared.command.Shadow.TheVariants as shadow
-use Rattle.hir_wire.specs.declared.items.Items.{Items}
-use Rattle.hir_wire.specs.declared.reply.Status.{Status}
-use Rattle.hir_wire.specs.declared.reply.Status.TheVariants as status
+use Rattle.hir_session_state.specs.HirBase.ModPath.{Path}
+use Rattle.hir_session_state.specs.HirBase.Place.{PlaceValue}
+use Rattle.hir_session_state.specs.HirIds.declared.ids.ImplId.{ImplId}
+use Rattle.hir_session_state.specs.HirIds.declared.ids.ModuleId.{ModuleId}
+use Rattle.hir_session_state.specs.HirIds.declared.ids.TraitId.{TraitId}
+use Rattle.hir_session_state.specs.HirDefMapRules.Overlay.{overlay}
+use Rattle.hir_session_state.specs.HirDefMapRules.Scoping.{resolution_of}
+use Rattle.hir_session_state.specs.HirMessages.declared.command.Shadow.TheVariants as shadow
+use Rattle.hir_session_state.specs.HirMessages.declared.items.Items.{Items}
+use Rattle.hir_session_state.specs.HirMessages.declared.reply.Status.{Status}
+use Rattle.hir_session_state.specs.HirMessages.declared.reply.Status.TheVariants as status
 use Rattle.hir_session_state.specs.Kept.{Resolutions, kept_in}
 use Rattle.hir_session_state.specs.SessionState.{SessionState, Resolution, kept_of, module_of, read_of, IsSound}
 use Rattle.hir_session_state.specs.declared.error.ImplItemsError.{ImplItemsError}

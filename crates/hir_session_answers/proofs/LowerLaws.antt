@@ -1,19 +1,19 @@
 -- The laws of the crates below, as their own proofs have them.
 use Rattle.std.proofs.Common.{refl}
-use Rattle.hir_item_tree.specs.BodyTexts.{BodyTextsLeaveTheTree}
-use Rattle.hir_item_tree.proofs.Bodies.{body_texts_leave_the_tree}
-use Rattle.hir_def_map_rules.specs.Closed.{PathsLeadToWhatIsThere}
-use Rattle.hir_def_map_rules.specs.Sources.{PathsAnswerFromSources}
-use Rattle.hir_def_map_rules.proofs.Reached.{paths_lead_there}
-use Rattle.hir_def_map_rules.proofs.Sourced.{paths_from_sources}
-use Rattle.hir_collector_rules.specs.Growth as growth
-use Rattle.hir_collector_rules.specs.Start.{read_by}
-use Rattle.hir_def_collector_laws.specs.Sources.{RunsBindFromSources, RunsMeetNoUnknownSource}
-use Rattle.hir_def_collector_laws.specs.Whole.{RunsNameWhatIsThere}
-use Rattle.hir_collector_rules.proofs.Meaning as meaning
-use Rattle.hir_def_collector_laws.proofs.KnownSources.{meets_no_unknown_source}
-use Rattle.hir_def_collector_laws.proofs.Sourced.{ends_sourced}
-use Rattle.hir_def_collector_laws.proofs.Whole.{ends_whole}
+use Rattle.hir_session_state.specs.HirItemTree.BodyTexts.{BodyTextsLeaveTheTree}
+use Rattle.hir_session_state.proofs.HirItemTree.Bodies.{body_texts_leave_the_tree}
+use Rattle.hir_session_state.specs.HirDefMapRules.Closed.{PathsLeadToWhatIsThere}
+use Rattle.hir_session_state.specs.HirDefMapRules.Sources.{PathsAnswerFromSources}
+use Rattle.hir_session_state.proofs.HirDefMapRules.Reached.{paths_lead_there}
+use Rattle.hir_session_state.proofs.HirDefMapRules.Sourced.{paths_from_sources}
+use Rattle.hir_session_state.specs.HirCollectorRules.Growth as growth
+use Rattle.hir_session_state.specs.HirCollectorRules.Start.{read_by}
+use Rattle.hir_session_state.specs.HirDefCollectorLaws.Sources.{RunsBindFromSources, RunsMeetNoUnknownSource}
+use Rattle.hir_session_state.specs.HirDefCollectorLaws.Whole.{RunsNameWhatIsThere}
+use Rattle.hir_session_state.proofs.HirCollectorRules.Meaning as meaning
+use Rattle.hir_session_state.proofs.HirDefCollectorLaws.KnownSources.{meets_no_unknown_source}
+use Rattle.hir_session_state.proofs.HirDefCollectorLaws.Sourced.{ends_sourced}
+use Rattle.hir_session_state.proofs.HirDefCollectorLaws.Whole.{ends_whole}
 
 pub bodies_leave_the_tree : BodyTextsLeaveTheTree
 bodies_leave_the_tree = body_texts_leave_the_tree

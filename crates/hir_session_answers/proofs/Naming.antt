@@ -1,28 +1,28 @@
 -- What a module's names are told to be stands on what is kept, and no name is left out.
 use Rattle.std.specs.Prelude.{◌≡◌, ℕ, Bool, true, List, [], ◌∷◌, ◌++◌, map, cond, is_some, Option, None, Some, option_and_then, option_map, Result, Ok}
 use Rattle.std.proofs.Common.{ap, refl, subst, sym, ◌∙◌}
-use Rattle.hir_base.specs.Place.{PlaceValue}
-use Rattle.hir_base.specs.contracts.ids.MapIdPartialEq.TheImpl as map_id
-use Rattle.hir_base.specs.declared.ids.MapId.{MapId}
-use Rattle.hir_base.specs.declared.ids.ModuleId.{ModuleId}
-use Rattle.hir_base.specs.declared.ids.TraitId.{TraitId}
-use Rattle.hir_scope.specs.PerNs.{Item}
-use Rattle.hir_scope.specs.Scope.{ScopeValue, binding_of}
-use Rattle.hir_scope.specs.Scope.Entries.{entries_of, scope_names, unnamed_binding, with_bindings}
-use Rattle.hir_scope.specs.declared.imports.ImportId.{ImportId}
-use Rattle.hir_scope.specs.declared.per_ns.PerNs.{PerNs}
-use Rattle.hir_tables.specs.Tables.{TablesValue}
-use Rattle.hir_def_map_rules.specs.Closed.{AreThere, IsClosed}
-use Rattle.hir_def_map_rules.specs.Inner.OverlayLaws.{same_id}
-use Rattle.hir_def_map_rules.specs.Overlay.{Maps, Placed, entry_in, module_in, overlay, placed_in}
-use Rattle.hir_def_map_rules.specs.Sources.{HoldsNowhere, HoldsOfNone}
-use Rattle.hir_def_map_rules.specs.State.{ModuleValue, entry_of, module_at, scope_at}
-use Rattle.hir_def_map_rules.proofs.StaysWellFormed.{IsClosed-overlay}
-use Rattle.hir_def_collector_laws.specs.Sources.{RunsBindFromSources}
-use Rattle.hir_def_collector_laws.proofs.SourcedEdits.{entry_clear}
-use Rattle.hir_wire.specs.declared.names.BoundName.{BoundName}
-use Rattle.hir_wire.specs.declared.reply.Status.{Status}
-use Rattle.hir_wire.specs.declared.reply.Status.TheVariants as status
+use Rattle.hir_session_state.specs.HirBase.Place.{PlaceValue}
+use Rattle.hir_session_state.specs.HirIds.contracts.ids.MapIdPartialEq.TheImpl as map_id
+use Rattle.hir_session_state.specs.HirIds.declared.ids.MapId.{MapId}
+use Rattle.hir_session_state.specs.HirIds.declared.ids.ModuleId.{ModuleId}
+use Rattle.hir_session_state.specs.HirIds.declared.ids.TraitId.{TraitId}
+use Rattle.hir_session_state.specs.HirPerNs.PerNs.{Item}
+use Rattle.hir_session_state.specs.HirScope.Scope.{ScopeValue, binding_of}
+use Rattle.hir_session_state.specs.HirScope.Scope.Entries.{entries_of, scope_names, unnamed_binding, with_bindings}
+use Rattle.hir_session_state.specs.HirPerNs.declared.imports.ImportId.{ImportId}
+use Rattle.hir_session_state.specs.HirPerNs.declared.per_ns.PerNs.{PerNs}
+use Rattle.hir_session_state.specs.HirTables.Tables.{TablesValue}
+use Rattle.hir_session_state.specs.HirDefMapRules.Closed.{AreThere, IsClosed}
+use Rattle.hir_session_state.specs.HirDefMapRules.Inner.OverlayLaws.{same_id}
+use Rattle.hir_session_state.specs.HirDefMapRules.Overlay.{Maps, Placed, entry_in, module_in, overlay, placed_in}
+use Rattle.hir_session_state.specs.HirDefMapRules.Sources.{HoldsNowhere, HoldsOfNone}
+use Rattle.hir_session_state.specs.HirDefMapRules.State.{ModuleValue, entry_of, module_at, scope_at}
+use Rattle.hir_session_state.proofs.HirDefMapRules.StaysWellFormed.{IsClosed-overlay}
+use Rattle.hir_session_state.specs.HirDefCollectorLaws.Sources.{RunsBindFromSources}
+use Rattle.hir_session_state.proofs.HirDefCollectorLaws.SourcedEdits.{entry_clear}
+use Rattle.hir_session_state.specs.HirMessages.declared.names.BoundName.{BoundName}
+use Rattle.hir_session_state.specs.HirMessages.declared.reply.Status.{Status}
+use Rattle.hir_session_state.specs.HirMessages.declared.reply.Status.TheVariants as status
 use Rattle.hir_session_state.specs.declared.error.QueryError.{QueryError}
 use Rattle.hir_session_state.specs.SessionState.{SessionState, Resolution, kept_of, module_of, read_of, read_under, IsSound}
 use Rattle.hir_session_state.proofs.Standing.{kept_gives}

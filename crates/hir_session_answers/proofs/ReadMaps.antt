@@ -4,26 +4,26 @@ use Rattle.std.specs.List.{list_any}
 use Rattle.std.specs.Option.{option_and_then}
 use Rattle.std.proofs.Common.{◌≡◌, inl, inr, ◌∙◌, ap, sym, subst, refl, ℕ, zero, suc, ◌+◌, ◌<◌, Bool, true, false, not, ◌&&◌, ◌||◌, Option, Some, None}
 use Rattle.std.proofs.Common.{option_map, List, [], ◌∷◌, length, arith, Contains}
-use Rattle.hir_base.specs.contracts.ids.MapIdPartialEq.TheImpl as map_id
-use Rattle.hir_base.specs.declared.ast_id.BlockId.{BlockId}
-use Rattle.hir_base.specs.declared.ids.Crate.{Crate}
-use Rattle.hir_base.specs.declared.ids.MapId.{MapId}
-use Rattle.hir_base.specs.declared.ids.ModuleId.{ModuleId}
-use Rattle.hir_crate_graph.specs.CrateSet.{has_crate}
-use Rattle.hir_collector_rules.specs.Derivation.{Ends}
-use Rattle.hir_collector_rules.specs.Start.{id_of as start_id, krate_of}
-use Rattle.hir_collector_rules.specs.Workspace.{dependencies_in}
-use Rattle.hir_collector_rules.specs.declared.source_database.Dependency.{Dependency}
-use Rattle.hir_def_collector_laws.specs.Whole.{StandsOnWhole}
-use Rattle.hir_def_map.specs.Inner.PartLaws.{among-only, among-there}
-use Rattle.hir_def_map.specs.WorldParts.{are_of_some, is_of_some}
-use Rattle.hir_def_map_rules.specs.Inner.OverlayLaws.{exact_map}
-use Rattle.hir_def_map_rules.specs.Overlay.{Maps, Placed, module_in, overlay}
-use Rattle.hir_def_map_rules.specs.References.{any_own_crate, is_holder_for, is_missing, test_crate}
-use Rattle.hir_def_map_rules.specs.State.{crate_map, module_at}
-use Rattle.hir_def_map_rules.specs.WellFormed.{AreWellFormed, Extends}
+use Rattle.hir_session_state.specs.HirIds.contracts.ids.MapIdPartialEq.TheImpl as map_id
+use Rattle.hir_session_state.specs.HirIds.declared.ast_id.BlockId.{BlockId}
+use Rattle.hir_session_state.specs.HirIds.declared.ids.Crate.{Crate}
+use Rattle.hir_session_state.specs.HirIds.declared.ids.MapId.{MapId}
+use Rattle.hir_session_state.specs.HirIds.declared.ids.ModuleId.{ModuleId}
+use Rattle.hir_session_state.specs.HirCrateGraph.CrateSet.{has_crate}
+use Rattle.hir_session_state.specs.HirCollectorRules.Derivation.{Ends}
+use Rattle.hir_session_state.specs.HirCollectorRules.Start.{id_of as start_id, krate_of}
+use Rattle.hir_session_state.specs.HirCollectorRules.Workspace.{dependencies_in}
+use Rattle.hir_session_state.specs.HirCollectorRules.declared.source_database.Dependency.{Dependency}
+use Rattle.hir_session_state.specs.HirDefCollectorLaws.Whole.{StandsOnWhole}
+use Rattle.hir_session_state.specs.HirNameres.Inner.PartLaws.{among-only, among-there}
+use Rattle.hir_session_state.specs.HirNameres.WorldParts.{are_of_some, is_of_some}
+use Rattle.hir_session_state.specs.HirDefMapRules.Inner.OverlayLaws.{exact_map}
+use Rattle.hir_session_state.specs.HirDefMapRules.Overlay.{Maps, Placed, module_in, overlay}
+use Rattle.hir_session_state.specs.HirDefMapRules.References.{any_own_crate, is_holder_for, is_missing, test_crate}
+use Rattle.hir_session_state.specs.HirDefMapRules.State.{crate_map, module_at}
+use Rattle.hir_session_state.specs.HirDefMapRules.WellFormed.{AreWellFormed, Extends}
 use Rattle.hir_session_state.specs.Crates.{transitive_in}
-use Rattle.hir_scope.specs.ModuleTree.{same_crate}
+use Rattle.hir_session_state.specs.HirPerNs.ModuleTree.{same_crate}
 use Rattle.hir_session_state.specs.Kept.{Resolution, collected_of, placed_by}
 use Rattle.hir_session_state.specs.SessionState.{SessionState, finished_of, is_marked, kept_of, read_under, workspace_of, IsResolutionOf, IsSound}
 use Rattle.hir_session_state.proofs.Depending.{depended}

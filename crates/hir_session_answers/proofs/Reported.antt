@@ -2,23 +2,23 @@
 use Rattle.std.specs.Prelude.{◌≡◌, ◌<◌, ℕ, Bool, false, List, [], ◌∷◌, length, Contains, Option}
 use Rattle.std.proofs.Common.{ap, arith, refl, subst, sym}
 use Rattle.std.proofs.lemmas.List.Elements.{Contains-append_right}
-use Rattle.hir_base.specs.declared.ast_id.AstId.{AstId}
-use Rattle.hir_base.specs.declared.ast_id.BlockId.{BlockId}
-use Rattle.hir_base.specs.declared.ast_id.HirFileId.{HirFileId}
-use Rattle.hir_base.specs.declared.ids.MapId.{MapId}
-use Rattle.hir_base.specs.declared.ids.ModuleId.{ModuleId}
-use Rattle.hir_item_tree.specs.declared.tree_id.TreeKey.{TreeKey}
-use Rattle.hir_tables.specs.Tables.{TablesValue}
-use Rattle.hir_def_map_rules.specs.Diagnostics.{diagnostic_view, node_of}
-use Rattle.hir_def_map_rules.specs.Overlay.{Maps}
-use Rattle.hir_def_map_rules.specs.declared.diagnostics.DefDiagnostic.{DefDiagnostic}
-use Rattle.hir_collector_rules.specs.Derivation.{CollectedValue, Ends}
-use Rattle.hir_collector_rules.specs.Start.{Beginning}
-use Rattle.hir_collector_rules.specs.Workspace.{Workspace}
-use Rattle.hir_collector_rules.specs.declared.source_database.Key.TheVariants as keys
-use Rattle.hir_def_collector_laws.specs.Diagnostics.{IsToldOfItem}
-use Rattle.hir_def_collector_laws.specs.Written.{key_of}
-use Rattle.hir_def_collector_laws.proofs.Diagnostics.{diagnostics_are_of_items}
+use Rattle.hir_session_state.specs.HirIds.declared.ast_id.AstId.{AstId}
+use Rattle.hir_session_state.specs.HirIds.declared.ast_id.BlockId.{BlockId}
+use Rattle.hir_session_state.specs.HirIds.declared.ast_id.HirFileId.{HirFileId}
+use Rattle.hir_session_state.specs.HirIds.declared.ids.MapId.{MapId}
+use Rattle.hir_session_state.specs.HirIds.declared.ids.ModuleId.{ModuleId}
+use Rattle.hir_session_state.specs.HirBase.declared.tree_id.TreeKey.{TreeKey}
+use Rattle.hir_session_state.specs.HirTables.Tables.{TablesValue}
+use Rattle.hir_session_state.specs.HirDefMapRules.Diagnostics.{diagnostic_view, node_of}
+use Rattle.hir_session_state.specs.HirDefMapRules.Overlay.{Maps}
+use Rattle.hir_session_state.specs.HirMapParts.declared.diagnostics.DefDiagnostic.{DefDiagnostic}
+use Rattle.hir_session_state.specs.HirCollectorRules.Derivation.{CollectedValue, Ends}
+use Rattle.hir_session_state.specs.HirCollectorRules.Start.{Beginning}
+use Rattle.hir_session_state.specs.HirCollectorRules.Workspace.{Workspace}
+use Rattle.hir_session_state.specs.HirCollectorRules.declared.source_database.Key.TheVariants as keys
+use Rattle.hir_session_state.specs.HirDefCollectorLaws.Diagnostics.{IsToldOfItem}
+use Rattle.hir_session_state.specs.HirDefCollectorLaws.Written.{key_of}
+use Rattle.hir_session_state.proofs.HirDefCollectorLaws.Diagnostics.{diagnostics_are_of_items}
 
 -- the node that a diagnostic is about
 abbrev pub reported_node : DefDiagnostic → AstId

@@ -1,15 +1,15 @@
 -- What does an answer stand on?
 use Rattle.std.specs.Prelude.{◌≡◌, Some, Option}
-use Rattle.hir_base.specs.ModPath.{Path}
-use Rattle.hir_base.specs.Place.{PlaceValue}
-use Rattle.hir_base.specs.declared.ids.MapId.{MapId}
-use Rattle.hir_base.specs.declared.ids.ModuleId.{ModuleId}
-use Rattle.hir_def_map_rules.specs.Scoping.{resolution_of}
-use Rattle.hir_def_map_rules.specs.Overlay.{overlay}
-use Rattle.hir_collector_rules.specs.Start.{Beginning}
-use Rattle.hir_wire.specs.declared.answer.Answer.{Answer}
-use Rattle.hir_wire.specs.declared.command.MacroStyle.{MacroStyle}
-use Rattle.hir_wire.specs.declared.command.Shadow.{Shadow}
+use Rattle.hir_session_state.specs.HirBase.ModPath.{Path}
+use Rattle.hir_session_state.specs.HirBase.Place.{PlaceValue}
+use Rattle.hir_session_state.specs.HirIds.declared.ids.MapId.{MapId}
+use Rattle.hir_session_state.specs.HirIds.declared.ids.ModuleId.{ModuleId}
+use Rattle.hir_session_state.specs.HirDefMapRules.Scoping.{resolution_of}
+use Rattle.hir_session_state.specs.HirDefMapRules.Overlay.{overlay}
+use Rattle.hir_session_state.specs.HirCollectorRules.Start.{Beginning}
+use Rattle.hir_session_state.specs.HirMessages.declared.answer.Answer.{Answer}
+use Rattle.hir_session_state.specs.HirMessages.declared.command.MacroStyle.{MacroStyle}
+use Rattle.hir_session_state.specs.HirMessages.declared.command.Shadow.{Shadow}
 use Rattle.hir_session_state.specs.SessionState.{SessionState, Resolution, workspace_of, finished_of, module_of, read_of, beginning_of, kept_of, IsCurrent}
 use Rattle.hir_session_state.specs.SessionState.{IsResolved}
 use Rattle.hir_session_state.specs.Due.{IsBehind}

@@ -2,46 +2,46 @@
 use Rattle.std.specs.Prelude.{◌≡◌, ℕ, cond, is_none, List, [], slice_get, Option, None, Some, option_map, Result, Ok, Err}
 use Rattle.std.specs.List.{filter_map}
 use Rattle.std.specs.Option.{option_and_then}
-use Rattle.hir_base.specs.ModPath.{Path}
-use Rattle.hir_base.specs.Place.{PlaceValue}
-use Rattle.hir_base.specs.declared.ids.AssocItemId.{AssocItemId}
-use Rattle.hir_base.specs.declared.ast_id.AstId.{AstId}
-use Rattle.hir_base.specs.declared.ast_id.AstKind.{AstKind}
-use Rattle.hir_base.specs.declared.ast_id.BlockId.{BlockId}
-use Rattle.hir_base.specs.declared.ast_id.HirFileId.{HirFileId}
-use Rattle.hir_base.specs.declared.ids.ImplId.{ImplId}
-use Rattle.hir_base.specs.declared.ids.ItemContainerId.{ItemContainerId}
-use Rattle.hir_base.specs.declared.ast_id.MacroCallId.{MacroCallId}
-use Rattle.hir_base.specs.declared.ids.MapId.{MapId}
-use Rattle.hir_base.specs.declared.ids.ModuleDefId.{ModuleDefId}
-use Rattle.hir_base.specs.declared.ids.ModuleId.{ModuleId}
-use Rattle.hir_base.specs.declared.ast_id.SyntaxId.{SyntaxId}
-use Rattle.hir_base.specs.declared.ids.TraitId.{TraitId}
-use Rattle.hir_base.specs.declared.ast_id.AstKind.TheVariants as kind
-use Rattle.hir_base.specs.declared.ids.AssocItemId.TheVariants as assoc
-use Rattle.hir_base.specs.declared.ids.ItemContainerId.TheVariants as container
-use Rattle.hir_base.specs.declared.ids.ModuleDefId.TheVariants as def
-use Rattle.hir_scope.specs.Scope.{ScopeValue}
-use Rattle.hir_scope.specs.Scope.Reads.{impls_of_kind}
-use Rattle.hir_scope.specs.declared.item_scope.iter.impls.ImplKind.TheVariants.{Any}
-use Rattle.hir_tables.specs.Tables.{TablesValue}
-use Rattle.hir_def_map_rules.specs.Overlay.{Maps, overlay}
-use Rattle.hir_def_map_rules.specs.Scoping.{resolution_of}
-use Rattle.hir_def_map_rules.specs.State.{Map, scope_at}
-use Rattle.hir_def_map_rules.specs.declared.path_result.ResolvePathResult.{ResolvePathResult}
-use Rattle.hir_collector_rules.specs.Keys.{environment}
+use Rattle.hir_session_state.specs.HirBase.ModPath.{Path}
+use Rattle.hir_session_state.specs.HirBase.Place.{PlaceValue}
+use Rattle.hir_session_state.specs.HirIds.declared.ids.AssocItemId.{AssocItemId}
+use Rattle.hir_session_state.specs.HirIds.declared.ast_id.AstId.{AstId}
+use Rattle.hir_session_state.specs.HirIds.declared.ast_id.AstKind.{AstKind}
+use Rattle.hir_session_state.specs.HirIds.declared.ast_id.BlockId.{BlockId}
+use Rattle.hir_session_state.specs.HirIds.declared.ast_id.HirFileId.{HirFileId}
+use Rattle.hir_session_state.specs.HirIds.declared.ids.ImplId.{ImplId}
+use Rattle.hir_session_state.specs.HirIds.declared.ids.ItemContainerId.{ItemContainerId}
+use Rattle.hir_session_state.specs.HirIds.declared.ast_id.MacroCallId.{MacroCallId}
+use Rattle.hir_session_state.specs.HirIds.declared.ids.MapId.{MapId}
+use Rattle.hir_session_state.specs.HirIds.declared.ids.ModuleDefId.{ModuleDefId}
+use Rattle.hir_session_state.specs.HirIds.declared.ids.ModuleId.{ModuleId}
+use Rattle.hir_session_state.specs.HirIds.declared.ast_id.SyntaxId.{SyntaxId}
+use Rattle.hir_session_state.specs.HirIds.declared.ids.TraitId.{TraitId}
+use Rattle.hir_session_state.specs.HirIds.declared.ast_id.AstKind.TheVariants as kind
+use Rattle.hir_session_state.specs.HirIds.declared.ids.AssocItemId.TheVariants as assoc
+use Rattle.hir_session_state.specs.HirIds.declared.ids.ItemContainerId.TheVariants as container
+use Rattle.hir_session_state.specs.HirIds.declared.ids.ModuleDefId.TheVariants as def
+use Rattle.hir_session_state.specs.HirScope.Scope.{ScopeValue}
+use Rattle.hir_session_state.specs.HirScope.Scope.Reads.{impls_of_kind}
+use Rattle.hir_session_state.specs.HirScope.declared.item_scope.iter.impls.ImplKind.TheVariants.{Any}
+use Rattle.hir_session_state.specs.HirTables.Tables.{TablesValue}
+use Rattle.hir_session_state.specs.HirDefMapRules.Overlay.{Maps, overlay}
+use Rattle.hir_session_state.specs.HirDefMapRules.Scoping.{resolution_of}
+use Rattle.hir_session_state.specs.HirDefMapRules.State.{Map, scope_at}
+use Rattle.hir_session_state.specs.HirDefMapRules.declared.path_result.ResolvePathResult.{ResolvePathResult}
+use Rattle.hir_session_state.specs.HirCollectorRules.Keys.{environment}
 use Rattle.hir_assoc_items.specs.AssocItems.{FlattensTo, IsTooMany, ListingValue, container_of, items_written}
 use Rattle.hir_assoc_items.specs.Written.{WrittenValue}
-use Rattle.hir_wire.specs.declared.answer.SourceCallKind.TheVariants as call
-use Rattle.hir_wire.specs.declared.items.AssocItem.{AssocItem}
-use Rattle.hir_wire.specs.declared.diagnostic.CalledItem.{CalledItem}
-use Rattle.hir_wire.specs.declared.answer.ItemSource.{ItemSource}
-use Rattle.hir_wire.specs.declared.items.Items.{Items}
-use Rattle.hir_wire.specs.declared.answer.SourceItem.{SourceItem}
-use Rattle.hir_wire.specs.declared.reply.Status.{Status}
-use Rattle.hir_wire.specs.declared.answer.SourceKind.TheVariants as source
-use Rattle.hir_wire.specs.declared.command.Shadow.TheVariants as shadow
-use Rattle.hir_wire.specs.declared.reply.Status.TheVariants as status
+use Rattle.hir_session_state.specs.HirMessages.declared.answer.SourceCallKind.TheVariants as call
+use Rattle.hir_session_state.specs.HirMessages.declared.items.AssocItem.{AssocItem}
+use Rattle.hir_session_state.specs.HirMessages.declared.diagnostic.CalledItem.{CalledItem}
+use Rattle.hir_session_state.specs.HirMessages.declared.answer.ItemSource.{ItemSource}
+use Rattle.hir_session_state.specs.HirMessages.declared.items.Items.{Items}
+use Rattle.hir_session_state.specs.HirMessages.declared.answer.SourceItem.{SourceItem}
+use Rattle.hir_session_state.specs.HirMessages.declared.reply.Status.{Status}
+use Rattle.hir_session_state.specs.HirMessages.declared.answer.SourceKind.TheVariants as source
+use Rattle.hir_session_state.specs.HirMessages.declared.command.Shadow.TheVariants as shadow
+use Rattle.hir_session_state.specs.HirMessages.declared.reply.Status.TheVariants as status
 use Rattle.hir_session_state.specs.declared.error.ImplItemsError.{ImplItemsError}
 use Rattle.hir_session_state.specs.declared.error.TraitItemsError.{TraitItemsError}
 use Rattle.hir_session_state.specs.declared.error.ImplItemsError.TheVariants as impl_error

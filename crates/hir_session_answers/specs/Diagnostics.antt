@@ -1,22 +1,22 @@
 -- What is told of what couldn't be resolved in a crate?
 use Rattle.std.specs.Prelude.{nat_lt, List, length, Option, None, Some, option_map, Result, Ok, Err, if◌then◌else◌}
 use Rattle.std.specs.List.{filter_map}
-use Rattle.hir_base.specs.Cfg.{cfg_text}
-use Rattle.hir_base.specs.declared.ast_id.AstId.{AstId}
-use Rattle.hir_base.specs.declared.ids.Crate.{Crate}
-use Rattle.hir_tables.specs.Tables.{TablesValue}
-use Rattle.hir_def_map_rules.specs.Diagnostics.{DiagnosticValue, KindValue, UnresolvedModule, UnresolvedExternCrate, UnresolvedImport, UnconfiguredCode}
-use Rattle.hir_def_map_rules.specs.Diagnostics.{UnresolvedMacroCall, UnimplementedBuiltinMacro, InvalidDeriveTarget, MalformedDerive, MacroDefError, MacroError}
-use Rattle.hir_def_map_rules.specs.Diagnostics.{diagnostic_view, node_of}
-use Rattle.hir_def_map_rules.specs.Overlay.{Maps, overlay}
-use Rattle.hir_def_map_rules.specs.declared.diagnostics.DefDiagnostic.{DefDiagnostic}
-use Rattle.hir_wire.specs.declared.answer.Definition.{Definition}
-use Rattle.hir_wire.specs.declared.diagnostic.Diagnostic.{Diagnostic}
-use Rattle.hir_wire.specs.declared.diagnostic.DiagnosticKind.{DiagnosticKind}
-use Rattle.hir_wire.specs.declared.answer.ItemSource.{ItemSource}
-use Rattle.hir_wire.specs.declared.answer.SourceItem.{SourceItem}
-use Rattle.hir_wire.specs.declared.answer.SourceKind.TheVariants as source
-use Rattle.hir_wire.specs.declared.diagnostic.DiagnosticKind.TheVariants as told
+use Rattle.hir_session_state.specs.HirBase.Cfg.{cfg_text}
+use Rattle.hir_session_state.specs.HirIds.declared.ast_id.AstId.{AstId}
+use Rattle.hir_session_state.specs.HirIds.declared.ids.Crate.{Crate}
+use Rattle.hir_session_state.specs.HirTables.Tables.{TablesValue}
+use Rattle.hir_session_state.specs.HirDefMapRules.Diagnostics.{DiagnosticValue, KindValue, UnresolvedModule, UnresolvedExternCrate, UnresolvedImport, UnconfiguredCode}
+use Rattle.hir_session_state.specs.HirDefMapRules.Diagnostics.{UnresolvedMacroCall, UnimplementedBuiltinMacro, InvalidDeriveTarget, MalformedDerive, MacroDefError, MacroError}
+use Rattle.hir_session_state.specs.HirDefMapRules.Diagnostics.{diagnostic_view, node_of}
+use Rattle.hir_session_state.specs.HirDefMapRules.Overlay.{Maps, overlay}
+use Rattle.hir_session_state.specs.HirMapParts.declared.diagnostics.DefDiagnostic.{DefDiagnostic}
+use Rattle.hir_session_state.specs.HirMessages.declared.answer.Definition.{Definition}
+use Rattle.hir_session_state.specs.HirMessages.declared.diagnostic.Diagnostic.{Diagnostic}
+use Rattle.hir_session_state.specs.HirMessages.declared.diagnostic.DiagnosticKind.{DiagnosticKind}
+use Rattle.hir_session_state.specs.HirMessages.declared.answer.ItemSource.{ItemSource}
+use Rattle.hir_session_state.specs.HirMessages.declared.answer.SourceItem.{SourceItem}
+use Rattle.hir_session_state.specs.HirMessages.declared.answer.SourceKind.TheVariants as source
+use Rattle.hir_session_state.specs.HirMessages.declared.diagnostic.DiagnosticKind.TheVariants as told
 use Rattle.hir_session_state.specs.declared.error.DiagnosticsError.{DiagnosticsError}
 use Rattle.hir_session_state.specs.declared.error.DiagnosticsError.TheVariants as error
 use Rattle.hir_session_state.specs.Crates.{id_of}

@@ -1,11 +1,11 @@
 -- What do the diagnostics of a crate stand on?
 use Rattle.std.specs.Prelude.{◌≡◌, List, Some, map}
-use Rattle.hir_base.specs.declared.ids.Crate.{Crate}
-use Rattle.hir_tables.specs.Tables.{TablesValue}
-use Rattle.hir_def_map_rules.specs.Diagnostics.{diagnostic_view}
-use Rattle.hir_def_map_rules.specs.Overlay.{Maps, overlay}
-use Rattle.hir_def_map_rules.specs.declared.diagnostics.DefDiagnostic.{DefDiagnostic}
-use Rattle.hir_wire.specs.declared.diagnostic.Diagnostic.{Diagnostic}
+use Rattle.hir_session_state.specs.HirIds.declared.ids.Crate.{Crate}
+use Rattle.hir_session_state.specs.HirTables.Tables.{TablesValue}
+use Rattle.hir_session_state.specs.HirDefMapRules.Diagnostics.{diagnostic_view}
+use Rattle.hir_session_state.specs.HirDefMapRules.Overlay.{Maps, overlay}
+use Rattle.hir_session_state.specs.HirMapParts.declared.diagnostics.DefDiagnostic.{DefDiagnostic}
+use Rattle.hir_session_state.specs.HirMessages.declared.diagnostic.Diagnostic.{Diagnostic}
 use Rattle.hir_session_state.specs.Crates.{id_of}
 use Rattle.hir_session_answers.specs.Diagnostics.{diagnostic_source}
 use Rattle.hir_session_answers.specs.AnswersStand.{StandsAt}

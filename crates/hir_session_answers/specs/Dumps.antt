@@ -1,11 +1,11 @@
 -- What does a dump show?
 use Rattle.std.specs.Prelude.{ℕ, List, Option, None, Some, Result, Ok, Err}
-use Rattle.hir_base.specs.Place.{PlaceValue}
-use Rattle.hir_base.specs.declared.ids.ModuleId.{ModuleId}
-use Rattle.hir_def_map_rules.specs.Dump.{dump_of}
-use Rattle.hir_def_map_rules.specs.Overlay.{Maps, overlay}
-use Rattle.hir_wire.specs.declared.reply.Status.{Status}
-use Rattle.hir_wire.specs.declared.reply.Status.TheVariants as status
+use Rattle.hir_session_state.specs.HirBase.Place.{PlaceValue}
+use Rattle.hir_session_state.specs.HirIds.declared.ids.ModuleId.{ModuleId}
+use Rattle.hir_session_state.specs.HirDefMapRules.Dump.{dump_of}
+use Rattle.hir_session_state.specs.HirDefMapRules.Overlay.{Maps, overlay}
+use Rattle.hir_session_state.specs.HirMessages.declared.reply.Status.{Status}
+use Rattle.hir_session_state.specs.HirMessages.declared.reply.Status.TheVariants as status
 use Rattle.hir_session_state.specs.declared.error.QueryError.{QueryError}
 use Rattle.hir_session_state.specs.declared.error.QueryError.TheVariants as error
 use Rattle.hir_session_state.specs.SessionState.{SessionState, Resolution, finished_of, kept_of, module_of}

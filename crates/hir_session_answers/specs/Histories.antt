@@ -1,12 +1,12 @@
 -- When may two answers to one query differ?
 use Rattle.std.specs.Prelude.{◌≡◌, ◌⊎◌, List, Option, Some}
-use Rattle.hir_base.specs.declared.ids.MapId.{MapId}
-use Rattle.hir_base.specs.ModPath.{Path}
-use Rattle.hir_base.specs.Place.{PlaceValue}
-use Rattle.hir_collector_rules.specs.declared.source_database.Key.{Key}
-use Rattle.hir_wire.specs.Edits.{EditValue}
-use Rattle.hir_wire.specs.declared.command.MacroStyle.{MacroStyle}
-use Rattle.hir_wire.specs.declared.command.Shadow.{Shadow}
+use Rattle.hir_session_state.specs.HirIds.declared.ids.MapId.{MapId}
+use Rattle.hir_session_state.specs.HirBase.ModPath.{Path}
+use Rattle.hir_session_state.specs.HirBase.Place.{PlaceValue}
+use Rattle.hir_session_state.specs.HirCollectorRules.declared.source_database.Key.{Key}
+use Rattle.hir_session_state.specs.HirMessages.Edits.{EditValue}
+use Rattle.hir_session_state.specs.HirMessages.declared.command.MacroStyle.{MacroStyle}
+use Rattle.hir_session_state.specs.HirMessages.declared.command.Shadow.{Shadow}
 use Rattle.hir_session_state.specs.SessionState.{SessionState, standing_of, workspace_of, IsSound}
 use Rattle.hir_session_state.specs.Standing.{map_by}
 use Rattle.hir_session_state.specs.Marks.{IsAltered}

@@ -1,14 +1,14 @@
 -- What do the items of a trait or an impl stand on?
 use Rattle.std.specs.Prelude.{◌≡◌, ℕ, slice_get, Some, None}
-use Rattle.hir_base.specs.ModPath.{Path}
-use Rattle.hir_base.specs.Place.{PlaceValue}
-use Rattle.hir_base.specs.declared.ids.ImplId.{ImplId}
-use Rattle.hir_base.specs.declared.ids.ModuleId.{ModuleId}
-use Rattle.hir_base.specs.declared.ids.TraitId.{TraitId}
-use Rattle.hir_def_map_rules.specs.Overlay.{overlay}
-use Rattle.hir_def_map_rules.specs.Scoping.{resolution_of}
-use Rattle.hir_wire.specs.declared.command.Shadow.TheVariants as shadow
-use Rattle.hir_wire.specs.declared.items.Items.{Items}
+use Rattle.hir_session_state.specs.HirBase.ModPath.{Path}
+use Rattle.hir_session_state.specs.HirBase.Place.{PlaceValue}
+use Rattle.hir_session_state.specs.HirIds.declared.ids.ImplId.{ImplId}
+use Rattle.hir_session_state.specs.HirIds.declared.ids.ModuleId.{ModuleId}
+use Rattle.hir_session_state.specs.HirIds.declared.ids.TraitId.{TraitId}
+use Rattle.hir_session_state.specs.HirDefMapRules.Overlay.{overlay}
+use Rattle.hir_session_state.specs.HirDefMapRules.Scoping.{resolution_of}
+use Rattle.hir_session_state.specs.HirMessages.declared.command.Shadow.TheVariants as shadow
+use Rattle.hir_session_state.specs.HirMessages.declared.items.Items.{Items}
 use Rattle.hir_session_state.specs.SessionState.{SessionState, Resolution, module_of, read_of}
 use Rattle.hir_session_answers.specs.Answers.{asking_of}
 use Rattle.hir_session_answers.specs.AnswersStand.{StandsAt}

@@ -1,7 +1,7 @@
 -- What may an answer leave out?
 use Rattle.std.specs.Prelude.{◌≡◌, is_some}
-use Rattle.hir_scope.specs.declared.per_ns.PerNs.{PerNs}
-use Rattle.hir_wire.specs.declared.answer.Answer.{Answer}
+use Rattle.hir_session_state.specs.HirPerNs.declared.per_ns.PerNs.{PerNs}
+use Rattle.hir_session_state.specs.HirMessages.declared.answer.Answer.{Answer}
 
 -- nothing: it has a source item in each namespace in which a name stands for something
 pub record LeavesNothingOut (items : PerNs) (answer : Answer) : Type 0 where

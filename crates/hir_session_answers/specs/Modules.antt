@@ -3,15 +3,15 @@ use Rattle.std.specs.Prelude.{ℕ, zero, suc, nat_eq, nat_lt, Bool, true, false,
 use Rattle.std.specs.Prelude.{cond, if◌then◌else◌}
 use Rattle.std.specs.Cmp.Lexicographic.{pointwise}
 use Rattle.std.specs.Option.{option_and_then, option_to_list}
-use Rattle.hir_base.specs.Place.{PlaceValue}
-use Rattle.hir_base.specs.declared.ast_id.EditionedFileId.{EditionedFileId}
-use Rattle.hir_base.specs.declared.ids.Crate.{Crate}
-use Rattle.hir_base.specs.declared.ids.ModuleId.{ModuleId}
-use Rattle.hir_base.specs.declared.place.PlaceElement.{PlaceElement}
-use Rattle.hir_base.specs.declared.place.PlaceElement.TheVariants as element
-use Rattle.hir_tables.specs.Tables.{TablesValue, file_at}
-use Rattle.hir_def_map_rules.specs.Origins.{file_of}
-use Rattle.hir_def_map_rules.specs.State.{Map, ModuleValue, module_at, parent_at}
+use Rattle.hir_session_state.specs.HirBase.Place.{PlaceValue}
+use Rattle.hir_session_state.specs.HirIds.declared.ast_id.EditionedFileId.{EditionedFileId}
+use Rattle.hir_session_state.specs.HirIds.declared.ids.Crate.{Crate}
+use Rattle.hir_session_state.specs.HirIds.declared.ids.ModuleId.{ModuleId}
+use Rattle.hir_session_state.specs.HirBase.declared.place.PlaceElement.{PlaceElement}
+use Rattle.hir_session_state.specs.HirBase.declared.place.PlaceElement.TheVariants as element
+use Rattle.hir_session_state.specs.HirTables.Tables.{TablesValue, file_at}
+use Rattle.hir_session_state.specs.HirDefMapRules.Origins.{file_of}
+use Rattle.hir_session_state.specs.HirDefMapRules.State.{Map, ModuleValue, module_at, parent_at}
 use Rattle.hir_session_state.specs.declared.error.ModulesError.{ModulesError}
 use Rattle.hir_session_state.specs.declared.error.ModulesError.TheVariants as error
 use Rattle.hir_session_state.specs.Crates.{id_of}

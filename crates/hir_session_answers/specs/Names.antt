@@ -1,17 +1,17 @@
 -- What do the names of a module stand for, in source items?
 use Rattle.std.specs.Prelude.{ℕ, List, map, Option, None, Some, Result, Ok, Err}
 use Rattle.std.specs.Option.{option_and_then}
-use Rattle.hir_base.specs.Place.{PlaceValue}
-use Rattle.hir_base.specs.declared.ids.ModuleId.{ModuleId}
-use Rattle.hir_scope.specs.Scope.{ScopeValue}
-use Rattle.hir_scope.specs.Scope.Entries.{entries_of, resolutions_in}
-use Rattle.hir_scope.specs.declared.per_ns.PerNs.{PerNs}
-use Rattle.hir_tables.specs.Tables.{TablesValue}
-use Rattle.hir_def_map_rules.specs.Overlay.{Maps, overlay}
-use Rattle.hir_def_map_rules.specs.State.{scope_at}
-use Rattle.hir_wire.specs.declared.names.BoundName.{BoundName}
-use Rattle.hir_wire.specs.declared.reply.Status.{Status}
-use Rattle.hir_wire.specs.declared.reply.Status.TheVariants as status
+use Rattle.hir_session_state.specs.HirBase.Place.{PlaceValue}
+use Rattle.hir_session_state.specs.HirIds.declared.ids.ModuleId.{ModuleId}
+use Rattle.hir_session_state.specs.HirScope.Scope.{ScopeValue}
+use Rattle.hir_session_state.specs.HirScope.Scope.Entries.{entries_of, resolutions_in}
+use Rattle.hir_session_state.specs.HirPerNs.declared.per_ns.PerNs.{PerNs}
+use Rattle.hir_session_state.specs.HirTables.Tables.{TablesValue}
+use Rattle.hir_session_state.specs.HirDefMapRules.Overlay.{Maps, overlay}
+use Rattle.hir_session_state.specs.HirDefMapRules.State.{scope_at}
+use Rattle.hir_session_state.specs.HirMessages.declared.names.BoundName.{BoundName}
+use Rattle.hir_session_state.specs.HirMessages.declared.reply.Status.{Status}
+use Rattle.hir_session_state.specs.HirMessages.declared.reply.Status.TheVariants as status
 use Rattle.hir_session_state.specs.declared.error.QueryError.{QueryError}
 use Rattle.hir_session_state.specs.declared.error.QueryError.TheVariants as error
 use Rattle.hir_session_state.specs.SessionState.{SessionState, Resolution, kept_of, module_of, read_of}

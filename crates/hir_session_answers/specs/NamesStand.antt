@@ -1,13 +1,13 @@
 -- What do the names that are told of a module stand on?
 use Rattle.std.specs.Prelude.{◌≡◌, ℕ, List, [], ◌∷◌, Some, is_some}
-use Rattle.hir_base.specs.Place.{PlaceValue}
-use Rattle.hir_base.specs.declared.ids.ModuleId.{ModuleId}
-use Rattle.hir_scope.specs.Scope.{ScopeValue}
-use Rattle.hir_scope.specs.Scope.Entries.{entries_of}
-use Rattle.hir_scope.specs.declared.per_ns.PerNs.{PerNs}
-use Rattle.hir_def_map_rules.specs.Overlay.{overlay}
-use Rattle.hir_def_map_rules.specs.State.{scope_at}
-use Rattle.hir_wire.specs.declared.names.BoundName.{BoundName}
+use Rattle.hir_session_state.specs.HirBase.Place.{PlaceValue}
+use Rattle.hir_session_state.specs.HirIds.declared.ids.ModuleId.{ModuleId}
+use Rattle.hir_session_state.specs.HirScope.Scope.{ScopeValue}
+use Rattle.hir_session_state.specs.HirScope.Scope.Entries.{entries_of}
+use Rattle.hir_session_state.specs.HirPerNs.declared.per_ns.PerNs.{PerNs}
+use Rattle.hir_session_state.specs.HirDefMapRules.Overlay.{overlay}
+use Rattle.hir_session_state.specs.HirDefMapRules.State.{scope_at}
+use Rattle.hir_session_state.specs.HirMessages.declared.names.BoundName.{BoundName}
 use Rattle.hir_session_state.specs.SessionState.{SessionState, Resolution, module_of, read_of}
 use Rattle.hir_session_answers.specs.AnswersStand.{StandsAt}
 use Rattle.hir_session_answers.specs.Names.{names_in}

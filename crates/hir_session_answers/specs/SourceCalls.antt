@@ -1,23 +1,23 @@
 -- What holds syntax, through the calls whose expansions lead to it?
 use Rattle.std.specs.Prelude.{ℕ, zero, suc, List, [], ◌∷◌, ◌++◌, reverse, Option, None, Some, option_map}
 use Rattle.std.specs.Option.{option_and_then}
-use Rattle.hir_base.specs.declared.ast_id.BlockId.{BlockId}
-use Rattle.hir_base.specs.declared.place.BlockPlace.{BlockPlace}
-use Rattle.hir_base.specs.declared.ast_id.HirFileId.{HirFileId}
-use Rattle.hir_base.specs.declared.macro_kind.MacroCallKind.{MacroCallKind}
-use Rattle.hir_base.specs.declared.macro_kind.MacroCallLoc.{MacroCallLoc}
-use Rattle.hir_base.specs.declared.ast_id.HirFileId.TheVariants.{File, Macro}
-use Rattle.hir_base.specs.declared.macro_kind.MacroCallKind.TheVariants as calls
-use Rattle.hir_tables.specs.Tables.{TablesValue, block_at, call_at, file_at}
+use Rattle.hir_session_state.specs.HirIds.declared.ast_id.BlockId.{BlockId}
+use Rattle.hir_session_state.specs.HirBase.declared.place.BlockPlace.{BlockPlace}
+use Rattle.hir_session_state.specs.HirIds.declared.ast_id.HirFileId.{HirFileId}
+use Rattle.hir_session_state.specs.HirBase.declared.macro_kind.MacroCallKind.{MacroCallKind}
+use Rattle.hir_session_state.specs.HirBase.declared.macro_kind.MacroCallLoc.{MacroCallLoc}
+use Rattle.hir_session_state.specs.HirIds.declared.ast_id.HirFileId.TheVariants.{File, Macro}
+use Rattle.hir_session_state.specs.HirBase.declared.macro_kind.MacroCallKind.TheVariants as calls
+use Rattle.hir_session_state.specs.HirTables.Tables.{TablesValue, block_at, call_at, file_at}
 use Rattle.hir_session_state.specs.Blocks.{place_of_block}
 use Rattle.hir_session_state.specs.Standing.{most_calls}
-use Rattle.hir_def_map_rules.specs.Diagnostics.{call_node}
-use Rattle.hir_wire.specs.declared.answer.ItemSource.{ItemSource}
-use Rattle.hir_wire.specs.declared.answer.SourceCall.{SourceCall}
-use Rattle.hir_wire.specs.declared.answer.SourceCallKind.{SourceCallKind}
-use Rattle.hir_wire.specs.declared.answer.SourceRoot.{SourceRoot}
-use Rattle.hir_wire.specs.declared.answer.SourceCallKind.TheVariants as kind
-use Rattle.hir_wire.specs.declared.answer.SourceRoot.TheVariants as root
+use Rattle.hir_session_state.specs.HirDefMapRules.Diagnostics.{call_node}
+use Rattle.hir_session_state.specs.HirMessages.declared.answer.ItemSource.{ItemSource}
+use Rattle.hir_session_state.specs.HirMessages.declared.answer.SourceCall.{SourceCall}
+use Rattle.hir_session_state.specs.HirMessages.declared.answer.SourceCallKind.{SourceCallKind}
+use Rattle.hir_session_state.specs.HirMessages.declared.answer.SourceRoot.{SourceRoot}
+use Rattle.hir_session_state.specs.HirMessages.declared.answer.SourceCallKind.TheVariants as kind
+use Rattle.hir_session_state.specs.HirMessages.declared.answer.SourceRoot.TheVariants as root
 
 -- how a macro is called
 abbrev pub call_kind : MacroCallKind → SourceCallKind

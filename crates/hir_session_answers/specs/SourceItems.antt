@@ -1,47 +1,47 @@
 -- Which source item does an id stand for?
 use Rattle.std.specs.Prelude.{Bool, true, false, Option, None, Some, option_map}
 use Rattle.std.specs.Option.{option_and_then}
-use Rattle.hir_base.specs.declared.ast_id.AstKind.TheVariants as kind
-use Rattle.hir_base.specs.declared.ids.AdtId.{AdtId}
-use Rattle.hir_base.specs.declared.ast_id.BlockId.{BlockId}
-use Rattle.hir_base.specs.declared.place.BlockPlace.{BlockPlace}
-use Rattle.hir_base.specs.declared.ids.Crate.{Crate}
-use Rattle.hir_base.specs.declared.ast_id.HirFileId.{HirFileId}
-use Rattle.hir_base.specs.declared.ids.ItemContainerId.{ItemContainerId}
-use Rattle.hir_base.specs.declared.macro_kind.MacroId.{MacroId}
-use Rattle.hir_base.specs.declared.ids.ModuleDefId.{ModuleDefId}
-use Rattle.hir_base.specs.declared.ids.ModuleId.{ModuleId}
-use Rattle.hir_base.specs.declared.ast_id.SyntaxId.{SyntaxId}
-use Rattle.hir_base.specs.declared.ids.UseId.{UseId}
-use Rattle.hir_base.specs.declared.ids.AdtId.TheVariants as adt
-use Rattle.hir_base.specs.declared.ids.ItemContainerId.TheVariants as container
-use Rattle.hir_base.specs.declared.ids.ModuleDefId.TheVariants as def
-use Rattle.hir_base.specs.declared.macro_kind.MacroId.TheVariants as macro
-use Rattle.hir_raw_visibility.specs.declared.raw_visibility.VisibilityExplicitness.{VisibilityExplicitness}
-use Rattle.hir_raw_visibility.specs.declared.raw_visibility.VisibilityExplicitness.TheVariants as explicitness
-use Rattle.hir_scope.specs.declared.imports.ImportOrExternCrate.{ImportOrExternCrate}
-use Rattle.hir_scope.specs.declared.imports.ImportOrGlob.{ImportOrGlob}
-use Rattle.hir_scope.specs.declared.visibility.Visibility.{Visibility}
-use Rattle.hir_scope.specs.declared.imports.ImportOrExternCrate.TheVariants as import
-use Rattle.hir_scope.specs.declared.imports.ImportOrGlob.TheVariants as value_import
-use Rattle.hir_scope.specs.PerNs.{Item}
-use Rattle.hir_scope.specs.declared.visibility.Visibility.TheVariants as vis
-use Rattle.hir_def_map_rules.specs.Overlay.{Maps, module_in}
-use Rattle.hir_def_map_rules.specs.declared.origin.ModuleOrigin.{ModuleOrigin}
-use Rattle.hir_def_map_rules.specs.declared.origin.ModuleOrigin.TheVariants as origin
-use Rattle.hir_tables.specs.Tables.{TablesValue, block_at}
+use Rattle.hir_session_state.specs.HirIds.declared.ast_id.AstKind.TheVariants as kind
+use Rattle.hir_session_state.specs.HirIds.declared.ids.AdtId.{AdtId}
+use Rattle.hir_session_state.specs.HirIds.declared.ast_id.BlockId.{BlockId}
+use Rattle.hir_session_state.specs.HirBase.declared.place.BlockPlace.{BlockPlace}
+use Rattle.hir_session_state.specs.HirIds.declared.ids.Crate.{Crate}
+use Rattle.hir_session_state.specs.HirIds.declared.ast_id.HirFileId.{HirFileId}
+use Rattle.hir_session_state.specs.HirIds.declared.ids.ItemContainerId.{ItemContainerId}
+use Rattle.hir_session_state.specs.HirIds.declared.macro_kind.MacroId.{MacroId}
+use Rattle.hir_session_state.specs.HirIds.declared.ids.ModuleDefId.{ModuleDefId}
+use Rattle.hir_session_state.specs.HirIds.declared.ids.ModuleId.{ModuleId}
+use Rattle.hir_session_state.specs.HirIds.declared.ast_id.SyntaxId.{SyntaxId}
+use Rattle.hir_session_state.specs.HirIds.declared.ids.UseId.{UseId}
+use Rattle.hir_session_state.specs.HirIds.declared.ids.AdtId.TheVariants as adt
+use Rattle.hir_session_state.specs.HirIds.declared.ids.ItemContainerId.TheVariants as container
+use Rattle.hir_session_state.specs.HirIds.declared.ids.ModuleDefId.TheVariants as def
+use Rattle.hir_session_state.specs.HirIds.declared.macro_kind.MacroId.TheVariants as macro
+use Rattle.hir_session_state.specs.HirIds.declared.explicitness.VisibilityExplicitness.{VisibilityExplicitness}
+use Rattle.hir_session_state.specs.HirIds.declared.explicitness.VisibilityExplicitness.TheVariants as explicitness
+use Rattle.hir_session_state.specs.HirPerNs.declared.imports.ImportOrExternCrate.{ImportOrExternCrate}
+use Rattle.hir_session_state.specs.HirPerNs.declared.imports.ImportOrGlob.{ImportOrGlob}
+use Rattle.hir_session_state.specs.HirPerNs.declared.visibility.Visibility.{Visibility}
+use Rattle.hir_session_state.specs.HirPerNs.declared.imports.ImportOrExternCrate.TheVariants as import
+use Rattle.hir_session_state.specs.HirPerNs.declared.imports.ImportOrGlob.TheVariants as value_import
+use Rattle.hir_session_state.specs.HirPerNs.PerNs.{Item}
+use Rattle.hir_session_state.specs.HirPerNs.declared.visibility.Visibility.TheVariants as vis
+use Rattle.hir_session_state.specs.HirDefMapRules.Overlay.{Maps, module_in}
+use Rattle.hir_session_state.specs.HirMapParts.declared.origin.ModuleOrigin.{ModuleOrigin}
+use Rattle.hir_session_state.specs.HirMapParts.declared.origin.ModuleOrigin.TheVariants as origin
+use Rattle.hir_session_state.specs.HirTables.Tables.{TablesValue, block_at}
 use Rattle.hir_session_state.specs.Blocks.{place_of_block}
-use Rattle.hir_wire.specs.declared.answer.AnswerItem.{AnswerItem}
-use Rattle.hir_wire.specs.declared.answer.AnswerVisibility.{AnswerVisibility}
-use Rattle.hir_wire.specs.declared.answer.Definition.{Definition}
-use Rattle.hir_wire.specs.declared.answer.ImportOrigin.{ImportOrigin}
-use Rattle.hir_wire.specs.declared.answer.ImportSource.{ImportSource}
-use Rattle.hir_wire.specs.declared.answer.ItemSource.{ItemSource}
-use Rattle.hir_wire.specs.declared.answer.SourceKind.{SourceKind}
-use Rattle.hir_wire.specs.declared.answer.AnswerVisibility.TheVariants as answer_vis
-use Rattle.hir_wire.specs.declared.answer.Definition.TheVariants as definition
-use Rattle.hir_wire.specs.declared.answer.ImportOrigin.TheVariants as how
-use Rattle.hir_wire.specs.declared.answer.SourceKind.TheVariants as source
+use Rattle.hir_session_state.specs.HirMessages.declared.answer.AnswerItem.{AnswerItem}
+use Rattle.hir_session_state.specs.HirMessages.declared.answer.AnswerVisibility.{AnswerVisibility}
+use Rattle.hir_session_state.specs.HirMessages.declared.answer.Definition.{Definition}
+use Rattle.hir_session_state.specs.HirMessages.declared.answer.ImportOrigin.{ImportOrigin}
+use Rattle.hir_session_state.specs.HirMessages.declared.answer.ImportSource.{ImportSource}
+use Rattle.hir_session_state.specs.HirMessages.declared.answer.ItemSource.{ItemSource}
+use Rattle.hir_session_state.specs.HirMessages.declared.answer.SourceKind.{SourceKind}
+use Rattle.hir_session_state.specs.HirMessages.declared.answer.AnswerVisibility.TheVariants as answer_vis
+use Rattle.hir_session_state.specs.HirMessages.declared.answer.Definition.TheVariants as definition
+use Rattle.hir_session_state.specs.HirMessages.declared.answer.ImportOrigin.TheVariants as how
+use Rattle.hir_session_state.specs.HirMessages.declared.answer.SourceKind.TheVariants as source
 use Rattle.hir_session_answers.specs.SourceCalls.{source_of}
 
 -- an item of a crate, by what holds it and its node there

@@ -1,8 +1,8 @@
 -- How do the answers at a place stand?
 use Rattle.std.specs.Prelude.{length, nat_lt, if◌then◌else◌}
-use Rattle.hir_base.specs.Place.{PlaceValue}
-use Rattle.hir_wire.specs.declared.reply.Status.{Status}
-use Rattle.hir_wire.specs.declared.reply.Status.TheVariants as status
+use Rattle.hir_session_state.specs.HirBase.Place.{PlaceValue}
+use Rattle.hir_session_state.specs.HirMessages.declared.reply.Status.{Status}
+use Rattle.hir_session_state.specs.HirMessages.declared.reply.Status.TheVariants as status
 use Rattle.hir_session_state.specs.Standing.{Standing}
 use Rattle.hir_session_state.specs.Standing.Standing.{at, lacks, stale, unset}
 use Rattle.hir_session_state.specs.SessionState.{SessionState, standing_of}

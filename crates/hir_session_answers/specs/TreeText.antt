@@ -1,12 +1,12 @@
 -- Which page shows the tree of a file?
 use Rattle.std.specs.Prelude.{ℕ, nat_lt, List, length, Result, Ok, Err, if◌then◌else◌}
-use Rattle.hir_base.specs.declared.ids.Crate.{Crate}
-use Rattle.hir_base.specs.declared.edition.Edition.{Edition}
-use Rattle.hir_item_tree.specs.Page.{page}
+use Rattle.hir_session_state.specs.HirIds.declared.ids.Crate.{Crate}
+use Rattle.hir_session_state.specs.HirIds.declared.edition.Edition.{Edition}
+use Rattle.hir_session_state.specs.HirItemTree.Page.{page}
 use Rattle.hir_session_state.specs.declared.error.TreeTextError.{TreeTextError}
 use Rattle.hir_session_state.specs.declared.error.TreeTextError.TheVariants as error
 use Rattle.hir_session_state.specs.Crates.{CrateValue, crate_in}
-use Rattle.hir_tables.specs.SourcePlaces.{file}
+use Rattle.hir_session_state.specs.HirTables.SourcePlaces.{file}
 use Rattle.hir_session_state.specs.Files.{file_at}
 use Rattle.hir_session_state.specs.SourceTable.{tree_under}
 use Rattle.hir_session_state.specs.SessionState.{SessionState}

@@ -1,7 +1,7 @@
 -- How does the code go down a place? No public clause speaks of this.
 use Rattle.std.specs.Prelude.{ℕ, Bool, List, cond, Option, Some, None}
-use Rattle.hir_base.specs.declared.place.BlockPlace.{BlockPlace}
-use Rattle.hir_tables.specs.Tables.{TablesValue}
+use Rattle.hir_session_state.specs.HirBase.declared.place.BlockPlace.{BlockPlace}
+use Rattle.hir_session_state.specs.HirTables.Tables.{TablesValue}
 use Rattle.hir_session_state.specs.Kept.{Resolutions}
 use Rattle.hir_session_state.specs.Standing.{Standing, child_kept, kept_block, to_child, to_root}
 use Rattle.hir_session_state.specs.Standing.Standing.{at, lacks, stale, unset}

@@ -1,23 +1,27 @@
 //! Answers to tables, in source items.
 ghost use Rattle.std.specs.Prelude.{◌≡◌, IfOk};
 ghost use Rattle.std.specs.Option.{option_and_then};
-ghost use Rattle.hir_def_map.specs.DefMaps.{maps_of};
+ghost use Rattle.hir_session_state.specs.HirNameres.DefMaps.{maps_of};
 ghost use Rattle.hir_session_answers.specs.SourceItems.{import_source, value_import_source, maybe_source, together, answered_type, answered_value, answered_macro};
 ghost use Rattle.hir_session_answers.specs.Answers.{shadow_mode_of, sub_ns_of, answer_in};
 
 use crate::source_items::definitions::{definition_at, macro_at};
 use crate::source_items::imports::{import_at, value_import_at};
 use crate::source_items::visibilities::visibility_at;
-use hir_base::ids::ModuleId;
-use hir_base::mod_path::ModPath;
-use hir_def_map::def_maps::DefMaps;
-use hir_def_map::nameres::local_def_map::LocalDefMap;
-use hir_def_map::nameres::path_resolution::{BuiltinShadowMode, MacroSubNs, ResolveMode};
-use hir_scope::imports::{ImportOrExternCrate, ImportOrGlob};
-use hir_scope::per_ns::{MacrosItem, TypesItem, ValuesItem};
-use hir_tables::Tables;
-use hir_wire::answer::{Answer, AnswerItem, AnswerVisibility, Definition, ImportSource};
-use hir_wire::command::{MacroStyle, Shadow};
+use hir_session_state::hir_base::ids::ModuleId;
+use hir_session_state::hir_base::mod_path::ModPath;
+use hir_session_state::hir_def_map::def_maps::DefMaps;
+use hir_session_state::hir_def_map::nameres::local_def_map::LocalDefMap;
+use hir_session_state::hir_def_map::nameres::path_resolution::{
+    BuiltinShadowMode, MacroSubNs, ResolveMode,
+};
+use hir_session_state::hir_messages::answer::{
+    Answer, AnswerItem, AnswerVisibility, Definition, ImportSource,
+};
+use hir_session_state::hir_messages::command::{MacroStyle, Shadow};
+use hir_session_state::hir_scope::imports::{ImportOrExternCrate, ImportOrGlob};
+use hir_session_state::hir_scope::per_ns::{MacrosItem, TypesItem, ValuesItem};
+use hir_session_state::hir_tables::Tables;
 use std::alloc::{AllocError, Global};
 
 fn shadow_mode(shadow: Shadow) -> BuiltinShadowMode

@@ -1,33 +1,33 @@
 //! The traits and impls whose items are asked for, and these items in source items.
 ghost use Rattle.std.specs.Prelude.{◌≡◌, IfOk, Some, None, slice_get};
 ghost use Rattle.std.specs.List.{filter_map};
-ghost use Rattle.hir_def_map.specs.DefMaps.{maps_of};
-ghost use Rattle.hir_scope.specs.Scope.Reads.{impls_of_kind};
-ghost use Rattle.hir_scope.specs.declared.item_scope.iter.impls.ImplKind.TheVariants.{Any};
-ghost use Rattle.hir_def_map_rules.specs.Scoping.{resolution_of};
+ghost use Rattle.hir_session_state.specs.HirNameres.DefMaps.{maps_of};
+ghost use Rattle.hir_session_state.specs.HirScope.Scope.Reads.{impls_of_kind};
+ghost use Rattle.hir_session_state.specs.HirScope.declared.item_scope.iter.impls.ImplKind.TheVariants.{Any};
+ghost use Rattle.hir_session_state.specs.HirDefMapRules.Scoping.{resolution_of};
 ghost use Rattle.hir_session_answers.specs.Answers.{asking_of};
 ghost use Rattle.hir_session_answers.specs.AssocItems.{assoc_source, called_source, impls_of, items_told, named_source, source_item_of, trait_named, trait_of};
 ghost use Rattle.hir_assoc_items.specs.AssocItems.{listing_of};
-ghost use Rattle.hir_wire.specs.declared.command.Shadow.TheVariants as shadow;
+ghost use Rattle.hir_session_state.specs.HirMessages.declared.command.Shadow.TheVariants as shadow;
 
 use crate::diagnostics::{diagnostics_at, node_at};
 use crate::source_items::source_calls::source_at;
-use hir_base::ast_id::{AstId, AstKind, MacroCallId};
-use hir_base::ids::{
+use hir_session_state::hir_base::ast_id::{AstId, AstKind, MacroCallId};
+use hir_session_state::hir_base::ids::{
     AssocItemId, ImplId, ItemContainerId, ItemLoc, ModuleDefId, ModuleId, TraitId,
 };
-use hir_base::mod_path::ModPath;
-use hir_base::name::Name;
-use hir_def_map::def_maps::DefMaps;
-use hir_def_map::nameres::DefMap;
-use hir_def_map::nameres::diagnostics::DefDiagnostics;
-use hir_def_map::nameres::local_def_map::LocalDefMap;
-use hir_def_map::nameres::path_resolution::{BuiltinShadowMode, ResolveMode};
-use hir_scope::item_scope::ItemScope;
-use hir_tables::Tables;
-use hir_wire::answer::{SourceCallKind, SourceItem, SourceKind};
-use hir_wire::diagnostic::{CalledItem, Diagnostics};
-use hir_wire::items::{AssocItem, AssocItems, CalledItems, Items};
+use hir_session_state::hir_base::mod_path::ModPath;
+use hir_session_state::hir_base::name::Name;
+use hir_session_state::hir_def_map::def_maps::DefMaps;
+use hir_session_state::hir_def_map::nameres::DefMap;
+use hir_session_state::hir_def_map::nameres::diagnostics::DefDiagnostics;
+use hir_session_state::hir_def_map::nameres::local_def_map::LocalDefMap;
+use hir_session_state::hir_def_map::nameres::path_resolution::{BuiltinShadowMode, ResolveMode};
+use hir_session_state::hir_messages::answer::{SourceCallKind, SourceItem, SourceKind};
+use hir_session_state::hir_messages::diagnostic::{CalledItem, Diagnostics};
+use hir_session_state::hir_messages::items::{AssocItem, AssocItems, CalledItems, Items};
+use hir_session_state::hir_scope::item_scope::ItemScope;
+use hir_session_state::hir_tables::Tables;
 use std::alloc::{AllocError, Global};
 
 /// A trait, where a definition is one.

@@ -1,20 +1,20 @@
 //! Diagnostics of a map, in source items.
 ghost use Rattle.std.specs.Prelude.{◌≡◌, IfOk};
-ghost use Rattle.hir_base.specs.Cfg.{cfg_text, cfg_view};
-ghost use Rattle.hir_def_map.specs.DefMaps.{maps_of};
-ghost use Rattle.hir_def_map_rules.specs.Diagnostics.{diagnostic_view, kind_view};
+ghost use Rattle.hir_session_state.specs.HirBase.Cfg.{cfg_text, cfg_view};
+ghost use Rattle.hir_session_state.specs.HirNameres.DefMaps.{maps_of};
+ghost use Rattle.hir_session_state.specs.HirDefMapRules.Diagnostics.{diagnostic_view, kind_view};
 ghost use Rattle.hir_session_answers.specs.Diagnostics.{diagnostic_source, diagnostic_with, diagnostics_in, kind_about, node_source};
 
 use crate::source_items::definitions::module_at;
 use crate::source_items::source_calls::{how, source_at};
-use hir_base::ast_id::AstId;
-use hir_base::cfg::CfgExpr;
-use hir_base::text::Text;
-use hir_def_map::def_maps::DefMaps;
-use hir_def_map::nameres::diagnostics::{DefDiagnostic, DefDiagnosticKind};
-use hir_tables::Tables;
-use hir_wire::answer::{Definition, SourceItem, SourceKind};
-use hir_wire::diagnostic::{CalledItem, Diagnostic, DiagnosticKind, Texts};
+use hir_session_state::hir_base::ast_id::AstId;
+use hir_session_state::hir_base::cfg::CfgExpr;
+use hir_session_state::hir_base::text::Text;
+use hir_session_state::hir_def_map::def_maps::DefMaps;
+use hir_session_state::hir_def_map::nameres::diagnostics::{DefDiagnostic, DefDiagnosticKind};
+use hir_session_state::hir_messages::answer::{Definition, SourceItem, SourceKind};
+use hir_session_state::hir_messages::diagnostic::{CalledItem, Diagnostic, DiagnosticKind, Texts};
+use hir_session_state::hir_tables::Tables;
 use std::alloc::{AllocError, Global};
 
 /// The source item of a node.

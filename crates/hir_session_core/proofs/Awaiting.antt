@@ -12,13 +12,13 @@ use Rattle.std.proofs.Common.{Option, Some, None, option_map, Contains}
 use Rattle.std.proofs.lemmas.Cmp.{eq_by_cmp_equiv}
 use Rattle.std.proofs.lemmas.List.Elements.{All-contains, All-contains_itself, All-head, All-nil, All-tail, All-weaker}
 use Rattle.std.proofs.lemmas.Map.Views.{All-insert_key, Contains-from_any, list_any-from_Contains}
-use Rattle.hir_base.specs.Place.{PlaceValue}
-use Rattle.hir_base.specs.contracts.place.BlockPlaceOrd.TheImpl as block_order
-use Rattle.hir_base.specs.declared.ast_id.BlockId.{BlockId}
-use Rattle.hir_base.specs.declared.ids.MapId.{MapId}
-use Rattle.hir_base.specs.declared.place.BlockPlace.{BlockPlace}
-use Rattle.hir_item_tree.specs.Source.{SourceValue}
-use Rattle.hir_tables.specs.Tables.{TablesValue, KeepsTables, block_at}
+use Rattle.hir_session_state.specs.HirBase.Place.{PlaceValue}
+use Rattle.hir_session_state.specs.HirBase.contracts.place.BlockPlaceOrd.TheImpl as block_order
+use Rattle.hir_session_state.specs.HirIds.declared.ast_id.BlockId.{BlockId}
+use Rattle.hir_session_state.specs.HirIds.declared.ids.MapId.{MapId}
+use Rattle.hir_session_state.specs.HirBase.declared.place.BlockPlace.{BlockPlace}
+use Rattle.hir_session_state.specs.HirItemTree.Source.{SourceValue}
+use Rattle.hir_session_state.specs.HirTables.Tables.{TablesValue, KeepsTables, block_at}
 use Rattle.hir_session_state.specs.Blocks.{Blocks, block_in, place_of_block}
 use Rattle.hir_session_state.specs.Kept.{Resolution, Resolutions, kept_in}
 use Rattle.hir_session_state.specs.SessionState.{SessionState, IsSound, block_kept}

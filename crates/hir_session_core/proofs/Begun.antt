@@ -3,31 +3,31 @@ use Rattle.std.specs.Prelude.{is_none, slice_get}
 use Rattle.std.specs.Option.{IsSome, option_and_then}
 use Rattle.std.proofs.Common.{◌≡◌, ◌∙◌, ◌⊎◌, inl, inr, ap, sym, subst, refl, ℕ, zero, suc, ◌<◌, ◌≤◌, true, false, List, [], ◌∷◌, ◌++◌, length, Option, Some}
 use Rattle.std.proofs.Common.{None, option_map, Result, Ok, Err, IsErrAnd, OnErr, arith}
-use Rattle.hir_base.specs.Locations.{max_locations}
-use Rattle.hir_base.specs.declared.ast_id.BlockId.{BlockId}
-use Rattle.hir_base.specs.declared.place.BlockPlace.{BlockPlace}
-use Rattle.hir_base.specs.declared.ids.Crate.{Crate}
-use Rattle.hir_base.specs.declared.ast_id.EditionedFileId.{EditionedFileId}
-use Rattle.hir_base.specs.declared.ast_id.FileId.{FileId}
-use Rattle.hir_base.specs.declared.locations.LocationsError.{LocationsError}
-use Rattle.hir_base.specs.declared.ids.MapId.{MapId}
-use Rattle.hir_base.specs.declared.ids.ModuleId.{ModuleId}
-use Rattle.hir_base.specs.declared.ast_id.SyntaxId.{SyntaxId}
-use Rattle.hir_base.specs.declared.locations.LocationsError.TheVariants as number_error
-use Rattle.hir_tables.specs.SourcePlaces.{block}
-use Rattle.hir_tables.specs.Tables.{KeepsTables, TablesValue, block_at, file_at}
-use Rattle.hir_tables.specs.Interning.{Interns, IsFull}
-use Rattle.hir_tables.specs.Interning.Interns.{gets_next, had_number}
-use Rattle.hir_collector_rules.proofs.ModuleFiles.{source_kept}
-use Rattle.hir_collector_rules.specs.Calls.{AreCallsPlaced, IsMeantAt}
-use Rattle.hir_collector_rules.specs.Derivation.{CollectedValue, IsOverlong}
-use Rattle.hir_collector_rules.specs.Growth.{AnswersStand, AskedKeysHaveMeaning, LooksStand}
-use Rattle.hir_collector_rules.specs.UnknownSources.{MeetsUnknownSource}
-use Rattle.hir_collector_rules.specs.Workspace.{Workspace}
-use Rattle.hir_def_collector_laws.specs.Whole.{RunsNameWhatIsThere}
-use Rattle.hir_def_map_rules.specs.Overlay.{Maps, holders_under}
-use Rattle.hir_def_map_rules.specs.State.{crate_map}
-use Rattle.hir_collector_rules.specs.Start.{Beginning, holder_of, root_site}
+use Rattle.hir_session_state.specs.HirBase.Locations.{max_locations}
+use Rattle.hir_session_state.specs.HirIds.declared.ast_id.BlockId.{BlockId}
+use Rattle.hir_session_state.specs.HirBase.declared.place.BlockPlace.{BlockPlace}
+use Rattle.hir_session_state.specs.HirIds.declared.ids.Crate.{Crate}
+use Rattle.hir_session_state.specs.HirIds.declared.ast_id.EditionedFileId.{EditionedFileId}
+use Rattle.hir_session_state.specs.HirIds.declared.ast_id.FileId.{FileId}
+use Rattle.hir_session_state.specs.HirBase.declared.locations.LocationsError.{LocationsError}
+use Rattle.hir_session_state.specs.HirIds.declared.ids.MapId.{MapId}
+use Rattle.hir_session_state.specs.HirIds.declared.ids.ModuleId.{ModuleId}
+use Rattle.hir_session_state.specs.HirIds.declared.ast_id.SyntaxId.{SyntaxId}
+use Rattle.hir_session_state.specs.HirBase.declared.locations.LocationsError.TheVariants as number_error
+use Rattle.hir_session_state.specs.HirTables.SourcePlaces.{block}
+use Rattle.hir_session_state.specs.HirTables.Tables.{KeepsTables, TablesValue, block_at, file_at}
+use Rattle.hir_session_state.specs.HirTables.Interning.{Interns, IsFull}
+use Rattle.hir_session_state.specs.HirTables.Interning.Interns.{gets_next, had_number}
+use Rattle.hir_session_state.proofs.HirCollectorRules.ModuleFiles.{source_kept}
+use Rattle.hir_session_state.specs.HirCollectorRules.Calls.{AreCallsPlaced, IsMeantAt}
+use Rattle.hir_session_state.specs.HirCollectorRules.Derivation.{CollectedValue, IsOverlong}
+use Rattle.hir_session_state.specs.HirCollectorRules.Growth.{AnswersStand, AskedKeysHaveMeaning, LooksStand}
+use Rattle.hir_session_state.specs.HirCollectorRules.UnknownSources.{MeetsUnknownSource}
+use Rattle.hir_session_state.specs.HirCollectorRules.Workspace.{Workspace}
+use Rattle.hir_session_state.specs.HirDefCollectorLaws.Whole.{RunsNameWhatIsThere}
+use Rattle.hir_session_state.specs.HirDefMapRules.Overlay.{Maps, holders_under}
+use Rattle.hir_session_state.specs.HirDefMapRules.State.{crate_map}
+use Rattle.hir_session_state.specs.HirCollectorRules.Start.{Beginning, holder_of, root_site}
 use Rattle.hir_session_state.specs.Blocks.{place_of_block}
 use Rattle.hir_session_state.specs.Crates.{CrateValue, begins_in_block, id_of}
 use Rattle.hir_session_state.specs.Due.{Grows, IsDueBlock, IsStuckAt, Resolved}

@@ -2,11 +2,11 @@
 use Rattle.std.specs.Prelude.{is_none}
 use Rattle.std.proofs.Common.{append_assoc, append-nil, ◌≡◌, ℕ, ◌+◌, ◌<◌, true, false, List, [], ◌∷◌, ◌++◌, length, arith, below_more, refl, sym, subst, ◌∙◌}
 use Rattle.std.proofs.Common.{ap, Option, Result, Ok, Err, IsErrAnd}
-use Rattle.hir_base.specs.Place.{PlaceValue}
-use Rattle.hir_base.specs.declared.ids.MapId.{MapId}
+use Rattle.hir_session_state.specs.HirBase.Place.{PlaceValue}
+use Rattle.hir_session_state.specs.HirIds.declared.ids.MapId.{MapId}
 use Rattle.hir_session_state.specs.Crates.{CrateValue, id_of}
 use Rattle.hir_session_state.specs.SessionState.{SessionState, Resolution, kept_of, is_marked, IsSound}
-use Rattle.hir_tables.proofs.Growth.{KeepsTables-refl, KeepsTables-trans}
+use Rattle.hir_session_state.proofs.HirTables.Growth.{KeepsTables-refl, KeepsTables-trans}
 use Rattle.hir_session_state.specs.Kept.{Resolutions, kept_in}
 use Rattle.hir_session_state.specs.Due.{root_place, AreResolved, Grows, Resolved, HasOverlongRun, IsNext, IsStuckAt}
 use Rattle.hir_session_state.specs.Due.AreResolved.{none as grown_so, more as resolved_then}

@@ -1,10 +1,10 @@
 -- What stays of a session as its tables grow.
 use Rattle.std.specs.Prelude.{is_none}
 use Rattle.std.proofs.Common.{◌≡◌, ◌∙◌, ap, sym, subst, refl, ◌<◌, List, length, Option, Some, None, Contains}
-use Rattle.hir_base.specs.declared.ast_id.BlockId.{BlockId}
-use Rattle.hir_base.specs.declared.ids.MapId.{MapId}
-use Rattle.hir_base.specs.declared.ids.ModuleId.{ModuleId}
-use Rattle.hir_tables.proofs.Growth.{KeepsTables-trans}
+use Rattle.hir_session_state.specs.HirIds.declared.ast_id.BlockId.{BlockId}
+use Rattle.hir_session_state.specs.HirIds.declared.ids.MapId.{MapId}
+use Rattle.hir_session_state.specs.HirIds.declared.ids.ModuleId.{ModuleId}
+use Rattle.hir_session_state.proofs.HirTables.Growth.{KeepsTables-trans}
 use Rattle.hir_session_state.specs.Crates.{CrateValue}
 use Rattle.hir_session_state.specs.Due.{Grows, Resolved}
 use Rattle.hir_session_state.specs.Kept.{Resolution, Resolutions, kept_in}

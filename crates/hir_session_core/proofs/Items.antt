@@ -1,20 +1,20 @@
 -- What the items of a trait or an impl are listed and told over.
 use Rattle.std.proofs.Common.{◌≡◌, ◌∙◌, ◌<◌, ap, sym, subst, refl, false, List, length, Option, Some, None}
-use Rattle.hir_base.specs.ModPath.{Path}
-use Rattle.hir_base.specs.declared.ast_id.AstKind.{AstKind}
-use Rattle.hir_base.specs.declared.ids.ItemContainerId.{ItemContainerId}
-use Rattle.hir_base.specs.declared.ids.ItemLoc.{ItemLoc}
-use Rattle.hir_base.specs.declared.ids.MapId.{MapId}
-use Rattle.hir_base.specs.declared.ids.ModuleId.{ModuleId}
-use Rattle.hir_base.specs.declared.ids.TraitId.{TraitId}
-use Rattle.hir_tables.specs.Tables.{KeepsTables, TablesValue}
-use Rattle.hir_def_map_rules.specs.Overlay.{Maps, overlay}
-use Rattle.hir_def_map_rules.specs.Scoping.{resolution_of}
+use Rattle.hir_session_state.specs.HirBase.ModPath.{Path}
+use Rattle.hir_session_state.specs.HirIds.declared.ast_id.AstKind.{AstKind}
+use Rattle.hir_session_state.specs.HirIds.declared.ids.ItemContainerId.{ItemContainerId}
+use Rattle.hir_session_state.specs.HirIds.declared.ids.ItemLoc.{ItemLoc}
+use Rattle.hir_session_state.specs.HirIds.declared.ids.MapId.{MapId}
+use Rattle.hir_session_state.specs.HirIds.declared.ids.ModuleId.{ModuleId}
+use Rattle.hir_session_state.specs.HirIds.declared.ids.TraitId.{TraitId}
+use Rattle.hir_session_state.specs.HirTables.Tables.{KeepsTables, TablesValue}
+use Rattle.hir_session_state.specs.HirDefMapRules.Overlay.{Maps, overlay}
+use Rattle.hir_session_state.specs.HirDefMapRules.Scoping.{resolution_of}
 use Rattle.hir_assoc_items.specs.AssocItems.{FlattensTo, IsTooMany, ListingValue, ReachesUnknown, container_of, items_written}
 use Rattle.hir_assoc_items.specs.Written.{WrittenValue}
-use Rattle.hir_collector_rules.specs.Keys.{environment}
-use Rattle.hir_wire.specs.declared.command.Shadow.TheVariants as shadow
-use Rattle.hir_wire.specs.declared.items.Items.{Items}
+use Rattle.hir_session_state.specs.HirCollectorRules.Keys.{environment}
+use Rattle.hir_session_state.specs.HirMessages.declared.command.Shadow.TheVariants as shadow
+use Rattle.hir_session_state.specs.HirMessages.declared.items.Items.{Items}
 use Rattle.hir_session_state.specs.SessionState.{SessionState, Resolution, is_marked, kept_of, read_of, read_under, workspace_of, IsPlace, IsSound}
 use Rattle.hir_session_state.specs.SessionState.IsPlace.{of_block, of_crate}
 use Rattle.hir_session_answers.specs.Answers.{asking_of}

@@ -4,26 +4,26 @@ use Rattle.std.specs.BTreeMap.{is_at}
 use Rattle.std.specs.List.{list_any}
 use Rattle.std.proofs.Common.{◌≡◌, ◌≢◌, ◌⊎◌, inl, inr, ◌<◌, true, not, List, Option, Some, None, option_map, arith, sym, ap, ◌∙◌, subst, Contains}
 use Rattle.std.proofs.lemmas.List.Folds.{list_any_at}
-use Rattle.hir_base.specs.declared.ast_id.BlockId.{BlockId}
-use Rattle.hir_base.specs.declared.ids.Crate.{Crate}
-use Rattle.hir_base.specs.declared.ids.MapId.{MapId}
-use Rattle.hir_base.specs.declared.ids.ModuleId.{ModuleId}
-use Rattle.hir_base.specs.contracts.ids.MapIdOrd.TheImpl as map_order
-use Rattle.hir_base.specs.contracts.ids.MapIdPartialEq.TheImpl as map_id
-use Rattle.hir_def_map_rules.specs.Inner.OverlayLaws.{same_id}
-use Rattle.hir_def_map_rules.specs.References.{lies_in, any_reference_in, refers_to, any_own_crate, any_reference, prelude_reference, test_crate, test_extern}
-use Rattle.hir_def_map_rules.specs.References.{test_of}
-use Rattle.hir_def_map_rules.specs.State.{Local, Map, crate_map}
-use Rattle.hir_def_map_rules.specs.WellFormed.{is_held_outside}
-use Rattle.hir_def_map_rules.specs.declared.reference.Reference.TheVariants as named
-use Rattle.hir_collector_rules.specs.Derivation.{Ends}
-use Rattle.hir_collector_rules.specs.Start.{krate_of}
-use Rattle.hir_crate_graph.specs.CrateSet.{has_crate}
+use Rattle.hir_session_state.specs.HirIds.declared.ast_id.BlockId.{BlockId}
+use Rattle.hir_session_state.specs.HirIds.declared.ids.Crate.{Crate}
+use Rattle.hir_session_state.specs.HirIds.declared.ids.MapId.{MapId}
+use Rattle.hir_session_state.specs.HirIds.declared.ids.ModuleId.{ModuleId}
+use Rattle.hir_session_state.specs.HirIds.contracts.ids.MapIdOrd.TheImpl as map_order
+use Rattle.hir_session_state.specs.HirIds.contracts.ids.MapIdPartialEq.TheImpl as map_id
+use Rattle.hir_session_state.specs.HirDefMapRules.Inner.OverlayLaws.{same_id}
+use Rattle.hir_session_state.specs.HirDefMapRules.References.{lies_in, any_reference_in, refers_to, any_own_crate, any_reference, prelude_reference, test_crate, test_extern}
+use Rattle.hir_session_state.specs.HirDefMapRules.References.{test_of}
+use Rattle.hir_session_state.specs.HirDefMapRules.State.{Local, Map, crate_map}
+use Rattle.hir_session_state.specs.HirDefMapRules.WellFormed.{is_held_outside}
+use Rattle.hir_session_state.specs.HirDefMapRules.declared.reference.Reference.TheVariants as named
+use Rattle.hir_session_state.specs.HirCollectorRules.Derivation.{Ends}
+use Rattle.hir_session_state.specs.HirCollectorRules.Start.{krate_of}
+use Rattle.hir_session_state.specs.HirCrateGraph.CrateSet.{has_crate}
 use Rattle.hir_session_state.specs.Crates.{transitive_in}
 use Rattle.hir_session_state.specs.Kept.{collected_of}
 use Rattle.hir_session_state.specs.SessionState.{SessionState, Resolution, workspace_of, finished_of, follows, kept_of, IsPlace, IsResolutionOf, IsSound}
 use Rattle.hir_session_state.specs.SessionState.IsPlace.{of_block, of_crate}
-use Rattle.hir_crate_graph.specs.Dependencies.DependsOn.{directly}
+use Rattle.hir_session_state.specs.HirCrateGraph.Dependencies.DependsOn.{directly}
 use Rattle.hir_session_state.proofs.Depending.{depended, found-any}
 use Rattle.hir_session_state.proofs.Following.{behind_block, dependency_behind}
 use Rattle.hir_session_state.proofs.Ids.{of_number, other_id, own_id}

@@ -12,13 +12,13 @@ use Rattle.std.specs.declared.cmp.Ordering.{Ordering}
 use Rattle.std.specs.declared.cmp.Ordering.TheVariants.{Equal, Greater, Less}
 use Rattle.std.proofs.lemmas.List.Elements.{All-contains, All-head, All-nil, All-tail, Contains-append_cases, Contains-append_left, Contains-append_right}
 use Rattle.std.proofs.lemmas.Map.Views.{All-insert_key}
-use Rattle.hir_base.specs.Place.{PlaceValue}
-use Rattle.hir_base.specs.contracts.ids.CrateOrd.TheImpl as crate_order
-use Rattle.hir_base.specs.contracts.place.PlacePartialEq.TheImpl as place_eq
-use Rattle.hir_base.specs.declared.place.BlockPlace.{BlockPlace}
-use Rattle.hir_base.specs.declared.ids.Crate.{Crate}
-use Rattle.hir_base.specs.declared.place.PlaceElement.{PlaceElement}
-use Rattle.hir_item_tree.specs.Source.{SourceValue}
+use Rattle.hir_session_state.specs.HirBase.Place.{PlaceValue}
+use Rattle.hir_session_state.specs.HirIds.contracts.ids.CrateOrd.TheImpl as crate_order
+use Rattle.hir_session_state.specs.HirBase.contracts.place.PlacePartialEq.TheImpl as place_eq
+use Rattle.hir_session_state.specs.HirBase.declared.place.BlockPlace.{BlockPlace}
+use Rattle.hir_session_state.specs.HirIds.declared.ids.Crate.{Crate}
+use Rattle.hir_session_state.specs.HirBase.declared.place.PlaceElement.{PlaceElement}
+use Rattle.hir_session_state.specs.HirItemTree.Source.{SourceValue}
 use Rattle.hir_session_state.specs.Blocks.{Blocks, CrateBlocks, block_in, blocks_of, place_of_block, steps_cmp}
 use Rattle.hir_session_state.specs.SessionState.{Resolution, SessionState, block_kept}
 use Rattle.hir_session_state.specs.Standing.{is_set}

@@ -2,36 +2,36 @@
 use Rattle.std.specs.Prelude.{is_none, map}
 use Rattle.std.proofs.Common.{◌≡◌, ◌≢◌, ◌⊎◌, inl, inr, ℕ, zero, suc, ◌<◌, Bool, true, false, ◌||◌, is_some, List, [], ◌∷◌, length, arith, Option, Some, None}
 use Rattle.std.proofs.Common.{option_map, refl, sym, ap, ◌∙◌, subst, Contains}
-use Rattle.hir_base.specs.contracts.ids.MapIdPartialEq.TheImpl as map_id
-use Rattle.hir_base.specs.declared.ast_id.BlockId.{BlockId}
-use Rattle.hir_base.specs.declared.place.BlockPlace.{BlockPlace}
-use Rattle.hir_base.specs.declared.ids.Crate.{Crate}
-use Rattle.hir_base.specs.declared.ast_id.EditionedFileId.{EditionedFileId}
-use Rattle.hir_base.specs.declared.ids.MapId.{MapId}
-use Rattle.hir_base.specs.declared.ids.ModuleId.{ModuleId}
-use Rattle.hir_base.specs.declared.ast_id.SyntaxId.{SyntaxId}
-use Rattle.hir_tables.specs.SourcePlaces.{block}
-use Rattle.hir_tables.specs.Tables.{TablesValue, block_at}
-use Rattle.hir_tables.proofs.Growth.{KeepsTables-refl}
-use Rattle.hir_def_map_rules.specs.Inner.OverlayLaws.{exact_map}
-use Rattle.hir_def_map_rules.specs.References.{refers_to}
-use Rattle.hir_def_map.specs.Removal.{Depends}
-use Rattle.hir_def_map.specs.Removal.Depends.{itself, through}
-use Rattle.hir_def_map_rules.specs.State.{crate_map}
-use Rattle.hir_def_map_rules.specs.Overlay.{holders_under, no_maps}
-use Rattle.hir_collector_rules.specs.Keys.{AgreeOn, Look, look, of_entry, of_input, of_map, of_text, of_tree, of_variants, source_under}
-use Rattle.hir_collector_rules.specs.Start.{Beginning, holder_of, root_key}
-use Rattle.hir_collector_rules.specs.Workspace.{Workspace, seen_of}
-use Rattle.hir_collector_rules.proofs.Asks.{still_asked}
+use Rattle.hir_session_state.specs.HirIds.contracts.ids.MapIdPartialEq.TheImpl as map_id
+use Rattle.hir_session_state.specs.HirIds.declared.ast_id.BlockId.{BlockId}
+use Rattle.hir_session_state.specs.HirBase.declared.place.BlockPlace.{BlockPlace}
+use Rattle.hir_session_state.specs.HirIds.declared.ids.Crate.{Crate}
+use Rattle.hir_session_state.specs.HirIds.declared.ast_id.EditionedFileId.{EditionedFileId}
+use Rattle.hir_session_state.specs.HirIds.declared.ids.MapId.{MapId}
+use Rattle.hir_session_state.specs.HirIds.declared.ids.ModuleId.{ModuleId}
+use Rattle.hir_session_state.specs.HirIds.declared.ast_id.SyntaxId.{SyntaxId}
+use Rattle.hir_session_state.specs.HirTables.SourcePlaces.{block}
+use Rattle.hir_session_state.specs.HirTables.Tables.{TablesValue, block_at}
+use Rattle.hir_session_state.proofs.HirTables.Growth.{KeepsTables-refl}
+use Rattle.hir_session_state.specs.HirDefMapRules.Inner.OverlayLaws.{exact_map}
+use Rattle.hir_session_state.specs.HirDefMapRules.References.{refers_to}
+use Rattle.hir_session_state.specs.HirNameres.Removal.{Depends}
+use Rattle.hir_session_state.specs.HirNameres.Removal.Depends.{itself, through}
+use Rattle.hir_session_state.specs.HirDefMapRules.State.{crate_map}
+use Rattle.hir_session_state.specs.HirDefMapRules.Overlay.{holders_under, no_maps}
+use Rattle.hir_session_state.specs.HirCollectorRules.Keys.{AgreeOn, Look, look, of_entry, of_input, of_map, of_text, of_tree, of_variants, source_under}
+use Rattle.hir_session_state.specs.HirCollectorRules.Start.{Beginning, holder_of, root_key}
+use Rattle.hir_session_state.specs.HirCollectorRules.Workspace.{Workspace, seen_of}
+use Rattle.hir_session_state.proofs.HirCollectorRules.Asks.{still_asked}
 use Rattle.std.proofs.lemmas.List.Elements.{Contains-append_left}
-use Rattle.hir_collector_rules.specs.declared.source_database.Key.{Key}
-use Rattle.hir_crate_graph.specs.CrateSet.{has_crate}
+use Rattle.hir_session_state.specs.HirCollectorRules.declared.source_database.Key.{Key}
+use Rattle.hir_session_state.specs.HirCrateGraph.CrateSet.{has_crate}
 use Rattle.hir_session_state.specs.Crates.{CrateValue, begins_in_block, transitive_in, id_of}
 use Rattle.hir_session_state.specs.SourceEdits.{SourceEditValue, edited as made}
 use Rattle.hir_session_state.specs.SourceTable.{SourceTable, workspace_in}
 use Rattle.hir_session_state.specs.Kept.{Resolutions, kept_in, names_in, names_of, AreForgotten}
-use Rattle.hir_crate_graph.specs.Dependencies.{DependsOn}
-use Rattle.hir_crate_graph.specs.Dependencies.DependsOn.{directly, through as depends_through}
+use Rattle.hir_session_state.specs.HirCrateGraph.Dependencies.{DependsOn}
+use Rattle.hir_session_state.specs.HirCrateGraph.Dependencies.DependsOn.{directly, through as depends_through}
 use Rattle.hir_session_state.specs.SessionState.{SessionState, Resolution, dependencies_of, workspace_of, finished_of, follows, follows_by, held_maps, kept_of}
 use Rattle.hir_session_state.specs.SessionState.{is_marked, IsResolutionOf, IsCurrent, IsPlace, IsSound}
 use Rattle.hir_session_state.specs.SessionState.IsPlace.{of_block, of_crate}

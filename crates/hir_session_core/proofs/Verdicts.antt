@@ -2,10 +2,10 @@
 use Rattle.std.proofs.Common.{◌≡◌, ℕ, ◌≤◌, false, nat_lt, List, length, map, Option, None, Some, option_map, Result, Ok, Err, OnOk, IfErr, ◌⊎◌, inl, inr, refl}
 use Rattle.std.proofs.Common.{sym, subst, arith}
 use Rattle.std.proofs.lemmas.List.{length-map}
-use Rattle.hir_base.specs.declared.ids.Crate.{Crate}
-use Rattle.hir_base.specs.declared.place.PlaceElement.{PlaceElement}
+use Rattle.hir_session_state.specs.HirIds.declared.ids.Crate.{Crate}
+use Rattle.hir_session_state.specs.HirBase.declared.place.PlaceElement.{PlaceElement}
 use Rattle.std.specs.List.{list_any}
-use Rattle.hir_wire.specs.CommandValue.{CrateInputValue}
+use Rattle.hir_session_state.specs.HirMessages.CommandValue.{CrateInputValue}
 use Rattle.hir_session_state.specs.Refusals.{IsEditMemory, first_out_of_order, is_too_deep, is_too_long, verdict_of_new, verdict_with_steps}
 use Rattle.hir_session_state.specs.SessionState.{max_crates}
 use Rattle.hir_session_state.specs.declared.error.EditError.{EditError}

@@ -12,18 +12,18 @@ use Rattle.std.specs.declared.cmp.Ordering.TheVariants.{Less}
 use Rattle.std.proofs.lemmas.List.{map-append}
 use Rattle.std.proofs.lemmas.List.Elements.{Contains-append_right, Contains-append_cases}
 use Rattle.std.proofs.lemmas.Bool.{ltb-true}
-use Rattle.hir_base.specs.Place.{PlaceValue}
-use Rattle.hir_base.specs.contracts.ids.MapIdPartialEq.TheImpl as map_id
-use Rattle.hir_base.specs.declared.ast_id.BlockId.{BlockId}
-use Rattle.hir_base.specs.declared.place.BlockPlace.{BlockPlace}
-use Rattle.hir_base.specs.declared.ids.Crate.{Crate}
-use Rattle.hir_base.specs.declared.ids.MapId.{MapId}
-use Rattle.hir_base.specs.declared.ids.ModuleId.{ModuleId}
-use Rattle.hir_base.specs.declared.place.PlaceElement.{PlaceElement}
-use Rattle.hir_base.specs.declared.place.PlaceElement.TheVariants as element
-use Rattle.hir_def_map_rules.specs.State.{child_at, crate_map, root_of}
-use Rattle.hir_tables.specs.Tables.{block_at}
-use Rattle.hir_wire.specs.declared.reply.Status.TheVariants as status
+use Rattle.hir_session_state.specs.HirBase.Place.{PlaceValue}
+use Rattle.hir_session_state.specs.HirIds.contracts.ids.MapIdPartialEq.TheImpl as map_id
+use Rattle.hir_session_state.specs.HirIds.declared.ast_id.BlockId.{BlockId}
+use Rattle.hir_session_state.specs.HirBase.declared.place.BlockPlace.{BlockPlace}
+use Rattle.hir_session_state.specs.HirIds.declared.ids.Crate.{Crate}
+use Rattle.hir_session_state.specs.HirIds.declared.ids.MapId.{MapId}
+use Rattle.hir_session_state.specs.HirIds.declared.ids.ModuleId.{ModuleId}
+use Rattle.hir_session_state.specs.HirBase.declared.place.PlaceElement.{PlaceElement}
+use Rattle.hir_session_state.specs.HirBase.declared.place.PlaceElement.TheVariants as element
+use Rattle.hir_session_state.specs.HirDefMapRules.State.{child_at, crate_map, root_of}
+use Rattle.hir_session_state.specs.HirTables.Tables.{block_at}
+use Rattle.hir_session_state.specs.HirMessages.declared.reply.Status.TheVariants as status
 use Rattle.hir_session_state.specs.Blocks.{block_cmp, nesting_of, place_of_block}
 use Rattle.hir_session_state.specs.Crates.{CrateValue, id_of}
 use Rattle.hir_session_state.specs.Due.{Grows, HasOverlongRun, IsDueBlock, IsDueCrate, IsNext, IsStuckAt}

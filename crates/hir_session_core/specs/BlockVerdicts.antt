@@ -1,6 +1,6 @@
 -- How is a block checked? No public clause speaks of this.
 use Rattle.std.specs.Prelude.{List, Result, Ok, Err}
-use Rattle.hir_base.specs.declared.place.PlaceElement.{PlaceElement}
+use Rattle.hir_session_state.specs.HirBase.declared.place.PlaceElement.{PlaceElement}
 use Rattle.hir_session_state.specs.Refusals.{verdict_with_steps}
 use Rattle.hir_session_state.specs.declared.error.EditError.{EditError}
 use Rattle.hir_session_state.specs.declared.error.EditError.TheVariants as edit_error

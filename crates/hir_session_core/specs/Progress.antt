@@ -2,14 +2,14 @@
 use Rattle.std.specs.Prelude.{◌≡◌, ⊤, ℕ, ◌<◌, Bool, cond, is_none, is_some, true, false, List, [], ◌∷◌, ◌++◌, length, Option, Some, None, Contains}
 use Rattle.std.specs.BTreeMap.{is_at}
 use Rattle.std.specs.BTreeSet.{BTreeSet, contains, insert_key}
-use Rattle.hir_base.specs.Place.{PlaceValue}
-use Rattle.hir_base.specs.declared.ast_id.BlockId.{BlockId}
-use Rattle.hir_base.specs.declared.place.BlockPlace.{BlockPlace}
-use Rattle.hir_base.specs.declared.ids.MapId.{MapId}
-use Rattle.hir_base.specs.declared.ids.ModuleId.{ModuleId}
-use Rattle.hir_def_map_rules.specs.Overlay.{holders_under}
-use Rattle.hir_def_map_rules.specs.State.{crate_map, module_at}
-use Rattle.hir_collector_rules.specs.Derivation.{CollectedValue}
+use Rattle.hir_session_state.specs.HirBase.Place.{PlaceValue}
+use Rattle.hir_session_state.specs.HirIds.declared.ast_id.BlockId.{BlockId}
+use Rattle.hir_session_state.specs.HirBase.declared.place.BlockPlace.{BlockPlace}
+use Rattle.hir_session_state.specs.HirIds.declared.ids.MapId.{MapId}
+use Rattle.hir_session_state.specs.HirIds.declared.ids.ModuleId.{ModuleId}
+use Rattle.hir_session_state.specs.HirDefMapRules.Overlay.{holders_under}
+use Rattle.hir_session_state.specs.HirDefMapRules.State.{crate_map, module_at}
+use Rattle.hir_session_state.specs.HirCollectorRules.Derivation.{CollectedValue}
 use Rattle.hir_session_state.specs.Blocks.{nesting_of, place_of_block}
 use Rattle.hir_session_state.specs.Crates.{dependency_maps, id_of}
 use Rattle.hir_session_state.specs.Due.{IsDueBlock, IsNext, Resolved}
@@ -18,7 +18,7 @@ use Rattle.hir_session_state.specs.SessionState.{SessionState, block_kept, finis
 use Rattle.hir_session_state.specs.Standing.{block_map, block_number, is_set, place_of_map}
 use Rattle.hir_session_core.specs.contracts.session.pending.PendingBlockOrd.TheImpl as pending_order
 use Rattle.hir_session_core.specs.declared.session.pending.PendingBlock.{PendingBlock}
-use Rattle.hir_tables.specs.Tables.{KeepsTables}
+use Rattle.hir_session_state.specs.HirTables.Tables.{KeepsTables}
 
 -- ---- crates
 

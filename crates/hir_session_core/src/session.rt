@@ -5,21 +5,22 @@
 //! block, which asks for its own source too, and for the maps of its crate and of what holds it. What it comes to is kept, with
 //! these keys.
 //!
-//! An edit of a source compares what the source has with what it gets, at the keys of those runs that asked for it. Where one
-//! is altered the place is marked, and so is each place that depends on it: what is kept of them is dropped, and that is all
-//! that a mark is. A refresh runs the import rules for the marked places: for crates in the order of their numbers, and then for
-//! blocks, an outer one before those within it, so that a run finds what it depends on.
+//! An edit of a source compares what the source has with what it gets, at each key of it for which a kept run asked: an index has
+//! these keys by source, and of each the places. Where one is altered those places are marked, and so is each place that depends
+//! on one: what is kept of them is dropped, with what the index has of them, and that is all that a mark is. A refresh runs the
+//! import rules for the marked places: for crates in the order of their numbers, and then for blocks, an outer one before those
+//! within it, so that a run finds what it depends on.
 //!
 //! The one difficulty: no query looks at a source. What is kept of a place is right because it is what the import rules could
 //! have given just now, over the present sources: the invariant of a session says so of each place, and an edit or a refresh that ends
 //! early leaves it true.
 ghost use Rattle.std.specs.Prelude.{◌≡◌, map, length, None, Some, IfOk, OnOk, OnErr, IfErr, ◌≤◌, ◌⊎◌, Ok, Err};
-ghost use Rattle.hir_base.specs.Refusal.{Gives};
-ghost use Rattle.hir_wire.specs.CommandValue.{crate_input_view};
-ghost use Rattle.hir_tables.specs.SourcePlaces.{expansion_value};
-ghost use Rattle.hir_wire.specs.Edits.{edit_view, entry_view};
+ghost use Rattle.hir_session_state.specs.HirIds.Refusal.{Gives};
+ghost use Rattle.hir_session_state.specs.HirMessages.CommandValue.{crate_input_view};
+ghost use Rattle.hir_session_state.specs.HirTables.SourcePlaces.{expansion_value};
+ghost use Rattle.hir_session_state.specs.HirMessages.Edits.{edit_view, entry_view};
 ghost use Rattle.hir_session_state.specs.Beginning.{Begins};
-ghost use Rattle.hir_item_tree.specs.Source.{source_view};
+ghost use Rattle.hir_session_state.specs.HirItemTree.Source.{source_view};
 ghost use Rattle.hir_session_state.specs.SourceEdits.{edited, of_expansion, of_file};
 ghost use Rattle.hir_session_state.specs.Refusals.{first_out_of_order, verdict_of_new, IsNewMemory, verdict_of_apply, verdict_of_expansion, verdict_of_removal, verdict_of_source, IsEditMemory};
 ghost use Rattle.hir_session_state.specs.Changes.{Becomes, Applies};
@@ -31,12 +32,6 @@ mod queries;
 mod refresh;
 
 use self::pending::{PendingBlock, forget};
-use hir_base::file_path::FilePath;
-use hir_base::ids::Crate;
-use hir_base::limit::Limit;
-use hir_base::macro_kind::ExpansionKey;
-use hir_item_tree::check::check;
-use hir_item_tree::source::Source;
 use hir_session_invalidation::inputs::Inputs;
 use hir_session_invalidation::invalidate::{Invalidation, invalidated};
 use hir_session_sources::beginning::{crates_of, first_late};
@@ -44,12 +39,18 @@ use hir_session_sources::source_edit::SourceEdit;
 use hir_session_state::askers::Askers;
 use hir_session_state::error::{EditError, NewSessionError};
 use hir_session_state::front::{has_deep_condition, has_long_path};
+use hir_session_state::hir_base::file_path::FilePath;
+use hir_session_state::hir_base::ids::Crate;
+use hir_session_state::hir_base::limit::Limit;
+use hir_session_state::hir_base::macro_kind::ExpansionKey;
+use hir_session_state::hir_item_tree::check::check;
+use hir_session_state::hir_item_tree::source::Source;
+use hir_session_state::hir_messages::command::CrateInput;
+use hir_session_state::hir_messages::edit::{Edit, ExpansionEntry};
+use hir_session_state::hir_tables::Tables;
 use hir_session_state::kept::Kept;
 use hir_session_state::known_crates::names_known;
 use hir_session_state::nesting::nests_too_deep;
-use hir_tables::Tables;
-use hir_wire::command::CrateInput;
-use hir_wire::edit::{Edit, ExpansionEntry};
 use std::alloc::{AllocError, Global};
 use std::collections::BTreeSet;
 use std::marker::Model;
@@ -80,7 +81,7 @@ impl Drop for Session {
 }
 
 impl Model for Session {
-    ghost use Rattle.hir_session_state.specs.Askers.{AreNoted};
+    ghost use Rattle.hir_session_state.specs.Askers.{HoldsExactly};
     ghost use Rattle.hir_session_state.specs.SessionState.{SessionState, IsSound, state_of};
     ghost use Rattle.hir_session_state.specs.Codes.{coded_session};
     ghost use Rattle.hir_session_core.specs.Progress.{AreKnownPending};
@@ -91,7 +92,7 @@ impl Model for Session {
 
     ghost view = { λ s. state_of s.inputs s.tables s.kept };
 
-    ghost invariant = { λ s. IsSound (state_of s.inputs s.tables s.kept) × AreNoted s.tables s.kept s.askers
+    ghost invariant = { λ s. IsSound (state_of s.inputs s.tables s.kept) × HoldsExactly s.tables s.kept s.askers
         × AreKnownPending (state_of s.inputs s.tables s.kept) s.pending };
 }
 
@@ -145,12 +146,17 @@ impl Session {
             alloc,
             &self.inputs,
             &self.tables,
-            &self.kept,
             &self.askers,
             edit,
         )?;
         self.inputs.set_file(file, source, trees)?;
-        forget(&mut self.kept, &mut self.pending, &hits);
+        forget(
+            &self.tables,
+            &mut self.kept,
+            &mut self.askers,
+            &mut self.pending,
+            &hits,
+        );
         Ok(())
     }
 
@@ -167,12 +173,17 @@ impl Session {
             alloc,
             &self.inputs,
             &self.tables,
-            &self.kept,
             &self.askers,
             edit,
         )?;
         self.inputs.remove_file(file, trees);
-        forget(&mut self.kept, &mut self.pending, &hits);
+        forget(
+            &self.tables,
+            &mut self.kept,
+            &mut self.askers,
+            &mut self.pending,
+            &hits,
+        );
         Ok(())
     }
 
@@ -194,12 +205,17 @@ impl Session {
             alloc,
             &self.inputs,
             &self.tables,
-            &self.kept,
             &self.askers,
             edit,
         )?;
         self.inputs.set_expansion(key, entry)?;
-        forget(&mut self.kept, &mut self.pending, &hits);
+        forget(
+            &self.tables,
+            &mut self.kept,
+            &mut self.askers,
+            &mut self.pending,
+            &hits,
+        );
         Ok(())
     }
 
@@ -213,12 +229,17 @@ impl Session {
             alloc,
             &self.inputs,
             &self.tables,
-            &self.kept,
             &self.askers,
             edit,
         )?;
         self.inputs.remove_expansion(key);
-        forget(&mut self.kept, &mut self.pending, &hits);
+        forget(
+            &self.tables,
+            &mut self.kept,
+            &mut self.askers,
+            &mut self.pending,
+            &hits,
+        );
         Ok(())
     }
 

@@ -1,86 +1,191 @@
--- The places that were judged so far, and the keys of one.
-use Rattle.std.proofs.Common.{◌≡◌, ◌≢◌, Some, None, inl, inr, ℕ, zero, suc, ◌+◌, ◌<◌, ◌≤◌, true, false, List, [], ◌∷◌, ◌++◌, length, slice_index_or, arith}
-use Rattle.std.proofs.Common.{Option, refl, sym, ap, ◌∙◌, subst, Contains, map}
+-- The keys that were judged so far, and the places that asked for them.
+use Rattle.std.proofs.Common.{◌≡◌, ◌≢◌, ◌⊎◌, ◌∙◌, ap, sym, subst, refl, inl, inr, ◌<◌, Bool, true, false, cond, Option, Some, None, List, [], ◌∷◌, ◌++◌}
+use Rattle.std.proofs.Common.{arith, Contains}
 use Rattle.std.specs.List.{list_any}
-use Rattle.std.proofs.lemmas.Map.Lookups.{CmpEqualImpliesEq}
-use Rattle.std.proofs.lemmas.Map.Views.{btree_set_contains_iff}
+use Rattle.std.specs.BTreeMap.{get, is_at}
 use Rattle.std.specs.BTreeSet.{BTreeSet}
+use Rattle.std.specs.Map.{lookup}
 use Rattle.std.specs.Ordering.{is_eq}
 use Rattle.std.proofs.lemmas.List.Elements.{Contains-append_left, Contains-append_right, Contains-append_cases}
-use Rattle.hir_base.specs.declared.ids.Crate.{Crate}
-use Rattle.hir_base.specs.declared.ids.MapId.{MapId}
-use Rattle.hir_base.specs.contracts.ids.MapIdOrd.TheImpl as map_order
-use Rattle.hir_base.specs.contracts.ids.MapIdOrd.TheImpl.Laws.{total-law as order_total}
-use Rattle.hir_def_map_rules.specs.Overlay.{no_maps}
-use Rattle.hir_tables.specs.Tables.{TablesValue}
-use Rattle.hir_collector_rules.specs.Asked.{IsOwnPart}
-use Rattle.hir_collector_rules.specs.Keys.{AgreeOn, look, map_keys}
-use Rattle.hir_collector_rules.specs.declared.source_database.Key.{Key}
-use Rattle.hir_collector_rules.specs.Workspace.{Workspace}
+use Rattle.std.proofs.lemmas.Map.Lookups.{CmpEqualImpliesEq}
+use Rattle.std.proofs.lemmas.Map.Views.{btree_set_contains_iff}
+use Rattle.hir_session_state.specs.HirIds.declared.ids.MapId.{MapId}
+use Rattle.hir_session_state.specs.HirIds.contracts.ids.MapIdOrd.TheImpl as map_order
+use Rattle.hir_session_state.specs.HirIds.contracts.ids.MapIdOrd.TheImpl.Laws.{total-law as order_total}
+use Rattle.hir_session_state.specs.HirDefMapRules.Overlay.{no_maps}
+use Rattle.hir_session_state.specs.HirTables.Tables.{TablesValue}
+use Rattle.hir_session_state.specs.HirCollectorRules.Keys.{AgreeOn, look}
+use Rattle.hir_session_state.specs.HirCollectorRules.Workspace.{Workspace}
+use Rattle.hir_session_state.specs.HirCollectorRules.declared.source_database.Key.{Key}
+use Rattle.hir_session_state.specs.HirCollectorRules.contracts.source_database.KeyOrd.TheImpl as key_order
+use Rattle.hir_session_state.specs.Askers.{HoldsExactly, KeyAskers, asked_by, has_asked, has_asked_in, is_in}
 use Rattle.hir_session_state.specs.Crates.{CrateValue}
-use Rattle.hir_session_state.specs.Kept.{Resolutions, kept_in}
-use Rattle.hir_session_state.specs.Askers.{is_in}
-use Rattle.hir_session_state.specs.SessionState.{Resolution}
-use Rattle.hir_session_state.specs.SourceEdits.{SourceEditValue, edited, place_of}
-use Rattle.hir_session_state.specs.SourceNumbers.{IsNumberOf, asked_number, asks, place_at}
-use Rattle.hir_session_state.specs.SourceTable.{SourceTable, workspace_in}
-use Rattle.hir_session_state.specs.EditedSources.{AreHit, AreJudged, HasAltered, IsAsked, IsJudged, IsNoted}
+use Rattle.hir_session_state.specs.EditedSources.{AreHit, AreJudged, IsAsked, IsHit, IsJudged}
 use Rattle.hir_session_state.specs.EditedSources.IsJudged.{hit, missed}
-use Rattle.hir_session_state.specs.EditedSources.IsNoted.{hit as noted, missed as unnoted}
+use Rattle.hir_session_state.specs.Kept.{Resolution, Resolutions, kept_in}
+use Rattle.hir_session_state.specs.SourceEdits.{SourceEditValue, edited, place_of}
+use Rattle.hir_session_state.specs.SourceNumbers.{IsNumberOf, asks, place_at}
+use Rattle.hir_session_state.specs.SourceTable.{SourceTable, workspace_in}
+use Rattle.hir_session_state.specs.contracts.source_number.SourceNumberOrd.TheImpl as number_order
+use Rattle.hir_session_state.specs.declared.askers.Askers.{Askers}
 use Rattle.hir_session_state.specs.declared.source_number.SourceNumber.{SourceNumber}
+use Rattle.hir_session_state.proofs.Asking.{among_keys}
 use Rattle.hir_session_state.proofs.Depending.{any-found, found-any}
-use Rattle.hir_session_state.proofs.NumberLemmas.{is-number, unasked-place, unnumbered-place}
+use Rattle.hir_session_state.proofs.Ids.{equal_id, own_id}
+use Rattle.hir_session_state.proofs.KeyIds.{equal_key, own_key}
+use Rattle.hir_session_state.proofs.NumberLemmas.{unasked-place, unnumbered-place}
+use Rattle.hir_session_state.proofs.Truth.{and_left, both_true, clash, on_bool}
 use Rattle.hir_session_sources.proofs.SourceLemmas.{look-apart}
-use Rattle.hir_session_state.proofs.Ids.{equal_id}
-use Rattle.hir_session_state.proofs.Truth.{clash, on_bool, on_same}
 
--- none was judged
-pub judging-start : (tables : TablesValue) (v w : Workspace) (kept : Resolutions) → AreJudged tables v w kept [] []
-judging-start tables v w kept = record {
+abbrev is_key : Key → Key → Bool
+is_key key = is_at (key_order.ghosts.cmp key)
+
+-- no two ids are tied
+exact_ids : CmpEqualImpliesEq map_order.ghosts.cmp
+exact_ids a b tied = equal_id a b (ap is_eq tied)
+
+-- a place is in a set exactly if it is one of its keys
+in_set : (ids : BTreeSet MapId) (id : MapId) → is_in (Some ids) id ≡ true → Contains ids.keys id
+in_set ids id has = (btree_set_contains_iff order_total exact_ids ids id).0 has
+
+of_set : (ids : BTreeSet MapId) (id : MapId) → Contains ids.keys id → is_in (Some ids) id ≡ true
+of_set ids id among = (btree_set_contains_iff order_total exact_ids ids id).1 among
+
+-- ---- one key after another
+
+-- each place that is hit asked for a key that is altered, and each that asked for a key that is not left and altered is hit
+pub record IsJudging (tables : TablesValue) (v w : Workspace) (askers : KeyAskers) (left : List (Key × BTreeSet MapId)) (hits : List MapId) : Type 0 where
+  pub asked : (id : MapId) → Contains hits id → IsHit tables v w (Some askers) id
+  pub missed : (key : Key) (id : MapId) → has_asked askers key id ≡ true
+      → (is_in (lookup (is_key key) left) id ≡ true) ⊎ (Contains hits id ⊎ (look tables w no_maps key ≡ look tables v no_maps key))
+
+pub judging-start : (tables : TablesValue) (v w : Workspace) (askers : KeyAskers) (left : List (Key × BTreeSet MapId)) → left ≡ askers.entries
+    → IsJudging tables v w askers left []
+judging-start tables v w askers left start = record {
   asked = λ id among. absurd (let past : among.0 < 0 = among.1 in omega arith);
-  missed = λ id r among is. absurd (let past : among.0 < 0 = among.1 in omega arith);
+  missed = λ key id has. inl (ap (λ (es : List (Key × BTreeSet MapId)). is_in (lookup (is_key key) es) id) start ∙ has);
 }
 
--- what is mapped of one more
-pub one_behind : {A : Type 0} (f : A → MapId) (xs : List A) (x : A) → map f (xs ++ x ∷ []) ≡ map f xs ++ f x ∷ []
-one_behind f [] x = refl
-one_behind f (y ∷ xs) x = ap (λ (zs : List MapId). f y ∷ zs) (one_behind f xs x)
+module _ (tables : TablesValue) (v w : Workspace) (askers : KeyAskers) (before left : List (Key × BTreeSet MapId)) (next : Key) (ids : BTreeSet MapId)
+    (taken : before ≡ (next, ids) ∷ left) (stands : get key_order.ghosts.cmp askers next ≡ Some ids) where
+  -- a place that asked for a key of those that were left asked for this one, or for one that is left
+  this_or_left : (key : Key) (id : MapId) → is_in (lookup (is_key key) before) id ≡ true
+      → ((next ≡ key) × Contains ids.keys id) ⊎ (is_in (lookup (is_key key) left) id ≡ true)
+  this_or_left key id has =
+      go (is_key key next) refl (sym (ap (λ (es : List (Key × BTreeSet MapId)). is_in (lookup (is_key key) es) id) taken) ∙ has)
+    where
+      go : (b : Bool) → is_key key next ≡ b → is_in (cond b (Some ids) (lookup (is_key key) left)) id ≡ true
+          → ((next ≡ key) × Contains ids.keys id) ⊎ (is_in (lookup (is_key key) left) id ≡ true)
+      go true on e = inl (sym (equal_key key next on), in_set ids id e)
+      go false off e = inr e
 
-of_one : (x id : MapId) → Contains (x ∷ []) id → x ≡ id
-of_one x id (zero, within, is) = is
-of_one x id (suc n, within, is) = absurd (omega arith)
+  -- one more key was judged
+  pub judging-more : (old new : List MapId) → IsJudging tables v w askers before old → IsJudged tables v w next ids.keys old new
+      → IsJudging tables v w askers left new
+  judging-more old new so_far (hit altered is) = subst (λ (hits : List MapId). IsJudging tables v w askers left hits) (sym is) (record {
+    asked = λ id among. elim (Contains-append_cases old ids.keys id among) [
+      | inl early ↦ so_far.asked id early
+      | inr late ↦ record {
+        key = next;
+        asked = ap (λ (o : Option (BTreeSet MapId)). is_in o id) stands ∙ of_set ids id late;
+        altered = altered;
+      }
+    ];
+    missed = λ key id has. elim (so_far.missed key id has) [
+      | inl was_left ↦ elim (this_or_left key id was_left) [
+        | inl this ↦ inr (inl (Contains-append_right old ids.keys id this.1))
+        | inr is_left ↦ inl is_left
+      ]
+      | inr judged ↦ elim judged [
+        | inl early ↦ inr (inl (Contains-append_left old ids.keys id early))
+        | inr same ↦ inr (inr same)
+      ]
+    ];
+  })
+  judging-more old new so_far (missed same is) = subst (λ (hits : List MapId). IsJudging tables v w askers left hits) (sym is) (record {
+    asked = so_far.asked;
+    missed = λ key id has. elim (so_far.missed key id has) [
+      | inl was_left ↦ elim (this_or_left key id was_left) [
+        | inl this ↦ inr (inr (subst (λ (k : Key). look tables w no_maps k ≡ look tables v no_maps k) this.0 same))
+        | inr is_left ↦ inl is_left
+      ]
+      | inr judged ↦ inr judged
+    ];
+  })
 
--- the same places
-pub judged-same : {tables : TablesValue} {v w : Workspace} {kept : Resolutions} {ids others hits : List MapId} → ids ≡ others
-    → AreJudged tables v w kept ids hits → AreJudged tables v w kept others hits
-judged-same {tables} {v} {w} {kept} {hits = hits} same judged = subst (λ (xs : List MapId). AreJudged tables v w kept xs hits) same judged
+-- none is left
+pub judging-end : (tables : TablesValue) (v w : Workspace) (askers : KeyAskers) (left : List (Key × BTreeSet MapId)) (hits : List MapId) → left ≡ []
+    → IsJudging tables v w askers left hits → AreJudged tables v w (Some askers) hits
+judging-end tables v w askers left hits end judging = record {
+  asked = judging.asked;
+  missed = λ key id has. elim (judging.missed key id has) [
+    | inl is_left ↦ clash (sym (ap (λ (es : List (Key × BTreeSet MapId)). is_in (lookup (is_key key) es) id) end) ∙ is_left) refl
+    | inr judged ↦ judged
+  ];
+}
 
--- one more was judged
-pub judging-more : (tables : TablesValue) (v w : Workspace) (kept : Resolutions) (ids : List MapId) (at : MapId) (old new : List MapId)
-    → AreJudged tables v w kept ids old
-    → IsJudged tables v w (kept_in kept at) at old new → AreJudged tables v w kept (ids ++ at ∷ []) new
-judging-more tables v w kept ids at old new so_far (hit asked is) =
-    subst (λ (hits : List MapId). AreJudged tables v w kept (ids ++ at ∷ []) hits) (sym is) (record {
-      asked = λ id among. elim (Contains-append_cases old (at ∷ []) id among) [
-        | inl early ↦ so_far.asked id early
-        | inr last ↦ subst (λ (x : MapId). IsAsked tables v w (kept_in kept x)) (of_one at id last) asked
-      ];
-      missed = λ id r among found. elim (Contains-append_cases ids (at ∷ []) id among) [
-        | inl early ↦ elim (so_far.missed id r early found) [
-          | inl was ↦ inl (Contains-append_left old (at ∷ []) id was)
-          | inr alike ↦ inr alike
-        ]
-        | inr last ↦ inl (Contains-append_right old (at ∷ []) id last)
-      ];
-    })
-judging-more tables v w kept ids at old new so_far (missed alike is) =
-    subst (λ (hits : List MapId). AreJudged tables v w kept (ids ++ at ∷ []) hits) (sym is) (record {
-      asked = so_far.asked;
-      missed = λ id r among found. elim (Contains-append_cases ids (at ∷ []) id among) [
-        | inl early ↦ so_far.missed id r early found
-        | inr last ↦ inr (alike r (ap (kept_in kept) (of_one at id last) ∙ found))
-      ];
-    })
+-- where there are no keys
+pub judged_none : (tables : TablesValue) (v w : Workspace) (hits : List MapId) → hits ≡ [] → AreJudged tables v w None hits
+judged_none tables v w hits none = subst (λ (ids : List MapId). AreJudged tables v w None ids) (sym none) (record {
+  asked = λ id among. absurd (let past : among.0 < 0 = among.1 in omega arith);
+  missed = λ key id has. clash has refl;
+})
+
+-- ---- the places that asked
+
+-- a kept run asked for a key
+record IsAskedBy (kept : Resolutions) (id : MapId) (key : Key) : Type 0 where
+  found : Resolution
+  is : kept_in kept id ≡ Some found
+  among : Contains found.asked key
+
+asked_at : (tables : TablesValue) (kept : Resolutions) (number : SourceNumber) (key : Key) (id : MapId)
+    → asked_by tables (kept_in kept id) number key ≡ true → IsAskedBy kept id key
+asked_at tables kept number key id asked = go (kept_in kept id) refl asked
+  where
+    go : (o : Option Resolution) → kept_in kept id ≡ o → asked_by tables o number key ≡ true → IsAskedBy kept id key
+    go None is e = clash e refl
+    go (Some r) is e = record { found = r; is = is; among = among_keys r.asked key (and_left (list_any (is_key key) r.asked) (asks tables number key) e) }
+
+module _ (crates : List CrateValue) (tables : TablesValue) (t : SourceTable) (edit : SourceEditValue) (number : SourceNumber)
+    (numbered : IsNumberOf tables (place_of edit) number) (askers : Askers) (keys : Option KeyAskers)
+    (is : keys ≡ get number_order.ghosts.cmp askers.by_source number) (hits : List MapId)
+    (judged : AreJudged tables (workspace_in crates t) (workspace_in crates (edited t edit)) keys hits)
+    (kept : Resolutions) (held : HoldsExactly tables kept askers) where
+  -- a place is entered at a key of the source exactly if its kept run asked for it
+  entered : (key : Key) (id : MapId) → has_asked_in keys key id ≡ asked_by tables (kept_in kept id) number key
+  entered key id = ap (λ (o : Option KeyAskers). has_asked_in o key id) is ∙ held.each number key id
+
+  by_asked : (id : MapId) → Contains hits id → IsAsked tables (workspace_in crates t) (workspace_in crates (edited t edit)) (kept_in kept id)
+  by_asked id among =
+      let one = judged.asked id among in
+      let run = asked_at tables kept number one.key id (sym (entered one.key id) ∙ one.asked) in
+      record { found = run.found; is = run.is; altered = record { key = one.key; asked = run.among; altered = one.altered } }
+
+  -- a key for which a place asked that isn't hit is unaltered
+  unaltered : (id : MapId) (r : Resolution) → kept_in kept id ≡ Some r → list_any (is_at (map_order.ghosts.cmp id)) hits ≡ false → (key : Key)
+      → Contains r.asked key
+      → look tables (workspace_in crates (edited t edit)) no_maps key ≡ look tables (workspace_in crates t) no_maps key
+  unaltered id r found off key among = on_bool (asks tables number key)
+      (λ asking.
+      let there : asked_by tables (Some r) number key ≡ true =
+      both_true (list_any (is_key key) r.asked) (asks tables number key) (any-found (is_key key) r.asked key among (own_key key)) asking in
+      elim (judged.missed key id (entered key id ∙ ap (λ (o : Option Resolution). asked_by tables o number key) found ∙ there)) [
+        | inl is_hit ↦ clash (any-found (is_at (map_order.ghosts.cmp id)) hits id is_hit (own_id id)) off
+        | inr same ↦ same
+      ])
+      (λ not_asking. look-apart crates tables t edit key (unasked-place tables (place_of edit) number numbered key not_asking))
+
+  -- those are hit whose runs asked for a key that is altered
+  pub all_judged : AreHit tables (workspace_in crates t) (workspace_in crates (edited t edit)) kept hits
+  all_judged = record {
+    asked = by_asked;
+    missed = λ id r found. on_bool (list_any (is_at (map_order.ghosts.cmp id)) hits)
+        (λ on.
+        let one = found-any (is_at (map_order.ghosts.cmp id)) hits on in
+        inl (subst (λ (x : MapId). Contains hits x) (sym (equal_id id one.0 one.2)) one.1))
+        (λ off. inr (record { crates = refl; config = λ krate. refl; same = unaltered id r found off }));
+  }
 
 -- no run names a source without a number
 pub unnumbered_hit : (crates : List CrateValue) (tables : TablesValue) (t : SourceTable) (edit : SourceEditValue) (kept : Resolutions) (hits : List MapId)
@@ -96,118 +201,3 @@ unnumbered_hit crates tables t edit kept hits none apart =
         same = λ key among. look-apart crates tables t edit key (unnumbered-place tables (place_of edit) apart key);
       });
     })
-
--- ---- the keys of a run
-
--- within a list the default doesn't matter
-same_item : (keys : List Key) (k : ℕ) (a b : Key) → k < length keys → slice_index_or keys k a ≡ slice_index_or keys k b
-same_item [] k a b h = absurd (omega arith)
-same_item (x ∷ xs) zero a b h = refl
-same_item (x ∷ xs) (suc k) a b h = same_item xs k a b (omega arith)
-
-module _ (tables : TablesValue) (v w : Workspace) (keys : List Key) where
-  -- the key is unaltered
-  abbrev pub IsSame : Key → Type 0
-  IsSame x = look tables w no_maps x ≡ look tables v no_maps x
-
-  -- one more key
-  pub same_more : (k : ℕ) (d : Key) → k < length keys → ((j : ℕ) (key : Key) → j < k → IsSame (slice_index_or keys j key))
-      → IsSame (slice_index_or keys k d) → (j : ℕ) (key : Key) → j < k + 1 → IsSame (slice_index_or keys j key)
-  same_more k d within before here j key h = on_same j k
-      (λ e. subst (λ (i : ℕ). IsSame (slice_index_or keys i key)) (sym e) (subst IsSame (same_item keys k d key within) here))
-      (λ ne. before j key (omega arith))
-
--- all keys of a list are unaltered
-pub agrees_all : (crates : List CrateValue) (tables : TablesValue) (F G : SourceTable) (keys : List Key) (k : ℕ) → length keys ≤ k
-    → ((j : ℕ) (key : Key) → j < k → look tables (workspace_in crates G) no_maps (slice_index_or keys j key) ≡ look tables (workspace_in crates F) no_maps
-    (slice_index_or keys j key))
-    → AgreeOn tables keys (workspace_in crates F) no_maps (workspace_in crates G) no_maps
-agrees_all crates tables F G keys k all same = record {
-  crates = refl;
-  config = λ krate. refl;
-  same = λ key among.
-      let within : among.0 < length keys = among.1 in
-      subst (λ (x : Key). look tables (workspace_in crates G) no_maps x ≡ look tables (workspace_in crates F) no_maps x) among.2
-      (same among.0 key (omega arith));
-}
-
--- so they are where none asks for what is edited
-agrees_unasked : (crates : List CrateValue) (tables : TablesValue) (t : SourceTable) (edit : SourceEditValue) (number : SourceNumber) (keys : List Key)
-    → IsNumberOf tables (place_of edit) number → list_any (asks tables number) keys ≡ false
-    → AgreeOn tables keys (workspace_in crates t) no_maps (workspace_in crates (edited t edit)) no_maps
-agrees_unasked crates tables t edit number keys numbered none = record {
-  crates = refl;
-  config = λ krate. refl;
-  same = λ key among. look-apart crates tables t edit key (unasked-place tables (place_of edit) number numbered key
-      (on_bool (asks tables number key) (λ on. clash (any-found (asks tables number) keys key among on) none) (λ off. off)));
-}
-
--- ---- all keys that a run asked for
-
--- the key of a map shows nothing, where there are no maps
-of_maps : (tables : TablesValue) (v w : Workspace) (crates : List Crate) (key : Key) → Contains (map_keys crates) key → look tables w no_maps key
-    ≡ look tables v no_maps key
-of_maps tables v w [] key h = absurd (let past : h.0 < 0 = h.1 in omega arith)
-of_maps tables v w (c ∷ cs) key (zero, within, is) = subst (λ (k : Key). look tables w no_maps k ≡ look tables v no_maps k) is refl
-of_maps tables v w (c ∷ cs) key (suc n, within, is) = of_maps tables v w cs key (n, (omega arith), is)
-
--- what agrees on the keys of steps agrees on all
-pub agrees_on_own : (tables : TablesValue) (own all : List Key) (v w : Workspace) → IsOwnPart own all → AgreeOn tables own v no_maps w no_maps
-    → AgreeOn tables all v no_maps w no_maps
-agrees_on_own tables own all v w part agree = record {
-  crates = agree.crates;
-  config = agree.config;
-  same = λ key among. elim (Contains-append_cases own (map_keys part.dependencies) key (subst (λ (ks : List Key). Contains ks key) part.is among)) [
-    | inl early ↦ agree.same key early
-    | inr late ↦ of_maps tables v w part.dependencies key late
-  ];
-}
-
--- and one that is altered is one of all
-pub altered_of_own : (tables : TablesValue) (own all : List Key) (v w : Workspace) → IsOwnPart own all → HasAltered tables v w own → HasAltered tables v w all
-altered_of_own tables own all v w part found = record {
-  key = found.key;
-  asked = subst (λ (ks : List Key). Contains ks found.key) (sym part.is) (Contains-append_left own (map_keys part.dependencies) found.key found.asked);
-  altered = found.altered;
-}
-
--- a place with no keys but these
-pub judged_by : (tables : TablesValue) (v w : Workspace) (r : Resolution) (own : List Key) (id : MapId) (old new : List MapId) → IsOwnPart own r.asked
-    → IsNoted tables v w own id old new → IsJudged tables v w (Some r) id old new
-judged_by tables v w r own id old new part (noted altered is) =
-    hit (record { found = r; is = refl; altered = altered_of_own tables own r.asked v w part altered }) is
-judged_by tables v w r own id old new part (unnoted agree is) =
-    missed (λ q same. let here : r ≡ q = cc in subst (λ (x : Resolution). AgreeOn tables x.asked v no_maps w no_maps) here
-    (agrees_on_own tables own r.asked v w part agree)) is
-
--- ---- those that were not judged
-
--- where each place whose run asked for the source was judged, those are hit that were
-pub all_judged : (crates : List CrateValue) (tables : TablesValue) (t : SourceTable) (edit : SourceEditValue) (kept : Resolutions) (number : SourceNumber)
-    (ids hits : List MapId)
-    → IsNumberOf tables (place_of edit) number
-    → ((id : MapId) (r : Resolution) (key : Key) → kept_in kept id ≡ Some r → Contains r.asked key → asked_number tables key ≡ Some number → Contains ids id)
-    → AreJudged tables (workspace_in crates t) (workspace_in crates (edited t edit)) kept ids hits
-    → AreHit tables (workspace_in crates t) (workspace_in crates (edited t edit)) kept hits
-all_judged crates tables t edit kept number ids hits numbered all judged = record {
-  asked = judged.asked;
-  missed = λ id r is. on_bool (list_any (asks tables number) r.asked)
-      (λ some.
-      let found = found-any (asks tables number) r.asked some in
-      judged.missed id r (all id r found.0 is found.1 (is-number tables (place_of edit) number numbered (asked_number tables found.0) found.2)) is)
-      (λ none. inr (agrees_unasked crates tables t edit number r.asked numbered none));
-}
-
--- no two ids are tied
-exact_ids : CmpEqualImpliesEq map_order.ghosts.cmp
-exact_ids a b tied = equal_id a b (ap is_eq tied)
-
--- a place that is in a set is one of its keys
-pub in_set : (o : Option (BTreeSet MapId)) (ids : BTreeSet MapId) (id : MapId) → o ≡ Some ids → is_in o id ≡ true → Contains ids.keys id
-in_set o ids id is has =
-    let there : is_in (Some ids) id ≡ true = ap (λ (x : Option (BTreeSet MapId)). is_in x id) (sym is) ∙ has in
-    (btree_set_contains_iff order_total exact_ids ids id).0 there
-
--- and none is in no set
-pub in_none : (o : Option (BTreeSet MapId)) (id : MapId) → o ≡ None → is_in o id ≡ true → Contains [] id
-in_none o id is has = clash has (ap (λ (x : Option (BTreeSet MapId)). is_in x id) is)

@@ -1,6 +1,6 @@
 -- What does the code make of an edited source? No public clause speaks of this.
 use Rattle.std.specs.Prelude.{◌≡◌}
-use Rattle.hir_base.specs.declared.ids.Crate.{Crate}
+use Rattle.hir_session_state.specs.HirIds.declared.ids.Crate.{Crate}
 use Rattle.hir_session_invalidation.specs.declared.invalidate.Change.{Change}
 use Rattle.hir_session_invalidation.specs.declared.invalidate.Changes.{Changes}
 use Rattle.hir_session_state.specs.Inputs.{InputsValue}

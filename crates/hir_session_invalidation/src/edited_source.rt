@@ -5,11 +5,11 @@ ghost use Rattle.hir_session_sources.specs.EditValues.{edit_value};
 ghost use Rattle.hir_session_state.specs.SourceNumbers.{IsNumberOf};
 
 use crate::inputs::Inputs;
-use hir_collector_rules::source_database::Key;
 use hir_session_sources::seen_entry::is_same_look;
 use hir_session_sources::source_edit::SourceEdit;
+use hir_session_state::hir_collector_rules::source_database::Key;
+use hir_session_state::hir_tables::Tables;
 use hir_session_state::source_number::{SourceNumber, asked_number};
-use hir_tables::Tables;
 
 /// An edit of a source that has a number, and what was handed in before it.
 #[derive(Drop)]

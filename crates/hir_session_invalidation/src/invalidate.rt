@@ -1,39 +1,39 @@
 //! Which places an edit of a source invalidates.
 //!
 //! A run notes what it asked for: what sources have under crates, and what stands beside their trees. An edit changes one
-//! source. Where that has no number no run asked for it, and nothing is compared. Else the keys of each place that may have
-//! asked for it are gone through: if one of them does, what the source has under the key's crate is made of the new one, once
-//! for each crate, compared at each such key with what it had, and then kept in its place.
+//! source. Where that has no number no run asked for it, and nothing is compared. Else the keys of it for which places asked are
+//! gone through, each once however many places asked: what the source has under the key's crate is made of the new one, once
+//! for each crate, compared at the key with what it had, and then kept in its place.
 //!
 //! The one difficulty: a place is invalidated exactly where something that it asked for became another. Equal trees don't say
 //! so: an absent source isn't an empty one, the variants of an enum, the text of a macro and the input of a call stand beside
 //! the tree, and the error of an expansion beside its source.
-ghost use Rattle.std.specs.Prelude.{◌≡◌, ◌≢◌, ◌↔◌, [], true, false, IsTrue, IfOk, OnOk, option_map};
-ghost use Rattle.hir_item_tree.specs.SyntaxIds.{node_id};
-ghost use Rattle.hir_def_map_rules.specs.Overlay.{no_maps};
-ghost use Rattle.hir_collector_rules.specs.Keys.{AgreeOn, input_of, look, text_of};
-ghost use Rattle.hir_session_state.specs.Askers.{AreNoted};
-ghost use Rattle.hir_session_state.specs.EditedSources.{seen_at, text_in, AreHit, AreJudged, HasAltered, IsJudged, IsNoted};
+ghost use Rattle.std.specs.Prelude.{◌≡◌, ◌≢◌, ◌↔◌, ◌++◌, [], true, false, Some, IsTrue, IfOk, OnOk, option_map};
+ghost use Rattle.hir_session_state.specs.HirItemTree.SyntaxIds.{node_id};
+ghost use Rattle.hir_session_state.specs.HirDefMapRules.Overlay.{no_maps};
+ghost use Rattle.hir_session_state.specs.HirCollectorRules.Keys.{input_of, look, text_of};
+ghost use Rattle.hir_session_state.specs.Askers.{HoldsExactly};
+ghost use Rattle.hir_session_state.specs.EditedSources.{seen_at, text_in, AreHit, AreJudged, IsJudged};
 ghost use Rattle.hir_session_state.specs.Inputs.{workspace_after, workspace_by};
 ghost use Rattle.hir_session_invalidation.specs.Invalidated.{AreChanges, IsChange, HasTreesOf};
-ghost use Rattle.hir_session_state.specs.Kept.{kept_in};
+ghost use Rattle.hir_session_state.specs.Kept.{Resolutions};
 ghost use Rattle.hir_session_state.specs.Marks.{IsAltered};
 ghost use Rattle.hir_session_sources.specs.EditValues.{edit_value};
 
 use crate::edited_source::EditedSource;
 use crate::inputs::Inputs;
-use hir_base::ast_id::{AstKind, SyntaxId};
-use hir_base::ids::{Crate, MapId};
-use hir_base::macro_kind::MacroId;
-use hir_collector_rules::source_database::Key;
-use hir_item_tree::check::NodeId;
-use hir_item_tree::source_tree::SourceTree;
 use hir_session_sources::source_edit::SourceEdit;
 use hir_session_sources::source_trees::CrateTrees;
-use hir_session_state::askers::Askers;
-use hir_session_state::kept::Kept;
+use hir_session_state::askers::{Askers, KeyAskers};
+use hir_session_state::hir_base::ast_id::{AstKind, SyntaxId};
+use hir_session_state::hir_base::ids::{Crate, MapId};
+use hir_session_state::hir_base::macro_kind::MacroId;
+use hir_session_state::hir_base::text::Text;
+use hir_session_state::hir_collector_rules::source_database::Key;
+use hir_session_state::hir_item_tree::check::NodeId;
+use hir_session_state::hir_item_tree::source_tree::SourceTree;
+use hir_session_state::hir_tables::Tables;
 use hir_session_state::source_number::{key_tree, number_at};
-use hir_tables::Tables;
 use std::alloc::{AllocError, Global};
 use std::collections::{BTreeMap, BTreeSet};
 use std::rc::Rc;
@@ -88,7 +88,8 @@ fn change_under(
     Ok(Change { before, after })
 }
 
-fn is_same_str(one: Option<&str>, other: Option<&str>) -> bool
+/// Whether both are there with the same text, or neither is.
+fn is_same_text(one: Option<&Text>, other: Option<&Text>) -> bool
     ensures exact { IsTrue result ↔ (option_map (λ t. t.now) one.entry ≡ option_map (λ t. t.now) other.entry) }
 {
     match (one, other) {
@@ -103,7 +104,7 @@ fn has_same_text(one: &SourceTree, other: &SourceTree, kind: AstKind, id: Syntax
     ensures exact { IsTrue result ↔ (text_of one.now (node_id kind id) ≡ text_of other.now (node_id kind id)) }
 {
     let node = NodeId { kind, id };
-    is_same_str(one.text(node), other.text(node))
+    is_same_text(one.text(node), other.text(node))
 }
 
 /// Whether a macro that the source defines has the same text in both.
@@ -122,7 +123,7 @@ fn has_same_input(one: &SourceTree, other: &SourceTree, kind: AstKind, id: Synta
     ensures exact { IsTrue result ↔ (input_of one.now (node_id kind id) ≡ input_of other.now (node_id kind id)) }
 {
     let node = NodeId { kind, id };
-    is_same_str(one.input(node), other.input(node))
+    is_same_text(one.input(node), other.input(node))
 }
 
 /// Whether a key that asks for the source under the crate sees another after the edit.
@@ -164,69 +165,34 @@ fn is_altered(
     Ok(sees_another(&change, key))
 }
 
-/// Whether one of the keys is altered.
-fn is_any_altered(
-    alloc: Global,
-    source: &EditedSource<'_>,
-    changes: &mut Changes,
-    keys: &[Key],
-) -> Result<bool, AllocError>
-    requires changes { AreChanges source.now.inputs.now (edit_value source.now.edit) changes.old }
-    ensures none { IfOk result (λ altered. altered ≡ false → AgreeOn source.now.tables.now keys.now (workspace_by source.now.inputs.now) no_maps
-        (workspace_after source.now.inputs.now (edit_value source.now.edit)) no_maps) }
-    ensures some { IfOk result (λ altered. altered ≡ true → HasAltered source.now.tables.now (workspace_by source.now.inputs.now)
-        (workspace_after source.now.inputs.now (edit_value source.now.edit)) keys.now) }
-    ensures changes { OnOk result (AreChanges source.now.inputs.now (edit_value source.now.edit) changes.new) }
+/// Adds places to those that are hit.
+fn hit(hits: &mut Vec<MapId>, ids: &BTreeSet<MapId>) -> Result<(), AllocError>
+    ensures ok { OnOk result (hits.new.items ≡ hits.old.items ++ ids.now.keys) }
 {
-    for key in keys {
-        if is_altered(alloc, source, changes, *key)? {
-            return Ok(true);
-        }
-    }
-    Ok(false)
-}
-
-/// Adds the place with these keys to those that are hit, if one of the keys is altered.
-fn note(
-    alloc: Global,
-    source: &EditedSource<'_>,
-    keys: &[Key],
-    id: MapId,
-    hits: &mut Vec<MapId>,
-    changes: &mut Changes,
-) -> Result<(), AllocError>
-    requires changes { AreChanges source.now.inputs.now (edit_value source.now.edit) changes.old }
-    ensures noted { OnOk result (IsNoted source.now.tables.now (workspace_by source.now.inputs.now)
-        (workspace_after source.now.inputs.now (edit_value source.now.edit)) keys.now id hits.old.items hits.new.items) }
-    ensures changes { OnOk result (AreChanges source.now.inputs.now (edit_value source.now.edit) changes.new) }
-{
-    if is_any_altered(alloc, source, changes, keys)? {
-        hits.push(id)?;
+    for id in ids {
+        hits.push(*id)?;
     }
     Ok(())
 }
 
-/// The same for a place of which something is kept.
+/// Adds the places that asked for a key to those that are hit, if the key is altered.
 fn judge(
     alloc: Global,
     source: &EditedSource<'_>,
-    kept: &Kept,
-    id: MapId,
+    key: Key,
+    ids: &BTreeSet<MapId>,
     hits: &mut Vec<MapId>,
     changes: &mut Changes,
 ) -> Result<(), AllocError>
     requires changes { AreChanges source.now.inputs.now (edit_value source.now.edit) changes.old }
     ensures judged { OnOk result (IsJudged source.now.tables.now (workspace_by source.now.inputs.now)
-        (workspace_after source.now.inputs.now (edit_value source.now.edit)) (kept_in kept.now id) id hits.old.items hits.new.items) }
+        (workspace_after source.now.inputs.now (edit_value source.now.edit)) key ids.now.keys hits.old.items hits.new.items) }
     ensures changes { OnOk result (AreChanges source.now.inputs.now (edit_value source.now.edit) changes.new) }
 {
-    let Some(found) = kept.get(id) else {
-        return Ok(());
-    };
-    let Some(asked) = found.asked else {
-        return Ok(());
-    };
-    note(alloc, source, asked.own(), id, hits, changes)
+    if is_altered(alloc, source, changes, key)? {
+        hit(hits, ids)?;
+    }
+    Ok(())
 }
 
 /// What an edit leads to that nothing is known to ask for.
@@ -240,15 +206,14 @@ fn nothing_hit(alloc: Global) -> Invalidation
     }
 }
 
-/// What an edit of a source that has a number leads to, where only these places can have asked for it.
+/// What an edit of a source that has a number leads to, where these are the keys of it for which places asked.
 fn invalidated_among(
     alloc: Global,
     source: &EditedSource<'_>,
-    kept: &Kept,
-    askers: &BTreeSet<MapId>,
+    askers: &KeyAskers,
 ) -> Result<Invalidation, AllocError>
     ensures judged { IfOk result (λ found. AreJudged source.now.tables.now (workspace_by source.now.inputs.now)
-        (workspace_after source.now.inputs.now (edit_value source.now.edit)) kept.now askers.now.keys found.hits.items) }
+        (workspace_after source.now.inputs.now (edit_value source.now.edit)) (Some askers.now) found.hits.items) }
     ensures trees { IfOk result (λ found. HasTreesOf source.now.inputs.now (edit_value source.now.edit) found.trees) }
 {
     let mut hits = Vec::new(alloc);
@@ -256,8 +221,8 @@ fn invalidated_among(
         before: BTreeMap::new(alloc),
         after: BTreeMap::new(alloc),
     };
-    for id in askers {
-        judge(alloc, source, kept, *id, &mut hits, &mut changes)?;
+    for (key, ids) in askers {
+        judge(alloc, source, *key, ids, &mut hits, &mut changes)?;
     }
     Ok(Invalidation {
         hits,
@@ -269,16 +234,15 @@ fn invalidated_among(
 fn invalidated_by(
     alloc: Global,
     source: &EditedSource<'_>,
-    kept: &Kept,
     askers: &Askers,
 ) -> Result<Invalidation, AllocError>
-    requires noted { AreNoted source.now.tables.now kept.now askers.now }
-    ensures hit { IfOk result (λ found. AreHit source.now.tables.now (workspace_by source.now.inputs.now)
-        (workspace_after source.now.inputs.now (edit_value source.now.edit)) kept.now found.hits.items) }
+    ensures hit { IfOk result (λ found. (kept : Resolutions) → HoldsExactly source.now.tables.now kept askers.now
+        → AreHit source.now.tables.now (workspace_by source.now.inputs.now) (workspace_after source.now.inputs.now (edit_value source.now.edit))
+        kept found.hits.items) }
     ensures trees { IfOk result (λ found. HasTreesOf source.now.inputs.now (edit_value source.now.edit) found.trees) }
 {
     match askers.of(source.number) {
-        Some(askers) => invalidated_among(alloc, source, kept, askers),
+        Some(askers) => invalidated_among(alloc, source, askers),
         None => Ok(nothing_hit(alloc)),
     }
 }
@@ -288,13 +252,11 @@ pub fn invalidated(
     alloc: Global,
     inputs: &Inputs,
     tables: &Tables,
-    kept: &Kept,
     askers: &Askers,
     edit: SourceEdit<'_>,
 ) -> Result<Invalidation, AllocError>
-    requires noted { AreNoted tables.now kept.now askers.now }
-    ensures hit { IfOk result (λ found. AreHit tables.now (workspace_by inputs.now) (workspace_after inputs.now (edit_value edit.entry))
-        kept.now found.hits.items) }
+    ensures hit { IfOk result (λ found. (kept : Resolutions) → HoldsExactly tables.now kept askers.now
+        → AreHit tables.now (workspace_by inputs.now) (workspace_after inputs.now (edit_value edit.entry)) kept found.hits.items) }
     ensures trees { IfOk result (λ found. HasTreesOf inputs.now (edit_value edit.entry) found.trees) }
 {
     match number_at(tables, edit.place()) {
@@ -305,7 +267,7 @@ pub fn invalidated(
                 edit,
                 number,
             };
-            invalidated_by(alloc, &source, kept, askers)
+            invalidated_by(alloc, &source, askers)
         }
         None => Ok(nothing_hit(alloc)),
     }

@@ -3,59 +3,59 @@ use Rattle.std.specs.Prelude.{cond, is_none, is_some}
 use Rattle.std.specs.Option.{option_and_then}
 use Rattle.std.proofs.Common.{◌≡◌, ◌≢◌, ℕ, Bool, true, false, nat_lt, if◌then◌else◌, length, Option, Some, None, refl, sym, subst, ap, ◌∙◌, Contains, List, []}
 use Rattle.std.proofs.Common.{◌∷◌, ◌++◌, option_map}
-use Rattle.hir_base.specs.CfgOptions.{is_set}
-use Rattle.hir_base.specs.Place.{PlaceValue}
-use Rattle.hir_base.specs.declared.ast_id.BlockId.{BlockId}
-use Rattle.hir_base.specs.declared.place.BlockPlace.{BlockPlace}
-use Rattle.hir_base.specs.declared.ids.Crate.{Crate}
-use Rattle.hir_base.specs.declared.ast_id.EntryId.{EntryId}
-use Rattle.hir_base.specs.declared.ids.MapId.{MapId}
-use Rattle.hir_base.specs.declared.ids.ModuleId.{ModuleId}
-use Rattle.hir_base.specs.declared.place.PlaceElement.{PlaceElement}
-use Rattle.hir_base.specs.declared.place.PlaceElement.TheVariants as element
-use Rattle.hir_item_tree.specs.BodyTexts.{BodyTextsLeaveTheSides, BodyTextsLeaveTheTree, source_without_bodies}
-use Rattle.hir_item_tree.specs.Source.{SourceValue}
-use Rattle.hir_item_tree.specs.SourceTree.{SourceTreeValue}
-use Rattle.hir_item_tree.specs.declared.tree_id.TreeKey.{TreeKey}
-use Rattle.hir_tables.specs.SourcePlaces.{ExpansionValue, SourcePlaceValue, block, expansion, file}
-use Rattle.hir_tables.specs.Tables as numbers
-use Rattle.hir_tables.specs.Tables.{KeepsTables, TablesValue, source_of}
-use Rattle.hir_tables.proofs.Growth.{KeepsTables-refl}
-use Rattle.hir_def_map.specs.WorldParts.{among}
-use Rattle.hir_def_map_rules.specs.Closed.{PathsLeadToWhatIsThere}
-use Rattle.hir_def_map_rules.specs.Overlay.{holders_of, no_maps}
-use Rattle.hir_def_map_rules.specs.Sources.{PathsAnswerFromSources}
-use Rattle.hir_def_map_rules.specs.State.{child_at, crate_map, root_of}
-use Rattle.hir_def_collector_laws.specs.Sources.{RunsBindFromSources}
-use Rattle.hir_collector_rules.specs.Workspace.{EntryLook, Workspace}
-use Rattle.hir_collector_rules.specs.Keys.{Look, look, of_entry, of_input, of_map, of_text, of_tree, of_variants}
-use Rattle.hir_collector_rules.specs.declared.source_database.Key.{Key}
-use Rattle.hir_collector_rules.specs.declared.source_database.Key.TheVariants as keys
-use Rattle.hir_wire.specs.Edits.{EditValue, EntryValue, set_file, remove_file, set_block, remove_block, set_expansion, remove_expansion}
-use Rattle.hir_wire.specs.declared.reply.Status.TheVariants as status
-use Rattle.hir_session_answers.specs.Status.{status_by, status_of}
-use Rattle.hir_session_answers.specs.Answers.{answer_at, answer_by, answer_from}
-use Rattle.hir_session_state.specs.Blocks.{block_in, place_of_block}
-use Rattle.hir_session_state.specs.Crates.{CrateValue, crate_in, options_in, transitive_in}
-use Rattle.hir_session_state.specs.Entries.{entry_at, look_of, source_of as source_in_entry}
-use Rattle.hir_session_state.specs.Files.{file_at}
-use Rattle.hir_session_state.specs.KeySources.{key_place, key_tree}
-use Rattle.hir_session_state.specs.SessionState.{SessionState, Resolution, finished_of, follows, is_marked, kept_of, module_of, read_of, standing_of}
-use Rattle.hir_session_state.specs.SessionState.{workspace_of, IsSound}
-use Rattle.hir_session_state.specs.Kept.{kept_in, placed_by}
-use Rattle.hir_session_state.specs.Standing.{Standing, block_below, block_map, block_number, down, from_crate, is_set as is_block_set, kept_block, module_by}
-use Rattle.hir_session_state.specs.Standing.{step, to_child, to_root}
-use Rattle.hir_session_state.specs.Standing.Standing.{at, lacks, stale, unset}
-use Rattle.hir_session_state.specs.SourceEdits.{SourceEditValue, IsSeenAlike, edit_of, edited, of_block, of_expansion, of_file, place_of, source_by}
-use Rattle.hir_session_state.specs.SourceTable.{SourceTable, front_in, source_at, tree_under, workspace_in}
-use Rattle.hir_session_sources.specs.SourceTrees.{is_place}
-use Rattle.hir_session_state.specs.Spread.{Spread}
-use Rattle.hir_session_state.specs.Spread.Spread.{here, depends}
-use Rattle.hir_session_state.specs.Marks.{IsTouched}
-use Rattle.hir_session_state.specs.Marks.IsTouched.{before, asked_for}
-use Rattle.hir_session_state.specs.EditedSources.{seen_at}
-use Rattle.hir_session_state.specs.Changes.{Becomes}
-use Rattle.hir_session_state.specs.Due.{IsBehind}
+use Rattle.hir_session_machine.specs.HirBase.CfgOptions.{is_set}
+use Rattle.hir_session_machine.specs.HirBase.Place.{PlaceValue}
+use Rattle.hir_session_machine.specs.HirIds.declared.ast_id.BlockId.{BlockId}
+use Rattle.hir_session_machine.specs.HirBase.declared.place.BlockPlace.{BlockPlace}
+use Rattle.hir_session_machine.specs.HirIds.declared.ids.Crate.{Crate}
+use Rattle.hir_session_machine.specs.HirIds.declared.ast_id.EntryId.{EntryId}
+use Rattle.hir_session_machine.specs.HirIds.declared.ids.MapId.{MapId}
+use Rattle.hir_session_machine.specs.HirIds.declared.ids.ModuleId.{ModuleId}
+use Rattle.hir_session_machine.specs.HirBase.declared.place.PlaceElement.{PlaceElement}
+use Rattle.hir_session_machine.specs.HirBase.declared.place.PlaceElement.TheVariants as element
+use Rattle.hir_session_machine.specs.HirItemTree.BodyTexts.{BodyTextsLeaveTheSides, BodyTextsLeaveTheTree, source_without_bodies}
+use Rattle.hir_session_machine.specs.HirItemTree.Source.{SourceValue}
+use Rattle.hir_session_machine.specs.HirItemTree.SourceTree.{SourceTreeValue}
+use Rattle.hir_session_machine.specs.HirBase.declared.tree_id.TreeKey.{TreeKey}
+use Rattle.hir_session_machine.specs.HirTables.SourcePlaces.{ExpansionValue, SourcePlaceValue, block, expansion, file}
+use Rattle.hir_session_machine.specs.HirTables.Tables as numbers
+use Rattle.hir_session_machine.specs.HirTables.Tables.{KeepsTables, TablesValue, source_of}
+use Rattle.hir_session_machine.proofs.HirTables.Growth.{KeepsTables-refl}
+use Rattle.hir_session_machine.specs.HirNameres.WorldParts.{among}
+use Rattle.hir_session_machine.specs.HirDefMapRules.Closed.{PathsLeadToWhatIsThere}
+use Rattle.hir_session_machine.specs.HirDefMapRules.Overlay.{holders_of, no_maps}
+use Rattle.hir_session_machine.specs.HirDefMapRules.Sources.{PathsAnswerFromSources}
+use Rattle.hir_session_machine.specs.HirDefMapRules.State.{child_at, crate_map, root_of}
+use Rattle.hir_session_machine.specs.HirDefCollectorLaws.Sources.{RunsBindFromSources}
+use Rattle.hir_session_machine.specs.HirCollectorRules.Workspace.{EntryLook, Workspace}
+use Rattle.hir_session_machine.specs.HirCollectorRules.Keys.{Look, look, of_entry, of_input, of_map, of_text, of_tree, of_variants}
+use Rattle.hir_session_machine.specs.HirCollectorRules.declared.source_database.Key.{Key}
+use Rattle.hir_session_machine.specs.HirCollectorRules.declared.source_database.Key.TheVariants as keys
+use Rattle.hir_session_machine.specs.HirMessages.Edits.{EditValue, EntryValue, set_file, remove_file, set_block, remove_block, set_expansion, remove_expansion}
+use Rattle.hir_session_machine.specs.HirMessages.declared.reply.Status.TheVariants as status
+use Rattle.hir_session_machine.specs.HirSessionAnswers.Status.{status_by, status_of}
+use Rattle.hir_session_machine.specs.HirSessionAnswers.Answers.{answer_at, answer_by, answer_from}
+use Rattle.hir_session_machine.specs.HirSessionState.Blocks.{block_in, place_of_block}
+use Rattle.hir_session_machine.specs.HirSessionState.Crates.{CrateValue, crate_in, options_in, transitive_in}
+use Rattle.hir_session_machine.specs.HirSessionState.Entries.{entry_at, look_of, source_of as source_in_entry}
+use Rattle.hir_session_machine.specs.HirSessionState.Files.{file_at}
+use Rattle.hir_session_machine.specs.HirSessionState.KeySources.{key_place, key_tree}
+use Rattle.hir_session_machine.specs.HirSessionState.SessionState.{SessionState, Resolution, finished_of, follows, is_marked, kept_of, module_of, read_of, standing_of}
+use Rattle.hir_session_machine.specs.HirSessionState.SessionState.{workspace_of, IsSound}
+use Rattle.hir_session_machine.specs.HirSessionState.Kept.{kept_in, placed_by}
+use Rattle.hir_session_machine.specs.HirSessionState.Standing.{Standing, block_below, block_map, block_number, down, from_crate, is_set as is_block_set, kept_block, module_by}
+use Rattle.hir_session_machine.specs.HirSessionState.Standing.{step, to_child, to_root}
+use Rattle.hir_session_machine.specs.HirSessionState.Standing.Standing.{at, lacks, stale, unset}
+use Rattle.hir_session_machine.specs.HirSessionState.SourceEdits.{SourceEditValue, IsSeenAlike, edit_of, edited, of_block, of_expansion, of_file, place_of, source_by}
+use Rattle.hir_session_machine.specs.HirSessionState.SourceTable.{SourceTable, front_in, source_at, tree_under, workspace_in}
+use Rattle.hir_session_machine.specs.HirSessionSources.SourceTrees.{is_place}
+use Rattle.hir_session_machine.specs.HirSessionState.Spread.{Spread}
+use Rattle.hir_session_machine.specs.HirSessionState.Spread.Spread.{here, depends}
+use Rattle.hir_session_machine.specs.HirSessionState.Marks.{IsTouched}
+use Rattle.hir_session_machine.specs.HirSessionState.Marks.IsTouched.{before, asked_for}
+use Rattle.hir_session_machine.specs.HirSessionState.EditedSources.{seen_at}
+use Rattle.hir_session_machine.specs.HirSessionState.Changes.{Becomes}
+use Rattle.hir_session_machine.specs.HirSessionState.Due.{IsBehind}
 use Rattle.hir_session_laws.specs.Laws.{AnswersAlike, BodyEditsMarkNothing, BodyEditsLeaveAnswers}
 use Rattle.hir_session_laws.specs.Laws.{ExpansionBodyEditsMarkNothing, ExpansionBodyEditsLeaveAnswers}
 use Rattle.hir_session_laws.specs.Laws.{SetAbsentFileMarks, RemovePresentFileMarks, RemoveAbsentFileMarksNothing, RemoveAbsentFileLeavesAnswers}
@@ -64,10 +64,10 @@ use Rattle.hir_session_laws.specs.Laws.{RemoveAbsentExpansionMarksNothing, Remov
 use Rattle.hir_session_laws.specs.Laws.{BlockBodyEditsMarkNothing, BlockBodyEditsLeaveAnswers, SetAbsentBlockMarks, RemovePresentBlockMarks}
 use Rattle.hir_session_laws.specs.Laws.{RemoveAbsentBlockMarksNothing, RemoveAbsentBlockLeavesAnswers, UnaskedSourcesMarkNothing, UnaskedSourcesLeaveAnswers}
 use Rattle.hir_session_laws.specs.Laws.{UnaskedSourcesLeaveCurrentAnswers, IsUnasked, edits_block}
-use Rattle.hir_session_answers.proofs.Differ.{ends_unmarked, same_answer, unmarked_behind}
-use Rattle.hir_session_state.proofs.Truth.{clash, on_bool, no_value, one_value}
-use Rattle.hir_session_sources.proofs.SourceLemmas.{beside-differs, look-apart, look-differs, look-same, place_same, same_place, source_at-edited}
-use Rattle.hir_session_sources.proofs.SourceLemmas.{treeless-same}
+use Rattle.hir_session_machine.proofs.HirSessionAnswers.Differ.{ends_unmarked, same_answer, unmarked_behind}
+use Rattle.hir_session_machine.proofs.HirSessionState.Truth.{clash, on_bool, no_value, one_value}
+use Rattle.hir_session_machine.proofs.HirSessionSources.SourceLemmas.{beside-differs, look-apart, look-differs, look-same, place_same, same_place, source_at-edited}
+use Rattle.hir_session_machine.proofs.HirSessionSources.SourceLemmas.{treeless-same}
 
 -- each key that a run asked for sees what it saw
 abbrev AreUnaltered : SessionState → Workspace → Type 0

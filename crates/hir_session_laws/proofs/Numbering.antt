@@ -1,42 +1,42 @@
 -- Numbers that calls get change no answer.
 use Rattle.std.specs.Prelude.{is_none, if◌then◌else◌}
 use Rattle.std.proofs.Common.{◌≡◌, ◌∙◌, ap, sym, subst, refl, ℕ, Bool, true, false, nat_lt, List, length, Option, Some, None, Result, Ok, Err}
-use Rattle.hir_base.specs.ModPath.{Path}
-use Rattle.hir_base.specs.Place.{PlaceValue}
-use Rattle.hir_base.specs.declared.ids.Crate.{Crate}
-use Rattle.hir_base.specs.declared.ids.MapId.{MapId}
-use Rattle.hir_base.specs.declared.ids.ModuleId.{ModuleId}
-use Rattle.hir_def_collector_laws.specs.Sources.{RunsBindFromSources}
-use Rattle.hir_def_map_rules.specs.Closed.{PathsLeadToWhatIsThere}
-use Rattle.hir_def_map_rules.specs.Overlay.{overlay}
-use Rattle.hir_def_map_rules.specs.Sources.{PathsAnswerFromSources}
-use Rattle.hir_wire.specs.declared.answer.Answer.{Answer}
-use Rattle.hir_wire.specs.declared.diagnostic.Diagnostic.{Diagnostic}
-use Rattle.hir_wire.specs.declared.command.MacroStyle.{MacroStyle}
-use Rattle.hir_wire.specs.declared.command.Shadow.{Shadow}
-use Rattle.hir_wire.specs.declared.reply.Status.{Status}
-use Rattle.hir_wire.specs.declared.reply.Status.TheVariants as status
-use Rattle.hir_session_state.specs.Crates.{id_of}
-use Rattle.hir_session_state.specs.Due.{Grows}
-use Rattle.hir_session_state.specs.Kept.{finished_by, kept_in}
-use Rattle.hir_session_state.specs.SessionState.{SessionState, Resolution, is_marked, kept_of, module_of, read_of, standing_of, IsSound}
-use Rattle.hir_session_state.specs.Standing.{Standing, map_by, module_by}
-use Rattle.hir_session_state.specs.Standing.Standing.{at, lacks, stale, unset}
-use Rattle.hir_session_state.specs.declared.error.DiagnosticsError.{DiagnosticsError}
-use Rattle.hir_session_state.specs.declared.error.QueryError.{QueryError}
-use Rattle.hir_session_state.specs.declared.error.DiagnosticsError.TheVariants as diagnostics_error
-use Rattle.hir_session_state.proofs.Truth.{one_value}
-use Rattle.hir_session_answers.specs.Answers.{answer_by, answer_kept, answer_of}
-use Rattle.hir_session_answers.specs.AssocItems.{impl_asked, impl_at, impl_by, impl_from, trait_asked, trait_at, trait_by, trait_from}
-use Rattle.hir_session_answers.specs.Diagnostics.{diagnostics_from, diagnostics_in, diagnostics_of}
-use Rattle.hir_session_answers.specs.DiagnosticsStand.{AreTold, DiagnosticsStand}
-use Rattle.hir_session_answers.specs.Dumps.{dump_around, dump_at, dump_by, dump_from}
-use Rattle.hir_session_answers.specs.Status.{status_by, status_of}
-use Rattle.hir_session_answers.specs.TreeText.{tree_text_of}
-use Rattle.hir_session_answers.proofs.Differ.{IsSame, ends_unmarked, same_answer, same_at_first, same_once_grown}
-use Rattle.hir_session_answers.proofs.Growing.{kept_diagnostics}
-use Rattle.hir_session_answers.proofs.Told.{tell}
-use Rattle.hir_session_core.proofs.Waiting.{same_standing}
+use Rattle.hir_session_machine.specs.HirBase.ModPath.{Path}
+use Rattle.hir_session_machine.specs.HirBase.Place.{PlaceValue}
+use Rattle.hir_session_machine.specs.HirIds.declared.ids.Crate.{Crate}
+use Rattle.hir_session_machine.specs.HirIds.declared.ids.MapId.{MapId}
+use Rattle.hir_session_machine.specs.HirIds.declared.ids.ModuleId.{ModuleId}
+use Rattle.hir_session_machine.specs.HirDefCollectorLaws.Sources.{RunsBindFromSources}
+use Rattle.hir_session_machine.specs.HirDefMapRules.Closed.{PathsLeadToWhatIsThere}
+use Rattle.hir_session_machine.specs.HirDefMapRules.Overlay.{overlay}
+use Rattle.hir_session_machine.specs.HirDefMapRules.Sources.{PathsAnswerFromSources}
+use Rattle.hir_session_machine.specs.HirMessages.declared.answer.Answer.{Answer}
+use Rattle.hir_session_machine.specs.HirMessages.declared.diagnostic.Diagnostic.{Diagnostic}
+use Rattle.hir_session_machine.specs.HirMessages.declared.command.MacroStyle.{MacroStyle}
+use Rattle.hir_session_machine.specs.HirMessages.declared.command.Shadow.{Shadow}
+use Rattle.hir_session_machine.specs.HirMessages.declared.reply.Status.{Status}
+use Rattle.hir_session_machine.specs.HirMessages.declared.reply.Status.TheVariants as status
+use Rattle.hir_session_machine.specs.HirSessionState.Crates.{id_of}
+use Rattle.hir_session_machine.specs.HirSessionState.Due.{Grows}
+use Rattle.hir_session_machine.specs.HirSessionState.Kept.{finished_by, kept_in}
+use Rattle.hir_session_machine.specs.HirSessionState.SessionState.{SessionState, Resolution, is_marked, kept_of, module_of, read_of, standing_of, IsSound}
+use Rattle.hir_session_machine.specs.HirSessionState.Standing.{Standing, map_by, module_by}
+use Rattle.hir_session_machine.specs.HirSessionState.Standing.Standing.{at, lacks, stale, unset}
+use Rattle.hir_session_machine.specs.HirSessionState.declared.error.DiagnosticsError.{DiagnosticsError}
+use Rattle.hir_session_machine.specs.HirSessionState.declared.error.QueryError.{QueryError}
+use Rattle.hir_session_machine.specs.HirSessionState.declared.error.DiagnosticsError.TheVariants as diagnostics_error
+use Rattle.hir_session_machine.proofs.HirSessionState.Truth.{one_value}
+use Rattle.hir_session_machine.specs.HirSessionAnswers.Answers.{answer_by, answer_kept, answer_of}
+use Rattle.hir_session_machine.specs.HirSessionAnswers.AssocItems.{impl_asked, impl_at, impl_by, impl_from, trait_asked, trait_at, trait_by, trait_from}
+use Rattle.hir_session_machine.specs.HirSessionAnswers.Diagnostics.{diagnostics_from, diagnostics_in, diagnostics_of}
+use Rattle.hir_session_machine.specs.HirSessionAnswers.DiagnosticsStand.{AreTold, DiagnosticsStand}
+use Rattle.hir_session_machine.specs.HirSessionAnswers.Dumps.{dump_around, dump_at, dump_by, dump_from}
+use Rattle.hir_session_machine.specs.HirSessionAnswers.Status.{status_by, status_of}
+use Rattle.hir_session_machine.specs.HirSessionAnswers.TreeText.{tree_text_of}
+use Rattle.hir_session_machine.proofs.HirSessionAnswers.Differ.{IsSame, ends_unmarked, same_answer, same_at_first, same_once_grown}
+use Rattle.hir_session_machine.proofs.HirSessionAnswers.Growing.{kept_diagnostics}
+use Rattle.hir_session_machine.proofs.HirSessionAnswers.Told.{tell}
+use Rattle.hir_session_machine.proofs.HirSessionCore.Waiting.{same_standing}
 use Rattle.hir_session_laws.specs.Laws.{AnswersAlike, NumbersChangeNoAnswer}
 
 -- no answer is given where the place isn't current

@@ -1,42 +1,42 @@
 -- An edit of a block changes no mark of a crate: no crate's run asks for something of a block.
 use Rattle.std.proofs.Common.{◌≡◌, ◌≢◌, ◌∙◌, ap, sym, subst, refl, ℕ, zero, suc, ◌<◌, true, Option, Some, None, option_map, List, [], arith, Contains}
-use Rattle.hir_base.specs.declared.ast_id.BlockId.{BlockId}
-use Rattle.hir_base.specs.declared.place.BlockPlace.{BlockPlace}
-use Rattle.hir_base.specs.declared.ast_id.HirFileId.{HirFileId}
-use Rattle.hir_base.specs.declared.ids.MapId.{MapId}
-use Rattle.hir_base.specs.declared.ast_id.HirFileId.TheVariants as syntax
-use Rattle.hir_base.specs.declared.macro_kind.MacroId.TheVariants as macros
-use Rattle.hir_item_tree.specs.Source.{SourceValue}
-use Rattle.hir_tables.specs.SourcePlaces.{ExpansionValue, block, expansion, file}
-use Rattle.hir_tables.specs.Tables.{TablesValue, entry_at, expansion_of, file_at, source_under}
-use Rattle.hir_def_map_rules.specs.Overlay.{Placed}
-use Rattle.hir_def_map_rules.specs.Sources.{HoldsNowhere, HoldsNowhereIn}
-use Rattle.hir_collector_rules.specs.Derivation.{Ends}
-use Rattle.hir_collector_rules.specs.Start.{Beginning}
-use Rattle.hir_collector_rules.specs.declared.source_database.Key.{Key}
-use Rattle.hir_collector_rules.specs.declared.source_database.Key.TheVariants as keys
-use Rattle.hir_def_collector_laws.specs.BlockKeys.{CratesAskForNoBlock, block_of_key, in_blocks}
-use Rattle.hir_wire.specs.Edits.{set_file, remove_file, set_block, remove_block, set_expansion, remove_expansion}
-use Rattle.hir_session_state.specs.Changes.{Becomes}
-use Rattle.hir_session_state.specs.Crates.{beginning_in, id_of, transitive_in}
-use Rattle.hir_session_state.specs.Kept.{collected_of, placed_by}
-use Rattle.hir_session_state.specs.KeySources.{key_place}
-use Rattle.hir_session_state.specs.Marks.{IsTouched}
-use Rattle.hir_session_state.specs.Marks.IsTouched.{before, asked_for}
-use Rattle.hir_session_state.specs.SessionState.{SessionState, Resolution, finished_of, follows, is_marked, kept_of, read_under, workspace_of, IsSound}
-use Rattle.hir_session_state.specs.SourceEdits.{edited, of_block}
-use Rattle.hir_session_state.specs.SourceTable.{workspace_in}
-use Rattle.hir_session_state.specs.Spread.{Spread}
-use Rattle.hir_session_state.specs.Spread.Spread.{here, depends}
-use Rattle.hir_session_state.proofs.Depending.{depended}
-use Rattle.hir_session_state.proofs.Following.{dependency_behind}
-use Rattle.hir_session_state.proofs.Ids.{of_number}
-use Rattle.hir_session_state.proofs.Names.{among_there}
-use Rattle.hir_session_state.proofs.Resolving.{behind_unmarked, crate_whole, stands_on_whole}
-use Rattle.hir_session_state.proofs.Standing.{kept_gives, unmarked}
-use Rattle.hir_session_state.proofs.Truth.{clash, no_value, on_bool, one_value}
-use Rattle.hir_session_state.proofs.Worlds.{AgreeOn-refl, DependsOn-below}
-use Rattle.hir_session_sources.proofs.SourceLemmas.{look-apart}
+use Rattle.hir_session_machine.specs.HirIds.declared.ast_id.BlockId.{BlockId}
+use Rattle.hir_session_machine.specs.HirBase.declared.place.BlockPlace.{BlockPlace}
+use Rattle.hir_session_machine.specs.HirIds.declared.ast_id.HirFileId.{HirFileId}
+use Rattle.hir_session_machine.specs.HirIds.declared.ids.MapId.{MapId}
+use Rattle.hir_session_machine.specs.HirIds.declared.ast_id.HirFileId.TheVariants as syntax
+use Rattle.hir_session_machine.specs.HirIds.declared.macro_kind.MacroId.TheVariants as macros
+use Rattle.hir_session_machine.specs.HirItemTree.Source.{SourceValue}
+use Rattle.hir_session_machine.specs.HirTables.SourcePlaces.{ExpansionValue, block, expansion, file}
+use Rattle.hir_session_machine.specs.HirTables.Tables.{TablesValue, entry_at, expansion_of, file_at, source_under}
+use Rattle.hir_session_machine.specs.HirDefMapRules.Overlay.{Placed}
+use Rattle.hir_session_machine.specs.HirDefMapRules.Sources.{HoldsNowhere, HoldsNowhereIn}
+use Rattle.hir_session_machine.specs.HirCollectorRules.Derivation.{Ends}
+use Rattle.hir_session_machine.specs.HirCollectorRules.Start.{Beginning}
+use Rattle.hir_session_machine.specs.HirCollectorRules.declared.source_database.Key.{Key}
+use Rattle.hir_session_machine.specs.HirCollectorRules.declared.source_database.Key.TheVariants as keys
+use Rattle.hir_session_machine.specs.HirDefCollectorLaws.BlockKeys.{CratesAskForNoBlock, block_of_key, in_blocks}
+use Rattle.hir_session_machine.specs.HirMessages.Edits.{set_file, remove_file, set_block, remove_block, set_expansion, remove_expansion}
+use Rattle.hir_session_machine.specs.HirSessionState.Changes.{Becomes}
+use Rattle.hir_session_machine.specs.HirSessionState.Crates.{beginning_in, id_of, transitive_in}
+use Rattle.hir_session_machine.specs.HirSessionState.Kept.{collected_of, placed_by}
+use Rattle.hir_session_machine.specs.HirSessionState.KeySources.{key_place}
+use Rattle.hir_session_machine.specs.HirSessionState.Marks.{IsTouched}
+use Rattle.hir_session_machine.specs.HirSessionState.Marks.IsTouched.{before, asked_for}
+use Rattle.hir_session_machine.specs.HirSessionState.SessionState.{SessionState, Resolution, finished_of, follows, is_marked, kept_of, read_under, workspace_of, IsSound}
+use Rattle.hir_session_machine.specs.HirSessionState.SourceEdits.{edited, of_block}
+use Rattle.hir_session_machine.specs.HirSessionState.SourceTable.{workspace_in}
+use Rattle.hir_session_machine.specs.HirSessionState.Spread.{Spread}
+use Rattle.hir_session_machine.specs.HirSessionState.Spread.Spread.{here, depends}
+use Rattle.hir_session_machine.proofs.HirSessionState.Depending.{depended}
+use Rattle.hir_session_machine.proofs.HirSessionState.Following.{dependency_behind}
+use Rattle.hir_session_machine.proofs.HirSessionState.Ids.{of_number}
+use Rattle.hir_session_machine.proofs.HirSessionState.Names.{among_there}
+use Rattle.hir_session_machine.proofs.HirSessionState.Resolving.{behind_unmarked, crate_whole, stands_on_whole}
+use Rattle.hir_session_machine.proofs.HirSessionState.Standing.{kept_gives, unmarked}
+use Rattle.hir_session_machine.proofs.HirSessionState.Truth.{clash, no_value, on_bool, one_value}
+use Rattle.hir_session_machine.proofs.HirSessionState.Worlds.{AgreeOn-refl, DependsOn-below}
+use Rattle.hir_session_machine.proofs.HirSessionSources.SourceLemmas.{look-apart}
 use Rattle.hir_session_laws.specs.Laws.{BlockEditsSpareTheCrate}
 
 -- ---- keys

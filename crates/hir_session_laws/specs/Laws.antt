@@ -1,39 +1,39 @@
 -- What holds of all that a session does?
 use Rattle.std.specs.Prelude.{◌≡◌, ◌≢◌, ℕ, Bool, true, false, List, Option, Some, None, Contains}
-use Rattle.hir_base.specs.ModPath.{Path}
-use Rattle.hir_base.specs.Place.{PlaceValue}
-use Rattle.hir_base.specs.declared.place.BlockPlace.{BlockPlace}
-use Rattle.hir_base.specs.declared.ids.Crate.{Crate}
-use Rattle.hir_base.specs.declared.ast_id.EntryId.{EntryId}
-use Rattle.hir_base.specs.declared.ids.MapId.{MapId}
-use Rattle.hir_item_tree.specs.BodyTexts.{source_without_bodies}
-use Rattle.hir_item_tree.specs.Source.{SourceValue}
-use Rattle.hir_item_tree.specs.declared.tree_id.TreeKey.{TreeKey}
-use Rattle.hir_tables.specs.SourcePlaces.{ExpansionValue, SourcePlaceValue, block, file}
-use Rattle.hir_tables.specs.Tables as numbers
-use Rattle.hir_tables.specs.Tables.{source_of}
-use Rattle.hir_collector_rules.specs.declared.source_database.Key.{Key}
-use Rattle.hir_collector_rules.specs.declared.source_database.Key.TheVariants.{Tree, Expansion}
-use Rattle.hir_wire.specs.Edits.{EditValue, EntryValue, set_file, remove_file, set_block, remove_block, set_expansion, remove_expansion}
-use Rattle.hir_wire.specs.declared.command.MacroStyle.{MacroStyle}
-use Rattle.hir_wire.specs.declared.command.Shadow.{Shadow}
-use Rattle.hir_session_answers.specs.Answers.{answer_of}
-use Rattle.hir_session_answers.specs.AssocItems.{impl_at, trait_at}
-use Rattle.hir_session_answers.specs.Diagnostics.{diagnostics_of}
-use Rattle.hir_session_answers.specs.Dumps.{dump_at}
-use Rattle.hir_session_answers.specs.Status.{status_of}
-use Rattle.hir_session_answers.specs.TreeText.{tree_text_of}
-use Rattle.hir_session_state.specs.Blocks.{block_in, place_of_block}
-use Rattle.hir_session_state.specs.Crates.{id_of}
-use Rattle.hir_session_state.specs.Due.{Grows}
-use Rattle.hir_session_state.specs.Entries.{entry_at}
-use Rattle.hir_session_state.specs.Files.{file_at}
-use Rattle.hir_session_state.specs.KeySources.{key_place}
-use Rattle.hir_session_state.specs.SessionState.{SessionState, Resolution, kept_of, is_marked, standing_of, IsSound}
-use Rattle.hir_session_state.specs.Standing.{map_by}
-use Rattle.hir_session_state.specs.Changes.{Applies}
-use Rattle.hir_session_state.specs.SourceEdits.{edit_of, place_of}
-pub use Rattle.hir_session_answers.specs.Histories.{History, WasAltered, DifferOnlyWhereAltered}
+use Rattle.hir_session_machine.specs.HirBase.ModPath.{Path}
+use Rattle.hir_session_machine.specs.HirBase.Place.{PlaceValue}
+use Rattle.hir_session_machine.specs.HirBase.declared.place.BlockPlace.{BlockPlace}
+use Rattle.hir_session_machine.specs.HirIds.declared.ids.Crate.{Crate}
+use Rattle.hir_session_machine.specs.HirIds.declared.ast_id.EntryId.{EntryId}
+use Rattle.hir_session_machine.specs.HirIds.declared.ids.MapId.{MapId}
+use Rattle.hir_session_machine.specs.HirItemTree.BodyTexts.{source_without_bodies}
+use Rattle.hir_session_machine.specs.HirItemTree.Source.{SourceValue}
+use Rattle.hir_session_machine.specs.HirBase.declared.tree_id.TreeKey.{TreeKey}
+use Rattle.hir_session_machine.specs.HirTables.SourcePlaces.{ExpansionValue, SourcePlaceValue, block, file}
+use Rattle.hir_session_machine.specs.HirTables.Tables as numbers
+use Rattle.hir_session_machine.specs.HirTables.Tables.{source_of}
+use Rattle.hir_session_machine.specs.HirCollectorRules.declared.source_database.Key.{Key}
+use Rattle.hir_session_machine.specs.HirCollectorRules.declared.source_database.Key.TheVariants.{Tree, Expansion}
+use Rattle.hir_session_machine.specs.HirMessages.Edits.{EditValue, EntryValue, set_file, remove_file, set_block, remove_block, set_expansion, remove_expansion}
+use Rattle.hir_session_machine.specs.HirMessages.declared.command.MacroStyle.{MacroStyle}
+use Rattle.hir_session_machine.specs.HirMessages.declared.command.Shadow.{Shadow}
+use Rattle.hir_session_machine.specs.HirSessionAnswers.Answers.{answer_of}
+use Rattle.hir_session_machine.specs.HirSessionAnswers.AssocItems.{impl_at, trait_at}
+use Rattle.hir_session_machine.specs.HirSessionAnswers.Diagnostics.{diagnostics_of}
+use Rattle.hir_session_machine.specs.HirSessionAnswers.Dumps.{dump_at}
+use Rattle.hir_session_machine.specs.HirSessionAnswers.Status.{status_of}
+use Rattle.hir_session_machine.specs.HirSessionAnswers.TreeText.{tree_text_of}
+use Rattle.hir_session_machine.specs.HirSessionState.Blocks.{block_in, place_of_block}
+use Rattle.hir_session_machine.specs.HirSessionState.Crates.{id_of}
+use Rattle.hir_session_machine.specs.HirSessionState.Due.{Grows}
+use Rattle.hir_session_machine.specs.HirSessionState.Entries.{entry_at}
+use Rattle.hir_session_machine.specs.HirSessionState.Files.{file_at}
+use Rattle.hir_session_machine.specs.HirSessionState.KeySources.{key_place}
+use Rattle.hir_session_machine.specs.HirSessionState.SessionState.{SessionState, Resolution, kept_of, is_marked, standing_of, IsSound}
+use Rattle.hir_session_machine.specs.HirSessionState.Standing.{map_by}
+use Rattle.hir_session_machine.specs.HirSessionState.Changes.{Applies}
+use Rattle.hir_session_machine.specs.HirSessionState.SourceEdits.{edit_of, place_of}
+pub use Rattle.hir_session_machine.specs.HirSessionAnswers.Histories.{History, WasAltered, DifferOnlyWhereAltered}
 
 -- each query has the same answer in both
 abbrev pub AnswersAlike : SessionState → SessionState → Type 0

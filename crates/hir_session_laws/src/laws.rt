@@ -1,12 +1,16 @@
 //! What holds of all that a session does; each function's contract is a law.
 ghost use Rattle.hir_session_machine.specs.Headline.{RepliesHoldTheHeadline};
-ghost use Rattle.hir_session_answers.specs.Histories.{DifferOnlyWhereAltered};
+ghost use Rattle.hir_session_machine.specs.HirSessionAnswers.Histories.{DifferOnlyWhereAltered};
 ghost use Rattle.hir_session_machine.specs.MachineHistories.{LinesBeginHistories};
 ghost use Rattle.hir_session_laws.specs.Laws.{BodyEditsMarkNothing, BodyEditsLeaveAnswers, ExpansionBodyEditsMarkNothing, ExpansionBodyEditsLeaveAnswers, SetAbsentFileMarks, RemovePresentFileMarks, RemoveAbsentFileMarksNothing, RemoveAbsentFileLeavesAnswers, SetAbsentExpansionMarks, RemovePresentExpansionMarks, RemoveAbsentExpansionMarksNothing, RemoveAbsentExpansionLeavesAnswers, BlockBodyEditsMarkNothing, BlockBodyEditsLeaveAnswers, SetAbsentBlockMarks, RemovePresentBlockMarks, RemoveAbsentBlockMarksNothing, RemoveAbsentBlockLeavesAnswers, BlockEditsSpareTheCrate, UnaskedSourcesMarkNothing, UnaskedSourcesLeaveAnswers, UnaskedSourcesLeaveCurrentAnswers, NumbersChangeNoAnswer};
 
-use hir_def_collector_laws::laws::{crates_ask_for_no_block, runs_bind_from_sources};
-use hir_def_map::laws::{paths_answer_from_sources, paths_lead_to_what_is_there};
-use hir_item_tree::laws::body_texts_leave_the_tree;
+use hir_session_machine::hir_def_collector_laws::laws::{
+    crates_ask_for_no_block, runs_bind_from_sources,
+};
+use hir_session_machine::hir_def_map::laws::{
+    paths_answer_from_sources, paths_lead_to_what_is_there,
+};
+use hir_session_machine::hir_item_tree::laws::body_texts_leave_the_tree;
 
 /// Two answers to one query differ only where an edit between them altered something that was asked for behind the first.
 pub fn answers_differ_only_where_altered()
@@ -32,8 +36,8 @@ pub fn lines_begin_histories()
     ensures law { LinesBeginHistories }
 {}
 
-/// Each answer of a machine is what its path means by the present sources, and two to one query are alike, or a line
-/// between them was an edit that altered something that was asked for behind the first.
+/// What a machine replies is what the command did, or what it asked for by the present sources, unless it is a refusal; two
+/// answers to one query are alike, or a line between them was an edit that altered something that was asked for behind the first.
 pub fn replies_hold_the_headline()
     ensures law { RepliesHoldTheHeadline }
 {

@@ -1,47 +1,54 @@
 -- What holds of all replies.
 use Rattle.std.proofs.Common.{◌≡◌, ◌⊎◌, inl, inr, ℕ, zero, suc, ◌<◌, arith, ap, slice_get, Bool, true, false, nat_le, List, [], ◌∷◌, length, Option, Some, None}
 use Rattle.std.proofs.Common.{Result, Ok, Err, refl, sym, subst, ◌∙◌}
-use Rattle.hir_base.specs.ModPath.{Path}
-use Rattle.hir_base.specs.Place.{PlaceValue}
-use Rattle.hir_base.specs.declared.ids.Crate.{Crate}
-use Rattle.hir_base.specs.declared.ids.MapId.{MapId}
-use Rattle.hir_collector_rules.specs.declared.source_database.Key.{Key}
-use Rattle.hir_wire.specs.CommandValue.{CommandValue, diagnostics, impl_items, resolve, trait_items}
+use Rattle.hir_session_core.specs.HirBase.ModPath.{Path}
+use Rattle.hir_session_core.specs.HirBase.Place.{PlaceValue}
+use Rattle.hir_session_core.specs.HirIds.declared.ids.Crate.{Crate}
+use Rattle.hir_session_core.specs.HirIds.declared.ids.MapId.{MapId}
+use Rattle.hir_session_core.specs.HirCollectorRules.declared.source_database.Key.{Key}
+use Rattle.hir_session_core.specs.HirMessages.CommandValue.{CommandValue, diagnostics, impl_items, names, resolve, trait_items}
 use Rattle.hir_wire.specs.Commands.{reading_of}
-use Rattle.hir_wire.specs.declared.answer.Answer.{Answer}
-use Rattle.hir_wire.specs.declared.diagnostic.Diagnostic.{Diagnostic}
-use Rattle.hir_wire.specs.declared.items.Items.{Items}
-use Rattle.hir_wire.specs.declared.command.MacroStyle.{MacroStyle}
-use Rattle.hir_wire.specs.declared.reply.Reply.{Reply}
-use Rattle.hir_wire.specs.declared.command.Shadow.{Shadow}
-use Rattle.hir_wire.specs.declared.reply.Reply.TheVariants as reply
-use Rattle.hir_session_state.specs.declared.error.QueryError.{QueryError}
-use Rattle.hir_session_state.specs.declared.error.QueryError.TheVariants as query_error
+use Rattle.hir_session_core.specs.HirMessages.declared.answer.Answer.{Answer}
+use Rattle.hir_session_core.specs.HirMessages.declared.diagnostic.Diagnostic.{Diagnostic}
+use Rattle.hir_session_core.specs.HirMessages.declared.items.Items.{Items}
+use Rattle.hir_session_core.specs.HirMessages.declared.names.BoundName.{BoundName}
+use Rattle.hir_session_core.specs.HirMessages.declared.command.MacroStyle.{MacroStyle}
+use Rattle.hir_session_core.specs.HirMessages.declared.reply.Reply.{Reply}
+use Rattle.hir_session_core.specs.HirMessages.declared.command.Shadow.{Shadow}
+use Rattle.hir_session_core.specs.HirMessages.declared.reply.Reply.TheVariants as reply
+use Rattle.hir_session_core.specs.HirSessionState.declared.error.QueryError.{QueryError}
+use Rattle.hir_session_core.specs.HirSessionState.declared.error.QueryError.TheVariants as query_error
 use Rattle.hir_lines.specs.declared.open_line.TheConstants.{LINE_LIMIT}
-use Rattle.hir_session_state.specs.SessionState.{SessionState, standing_of, IsSound}
-use Rattle.hir_session_state.specs.Standing.{map_by}
-use Rattle.hir_session_answers.specs.Answers.{answer_of}
-use Rattle.hir_def_collector_laws.specs.Sources.{RunsBindFromSources}
-use Rattle.hir_def_map_rules.specs.Closed.{PathsLeadToWhatIsThere}
-use Rattle.hir_def_map_rules.specs.Sources.{PathsAnswerFromSources}
-use Rattle.hir_session_state.specs.Due.{IsAskedBehind}
-use Rattle.hir_session_machine.specs.Machine.{MachineState, first_state, query_reply, Moves, AnswersCommand, AnswersLine}
+use Rattle.hir_session_core.specs.HirSessionState.SessionState.{SessionState, standing_of, IsSound}
+use Rattle.hir_session_core.specs.HirSessionState.Standing.{map_by}
+use Rattle.hir_session_core.specs.HirSessionAnswers.Answers.{answer_of}
+use Rattle.hir_session_core.specs.HirSessionAnswers.Names.{names_of}
+use Rattle.hir_session_core.specs.HirSessionAnswers.NamesStand.{NamesStand}
+use Rattle.hir_session_core.specs.HirDefCollectorLaws.Sources.{RunsBindFromSources}
+use Rattle.hir_session_core.specs.HirDefMapRules.Closed.{PathsLeadToWhatIsThere}
+use Rattle.hir_session_core.specs.HirDefMapRules.Sources.{PathsAnswerFromSources}
+use Rattle.hir_session_core.specs.HirSessionState.Due.{IsAskedBehind}
+use Rattle.hir_session_replies.specs.Replies.{query_reply}
+use Rattle.hir_session_machine.specs.Machine.{MachineState, first_state, Moves, AnswersCommand, AnswersLine}
 use Rattle.hir_session_machine.specs.Machine.Moves.{applies, refuses, refreshes, refreshes_partly, resolves, tells, shows, shows_none, dumps, dumps_none}
 use Rattle.hir_session_machine.specs.Machine.Moves.{asks_for_trait, asks_for_impl, lists, names_all, lists_modules, lists_file_modules}
 use Rattle.hir_session_machine.specs.Machine.AnswersCommand.{finds_no_memory, begins, refuses_session, comes_too_soon, comes_too_late, calls}
 use Rattle.hir_session_machine.specs.Machine.AnswersLine.{finds_no_memory_for_line, reads_no_command, carries_out}
 use Rattle.hir_session_machine.specs.AnsweredLines.{AnswersWithin, AnswersInput, AnswersLines}
 use Rattle.hir_session_machine.specs.Headline.{Query, Asks, AsksDiagnostics, AsksImplItems, AsksTraitItems, Alters, IsAlteredBetween, Stands, AreAllTold}
-use Rattle.hir_session_machine.specs.Headline.{AreOfImpl, AreOfTrait, RepliesHoldTheHeadline, state_at}
-use Rattle.hir_session_state.proofs.Standing.{at_module, unmarked}
-use Rattle.hir_session_answers.proofs.Differ.{IsSame, same_after_edit, same_after_refresh, same_at_first, same_answer, same_once_grown}
+use Rattle.hir_session_machine.specs.Headline.{AreOfImpl, AreOfTrait, Gives, HoldsIn, RepliesHoldTheHeadline, state_at}
+use Rattle.hir_session_core.proofs.HirSessionState.Standing.{at_module, unmarked}
+use Rattle.hir_session_core.proofs.HirSessionAnswers.Differ.{IsSame, same_after_edit, same_after_refresh, same_at_first, same_answer, same_once_grown}
 use Rattle.hir_session_machine.proofs.Histories.{after_input, begun_input, history_sound, one_value}
-use Rattle.hir_session_answers.proofs.Stand.{stands}
+use Rattle.hir_session_core.proofs.HirSessionAnswers.Stand.{stands}
 use Rattle.hir_session_machine.proofs.Telling.{told_within}
+use Rattle.hir_session_machine.proofs.Commands.{applied_at, begun_at, dump_told, file_modules_told, modules_told, names_told, refreshed_at, status_at}
+use Rattle.hir_session_machine.proofs.Commands.{tree_told}
 use Rattle.hir_session_machine.proofs.Listing.{impl_within, trait_within}
-use Rattle.hir_session_answers.proofs.Listed.{impl_stands, trait_stands}
-use Rattle.hir_session_answers.proofs.Told.{tell}
-use Rattle.hir_session_answers.specs.Histories.History.{none as nothing_yet}
+use Rattle.hir_session_core.proofs.HirSessionAnswers.Naming.{names_stand}
+use Rattle.hir_session_core.proofs.HirSessionAnswers.Listed.{impl_stands, trait_stands}
+use Rattle.hir_session_core.proofs.HirSessionAnswers.Told.{tell}
+use Rattle.hir_session_core.specs.HirSessionAnswers.Histories.History.{none as nothing_yet}
 
 -- ---- what a reply with an answer says
 
@@ -289,6 +296,25 @@ impls_at (suc n) place number told old (line ∷ lines) (answer ∷ answers) new
     (record { line = asks.line; is = asks.is; read = asks.read }) is in
     record { session = rest.session; is = rest.is; grown = rest.grown; is_grown = rest.is_grown; grows = rest.grows; stands = rest.stands }
 
+-- each session that there is is sound
+good_at : (n : ℕ) (old : MachineState) (lines : List (List ℕ)) (answers : List Reply) (new : MachineState) (done : AnswersLines old lines answers new)
+    → IsGood old → IsGood (state_at n old lines answers new done)
+good_at zero old lines answers new done good = good
+good_at (suc n) old [] [] new done good = subst IsGood (sym done) good
+good_at (suc n) old [] (answer ∷ answers) new done good = absurd done
+good_at (suc n) old (line ∷ lines) [] new done good = absurd done
+good_at (suc n) old (line ∷ lines) (answer ∷ answers) new done good = good_at n done.0 lines answers new done.2 (good_next line answer good done.1)
+
+-- the names of each number
+names_at : RunsBindFromSources → (n : ℕ) (place : PlaceValue) (told : List BoundName) (old : MachineState) (lines : List (List ℕ)) (answers : List Reply)
+    (new : MachineState) (done : AnswersLines old lines answers new)
+    → IsGood old → Gives lines n (names place) → slice_get answers n ≡ Some (reply.Names told)
+    → HoldsIn old lines answers new done n (λ s. (names_of s place ≡ Ok told) × NamesStand s place told)
+names_at runs n place told old lines answers new done good gives is =
+    let here = names_told n old lines answers new done place told gives is in
+    let sound = good_at n old lines answers new done good here.session here.is in
+    record { session = here.session; is = here.is; stays = here.stays; stands = (here.stands, names_stand runs here.session place told sound here.stands) }
+
 -- where what is behind a place was as it is in a session, it is so up to a number, or a line before altered a key that was asked for
 record IsKeptUpTo (from : SessionState) (id : MapId) (old : MachineState) (lines : List (List ℕ)) (answers : List Reply) (new : MachineState)
     (done : AnswersLines old lines answers new) (n : ℕ) : Type 0 where
@@ -408,6 +434,15 @@ headline runs paths leads lines answers last done = record {
   tells = λ n krate told asks is. told_at runs paths leads n krate told first_state lines answers last done good_first asks is;
   lists_traits = λ n place path told asks is. traits_at n place path told first_state lines answers last done good_first asks is;
   lists_impls = λ n place number told asks is. impls_at n place number told first_state lines answers last done good_first asks is;
+  tells_status = λ n place told gives is. status_at n first_state lines answers last done place told gives is;
+  shows_dump = λ n place text gives is. dump_told n first_state lines answers last done place text gives is;
+  shows_tree = λ n krate path text gives is. tree_told n first_state lines answers last done krate path text gives is;
+  tells_names = λ n place told gives is. names_at runs n place told first_state lines answers last done good_first gives is;
+  lists_modules = λ n krate told gives is. modules_told n first_state lines answers last done krate told gives is;
+  lists_file_modules = λ n path told gives is. file_modules_told n first_state lines answers last done path told gives is;
+  begins_session = λ n inputs gives is. begun_at n first_state lines answers last done inputs gives is;
+  applies_edits = λ n made gives is. applied_at n first_state lines answers last done made gives is;
+  refreshes_all = λ n told gives is. refreshed_at n first_state lines answers last done told gives is;
   differ =
       λ m n query one other low first second told again. differ_at runs paths leads m n query one other first_state lines answers last done good_first low first
       second told again;

@@ -2,13 +2,13 @@ use Rattle.std.proofs.Common.{◌≡◌, ◌⊎◌, inl, inr, ℕ, ◌≤◌, Bo
 use Rattle.std.proofs.Common.{arith}
 use Rattle.std.proofs.lemmas.Bool.Decides.{nat_tests}
 use Rattle.std.specs.List.{list_any}
-use Rattle.hir_base.specs.declared.ids.Crate.{Crate}
-use Rattle.hir_wire.specs.CommandValue.{CommandValue, CrateInputValue}
-use Rattle.hir_wire.specs.declared.reply.Reply.{Reply}
-use Rattle.hir_session_state.specs.SessionState.{SessionState, IsSound, max_crates}
-use Rattle.hir_session_state.specs.Refusals.{first_out_of_order, is_too_deep, is_too_long, verdict_of_limits, verdict_of_order, verdict_of_new}
-use Rattle.hir_session_state.proofs.Truth.{on_bool}
-use Rattle.hir_session_sources.proofs.Start.{begins_sound}
+use Rattle.hir_session_core.specs.HirIds.declared.ids.Crate.{Crate}
+use Rattle.hir_session_core.specs.HirMessages.CommandValue.{CommandValue, CrateInputValue}
+use Rattle.hir_session_core.specs.HirMessages.declared.reply.Reply.{Reply}
+use Rattle.hir_session_core.specs.HirSessionState.SessionState.{SessionState, IsSound, max_crates}
+use Rattle.hir_session_core.specs.HirSessionState.Refusals.{first_out_of_order, is_too_deep, is_too_long, verdict_of_limits, verdict_of_order, verdict_of_new}
+use Rattle.hir_session_core.proofs.HirSessionState.Truth.{on_bool}
+use Rattle.hir_session_core.proofs.HirSessionSources.Start.{begins_sound}
 use Rattle.hir_session_machine.specs.Machine.{MachineState, Moves, AnswersCommand, AnswersLine}
 use Rattle.hir_session_machine.specs.Machine.Moves.{applies, refuses, refreshes, refreshes_partly, resolves, tells, shows, shows_none, dumps, dumps_none}
 use Rattle.hir_session_machine.specs.Machine.Moves.{asks_for_trait, asks_for_impl, lists, names_all, lists_modules, lists_file_modules}
@@ -16,9 +16,9 @@ use Rattle.hir_session_machine.specs.Machine.AnswersCommand.{finds_no_memory, be
 use Rattle.hir_session_machine.specs.Machine.AnswersLine.{finds_no_memory_for_line, reads_no_command, carries_out}
 use Rattle.hir_lines.specs.declared.open_line.TheConstants.{LINE_LIMIT}
 use Rattle.hir_session_machine.specs.AnsweredLines.{AnswersInput, AnswersWithin, AnswersLines}
-use Rattle.hir_session_answers.specs.Histories.{History}
+use Rattle.hir_session_core.specs.HirSessionAnswers.Histories.{History}
 use Rattle.hir_session_machine.specs.MachineHistories.{HasBegun, LinesBeginHistories}
-use Rattle.hir_session_answers.specs.Histories.History.{none, edit, refresh, numbers}
+use Rattle.hir_session_core.specs.HirSessionAnswers.Histories.History.{none, edit, refresh, numbers}
 
 -- one call lengthens the history, or changes nothing
 pub after_call : {from s t : SessionState} {c : CommandValue} {answer : Reply} → History from s → Moves s c answer t → History from t

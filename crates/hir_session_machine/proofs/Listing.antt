@@ -1,21 +1,22 @@
 -- What a reply with the items of a trait or an impl says.
 use Rattle.std.proofs.Common.{◌≡◌, inl, inr, subst, ℕ, Bool, true, false, List, Some, Ok}
-use Rattle.hir_base.specs.ModPath.{Path}
-use Rattle.hir_base.specs.Place.{PlaceValue}
-use Rattle.hir_base.specs.declared.ids.ImplId.{ImplId}
-use Rattle.hir_base.specs.declared.ids.TraitId.{TraitId}
-use Rattle.hir_wire.specs.CommandValue.{CommandValue, impl_items, trait_items}
+use Rattle.hir_session_core.specs.HirBase.ModPath.{Path}
+use Rattle.hir_session_core.specs.HirBase.Place.{PlaceValue}
+use Rattle.hir_session_core.specs.HirIds.declared.ids.ImplId.{ImplId}
+use Rattle.hir_session_core.specs.HirIds.declared.ids.TraitId.{TraitId}
+use Rattle.hir_session_core.specs.HirMessages.CommandValue.{CommandValue, impl_items, trait_items}
 use Rattle.hir_wire.specs.Commands.{reading_of}
-use Rattle.hir_wire.specs.declared.items.Items.{Items}
-use Rattle.hir_wire.specs.declared.reply.Reply.TheVariants as reply
-use Rattle.hir_session_state.specs.Due.{Grows}
-use Rattle.hir_session_state.specs.SessionState.{SessionState}
-use Rattle.hir_session_state.specs.declared.error.ImplItemsError.{ImplItemsError}
-use Rattle.hir_session_state.specs.declared.error.TraitItemsError.{TraitItemsError}
-use Rattle.hir_session_state.specs.declared.error.ImplItemsError.TheVariants as impl_error
-use Rattle.hir_session_state.specs.declared.error.TraitItemsError.TheVariants as trait_error
-use Rattle.hir_session_answers.specs.AssocItems.{ListsImpl, ListsTrait, impl_at, trait_at}
-use Rattle.hir_session_machine.specs.Machine.{MachineState, AnswersCommand, AnswersImpl, AnswersLine, AnswersTrait, Moves, impl_items_reply, trait_items_reply}
+use Rattle.hir_session_core.specs.HirMessages.declared.items.Items.{Items}
+use Rattle.hir_session_core.specs.HirMessages.declared.reply.Reply.TheVariants as reply
+use Rattle.hir_session_core.specs.HirSessionState.Due.{Grows}
+use Rattle.hir_session_core.specs.HirSessionState.SessionState.{SessionState}
+use Rattle.hir_session_core.specs.HirSessionState.declared.error.ImplItemsError.{ImplItemsError}
+use Rattle.hir_session_core.specs.HirSessionState.declared.error.TraitItemsError.{TraitItemsError}
+use Rattle.hir_session_core.specs.HirSessionState.declared.error.ImplItemsError.TheVariants as impl_error
+use Rattle.hir_session_core.specs.HirSessionState.declared.error.TraitItemsError.TheVariants as trait_error
+use Rattle.hir_session_core.specs.HirSessionAnswers.AssocItems.{ListsImpl, ListsTrait, impl_at, trait_at}
+use Rattle.hir_session_replies.specs.Replies.{impl_items_reply, trait_items_reply}
+use Rattle.hir_session_machine.specs.Machine.{MachineState, AnswersCommand, AnswersImpl, AnswersLine, AnswersTrait, Moves}
 use Rattle.hir_session_machine.specs.Machine.{AnswersImpl as of_impl}
 use Rattle.hir_session_machine.specs.Machine.{AnswersTrait as of_trait}
 use Rattle.hir_session_machine.specs.Machine.Moves.{applies, refuses, refreshes, refreshes_partly, resolves, tells, shows, shows_none, dumps, dumps_none}

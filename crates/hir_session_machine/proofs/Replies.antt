@@ -1,9 +1,10 @@
 use Rattle.std.proofs.Common.{◌≡◌, ◌≢◌, ℕ, List, Err, refl}
 use Rattle.hir_wire.specs.Commands.{reading_of}
 use Rattle.hir_wire.specs.declared.read_error.ReadError.{ReadError}
-use Rattle.hir_wire.specs.declared.reply.Reply.{Reply}
+use Rattle.hir_session_core.specs.HirMessages.declared.reply.Reply.{Reply}
 use Rattle.hir_wire.specs.declared.read_error.ReadError.TheVariants as read_error
-use Rattle.hir_session_machine.specs.Machine.{MachineState, read_reply, AnswersLine}
+use Rattle.hir_session_replies.specs.Replies.{read_reply}
+use Rattle.hir_session_machine.specs.Machine.{MachineState, AnswersLine}
 use Rattle.hir_session_machine.specs.Machine.AnswersLine.{reads_no_command, finds_no_memory_for_line}
 
 -- a line that is no command is refused, unless memory ran out

@@ -1,15 +1,16 @@
 -- What a reply with diagnostics says.
 use Rattle.std.proofs.Common.{◌≡◌, inl, inr, ℕ, Bool, true, false, List, Some, Result, Ok, Err}
-use Rattle.hir_base.specs.declared.ids.Crate.{Crate}
-use Rattle.hir_wire.specs.CommandValue.{CommandValue, diagnostics}
+use Rattle.hir_session_core.specs.HirIds.declared.ids.Crate.{Crate}
+use Rattle.hir_session_core.specs.HirMessages.CommandValue.{CommandValue, diagnostics}
 use Rattle.hir_wire.specs.Commands.{reading_of}
-use Rattle.hir_wire.specs.declared.diagnostic.Diagnostic.{Diagnostic}
-use Rattle.hir_wire.specs.declared.reply.Reply.TheVariants as reply
-use Rattle.hir_session_state.specs.declared.error.DiagnosticsError.{DiagnosticsError}
-use Rattle.hir_session_state.specs.declared.error.DiagnosticsError.TheVariants as diagnostics_error
-use Rattle.hir_session_state.specs.SessionState.{SessionState}
-use Rattle.hir_session_answers.specs.Diagnostics.{diagnostics_of}
-use Rattle.hir_session_machine.specs.Machine.{MachineState, diagnostics_reply, Moves, AnswersCommand, AnswersLine}
+use Rattle.hir_session_core.specs.HirMessages.declared.diagnostic.Diagnostic.{Diagnostic}
+use Rattle.hir_session_core.specs.HirMessages.declared.reply.Reply.TheVariants as reply
+use Rattle.hir_session_core.specs.HirSessionState.declared.error.DiagnosticsError.{DiagnosticsError}
+use Rattle.hir_session_core.specs.HirSessionState.declared.error.DiagnosticsError.TheVariants as diagnostics_error
+use Rattle.hir_session_core.specs.HirSessionState.SessionState.{SessionState}
+use Rattle.hir_session_core.specs.HirSessionAnswers.Diagnostics.{diagnostics_of}
+use Rattle.hir_session_replies.specs.Replies.{diagnostics_reply}
+use Rattle.hir_session_machine.specs.Machine.{MachineState, Moves, AnswersCommand, AnswersLine}
 use Rattle.hir_session_machine.specs.Machine.Moves.{applies, refuses, refreshes, refreshes_partly, resolves, tells, shows, shows_none, dumps, dumps_none}
 use Rattle.hir_session_machine.specs.Machine.Moves.{asks_for_trait, asks_for_impl, lists, names_all, lists_modules, lists_file_modules}
 use Rattle.hir_session_machine.specs.Machine.AnswersCommand.{finds_no_memory, begins, refuses_session, comes_too_soon, comes_too_late, calls}

@@ -1,8 +1,8 @@
 -- How are the lines of an input answered?
 use Rattle.std.specs.Prelude.{◌≡◌, ◌⊎◌, ℕ, List, [], ◌∷◌, length, Bool, true, false, nat_le}
-use Rattle.hir_base.specs.declared.limit.Limit.TheVariants as limit
-use Rattle.hir_wire.specs.declared.reply.Reply.{Reply}
-use Rattle.hir_wire.specs.declared.reply.Reply.TheVariants as reply
+use Rattle.hir_session_core.specs.HirBase.declared.limit.Limit.TheVariants as limit
+use Rattle.hir_session_core.specs.HirMessages.declared.reply.Reply.{Reply}
+use Rattle.hir_session_core.specs.HirMessages.declared.reply.Reply.TheVariants as reply
 use Rattle.hir_lines.specs.declared.open_line.TheConstants.{LINE_LIMIT}
 use Rattle.hir_session_machine.specs.Machine.{MachineState, AnswersLine}
 

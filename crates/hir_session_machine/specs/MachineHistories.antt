@@ -1,13 +1,13 @@
 -- Which sessions stand behind the states of a machine?
 use Rattle.std.specs.Prelude.{◌≡◌, ◌⊎◌, ℕ, List, None, Some, Ok}
-use Rattle.hir_wire.specs.CommandValue.{CrateInputValue}
-use Rattle.hir_wire.specs.declared.reply.Reply.{Reply}
-use Rattle.hir_session_state.specs.SessionState.{SessionState, IsSound}
-use Rattle.hir_session_state.specs.Beginning.{Begins}
-use Rattle.hir_session_state.specs.Refusals.{verdict_of_new}
+use Rattle.hir_session_core.specs.HirMessages.CommandValue.{CrateInputValue}
+use Rattle.hir_session_core.specs.HirMessages.declared.reply.Reply.{Reply}
+use Rattle.hir_session_core.specs.HirSessionState.SessionState.{SessionState, IsSound}
+use Rattle.hir_session_core.specs.HirSessionState.Beginning.{Begins}
+use Rattle.hir_session_core.specs.HirSessionState.Refusals.{verdict_of_new}
 use Rattle.hir_session_machine.specs.Machine.{MachineState, first_state}
 use Rattle.hir_session_machine.specs.AnsweredLines.{AnswersLines}
-use Rattle.hir_session_answers.specs.Histories.{History}
+use Rattle.hir_session_core.specs.HirSessionAnswers.Histories.{History}
 
 -- a session began over crates that were not refused, and its history led here
 pub record HasBegun (new : MachineState) : Type 0 where

@@ -1,4 +1,12 @@
 //! What answers lines: a session, or none before the first that is made.
 #![tactic(auto)]
 
+pub use hir_lines;
+pub use hir_session_core;
+pub use hir_session_core::{
+    hir_base, hir_collector_rules, hir_def_collector_laws, hir_def_map, hir_item_tree,
+    hir_session_invalidation, hir_session_sources, hir_session_state, hir_tables,
+};
+pub use hir_wire;
+
 pub mod server_state;

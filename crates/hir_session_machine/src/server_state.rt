@@ -1,25 +1,24 @@
 //! What answers lines: a session, or none before the first that is made.
 ghost use Rattle.std.specs.Prelude.{◌≡◌, map, false, None, Some, Option};
-ghost use Rattle.hir_wire.specs.CommandValue.{command_view, crate_input_view, crates as makes, edit as edits, refresh as refreshes, resolve as resolves, tree as asks_for_tree, diagnostics as asks_for_diagnostics, dump as asks_for_dump, trait_items as asks_for_trait, impl_items as asks_for_impl, names as asks_for_names, crate_modules as asks_for_modules, file_modules as asks_for_file_modules};
-ghost use Rattle.hir_wire.specs.Edits.{edit_view};
+ghost use Rattle.hir_session_core.specs.HirMessages.CommandValue.{command_view, crate_input_view, crates as makes, edit as edits, refresh as refreshes, resolve as resolves, tree as asks_for_tree, diagnostics as asks_for_diagnostics, dump as asks_for_dump, trait_items as asks_for_trait, impl_items as asks_for_impl, names as asks_for_names, crate_modules as asks_for_modules, file_modules as asks_for_file_modules};
+ghost use Rattle.hir_session_core.specs.HirMessages.Edits.{edit_view};
 ghost use Rattle.hir_wire.specs.Replies.{is_fixed};
-ghost use Rattle.hir_wire.specs.declared.reply.Reply.TheVariants as reply;
-ghost use Rattle.hir_session_machine.specs.Machine.{MachineState, first_state, new_reply, edit_reply, refresh_reply, query_error_reply, trait_items_reply, impl_items_reply, tree_text_reply, diagnostics_error_reply, modules_error_reply, read_reply, AnswersCommand, AnswersLine};
+ghost use Rattle.hir_session_core.specs.HirMessages.declared.reply.Reply.TheVariants as reply;
+ghost use Rattle.hir_session_machine.specs.Machine.{MachineState, first_state, AnswersCommand, AnswersLine};
 
-use hir_base::file_path::FilePath;
-use hir_base::ids::Crate;
-use hir_base::mod_path::ModPath;
-use hir_base::place::Place;
+use hir_session_core::hir_base::file_path::FilePath;
+use hir_session_core::hir_base::ids::Crate;
+use hir_session_core::hir_base::mod_path::ModPath;
+use hir_session_core::hir_base::place::Place;
+use hir_session_core::hir_session_invalidation::sources::CollectDefs;
 use hir_session_core::session::Session;
-use hir_session_invalidation::sources::CollectDefs;
-use hir_session_state::error::{
-    DiagnosticsError, EditError, ImplItemsError, ModulesError, NewSessionError, QueryError,
-    RefreshError, TraitItemsError, TreeTextError,
+use hir_session_replies::replies::{
+    edit_error_reply, new_error_reply, refresh_error_reply, reply_to_diagnostics, reply_to_impl,
+    reply_to_line, reply_to_modules, reply_to_query, reply_to_trait, reply_to_tree,
 };
 use hir_wire::command::{Command, CrateInput, MacroStyle, Shadow};
 use hir_wire::edit::Edit;
 use hir_wire::read_command;
-use hir_wire::read_error::ReadError;
 use hir_wire::reply::{Places, Reply};
 use std::alloc::Global;
 use std::marker::Model;
@@ -39,110 +38,6 @@ impl Model for Machine {
     ghost coded = { coded_machine };
 
     ghost view = { λ m. m.session };
-}
-
-fn new_error_reply(error: NewSessionError) -> Reply
-    ensures value { result ≡ new_reply error }
-{
-    match error {
-        NewSessionError::DependencyOrder(krate) => Reply::DependencyOrder(krate),
-        NewSessionError::TooLarge(limit) => Reply::TooLarge(limit),
-        NewSessionError::Memory => Reply::Memory,
-    }
-}
-
-fn edit_error_reply(error: EditError) -> Reply
-    ensures value { result ≡ edit_reply error }
-{
-    match error {
-        EditError::UnknownCrate => Reply::UnknownCrate,
-        EditError::TooLarge(limit) => Reply::TooLarge(limit),
-        EditError::DuplicateId { kind, id } => Reply::DuplicateId { kind, id },
-        EditError::Memory => Reply::Memory,
-    }
-}
-
-fn refresh_error_reply(error: RefreshError) -> Reply
-    ensures value { result ≡ refresh_reply error }
-{
-    match error {
-        RefreshError::TooMany => Reply::TooMany,
-        RefreshError::Memory => Reply::Memory,
-    }
-}
-
-fn reply_to_query(error: QueryError) -> Reply
-    ensures value { result ≡ query_error_reply error }
-{
-    match error {
-        QueryError::StalePlace => Reply::StalePlace,
-        QueryError::UnknownPlace => Reply::UnknownPlace,
-        QueryError::Memory => Reply::Memory,
-    }
-}
-
-fn reply_to_trait(error: TraitItemsError) -> Reply
-    ensures value { result ≡ trait_items_reply error }
-{
-    match error {
-        TraitItemsError::StalePlace => Reply::StalePlace,
-        TraitItemsError::UnknownPlace => Reply::UnknownPlace,
-        TraitItemsError::NotATrait => Reply::NotATrait,
-        TraitItemsError::TooMany => Reply::TooMany,
-        TraitItemsError::Memory => Reply::Memory,
-    }
-}
-
-fn reply_to_impl(error: ImplItemsError) -> Reply
-    ensures value { result ≡ impl_items_reply error }
-{
-    match error {
-        ImplItemsError::StalePlace => Reply::StalePlace,
-        ImplItemsError::UnknownPlace => Reply::UnknownPlace,
-        ImplItemsError::NoSuchImpl => Reply::NoSuchImpl,
-        ImplItemsError::TooMany => Reply::TooMany,
-        ImplItemsError::Memory => Reply::Memory,
-    }
-}
-
-fn reply_to_tree(error: TreeTextError) -> Reply
-    ensures value { result ≡ tree_text_reply error }
-{
-    match error {
-        TreeTextError::UnknownCrate => Reply::UnknownCrate,
-        TreeTextError::Memory => Reply::Memory,
-    }
-}
-
-fn reply_to_diagnostics(error: DiagnosticsError) -> Reply
-    ensures value { result ≡ diagnostics_error_reply error }
-{
-    match error {
-        DiagnosticsError::UnknownCrate => Reply::UnknownCrate,
-        DiagnosticsError::StalePlace => Reply::StalePlace,
-        DiagnosticsError::Memory => Reply::Memory,
-    }
-}
-
-fn reply_to_modules(error: ModulesError) -> Reply
-    ensures value { result ≡ modules_error_reply error }
-{
-    match error {
-        ModulesError::UnknownCrate => Reply::UnknownCrate,
-        ModulesError::StalePlace => Reply::StalePlace,
-        ModulesError::Memory => Reply::Memory,
-    }
-}
-
-fn reply_to_line(error: ReadError) -> Reply
-    ensures value { result ≡ read_reply error }
-{
-    match error {
-        ReadError::Json => Reply::Json,
-        ReadError::Command => Reply::Command,
-        ReadError::TooLarge(limit) => Reply::TooLarge(limit),
-        ReadError::Memory => Reply::Memory,
-    }
 }
 
 /// An edit of a session.

@@ -2,16 +2,16 @@
 use Rattle.std.proofs.Common.{◌≡◌, ℕ, ◌≤◌, ◌<◌, List, Bool, length, true, false, refl, sym, subst, ◌∙◌, inl, inr, arith, nat_le}
 use Rattle.std.proofs.lemmas.Bool.{le-leb}
 use Rattle.std.proofs.lemmas.Bool.Decides.{leb_tells}
-use Rattle.hir_base.specs.declared.limit.Limit.TheVariants as limit
-use Rattle.hir_wire.specs.declared.reply.Reply.{Reply}
-use Rattle.hir_wire.specs.declared.reply.Reply.TheVariants as reply
-use Rattle.hir_lines.specs.declared.open_line.TheConstants.{LINE_LIMIT}
-use Rattle.hir_lines.specs.declared.open_line.Fate.{Fate}
-use Rattle.hir_lines.specs.declared.open_line.Fate.TheVariants as fate
-use Rattle.hir_lines.specs.declared.open_line.OpenLine.{OpenLine}
+use Rattle.hir_session_machine.specs.HirBase.declared.limit.Limit.TheVariants as limit
+use Rattle.hir_session_machine.specs.HirMessages.declared.reply.Reply.{Reply}
+use Rattle.hir_session_machine.specs.HirMessages.declared.reply.Reply.TheVariants as reply
+use Rattle.hir_session_machine.specs.HirLines.declared.open_line.TheConstants.{LINE_LIMIT}
+use Rattle.hir_session_machine.specs.HirLines.declared.open_line.Fate.{Fate}
+use Rattle.hir_session_machine.specs.HirLines.declared.open_line.Fate.TheVariants as fate
+use Rattle.hir_session_machine.specs.HirLines.declared.open_line.OpenLine.{OpenLine}
 use Rattle.hir_session_machine.specs.Machine.{MachineState, AnswersLine}
 use Rattle.hir_session_machine.specs.AnsweredLines.{AnswersInput, AnswersWithin}
-use Rattle.hir_lines.specs.OpenLines.{Holds, HoldsPart}
+use Rattle.hir_session_machine.specs.HirLines.OpenLines.{Holds, HoldsPart}
 
 within : (line : List ℕ) → length line ≤ LINE_LIMIT → nat_le (length line) LINE_LIMIT ≡ true
 within line fits = le-leb (length line) LINE_LIMIT fits

@@ -4,22 +4,22 @@ use Rattle.std.proofs.Common.{subst, append_assoc, append-nil, arith}
 use Rattle.std.proofs.lemmas.Bool.Decides.{nat_tests}
 use Rattle.std.specs.Io.KnownBytes.{Appends, IsAtEnd}
 use Rattle.std.proofs.KnownBytes.{Appends-nil, Appends-trans}
-use Rattle.hir_wire.specs.Replies.{is_fixed}
-use Rattle.hir_wire.specs.declared.reply.Reply.{Reply}
-use Rattle.hir_wire.specs.declared.reply.Reply.TheVariants as reply
-use Rattle.hir_lines.specs.declared.output.Fault.{Fault}
-use Rattle.hir_lines.specs.declared.output.Fault.TheVariants as fault
+use Rattle.hir_session_machine.specs.HirWire.Replies.{is_fixed}
+use Rattle.hir_session_machine.specs.HirMessages.declared.reply.Reply.{Reply}
+use Rattle.hir_session_machine.specs.HirMessages.declared.reply.Reply.TheVariants as reply
+use Rattle.hir_session_machine.specs.HirLines.declared.output.Fault.{Fault}
+use Rattle.hir_session_machine.specs.HirLines.declared.output.Fault.TheVariants as fault
 use Rattle.hir_session_server.specs.declared.server.Server.{Server}
 use Rattle.hir_session_machine.specs.Machine.{MachineState, first_state}
-use Rattle.hir_lines.specs.Output.{WritesPart, IsToldAs, reply_line}
+use Rattle.hir_session_machine.specs.HirLines.Output.{WritesPart, IsToldAs, reply_line}
 use Rattle.hir_session_machine.specs.Headline.{RepliesHoldTheHeadline}
-use Rattle.hir_lines.specs.Lines.{with_last, ended_lines, lines_of, cut_from, HasNoEnd}
+use Rattle.hir_session_machine.specs.HirLines.Lines.{with_last, ended_lines, lines_of, cut_from, HasNoEnd}
 use Rattle.hir_session_machine.specs.AnsweredLines.{AnswersLines, AnswersInput}
-use Rattle.hir_session_server.specs.Runs.{BrokenAt, Answered, Ends, replies_text}
+use Rattle.hir_session_server.specs.Runs.{BrokenAt, BrokenOff, Answered, Ends, replies_text}
 use Rattle.hir_session_server.specs.Serving.{Told, BreaksOff, Fed, Finished}
-use Rattle.hir_lines.specs.OpenLines.{Holds}
-use Rattle.hir_lines.proofs.CutLemmas.{cut_from-append, cut_from-ended, cut_from-plain, with_last-nil}
-use Rattle.hir_lines.proofs.PartLemmas.{WritesPart-after}
+use Rattle.hir_session_machine.specs.HirLines.OpenLines.{Holds}
+use Rattle.hir_session_machine.proofs.HirLines.CutLemmas.{cut_from-append, cut_from-ended, cut_from-plain, with_last-nil}
+use Rattle.hir_session_machine.proofs.HirLines.PartLemmas.{WritesPart-after}
 
 -- a run goes on by another
 pub AnswersLines-append : (a : MachineState) (ls : List (List ℕ)) (rs : List Reply) (b : MachineState) (ms : List (List ℕ)) (qs : List Reply) (c : MachineState)
@@ -178,6 +178,11 @@ BrokenAt-tail first now input w0 w1 w2 empty fed broken = record {
   written = subst (WritesPart w0 w2) (sym (replies_text-append fed.answers broken.answers)) (WritesPart-after w0 w1 w2 _ _ fed.written broken.written);
 }
 
+-- the replies to the lines that were answered hold the headline
+pub broken_off : {all : List (List ℕ)} {before after : Option (List ℕ)} → RepliesHoldTheHeadline → BrokenAt first_state all before after
+    → BrokenOff all before after
+broken_off law broken = record { broken = broken; headline = law broken.lines broken.answers broken.last broken.answered }
+
 -- the last line was answered, or the write of its reply failed
 pub ends_at : RepliesHoldTheHeadline → (r : Result (Unit {0}) Fault) (first now : Server) (input : List ℕ) (left w0 w1 w2 : Option (List ℕ)) → first.machine
     ≡ first_state → IsAtEnd left → Fed first [] input now w0 w1
@@ -198,7 +203,7 @@ ends_at law (Ok done) first now input left w0 w1 w2 empty end fed ok err = (
   },
 )
 ends_at law (Err fault.ReadFault) first now input left w0 w1 w2 empty end fed ok err = let never = err.0 in absurd (cc)
-ends_at law (Err fault.WriteFault) first now input left w0 w1 w2 empty end fed ok err = BrokenAt-tail first now input w0 w1 w2 empty fed err.1
+ends_at law (Err fault.WriteFault) first now input left w0 w1 w2 empty end fed ok err = broken_off law (BrokenAt-tail first now input w0 w1 w2 empty fed err.1)
 
 -- the write of a reply failed before the input had ended
 pub breaks_at : (first now : Server) (input bytes : List ℕ) (w0 w1 w2 : Option (List ℕ)) → first.machine ≡ first_state → Fed first [] input now w0 w1

@@ -1,14 +1,14 @@
 -- In which state is the server between two pieces of the input?
 use Rattle.std.specs.Prelude.{ℕ, List, [], Option}
 use Rattle.std.specs.Io.KnownBytes.{Appends}
-use Rattle.hir_wire.specs.declared.reply.Reply.{Reply}
+use Rattle.hir_session_machine.specs.HirMessages.declared.reply.Reply.{Reply}
 use Rattle.hir_session_server.specs.declared.server.Server.{Server}
 use Rattle.hir_session_machine.specs.Machine.{MachineState}
-use Rattle.hir_lines.specs.Output.{WritesPart, reply_line}
-use Rattle.hir_lines.specs.Lines.{cut_from, with_last}
+use Rattle.hir_session_machine.specs.HirLines.Output.{WritesPart, reply_line}
+use Rattle.hir_session_machine.specs.HirLines.Lines.{cut_from, with_last}
 use Rattle.hir_session_machine.specs.AnsweredLines.{AnswersInput, AnswersLines}
 use Rattle.hir_session_server.specs.Runs.{replies_text}
-use Rattle.hir_lines.specs.OpenLines.{Holds}
+use Rattle.hir_session_machine.specs.HirLines.OpenLines.{Holds}
 
 -- the line was answered and the reply was written
 abbrev pub Told : Server → List ℕ → Server → Option (List ℕ) → Option (List ℕ) → Type 0

@@ -1,12 +1,12 @@
 // Bytes as they come, cut into lines, each answered.
 ghost use Rattle.hir_session_server.specs.Runs.{Converses};
 
-use hir_base::limit::Limit;
-use hir_lines::open_line::{Fate, OpenLine, split_line};
-use hir_lines::output::{Fault, write_reply};
-use hir_session_invalidation::sources::CollectDefs;
+use hir_session_machine::hir_base::limit::Limit;
+use hir_session_machine::hir_lines::open_line::{Fate, OpenLine, split_line};
+use hir_session_machine::hir_lines::output::{Fault, write_reply};
+use hir_session_machine::hir_session_invalidation::sources::CollectDefs;
+use hir_session_machine::hir_wire::Reply;
 use hir_session_machine::server_state::Machine;
-use hir_wire::Reply;
 use std::alloc::Global;
 use std::io::{Read, Write};
 
@@ -25,14 +25,14 @@ pub struct Server {
 
 impl Server {
     ghost use Rattle.std.specs.Prelude.{◌≡◌, ◌++◌, ◌∷◌, [], List, ℕ, false, OnOk, IfErr};
-    ghost use Rattle.hir_wire.specs.Replies.{is_fixed};
-    ghost use Rattle.hir_wire.specs.declared.reply.Reply.TheVariants as reply;
+    ghost use Rattle.hir_session_machine.specs.HirWire.Replies.{is_fixed};
+    ghost use Rattle.hir_session_machine.specs.HirMessages.declared.reply.Reply.TheVariants as reply;
     ghost use Rattle.hir_session_machine.specs.Machine.{first_state};
-    ghost use Rattle.hir_lines.specs.Lines.{HasNoEnd, cut_from, with_last};
+    ghost use Rattle.hir_session_machine.specs.HirLines.Lines.{HasNoEnd, cut_from, with_last};
     ghost use Rattle.hir_session_machine.specs.AnsweredLines.{AnswersInput};
     ghost use Rattle.hir_session_server.specs.Runs.{BrokenAt, Converses};
     ghost use Rattle.hir_session_server.specs.Serving.{Told, BreaksOff, Fed, Finished};
-    ghost use Rattle.hir_lines.specs.OpenLines.{Holds};
+    ghost use Rattle.hir_session_machine.specs.HirLines.OpenLines.{Holds};
 
     pub fn new(alloc: Global) -> Server
         ensures open { Holds result.line [] }

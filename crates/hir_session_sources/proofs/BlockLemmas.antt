@@ -12,20 +12,20 @@ use Rattle.std.specs.Ordering.{is_eq, match_ordering}
 use Rattle.std.specs.declared.alloc.Global.{Global}
 use Rattle.std.specs.declared.vec.Vec.{Vec}
 use Rattle.std.proofs.lemmas.List.{same_from_push}
-use Rattle.hir_base.specs.Place.{PlaceValue}
-use Rattle.hir_base.specs.contracts.ids.CrateOrd.TheImpl as crate_order
-use Rattle.hir_base.specs.contracts.ids.CrateOrd.TheImpl.Laws.{total-law as crates_total}
-use Rattle.hir_base.specs.contracts.place.BlockPlaceOrd.TheImpl as block_order
-use Rattle.hir_base.specs.contracts.place.BlockPlaceOrd.TheImpl.Laws.{total-law as blocks_total, matches_eq-law as blocks_tie}
-use Rattle.hir_base.specs.contracts.place.BlockPlacePartialEq.TheImpl as block_eq
-use Rattle.hir_base.specs.contracts.place.PlaceElementOrd.TheImpl as element_order
-use Rattle.hir_base.specs.contracts.place.PlaceElementOrd.TheImpl.Laws.{total-law as elements_total, matches_eq-law as elements_tie}
-use Rattle.hir_base.specs.contracts.place.PlaceElementPartialEq.TheImpl as element_eq
-use Rattle.hir_base.specs.declared.place.BlockPlace.{BlockPlace}
-use Rattle.hir_base.specs.declared.ids.Crate.{Crate}
-use Rattle.hir_base.specs.declared.place.PlaceElement.{PlaceElement}
-use Rattle.hir_base.specs.declared.place.PlaceElement.TheVariants as element
-use Rattle.hir_item_tree.specs.Source.{SourceValue}
+use Rattle.hir_session_state.specs.HirBase.Place.{PlaceValue}
+use Rattle.hir_session_state.specs.HirIds.contracts.ids.CrateOrd.TheImpl as crate_order
+use Rattle.hir_session_state.specs.HirIds.contracts.ids.CrateOrd.TheImpl.Laws.{total-law as crates_total}
+use Rattle.hir_session_state.specs.HirBase.contracts.place.BlockPlaceOrd.TheImpl as block_order
+use Rattle.hir_session_state.specs.HirBase.contracts.place.BlockPlaceOrd.TheImpl.Laws.{total-law as blocks_total, matches_eq-law as blocks_tie}
+use Rattle.hir_session_state.specs.HirBase.contracts.place.BlockPlacePartialEq.TheImpl as block_eq
+use Rattle.hir_session_state.specs.HirBase.contracts.place.PlaceElementOrd.TheImpl as element_order
+use Rattle.hir_session_state.specs.HirBase.contracts.place.PlaceElementOrd.TheImpl.Laws.{total-law as elements_total, matches_eq-law as elements_tie}
+use Rattle.hir_session_state.specs.HirBase.contracts.place.PlaceElementPartialEq.TheImpl as element_eq
+use Rattle.hir_session_state.specs.HirBase.declared.place.BlockPlace.{BlockPlace}
+use Rattle.hir_session_state.specs.HirIds.declared.ids.Crate.{Crate}
+use Rattle.hir_session_state.specs.HirBase.declared.place.PlaceElement.{PlaceElement}
+use Rattle.hir_session_state.specs.HirBase.declared.place.PlaceElement.TheVariants as element
+use Rattle.hir_session_state.specs.HirItemTree.Source.{SourceValue}
 use Rattle.hir_session_state.specs.Blocks.{Blocks, CrateBlocks, block_in, blocks_in, blocks_of, blocks_with, place_of_block, steps_cmp, steps_with, with_block}
 use Rattle.hir_session_state.specs.Blocks.{without_block, without_in}
 use Rattle.hir_session_state.proofs.Places.{exact_block}

@@ -5,12 +5,12 @@ use Rattle.std.specs.BTreeMap.{get, is_at, IsEmpty}
 use Rattle.std.specs.Map.{lookup}
 use Rattle.std.specs.declared.alloc.Global.{Global}
 use Rattle.std.specs.declared.rc.Rc.{Rc}
-use Rattle.hir_base.specs.contracts.ids.CrateOrd.TheImpl as crate_order
-use Rattle.hir_base.specs.contracts.ids.CrateOrd.TheImpl.Laws.{matches_eq-law as crates_tie}
-use Rattle.hir_base.specs.declared.ids.Crate.{Crate}
-use Rattle.hir_item_tree.specs.SourceTree.{SourceTreeValue}
-use Rattle.hir_item_tree.specs.Source.{SourceValue}
-use Rattle.hir_tables.specs.SourcePlaces.{SourcePlaceValue}
+use Rattle.hir_session_state.specs.HirIds.contracts.ids.CrateOrd.TheImpl as crate_order
+use Rattle.hir_session_state.specs.HirIds.contracts.ids.CrateOrd.TheImpl.Laws.{matches_eq-law as crates_tie}
+use Rattle.hir_session_state.specs.HirIds.declared.ids.Crate.{Crate}
+use Rattle.hir_session_state.specs.HirItemTree.SourceTree.{SourceTreeValue}
+use Rattle.hir_session_state.specs.HirItemTree.Source.{SourceValue}
+use Rattle.hir_session_state.specs.HirTables.SourcePlaces.{SourcePlaceValue}
 use Rattle.std.specs.Cmp.{unsigned_Decides}
 use Rattle.hir_session_state.specs.Crates.{CrateValue}
 use Rattle.hir_session_state.specs.SourceTable.{tree_under}

@@ -5,20 +5,20 @@ use Rattle.std.specs.Cmp.Lexicographic.{lists_ties, lists_total, nat_list_cmp_to
 use Rattle.std.specs.Ordering.{is_eq, nat_cmp, on, then_cmp}
 use Rattle.std.specs.BTreeMap.{is_at}
 use mathlib.Core.Bool.{true≢false}
-use Rattle.hir_base.specs.contracts.ids.CrateOrd.TheImpl as crate_order
-use Rattle.hir_base.specs.contracts.ids.CrateOrd.TheImpl.Laws.{total-law as crates_total}
-use Rattle.hir_base.specs.contracts.macro_kind.CallStyleOrd.TheImpl as style_order
-use Rattle.hir_base.specs.contracts.macro_kind.CallStyleOrd.TheImpl.Laws.{total-law as styles_total, matches_eq-law as styles_tie}
-use Rattle.hir_base.specs.contracts.macro_kind.CallStylePartialEq.TheImpl as style_eq
-use Rattle.hir_base.specs.contracts.macro_kind.ExpansionKeyOrd.TheImpl as key_order
-use Rattle.hir_base.specs.contracts.macro_kind.MacroTextOrd.TheImpl as text_order
-use Rattle.hir_base.specs.contracts.macro_kind.MacroTextOrd.TheImpl.Laws.{total-law as macros_total, matches_eq-law as macros_tie}
-use Rattle.hir_base.specs.contracts.macro_kind.MacroTextPartialEq.TheImpl as text_eq
-use Rattle.hir_base.specs.declared.macro_kind.CallStyle.{CallStyle}
-use Rattle.hir_base.specs.declared.macro_kind.ExpansionKey.{ExpansionKey}
-use Rattle.hir_base.specs.declared.macro_kind.MacroText.{MacroText}
-use Rattle.hir_base.specs.declared.macro_kind.CallStyle.TheVariants as style
-use Rattle.hir_tables.specs.SourcePlaces.{ExpansionValue, expansion_value}
+use Rattle.hir_session_state.specs.HirIds.contracts.ids.CrateOrd.TheImpl as crate_order
+use Rattle.hir_session_state.specs.HirIds.contracts.ids.CrateOrd.TheImpl.Laws.{total-law as crates_total}
+use Rattle.hir_session_state.specs.HirBase.contracts.macro_kind.CallStyleOrd.TheImpl as style_order
+use Rattle.hir_session_state.specs.HirBase.contracts.macro_kind.CallStyleOrd.TheImpl.Laws.{total-law as styles_total, matches_eq-law as styles_tie}
+use Rattle.hir_session_state.specs.HirBase.contracts.macro_kind.CallStylePartialEq.TheImpl as style_eq
+use Rattle.hir_session_state.specs.HirBase.contracts.macro_kind.ExpansionKeyOrd.TheImpl as key_order
+use Rattle.hir_session_state.specs.HirBase.contracts.macro_kind.MacroTextOrd.TheImpl as text_order
+use Rattle.hir_session_state.specs.HirBase.contracts.macro_kind.MacroTextOrd.TheImpl.Laws.{total-law as macros_total, matches_eq-law as macros_tie}
+use Rattle.hir_session_state.specs.HirBase.contracts.macro_kind.MacroTextPartialEq.TheImpl as text_eq
+use Rattle.hir_session_state.specs.HirBase.declared.macro_kind.CallStyle.{CallStyle}
+use Rattle.hir_session_state.specs.HirBase.declared.macro_kind.ExpansionKey.{ExpansionKey}
+use Rattle.hir_session_state.specs.HirBase.declared.macro_kind.MacroText.{MacroText}
+use Rattle.hir_session_state.specs.HirBase.declared.macro_kind.CallStyle.TheVariants as style
+use Rattle.hir_session_state.specs.HirTables.SourcePlaces.{ExpansionValue, expansion_value}
 use Rattle.hir_session_state.specs.Entries.{expansion_cmp}
 use Rattle.hir_session_sources.proofs.Changing.{equal_crate}
 use Rattle.hir_session_sources.proofs.Lookups.{IsExact}

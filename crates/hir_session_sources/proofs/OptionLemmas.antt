@@ -1,8 +1,8 @@
 use Rattle.std.proofs.Common.{◌≡◌, ℕ, ◌<◌, ◌+◌, Bool, true, false, ◌||◌, List, ◌∷◌, length, drop, get_or, drop-cons, add-one, refl, ap, subst, ◌∙◌}
 use Rattle.std.specs.Cmp.Lexicographic.{nat_list_eq_equiv}
-use Rattle.hir_base.specs.CfgOptions.{same_atom, is_set, Sets}
-use Rattle.hir_base.specs.declared.cfg.CfgAtom.{CfgAtom}
-use Rattle.hir_base.specs.declared.cfg.CfgAtom.TheVariants.{Flag, KeyValue}
+use Rattle.hir_session_state.specs.HirBase.CfgOptions.{same_atom, is_set, Sets}
+use Rattle.hir_session_state.specs.HirBase.declared.cfg.CfgAtom.{CfgAtom}
+use Rattle.hir_session_state.specs.HirBase.declared.cfg.CfgAtom.TheVariants.{Flag, KeyValue}
 
 -- which of two options is named first is one to the test
 same_atom-flip : (a b : CfgAtom) → same_atom a b ≡ same_atom b a

@@ -4,24 +4,24 @@ use Rattle.std.specs.Ordering.{nat_cmp}
 use Rattle.std.specs.Cmp.Lexicographic.{slice_cmp, bytes_decides}
 use Rattle.std.specs.BTreeMap.{is_at}
 use Rattle.std.proofs.lemmas.Map.Text.{is_eq-slice_cmp}
-use Rattle.hir_base.specs.declared.ast_id.AstKind.TheVariants.{MacroDef, MacroRules}
-use Rattle.hir_base.specs.contracts.place.BlockPlaceOrd.TheImpl as block_order
-use Rattle.hir_base.specs.declared.place.BlockPlace.{BlockPlace}
-use Rattle.hir_base.specs.declared.ast_id.EntryId.{EntryId}
-use Rattle.hir_base.specs.declared.macro_kind.MacroId.TheVariants as macros
-use Rattle.hir_item_tree.specs.Source.{SourceValue}
-use Rattle.hir_item_tree.specs.SourceTree.{SourceTreeValue, variants_of}
-use Rattle.hir_item_tree.specs.SyntaxIds.{node_id}
-use Rattle.hir_item_tree.specs.declared.tree_id.TreeKey.{TreeKey}
-use Rattle.hir_tables.specs.SourcePlaces.{ExpansionValue, SourcePlaceValue, block, expansion, file}
-use Rattle.hir_tables.specs.Tables as numbers
-use Rattle.hir_tables.specs.Tables.{TablesValue, source_of}
-use Rattle.hir_def_map_rules.specs.Overlay.{no_maps}
-use Rattle.hir_collector_rules.specs.Workspace.{EntryLook, Workspace, seen_of}
-use Rattle.hir_collector_rules.specs.Keys.{entry_under, input_of, look, of_entry, of_input, of_text, of_tree, of_variants, source_in, source_under, text_of}
-use Rattle.hir_collector_rules.specs.declared.source_database.Key.{Key}
-use Rattle.hir_collector_rules.specs.declared.source_database.Key.TheVariants as keys
-use Rattle.hir_wire.specs.Edits.{EntryValue}
+use Rattle.hir_session_state.specs.HirIds.declared.ast_id.AstKind.TheVariants.{MacroDef, MacroRules}
+use Rattle.hir_session_state.specs.HirBase.contracts.place.BlockPlaceOrd.TheImpl as block_order
+use Rattle.hir_session_state.specs.HirBase.declared.place.BlockPlace.{BlockPlace}
+use Rattle.hir_session_state.specs.HirIds.declared.ast_id.EntryId.{EntryId}
+use Rattle.hir_session_state.specs.HirIds.declared.macro_kind.MacroId.TheVariants as macros
+use Rattle.hir_session_state.specs.HirItemTree.Source.{SourceValue}
+use Rattle.hir_session_state.specs.HirItemTree.SourceTree.{SourceTreeValue, variants_of}
+use Rattle.hir_session_state.specs.HirItemTree.SyntaxIds.{node_id}
+use Rattle.hir_session_state.specs.HirBase.declared.tree_id.TreeKey.{TreeKey}
+use Rattle.hir_session_state.specs.HirTables.SourcePlaces.{ExpansionValue, SourcePlaceValue, block, expansion, file}
+use Rattle.hir_session_state.specs.HirTables.Tables as numbers
+use Rattle.hir_session_state.specs.HirTables.Tables.{TablesValue, source_of}
+use Rattle.hir_session_state.specs.HirDefMapRules.Overlay.{no_maps}
+use Rattle.hir_session_state.specs.HirCollectorRules.Workspace.{EntryLook, Workspace, seen_of}
+use Rattle.hir_session_state.specs.HirCollectorRules.Keys.{entry_under, input_of, look, of_entry, of_input, of_text, of_tree, of_variants, source_in, source_under, text_of}
+use Rattle.hir_session_state.specs.HirCollectorRules.declared.source_database.Key.{Key}
+use Rattle.hir_session_state.specs.HirCollectorRules.declared.source_database.Key.TheVariants as keys
+use Rattle.hir_session_state.specs.HirMessages.Edits.{EntryValue}
 use Rattle.hir_session_state.specs.Blocks.{Blocks, block_in, blocks_with, place_of_block}
 use Rattle.hir_session_state.specs.Crates.{CrateValue}
 use Rattle.hir_session_state.specs.Entries.{Entries, entries_with, entry_at, expansion_cmp, look_of, source_of as source_in_entry}

@@ -1,21 +1,21 @@
 use Rattle.std.proofs.Common.{◌≡◌, ℕ, zero, suc, ◌+◌, ◌<◌, ◌≤◌, true, false, List, [], ◌∷◌, ◌++◌, length, map, is_none, slice_get, drop, get_or, drop-cons}
 use Rattle.std.proofs.Common.{add-one, append_assoc, append-nil, drop_of_length-le, Option, None, Some, refl, sym, ap, subst, ◌∙◌, Contains, arith, nat_le}
 use Rattle.std.proofs.lemmas.List.Folds.{list_any_at}
-use Rattle.hir_base.specs.declared.ids.Crate.{Crate}
-use Rattle.hir_base.specs.declared.ast_id.FileId.{FileId}
-use Rattle.hir_base.specs.declared.ids.MapId.{MapId}
-use Rattle.hir_collector_rules.specs.Calls.{AreCallsPlaced}
-use Rattle.hir_collector_rules.specs.declared.source_database.Dependency.{Dependency}
-use Rattle.hir_wire.specs.CommandValue.{CrateInputValue, crate_input_view}
-use Rattle.hir_wire.specs.declared.command.CrateInput.{CrateInput}
-use Rattle.hir_wire.specs.declared.command.Dependency.{Dependency as HandedIn}
+use Rattle.hir_session_state.specs.HirIds.declared.ids.Crate.{Crate}
+use Rattle.hir_session_state.specs.HirIds.declared.ast_id.FileId.{FileId}
+use Rattle.hir_session_state.specs.HirIds.declared.ids.MapId.{MapId}
+use Rattle.hir_session_state.specs.HirCollectorRules.Calls.{AreCallsPlaced}
+use Rattle.hir_session_state.specs.HirCollectorRules.declared.source_database.Dependency.{Dependency}
+use Rattle.hir_session_state.specs.HirMessages.CommandValue.{CrateInputValue, crate_input_view}
+use Rattle.hir_session_state.specs.HirMessages.declared.command.CrateInput.{CrateInput}
+use Rattle.hir_session_state.specs.HirMessages.declared.command.Dependency.{Dependency as HandedIn}
 use Rattle.hir_session_state.specs.Crates.{CrateValue, crate_in, dependencies_in, no_crate}
 use Rattle.hir_session_state.specs.SourceTable.{SourceTable}
 use Rattle.hir_session_state.specs.Kept.{Resolutions, kept_in}
 use Rattle.hir_session_state.specs.SessionState.{SessionState, Resolution, is_marked, IsSound}
 use Rattle.hir_session_state.specs.Refusals.{dependency_crates, has_late, first_out_of_order}
 use Rattle.hir_session_state.specs.Beginning.{dependency_of, IsAdded, IsMade, AreMade, AreRooted, Begins}
-use Rattle.hir_tables.specs.Tables.{KeepsTables, TablesValue, file_at}
+use Rattle.hir_session_state.specs.HirTables.Tables.{KeepsTables, TablesValue, file_at}
 use Rattle.hir_session_state.proofs.Truth.{clash, on_bool, on_same}
 use Rattle.std.proofs.lemmas.List.{get_or_append_left, get_or_push}
 

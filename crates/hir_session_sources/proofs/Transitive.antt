@@ -2,12 +2,12 @@
 use Rattle.std.proofs.Common.{◌≡◌, inl, inr, ℕ, zero, suc, ◌+◌, ◌<◌, ◌≤◌, List, [], ◌∷◌, ◌++◌, length, map, Option, Some, None, option_map, slice_get}
 use Rattle.std.proofs.Common.{slice_index_or, refl, sym, ap, ◌∙◌, arith}
 use Rattle.std.proofs.lemmas.Bool.{cases_lt}
-use Rattle.hir_base.specs.declared.ids.Crate.{Crate}
-use Rattle.hir_crate_graph.specs.Dependencies.{AreTransitive}
-use Rattle.hir_crate_graph.specs.Graph.{Adds}
-use Rattle.hir_crate_graph.proofs.Closure.{transitive_at}
-use Rattle.hir_collector_rules.specs.Workspace.{ConfigValue, dependencies_of}
-use Rattle.hir_collector_rules.specs.declared.source_database.Dependency.{Dependency}
+use Rattle.hir_session_state.specs.HirIds.declared.ids.Crate.{Crate}
+use Rattle.hir_session_state.specs.HirCrateGraph.Dependencies.{AreTransitive}
+use Rattle.hir_session_state.specs.HirCrateGraph.Graph.{Adds}
+use Rattle.hir_session_state.proofs.HirCrateGraph.Closure.{transitive_at}
+use Rattle.hir_session_state.specs.HirCollectorRules.Workspace.{ConfigValue, dependencies_of}
+use Rattle.hir_session_state.specs.HirCollectorRules.declared.source_database.Dependency.{Dependency}
 use Rattle.hir_session_state.specs.Crates.{CrateValue, AreTransitiveOf, config_in, crate_in, dependencies_in, transitive_in}
 
 -- what stands at a number

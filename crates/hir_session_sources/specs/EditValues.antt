@@ -1,8 +1,8 @@
 -- What is an edit of a source, as the code has it?
 use Rattle.std.specs.Prelude.{option_map}
-use Rattle.hir_item_tree.specs.Source.{source_view}
-use Rattle.hir_tables.specs.SourcePlaces.{expansion_value}
-use Rattle.hir_wire.specs.Edits.{entry_view}
+use Rattle.hir_session_state.specs.HirItemTree.Source.{source_view}
+use Rattle.hir_session_state.specs.HirTables.SourcePlaces.{expansion_value}
+use Rattle.hir_session_state.specs.HirMessages.Edits.{entry_view}
 use Rattle.hir_session_sources.specs.declared.source_edit.SourceEdit.{SourceEdit}
 use Rattle.hir_session_sources.specs.declared.source_edit.SourceEdit.TheVariants.{File, Block, Expansion}
 use Rattle.hir_session_state.specs.SourceEdits.{SourceEditValue, of_file, of_block, of_expansion}

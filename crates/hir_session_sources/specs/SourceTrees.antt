@@ -8,14 +8,14 @@ use Rattle.std.specs.Ordering.{nat_cmp}
 use Rattle.std.specs.Coded.{Coded-set}
 use Rattle.std.specs.declared.alloc.Global.{Global}
 use Rattle.std.specs.declared.rc.Rc.{Rc}
-use Rattle.hir_base.specs.declared.ids.Crate.{Crate}
-use Rattle.hir_base.specs.contracts.ids.CrateOrd.TheImpl as crate_order
-use Rattle.hir_base.specs.contracts.place.BlockPlaceOrd.TheImpl as block_order
-use Rattle.hir_item_tree.specs.SideCodes.{coded_source_tree}
-use Rattle.hir_item_tree.specs.Source.{SourceValue}
-use Rattle.hir_item_tree.specs.SourceTree.{SourceTreeValue}
-use Rattle.hir_tables.specs.SourcePlaces.{SourcePlaceValue, file, block, expansion}
-use Rattle.hir_collector_rules.specs.Workspace.{Workspace}
+use Rattle.hir_session_state.specs.HirIds.declared.ids.Crate.{Crate}
+use Rattle.hir_session_state.specs.HirIds.contracts.ids.CrateOrd.TheImpl as crate_order
+use Rattle.hir_session_state.specs.HirBase.contracts.place.BlockPlaceOrd.TheImpl as block_order
+use Rattle.hir_session_state.specs.HirItemTree.SideCodes.{coded_source_tree}
+use Rattle.hir_session_state.specs.HirItemTree.Source.{SourceValue}
+use Rattle.hir_session_state.specs.HirItemTree.SourceTree.{SourceTreeValue}
+use Rattle.hir_session_state.specs.HirTables.SourcePlaces.{SourcePlaceValue, file, block, expansion}
+use Rattle.hir_session_state.specs.HirCollectorRules.Workspace.{Workspace}
 use Rattle.hir_session_state.specs.Crates.{CrateValue}
 use Rattle.hir_session_state.specs.Entries.{by_value, expansion_cmp}
 use Rattle.hir_session_state.specs.SourceTable.{tree_under}

@@ -1,22 +1,24 @@
 //! What a session begins with.
 ghost use Rattle.std.specs.Prelude.{◌≡◌, ◌<◌, ◌^◌, map, true, Some, IfOk, OnOk, option_map};
-ghost use Rattle.hir_base.specs.CfgOptions.{SetAlike};
-ghost use Rattle.hir_wire.specs.CommandValue.{crate_input_view};
+ghost use Rattle.hir_session_state.specs.HirBase.CfgOptions.{SetAlike};
+ghost use Rattle.hir_session_state.specs.HirMessages.CommandValue.{crate_input_view};
 ghost use Rattle.hir_session_state.specs.Refusals.{dependency_crates, has_late, first_out_of_order};
 ghost use Rattle.hir_session_state.specs.Beginning.{dependency_of, IsAdded, IsConfigOf, IsMade, AreMade, AreRooted};
-ghost use Rattle.hir_collector_rules.specs.Workspace.{config_view};
-ghost use Rattle.hir_tables.specs.Tables.{file_at, KeepsTables};
+ghost use Rattle.hir_session_state.specs.HirCollectorRules.Workspace.{config_view};
+ghost use Rattle.hir_session_state.specs.HirTables.Tables.{file_at, KeepsTables};
 
 use crate::crate_info::CrateInfo;
 use crate::crates::Crates;
-use hir_base::ast_id::FileId;
-use hir_base::cfg::CfgAtom;
-use hir_base::cfg_options::CfgOptions;
-use hir_base::file_path::FilePath;
-use hir_collector_rules::source_database::{Config, CrateRoot, Dependency as RunDependency};
 use hir_session_state::front::copy_attrs;
-use hir_tables::Tables;
-use hir_wire::command::{CrateInput, Dependency};
+use hir_session_state::hir_base::ast_id::FileId;
+use hir_session_state::hir_base::cfg::CfgAtom;
+use hir_session_state::hir_base::cfg_options::CfgOptions;
+use hir_session_state::hir_base::file_path::FilePath;
+use hir_session_state::hir_collector_rules::source_database::{
+    Config, CrateRoot, Dependency as RunDependency,
+};
+use hir_session_state::hir_messages::command::{CrateInput, Dependency};
+use hir_session_state::hir_tables::Tables;
 use std::alloc::{AllocError, Global};
 
 /// Dependencies as a run sees them.

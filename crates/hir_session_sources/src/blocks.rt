@@ -5,15 +5,15 @@
 ghost use Rattle.std.specs.Prelude.{◌≡◌, ◌++◌, [], map, is_some, IfOk, IfSome, OnOk, OnErr, option_map};
 ghost use Rattle.std.specs.BTreeMap.{is_at, insert_entry};
 ghost use Rattle.std.specs.Map.{lookup};
-ghost use Rattle.hir_base.specs.contracts.ids.CrateOrd.TheImpl as crate_order;
-ghost use Rattle.hir_item_tree.specs.Source.{source_view};
+ghost use Rattle.hir_session_state.specs.HirIds.contracts.ids.CrateOrd.TheImpl as crate_order;
+ghost use Rattle.hir_session_state.specs.HirItemTree.Source.{source_view};
 ghost use Rattle.hir_session_state.specs.Blocks.{block_in, place_of_block, steps_cmp, with_block, without_block};
 ghost use Rattle.hir_session_sources.specs.BlockTables.{ArePlacedIn, has_place, sources_of, steps_in, with_set, without_set, without_steps};
 ghost use Rattle.hir_session_sources.specs.BlockPlaces.{places_of};
 
-use hir_base::ids::Crate;
-use hir_base::place::{BlockPlace, Place, PlaceElement};
-use hir_item_tree::source::Source;
+use hir_session_state::hir_base::ids::Crate;
+use hir_session_state::hir_base::place::{BlockPlace, Place, PlaceElement};
+use hir_session_state::hir_item_tree::source::Source;
 use std::alloc::{AllocError, Global};
 use std::collections::BTreeMap;
 use std::marker::Model;
@@ -26,7 +26,7 @@ pub struct SetBlock {
 }
 
 impl Model for SetBlock {
-    ghost use Rattle.hir_item_tree.specs.Source.{source_view};
+    ghost use Rattle.hir_session_state.specs.HirItemTree.Source.{source_view};
     ghost use Rattle.hir_session_sources.specs.BlockCodes.{coded_set_block};
     ghost use Rattle.hir_session_sources.specs.BlockTables.{SetBlockValue};
 

@@ -1,16 +1,16 @@
 //! A crate of a session.
 ghost use Rattle.std.specs.Prelude.{◌≡◌, [], option_map, unwrap_or};
-ghost use Rattle.hir_item_tree.specs.Attributes.{attributes_view};
-ghost use Rattle.hir_tables.specs.SourcePlaces.{source_value};
-ghost use Rattle.hir_collector_rules.specs.Workspace.{config_view};
+ghost use Rattle.hir_session_state.specs.HirItemTree.Attributes.{attributes_view};
+ghost use Rattle.hir_session_state.specs.HirTables.SourcePlaces.{source_value};
+ghost use Rattle.hir_session_state.specs.HirCollectorRules.Workspace.{config_view};
 ghost use Rattle.hir_session_state.specs.Crates.{root_of};
 ghost use Rattle.hir_session_state.specs.SourceTable.{front_in};
 
-use hir_base::ast_id::{EditionedFileId, FileId};
-use hir_base::cfg_options::CfgOptions;
-use hir_collector_rules::source_database::{Config, CrateRoot};
-use hir_item_tree::raw_attr::RawAttr;
-use hir_tables::SourcePlace;
+use hir_session_state::hir_base::ast_id::{EditionedFileId, FileId};
+use hir_session_state::hir_base::cfg_options::CfgOptions;
+use hir_session_state::hir_collector_rules::source_database::{Config, CrateRoot};
+use hir_session_state::hir_item_tree::raw_attr::RawAttr;
+use hir_session_state::hir_tables::SourcePlace;
 use std::marker::Model;
 
 /// A crate: its root, what else it was handed in with, and the number of its root file.
@@ -22,7 +22,7 @@ pub struct CrateInfo {
 }
 
 impl Model for CrateInfo {
-    ghost use Rattle.hir_collector_rules.specs.Workspace.{config_view};
+    ghost use Rattle.hir_session_state.specs.HirCollectorRules.Workspace.{config_view};
     ghost use Rattle.hir_session_state.specs.CrateCodes.{coded_crate};
     ghost use Rattle.hir_session_state.specs.Crates.{CrateValue};
 

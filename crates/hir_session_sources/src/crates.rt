@@ -1,13 +1,13 @@
 //! The crates of a session by number, and the transitive dependencies of each.
 ghost use Rattle.std.specs.Prelude.{◌≡◌, ℕ, ◌+◌, List, length, map, IfOk, OnOk, option_map, slice_get, unwrap_or};
-ghost use Rattle.hir_base.specs.declared.ids.Crate.{Crate};
-ghost use Rattle.hir_crate_graph.specs.Dependencies.{AreTransitive};
+ghost use Rattle.hir_session_state.specs.HirIds.declared.ids.Crate.{Crate};
+ghost use Rattle.hir_session_state.specs.HirCrateGraph.Dependencies.{AreTransitive};
 ghost use Rattle.hir_session_state.specs.Crates.{config_in, crate_in, no_crate, transitive_in};
 
 use crate::crate_info::CrateInfo;
-use hir_base::ids::Crate;
-use hir_collector_rules::source_database::Dependency;
-use hir_crate_graph::{CrateGraphError, CrateSet, TransitiveDependencies};
+use hir_session_state::hir_base::ids::Crate;
+use hir_session_state::hir_collector_rules::source_database::Dependency;
+use hir_session_state::hir_crate_graph::{CrateGraphError, CrateSet, TransitiveDependencies};
 use std::alloc::{AllocError, Global};
 use std::marker::Model;
 use std::rc::Rc;

@@ -1,11 +1,11 @@
 //! The expansions of a session.
 ghost use Rattle.std.specs.Prelude.{◌≡◌, [], OnOk, OnErr, option_map};
-ghost use Rattle.hir_tables.specs.SourcePlaces.{expansion_value};
-ghost use Rattle.hir_wire.specs.Edits.{entry_view};
+ghost use Rattle.hir_session_state.specs.HirTables.SourcePlaces.{expansion_value};
+ghost use Rattle.hir_session_state.specs.HirMessages.Edits.{entry_view};
 ghost use Rattle.hir_session_state.specs.Entries.{entry_at, with_entry, without_entry};
 
-use hir_base::macro_kind::ExpansionKey;
-use hir_wire::edit::ExpansionEntry;
+use hir_session_state::hir_base::macro_kind::ExpansionKey;
+use hir_session_state::hir_messages::edit::ExpansionEntry;
 use std::alloc::{AllocError, Global};
 use std::collections::BTreeMap;
 use std::marker::Model;
@@ -17,7 +17,7 @@ struct Entry {
 }
 
 impl Model for Entry {
-    ghost use Rattle.hir_wire.specs.Edits.{EntryValue, entry_view};
+    ghost use Rattle.hir_session_state.specs.HirMessages.Edits.{EntryValue, entry_view};
     ghost use Rattle.hir_session_state.specs.TableCodes.{coded_entry};
 
     ghost Value = { EntryValue };

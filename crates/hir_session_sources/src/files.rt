@@ -1,10 +1,10 @@
 //! The files of a session.
 ghost use Rattle.std.specs.Prelude.{◌≡◌, ℕ, List, [], length, map, None, Some, OnOk, OnErr, option_map};
-ghost use Rattle.hir_item_tree.specs.Source.{source_view};
+ghost use Rattle.hir_session_state.specs.HirItemTree.Source.{source_view};
 ghost use Rattle.hir_session_state.specs.Files.{file_at, with_file, without_file};
 
-use hir_base::file_path::FilePath;
-use hir_item_tree::source::Source;
+use hir_session_state::hir_base::file_path::FilePath;
+use hir_session_state::hir_item_tree::source::Source;
 use std::alloc::{AllocError, Global};
 use std::collections::{BTreeMap, btree_map};
 use std::marker::Model;
@@ -16,7 +16,7 @@ struct FileSource {
 }
 
 impl Model for FileSource {
-    ghost use Rattle.hir_item_tree.specs.Source.{SourceValue, source_view};
+    ghost use Rattle.hir_session_state.specs.HirItemTree.Source.{SourceValue, source_view};
     ghost use Rattle.hir_session_state.specs.SourceCodes.{coded_source};
 
     ghost Value = { SourceValue };

@@ -1,14 +1,14 @@
 //! What is read of an expansion, as it was handed in.
 ghost use Rattle.std.specs.Prelude.{◌≡◌, ◌↔◌, IsTrue, option_map};
-ghost use Rattle.hir_item_tree.specs.Source.{source_view};
-ghost use Rattle.hir_collector_rules.specs.Workspace.{entry_look};
-ghost use Rattle.hir_wire.specs.Edits.{entry_view};
+ghost use Rattle.hir_session_state.specs.HirItemTree.Source.{source_view};
+ghost use Rattle.hir_session_state.specs.HirCollectorRules.Workspace.{entry_look};
+ghost use Rattle.hir_session_state.specs.HirMessages.Edits.{entry_view};
 ghost use Rattle.hir_session_state.specs.Entries.{look_of, source_of};
 
-use hir_base::text::Text;
-use hir_collector_rules::source_database::ExpansionLook;
-use hir_item_tree::source::Source;
-use hir_wire::edit::ExpansionEntry;
+use hir_session_state::hir_base::text::Text;
+use hir_session_state::hir_collector_rules::source_database::ExpansionLook;
+use hir_session_state::hir_item_tree::source::Source;
+use hir_session_state::hir_messages::edit::ExpansionEntry;
 
 /// The source of an expansion, where it is there.
 pub fn source_in(entry: Option<&ExpansionEntry>) -> Option<&Source>

@@ -1,8 +1,8 @@
 //! The sources of a session.
 ghost use Rattle.std.specs.Prelude.{◌≡◌, [], None, Some, is_some, IfOk, OnOk, OnErr, option_map};
-ghost use Rattle.hir_item_tree.specs.Source.{source_view};
-ghost use Rattle.hir_tables.specs.SourcePlaces.{expansion_value, source_value};
-ghost use Rattle.hir_wire.specs.Edits.{entry_view};
+ghost use Rattle.hir_session_state.specs.HirItemTree.Source.{source_view};
+ghost use Rattle.hir_session_state.specs.HirTables.SourcePlaces.{expansion_value, source_value};
+ghost use Rattle.hir_session_state.specs.HirMessages.Edits.{entry_view};
 ghost use Rattle.hir_session_state.specs.Blocks.{blocks_with, place_of_block};
 ghost use Rattle.hir_session_state.specs.Entries.{entry_at, with_entry, without_entry};
 ghost use Rattle.hir_session_state.specs.Files.{with_file, without_file};
@@ -12,12 +12,12 @@ use crate::blocks::Blocks;
 use crate::entries::Entries;
 use crate::files::Files;
 use crate::seen_entry::source_in;
-use hir_base::file_path::FilePath;
-use hir_base::macro_kind::ExpansionKey;
-use hir_base::place::BlockPlace;
-use hir_item_tree::source::Source;
-use hir_tables::SourcePlace;
-use hir_wire::edit::ExpansionEntry;
+use hir_session_state::hir_base::file_path::FilePath;
+use hir_session_state::hir_base::macro_kind::ExpansionKey;
+use hir_session_state::hir_base::place::BlockPlace;
+use hir_session_state::hir_item_tree::source::Source;
+use hir_session_state::hir_messages::edit::ExpansionEntry;
+use hir_session_state::hir_tables::SourcePlace;
 use std::alloc::{AllocError, Global};
 use std::marker::Model;
 

@@ -4,25 +4,25 @@
 //! number is at hand by which `Trees` would find it. A block is asked for under its own crate, and an expansion under the crate
 //! that calls; what they have under others is made anew.
 ghost use Rattle.std.specs.Prelude.{◌≡◌, None, Some, IfOk, OnOk, OnErr, option_map, if◌then◌else◌, false};
-ghost use Rattle.hir_base.specs.declared.ids.Crate.{Crate};
-ghost use Rattle.hir_base.specs.CfgOptions.{is_set};
-ghost use Rattle.hir_item_tree.specs.Source.{source_view};
-ghost use Rattle.hir_item_tree.specs.SourceTree.{SourceTreeValue, source_tree_of};
-ghost use Rattle.hir_tables.specs.SourcePlaces.{SourcePlaceValue, block, expansion, expansion_value, file, source_value};
+ghost use Rattle.hir_session_state.specs.HirIds.declared.ids.Crate.{Crate};
+ghost use Rattle.hir_session_state.specs.HirBase.CfgOptions.{is_set};
+ghost use Rattle.hir_session_state.specs.HirItemTree.Source.{source_view};
+ghost use Rattle.hir_session_state.specs.HirItemTree.SourceTree.{SourceTreeValue, source_tree_of};
+ghost use Rattle.hir_session_state.specs.HirTables.SourcePlaces.{SourcePlaceValue, block, expansion, expansion_value, file, source_value};
 ghost use Rattle.hir_session_state.specs.SourceTable.{front_in, tree_under};
 ghost use Rattle.hir_session_sources.specs.SourceTrees.{is_kept_at, is_place, tree_by, tree_in};
 
 use crate::copied_key::copied_key;
 use crate::crate_info::CrateInfo;
 use crate::crates::Crates;
-use hir_base::cfg_options::CfgOptions;
-use hir_base::file_path::FilePath;
-use hir_base::ids::Crate;
-use hir_base::macro_kind::ExpansionKey;
-use hir_base::place::BlockPlace;
-use hir_item_tree::source::Source;
-use hir_item_tree::source_tree::SourceTree;
-use hir_tables::SourcePlace;
+use hir_session_state::hir_base::cfg_options::CfgOptions;
+use hir_session_state::hir_base::file_path::FilePath;
+use hir_session_state::hir_base::ids::Crate;
+use hir_session_state::hir_base::macro_kind::ExpansionKey;
+use hir_session_state::hir_base::place::BlockPlace;
+use hir_session_state::hir_item_tree::source::Source;
+use hir_session_state::hir_item_tree::source_tree::SourceTree;
+use hir_session_state::hir_tables::SourcePlace;
 use std::alloc::{AllocError, Global};
 use std::collections::BTreeMap;
 use std::rc::Rc;

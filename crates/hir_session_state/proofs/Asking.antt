@@ -1,87 +1,81 @@
--- For which sources the runs of places asked.
-use Rattle.std.proofs.Common.{◌≡◌, ◌≢◌, ◌⊎◌, ◌∙◌, ap, sym, subst, zero, suc, ◌<◌, true, Some, None, List, [], ◌∷◌, inl, inr, arith, Contains}
-use Rattle.std.proofs.lemmas.List.Elements.{Contains-append_cases}
-use Rattle.hir_base.specs.declared.ids.Crate.{Crate}
-use Rattle.hir_base.specs.declared.ids.MapId.{MapId}
-use Rattle.hir_tables.specs.Tables.{TablesValue, KeepsTables}
-use Rattle.hir_collector_rules.specs.Asked.{IsOwnPart}
+-- At which keys places are entered: those for which their kept runs asked.
+use Rattle.std.proofs.Common.{◌≡◌, ◌≢◌, ◌∙◌, ap, sym, subst, refl, Bool, true, false, ◌&&◌, ◌||◌, Option, Some, None, List, Contains}
+use Rattle.std.specs.List.{list_any}
+use Rattle.hir_collector_rules.specs.HirIds.declared.ids.MapId.{MapId}
+use Rattle.hir_collector_rules.specs.HirTables.Tables.{TablesValue, KeepsTables}
 use Rattle.hir_collector_rules.specs.Growth.{AskedKeysHaveMeaning}
-use Rattle.hir_collector_rules.specs.Keys.{HasMeaning, map_keys}
+use Rattle.hir_collector_rules.specs.Keys.{HasMeaning}
 use Rattle.hir_collector_rules.specs.declared.source_database.Key.{Key}
-use Rattle.hir_session_state.specs.Askers.{is_asker, AreNoted, KeepsAskers}
+use Rattle.hir_session_state.specs.Askers.{Enters, HoldsExactly, IsSame, asked_by, is_asked, is_asker}
 use Rattle.hir_session_state.specs.Kept.{Resolutions, collected_of, kept_in}
 use Rattle.hir_session_state.specs.SessionState.{SessionState, Resolution, IsSound, workspace_of, finished_of}
-use Rattle.hir_session_state.specs.SourceNumbers.{asked_number}
+use Rattle.hir_session_state.specs.SourceNumbers.{asks, is_number}
 use Rattle.hir_session_state.specs.Types.{Askers, SourceNumber}
-use Rattle.hir_session_state.proofs.Ids.{on_id}
+use Rattle.hir_session_state.proofs.Depending.{found-any}
+use Rattle.hir_session_state.proofs.Entering.{and-false, and-true, is_id, is_key, or-false}
+use Rattle.hir_session_state.proofs.Ids.{equal_id, own_id}
+use Rattle.hir_session_state.proofs.KeyIds.{equal_key}
 use Rattle.hir_session_state.proofs.NumberLemmas.{asked-kept}
 use Rattle.hir_session_state.proofs.Standing.{kept_gives}
+use Rattle.hir_session_state.proofs.Truth.{clash}
 use Rattle.hir_session_state.proofs.Worlds.{AgreeOn-refl}
 
--- ---- the keys of a run
-
--- no key of a map asks for a source
-of_maps : {A : Type 0} (tables : TablesValue) (crates : List Crate) (key : Key) (number : SourceNumber) → Contains (map_keys crates) key
-    → asked_number tables key ≡ Some number → A
-of_maps tables [] key number h is = absurd (let past : h.0 < 0 = h.1 in omega arith)
-of_maps tables (c ∷ cs) key number (zero, within, same) is = absurd (let wrong : None ≡ Some number = ap (asked_number tables) same ∙ is in cc)
-of_maps tables (c ∷ cs) key number (suc n, within, same) is = of_maps tables cs key number (n, (omega arith), same) is
-
--- so one that does is one of a step
-pub asked_own : (tables : TablesValue) (own all : List Key) (key : Key) (number : SourceNumber) → IsOwnPart own all → Contains all key → asked_number tables key
-    ≡ Some number → Contains own key
-asked_own tables own all key number part among is =
-    elim (Contains-append_cases own (map_keys part.dependencies) key (subst (λ (keys : List Key). Contains keys key) part.is among)) [
-      | inl early ↦ early
-      | inr late ↦ of_maps tables part.dependencies key number late is
-    ]
-
--- ---- what is noted
-
-one_run : {A : Type 0} {x y : A} → Some x ≡ Some y → x ≡ y
-one_run e = cc
-
-no_run : {A B : Type 0} {x : A} → None ≡ Some x → B
-no_run e = absurd (let wrong : ⊥ = cc in wrong)
-
 -- where nothing is kept
-pub none_noted : (tables : TablesValue) (kept : Resolutions) (askers : Askers) → ((id : MapId) → kept_in kept id ≡ None) → AreNoted tables kept askers
-none_noted tables kept askers none = record { each = λ id r key number is among asks. no_run (sym (none id) ∙ is) }
+pub none_held : (tables : TablesValue) (kept : Resolutions) (askers : Askers) → ((id : MapId) → kept_in kept id ≡ None)
+    → ((n : SourceNumber) (k : Key) (id : MapId) → is_asker askers n k id ≡ false) → HoldsExactly tables kept askers
+none_held tables kept askers none empty =
+    record { each = λ n k id. empty n k id ∙ sym (ap (λ (o : Option Resolution). asked_by tables o n k) (none id)) }
 
-module _ (tables : TablesValue) (kept : Resolutions) (askers : Askers) (noted : AreNoted tables kept askers) where
-  -- where more is noted
-  pub noted_more : (new : Askers) → KeepsAskers askers new → AreNoted tables kept new
-  noted_more new stay = record { each = λ id r key number is among asks. stay number id (noted.each id r key number is among asks) }
+-- a key that is one of some
+pub among_keys : (keys : List Key) (k : Key) → list_any (is_key k) keys ≡ true → Contains keys k
+among_keys keys k on =
+    let found = found-any (is_key k) keys on in
+    subst (λ (x : Key). Contains keys x) (sym (equal_key k found.0 found.2)) found.1
 
-  -- where fewer are kept
-  pub noted_fewer : (fewer : Resolutions) → ((id : MapId) → (kept_in fewer id ≡ kept_in kept id) ⊎ (kept_in fewer id ≡ None)) → AreNoted tables fewer askers
-  noted_fewer fewer same = record {
-    each = λ id r key number is among asks. elim (same id) [
-      | inl as_was ↦ noted.each id r key number (sym as_was ∙ is) among asks
-      | inr gone ↦ no_run (sym gone ∙ is)
-    ];
-  }
+module _ (tables : TablesValue) (kept : Resolutions) (askers : Askers) (held : HoldsExactly tables kept askers) where
+  -- a place of which nothing is kept is entered nowhere
+  pub not_entered : (id : MapId) → kept_in kept id ≡ None → (n : SourceNumber) (k : Key) → is_asker askers n k id ≡ false
+  not_entered id none n k = held.each n k id ∙ ap (λ (o : Option Resolution). asked_by tables o n k) none
 
-  -- where one more is kept for whose sources the place is noted
-  pub noted_kept : (new : Resolutions) (id : MapId) (r : Resolution) → kept_in new id ≡ Some r → ((j : MapId) → j ≢ id → kept_in new j ≡ kept_in kept j)
-      → ((key : Key) (number : SourceNumber) → Contains r.asked key → asked_number tables key ≡ Some number → is_asker askers number id ≡ true)
-      → AreNoted tables new askers
-  noted_kept new id r here others all = record {
-    each = λ j found key number is among asks. on_id j id
-        (λ same.
-        let one : r ≡ found = one_run (sym here ∙ ap (kept_in new) (sym same) ∙ is) in
-        subst (λ (x : MapId). is_asker askers number x ≡ true) (sym same) (all key number (subst (λ (x : Resolution). Contains x.asked key) (sym one) among)
-        asks))
-        (λ ne. noted.each j found key number (sym (others j ne) ∙ is) among asks);
-  }
+  -- the same by another index
+  pub held_same : (new : Askers) → IsSame askers new → HoldsExactly tables kept new
+  held_same new same = record { each = λ n k id. same n k id ∙ held.each n k id }
 
   -- where tables grow in which the keys have a meaning
-  pub noted_grown : (grown : TablesValue) → KeepsTables tables grown → ((id : MapId) (r : Resolution) (key : Key) → kept_in kept id ≡ Some r
-      → Contains r.asked key → HasMeaning tables key)
-      → AreNoted grown kept askers
-  noted_grown grown keeps meant = record {
-    each = λ id r key number is among asks. noted.each id r key number is among (sym (asked-kept tables grown keeps key (meant id r key is among)) ∙ asks);
-  }
+  pub held_grown : (grown : TablesValue) → KeepsTables tables grown → ((id : MapId) (r : Resolution) (key : Key) → kept_in kept id ≡ Some r
+      → Contains r.asked key → HasMeaning tables key) → HoldsExactly grown kept askers
+  held_grown grown keeps meant = record { each = λ n k id. held.each n k id ∙ go n k id (kept_in kept id) refl }
+    where
+      asked : (n : SourceNumber) (k : Key) (id : MapId) (r : Resolution) → kept_in kept id ≡ Some r → (b : Bool) → list_any (is_key k) r.asked ≡ b
+          → (b && asks tables n k) ≡ (b && asks grown n k)
+      asked n k id r is true on =
+          sym (ap (is_number n) (asked-kept tables grown keeps k (meant id r k is (among_keys r.asked k on))))
+      asked n k id r is false off = refl
+
+      go : (n : SourceNumber) (k : Key) (id : MapId) (o : Option Resolution) → kept_in kept id ≡ o → asked_by tables o n k ≡ asked_by grown o n k
+      go n k id None is = refl
+      go n k id (Some r) is = asked n k id r is (list_any (is_key k) r.asked) refl
+
+  -- where one more is kept that is entered
+  pub held_kept : (new : Askers) (more : Resolutions) (own : MapId) (r : Resolution) → kept_in kept own ≡ None → kept_in more own ≡ Some r
+      → ((j : MapId) → j ≢ own → kept_in more j ≡ kept_in kept j) → Enters tables askers new r.asked own → HoldsExactly tables more new
+  held_kept new more own r none here others enters = record { each = λ n k id. enters n k id ∙ go n k id (is_id own id) refl }
+    where
+      go : (n : SourceNumber) (k : Key) (id : MapId) (b : Bool) → is_id own id ≡ b
+          → (is_asker askers n k id || (is_asked tables r.asked n k && b)) ≡ asked_by tables (kept_in more id) n k
+      go n k id true e =
+          let P : MapId → Type 0 =
+          λ j. (is_asker askers n k j || (is_asked tables r.asked n k && true)) ≡ asked_by tables (kept_in more j) n k in
+          subst P (equal_id own id e)
+          (ap (λ (b : Bool). b || (is_asked tables r.asked n k && true)) (not_entered own none n k)
+          ∙ and-true (is_asked tables r.asked n k)
+          ∙ sym (ap (λ (o : Option Resolution). asked_by tables o n k) here))
+      go n k id false e =
+          ap (λ (b : Bool). is_asker askers n k id || b) (and-false (is_asked tables r.asked n k))
+          ∙ or-false (is_asker askers n k id)
+          ∙ held.each n k id
+          ∙ ap (λ (o : Option Resolution). asked_by tables o n k)
+          (sym (others id (λ same. clash (ap (is_id own) same ∙ own_id own) e)))
 
 -- ---- in a sound session
 

@@ -82,6 +82,35 @@ module _ {K : Type 0} (cmp : K → K → Ordering) (total : IsTotalOrder cmp) (e
     member : (es : List (K × X)) (k : K) → is_member same (keys_of es) k ≡ has es k
     member es k = sym (is_some-lookup (is_at (cmp k)) es)
 
+  -- where each key but one is one of others, there is at most one more
+  module _ {X : Type 0} (some others : List (K × X)) (sorted : IsStrictlySortedBy cmp (keys_of some)) (own : K)
+      (still : (k : K) → k ≢ own → has some k ≡ true → has others k ≡ true) where
+    most_but_one : length (keys_of some) ≤ length (keys_of others) + 1
+    most_but_one =
+        let le = no_longer (keys_of some) (keys_of others ++ own ∷ []) (record {
+          distinct = IsDistinct-from_sorted cmp (keys_of some) sorted;
+          among = λ q there. list_any-append (same q) (keys_of others) (own ∷ []) ∙ on_key q own
+              (λ is. last (is_member same (keys_of others) q) (same q own) (ap (λ (x : K). same x own) is ∙ laws.refl own))
+              (λ ne. first (is_member same (keys_of others) q) (same q own || false) (member others q ∙ still q ne (sym (member some q) ∙ there)));
+        }) in
+        omega (arith, le, length-append (keys_of others) (own ∷ []))
+      where
+        first : (a b : Bool) → a ≡ true → (a || b) ≡ true
+        first true b e = refl
+        first false b e = clash e refl
+
+        last : (a b : Bool) → b ≡ true → (a || (b || false)) ≡ true
+        last true b e = refl
+        last false true e = refl
+        last false false e = e
+
+    pub one_more_at_most : length some ≤ length others + 1
+    one_more_at_most =
+        let somes : length (keys_of some) ≡ length some = length-map some (λ (e : K × X). e.0) in
+        let other : length (keys_of others) ≡ length others = length-map others (λ (e : K × X). e.0) in
+        let most = most_but_one in
+        omega (arith, somes, other, most)
+
   -- ---- fewer keys
 
   module _ {X : Type 0} (old new : List (K × X)) (old_sorted : IsStrictlySortedBy cmp (keys_of old)) (new_sorted : IsStrictlySortedBy cmp (keys_of new))
@@ -136,23 +165,7 @@ module _ {K : Type 0} (cmp : K → K → Ordering) (total : IsTotalOrder cmp) (e
 
     -- where all but one are, there is at most one less
     most_there : (own : K) → ((k : K) → k ≢ own → has old k ≡ true → has new k ≡ true) → before ≤ after + 1
-    most_there own still =
-        let le = no_longer (keys_of old) (keys_of new ++ own ∷ []) (record {
-          distinct = IsDistinct-from_sorted cmp (keys_of old) old_sorted;
-          among = λ q there. list_any-append (same q) (keys_of new) (own ∷ []) ∙ on_key q own
-              (λ is. last (is_member same (keys_of new) q) (same q own) (ap (λ (x : K). same x own) is ∙ laws.refl own))
-              (λ ne. first (is_member same (keys_of new) q) (same q own || false) (member new q ∙ still q ne (sym (member old q) ∙ there)));
-        }) in
-        omega (arith, le, length-append (keys_of new) (own ∷ []))
-      where
-        first : (a b : Bool) → a ≡ true → (a || b) ≡ true
-        first true b e = refl
-        first false b e = clash e refl
-
-        last : (a b : Bool) → b ≡ true → (a || (b || false)) ≡ true
-        last true b e = refl
-        last false true e = refl
-        last false false e = e
+    most_there own still = most_but_one old new old_sorted own still
 
     -- where there are as many, none went
     none_went : before ≤ after → (k : K) → found new k ≡ found old k

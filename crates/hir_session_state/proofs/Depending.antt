@@ -3,10 +3,10 @@ use Rattle.std.proofs.Common.{◌≡◌, ◌↔◌, ℕ, zero, suc, ◌<◌, Boo
 use Rattle.std.proofs.lemmas.Bool.Decides.{nat_tests}
 use Rattle.std.proofs.lemmas.List.Folds.{list_any_at}
 use Rattle.std.specs.List.{list_any}
-use Rattle.hir_base.specs.declared.ids.Crate.{Crate}
-use Rattle.hir_crate_graph.specs.CrateSet.{has_crate}
-use Rattle.hir_crate_graph.specs.Dependencies.{DependsOn, has_late}
-use Rattle.hir_crate_graph.proofs.Closure.{transitive_agree}
+use Rattle.hir_collector_rules.specs.HirIds.declared.ids.Crate.{Crate}
+use Rattle.hir_collector_rules.specs.HirCrateGraph.CrateSet.{has_crate}
+use Rattle.hir_collector_rules.specs.HirCrateGraph.Dependencies.{DependsOn, has_late}
+use Rattle.hir_collector_rules.proofs.HirCrateGraph.Closure.{transitive_agree}
 use Rattle.hir_session_state.specs.Crates.{dependencies_in, transitive_in}
 use Rattle.hir_session_state.specs.SessionState.{SessionState, dependencies_of, IsSound}
 use Rattle.hir_session_state.proofs.Truth.{clash, on_bool, or_first}

@@ -1,16 +1,16 @@
 -- The maps that a place follows: those of the crates on which its crate depends, or of a block that of its crate and that in which its holder lies.
 use Rattle.std.specs.Prelude.{map}
 use Rattle.std.proofs.Common.{◌≡◌, ◌⊎◌, inl, inr, ℕ, zero, suc, ◌<◌, false, Option, Some, None, List, [], ◌∷◌, length, arith, refl, ap, sym, subst, Contains}
-use Rattle.hir_base.specs.declared.ast_id.BlockId.{BlockId}
-use Rattle.hir_base.specs.declared.ids.Crate.{Crate}
-use Rattle.hir_base.specs.declared.ids.MapId.{MapId}
-use Rattle.hir_base.specs.declared.ids.ModuleId.{ModuleId}
-use Rattle.hir_def_map_rules.specs.State.{crate_map}
+use Rattle.hir_collector_rules.specs.HirIds.declared.ast_id.BlockId.{BlockId}
+use Rattle.hir_collector_rules.specs.HirIds.declared.ids.Crate.{Crate}
+use Rattle.hir_collector_rules.specs.HirIds.declared.ids.MapId.{MapId}
+use Rattle.hir_collector_rules.specs.HirIds.declared.ids.ModuleId.{ModuleId}
+use Rattle.hir_collector_rules.specs.HirDefMapRules.State.{crate_map}
 use Rattle.hir_session_state.specs.Crates.{dependencies_in, id_of}
 use Rattle.hir_session_state.specs.SessionState.{SessionState, Resolution, dependencies_of, follows, follows_by, held_maps, holder_maps, is_marked, kept_of}
 use Rattle.hir_session_state.specs.SessionState.{IsSound}
-use Rattle.hir_crate_graph.specs.Dependencies.{DependsOn}
-use Rattle.hir_crate_graph.specs.Dependencies.DependsOn.{directly, through}
+use Rattle.hir_collector_rules.specs.HirCrateGraph.Dependencies.{DependsOn}
+use Rattle.hir_collector_rules.specs.HirCrateGraph.Dependencies.DependsOn.{directly, through}
 use Rattle.hir_session_state.specs.Spread.{Spread}
 use Rattle.hir_session_state.specs.Spread.Spread.{depends}
 

@@ -2,18 +2,18 @@
 use Rattle.std.proofs.Common.{◌≡◌, ◌∙◌, ap, sym, subst, refl, zero, suc, ◌<◌, Bool, true, false, not, ◌&&◌, ◌||◌, cond, is_some, Option, Some, None, option_map}
 use Rattle.std.proofs.Common.{List, [], ◌∷◌, arith, Contains}
 use Rattle.std.specs.Option.{option_and_then}
-use Rattle.hir_base.specs.contracts.ids.MapIdPartialEq.TheImpl as map_id
-use Rattle.hir_base.specs.declared.ast_id.BlockId.{BlockId}
-use Rattle.hir_base.specs.declared.ids.Crate.{Crate}
-use Rattle.hir_base.specs.declared.ids.MapId.{MapId}
-use Rattle.hir_base.specs.declared.ids.ModuleId.{ModuleId}
-use Rattle.hir_scope.specs.ModuleTree.{same_crate}
-use Rattle.hir_def_map.specs.Inner.PartLaws.{among-only}
-use Rattle.hir_def_map_rules.specs.Inner.OverlayLaws.{exact_crate, exact_map, same_id}
-use Rattle.hir_def_map_rules.specs.Overlay.{Maps, Placed, holders_of, holders_under, module_in, overlay, placed_in}
-use Rattle.hir_def_map_rules.specs.References.{is_holder_for}
-use Rattle.hir_def_map_rules.specs.State.{crate_map, module_at}
-use Rattle.hir_def_map_rules.specs.WellFormed.{is_held_outside}
+use Rattle.hir_collector_rules.specs.HirIds.contracts.ids.MapIdPartialEq.TheImpl as map_id
+use Rattle.hir_collector_rules.specs.HirIds.declared.ast_id.BlockId.{BlockId}
+use Rattle.hir_collector_rules.specs.HirIds.declared.ids.Crate.{Crate}
+use Rattle.hir_collector_rules.specs.HirIds.declared.ids.MapId.{MapId}
+use Rattle.hir_collector_rules.specs.HirIds.declared.ids.ModuleId.{ModuleId}
+use Rattle.hir_collector_rules.specs.HirPerNs.ModuleTree.{same_crate}
+use Rattle.hir_collector_rules.specs.HirNameres.Inner.PartLaws.{among-only}
+use Rattle.hir_collector_rules.specs.HirDefMapRules.Inner.OverlayLaws.{exact_crate, exact_map, same_id}
+use Rattle.hir_collector_rules.specs.HirDefMapRules.Overlay.{Maps, Placed, holders_of, holders_under, module_in, overlay, placed_in}
+use Rattle.hir_collector_rules.specs.HirDefMapRules.References.{is_holder_for}
+use Rattle.hir_collector_rules.specs.HirDefMapRules.State.{crate_map, module_at}
+use Rattle.hir_collector_rules.specs.HirDefMapRules.WellFormed.{is_held_outside}
 use Rattle.hir_collector_rules.specs.Start.{Beginning, holders_by}
 use Rattle.hir_session_state.specs.Crates.{transitive_in}
 use Rattle.hir_session_state.specs.Kept.{Resolution, placed_by}

@@ -1,29 +1,33 @@
 -- What maps in a world, and what else is kept of each run, tell together.
-use Rattle.std.proofs.Common.{◌≡◌, ◌≢◌, ◌∙◌, ap, sym, subst, refl, ℕ, zero, suc, ◌<◌, ◌+◌, Bool, true, false, not, is_some, cond, Option, Some, None, List, []}
+use Rattle.std.proofs.Common.{◌≡◌, ◌≢◌, ◌∙◌, ap, sym, subst, refl, ℕ, zero, suc, ◌<◌, ◌≤◌, ◌+◌, Bool, true, false, not, is_some, cond, Option, Some, None, List}
+use Rattle.std.proofs.Common.{[]}
 use Rattle.std.proofs.Common.{◌∷◌, ◌⊎◌, inl, inr, length, get_or, map, arith}
 use Rattle.std.specs.Option.{option_map}
 use Rattle.std.specs.BTreeMap.{BTreeMap, get, is_at, IsUnchanged}
 use Rattle.std.specs.Map.{keys_of as ids_of, lookup}
 use Rattle.std.proofs.lemmas.List.{length-map}
-use Rattle.hir_base.specs.declared.ids.MapId.{MapId}
-use Rattle.hir_base.specs.declared.ids.ModuleId.{ModuleId}
-use Rattle.hir_base.specs.contracts.ids.MapIdOrd.TheImpl as map_order
-use Rattle.hir_base.specs.contracts.ids.MapIdPartialEq.TheImpl as map_id
-use Rattle.hir_def_map.specs.declared.world.finished.Finished.{Finished}
+use Rattle.hir_collector_rules.specs.HirIds.declared.ids.MapId.{MapId}
+use Rattle.hir_collector_rules.specs.HirIds.declared.ids.ModuleId.{ModuleId}
+use Rattle.hir_collector_rules.specs.HirIds.contracts.ids.MapIdOrd.TheImpl as map_order
+use Rattle.hir_collector_rules.specs.HirIds.contracts.ids.MapIdPartialEq.TheImpl as map_id
+use Rattle.hir_collector_rules.specs.HirNameres.declared.world.finished.Finished.{Finished}
 use Rattle.hir_def_map.specs.declared.world.insert.InsertError.{InsertError}
-use Rattle.hir_def_map_rules.specs.Inner.OverlayLaws.{exact_map, same_id}
+use Rattle.hir_collector_rules.specs.HirDefMapRules.Inner.OverlayLaws.{exact_map, same_id}
 use Rattle.hir_def_map.specs.declared.world.insert.InsertError.TheVariants.{Unchecked, Memory}
 use Rattle.hir_def_map.specs.Insertion.{may_join, IsReason}
-use Rattle.hir_def_map_rules.specs.References.{is_well_formed}
-use Rattle.hir_def_map.specs.Removal.{Depends, refers_in as names_between, refers_of as between_of}
-use Rattle.hir_def_map.specs.Removal.Depends.{itself, through}
-use Rattle.hir_def_map_rules.specs.State.{Local, Map}
-use Rattle.hir_def_map_rules.specs.Overlay.{Maps, Placed, holders_or, holders_under, no_maps, placed_with, with_map}
-use Rattle.hir_def_map.specs.World.{finished_in, placed_of}
+use Rattle.hir_collector_rules.specs.HirDefMapRules.References.{is_well_formed}
+use Rattle.hir_collector_rules.specs.HirNameres.Removal.{Depends, refers_in as names_between, refers_of as between_of}
+use Rattle.hir_collector_rules.specs.HirNameres.Removal.Depends.{itself, through}
+use Rattle.hir_collector_rules.specs.HirDefMapRules.State.{Local, Map}
+use Rattle.hir_collector_rules.specs.HirDefMapRules.Overlay.{Maps, Placed, holders_or, holders_under, no_maps, placed_with, with_map}
+use Rattle.hir_collector_rules.specs.HirNameres.World.{finished_in, placed_of}
 use Rattle.hir_session_state.specs.Types.{KeptRun}
 use Rattle.hir_session_state.specs.Kept.{Resolution, Resolutions, finished_by, held, kept_in, names_in, names_of, entry_with, placed_by, resolution_at}
 use Rattle.hir_session_state.specs.Kept.{resolution_from, resolutions_in, AreForgotten}
-use Rattle.hir_session_state.proofs.Ids.{equal_id, other_id}
+use Rattle.std.specs.List.Sorted.{IsStrictlySortedBy}
+use Rattle.hir_collector_rules.specs.HirIds.contracts.ids.MapIdOrd.TheImpl.Laws.{total-law as order_total}
+use Rattle.hir_session_state.proofs.Counting.{one_more_at_most}
+use Rattle.hir_session_state.proofs.Ids.{equal_id, other_id, own_id}
 use Rattle.hir_session_state.proofs.Truth.{both_true, clash, on_bool, on_same}
 
 abbrev pub Store : Type 0
@@ -32,7 +36,7 @@ Store = BTreeMap MapId Finished
 abbrev pub Runs : Type 0
 Runs = BTreeMap MapId KeptRun
 
-abbrev found_in : Store → MapId → Option Finished
+abbrev pub found_in : Store → MapId → Option Finished
 found_in maps id = get map_order.ghosts.cmp maps id
 
 abbrev pub run_in : Runs → MapId → Option KeptRun
@@ -55,7 +59,7 @@ found_from runs id (e ∷ es) = go (found_from runs id es) (is_at (map_order.gho
     go rest false off = rest
 
 -- what is kept of a place stands under its id
-kept_at : (maps : Store) (runs : Runs) (id : MapId)
+pub kept_at : (maps : Store) (runs : Runs) (id : MapId)
     → kept_in (resolutions_in maps runs) id ≡ option_map (λ (f : Finished). resolution_at f (run_in runs id)) (found_in maps id)
 unfolding resolutions_in
 kept_at maps runs id = found_from runs id maps.entries
@@ -108,6 +112,18 @@ kept_none maps runs id none = kept_at maps runs id ∙ ap (option_map (λ (f : F
 pub none_kept : (maps : Store) (runs : Runs) → finished_in maps ≡ no_maps → (id : MapId) → kept_in (resolutions_in maps runs) id ≡ None
 unfolding finished_in
 none_kept maps runs none id = kept_none maps runs id (not_found (found_in maps id) (ap (λ (all : Maps). all id) none))
+
+-- and there is none
+pub no_entries : (maps : Store) → finished_in maps ≡ no_maps → length maps.entries ≡ 0
+unfolding finished_in
+no_entries maps none = go maps.entries (λ id. not_found (found_in maps id) (ap (λ (all : Maps). all id) none))
+  where
+    go : (es : List (MapId × Finished)) → ((id : MapId) → lookup (is_at (map_order.ghosts.cmp id)) es ≡ None) → length es ≡ 0
+    go [] empty = refl
+    go (e ∷ es) empty =
+        let found : Some e.1 ≡ None =
+        sym (ap (λ (b : Bool). cond b (Some e.1) (lookup (is_at (map_order.ghosts.cmp e.0)) es)) (own_id e.0)) ∙ empty e.0 in
+        absurd (let wrong : ⊥ = cc in wrong)
 
 -- ---- the maps of which they tell
 
@@ -195,6 +211,25 @@ module _ (old new : Store) (runs runs' : Runs) (map : Map) (local : Local) (run 
       sym (kept_from new runs' id (finished_in new id) (run_in runs' id) refl refl)
       ∙ kept_from old runs id (finished_in new id) (run_in runs' id) (placed_else id ne) (others id (other_id map.id id ne))
 
+-- there is at most one map more
+pub joined_count : (old new : Store) (map : Map) (local : Local) → ((id : MapId) → finished_in new id ≡ with_map (finished_in old) map local id)
+    → IsStrictlySortedBy map_order.ghosts.cmp (ids_of new.entries) → length new.entries ≤ length old.entries + 1
+unfolding finished_in
+joined_count old new map local maps sorted =
+    one_more_at_most map_order.ghosts.cmp order_total equal_id new.entries old.entries sorted map.id still
+  where
+    told_by : (o p : Option Finished) → option_map placed_of o ≡ option_map placed_of p → is_some o ≡ is_some p
+    told_by None None e = refl
+    told_by None (Some f) e = absurd (let wrong : ⊥ = cc in wrong)
+    told_by (Some f) None e = absurd (let wrong : ⊥ = cc in wrong)
+    told_by (Some f) (Some g) e = refl
+
+    still : (id : MapId) → id ≢ map.id → is_some (found_in new id) ≡ true → is_some (found_in old id) ≡ true
+    still id ne here = on_bool (map_id.ghosts.eq id map.id)
+        (λ e. absurd (ne (exact_map id map.id e)))
+        (λ e. sym (told_by (found_in new id) (found_in old id)
+        (maps id ∙ ap (λ (b : Bool). cond b (Some (placed_with (finished_in old) map local)) (finished_in old id)) e)) ∙ here)
+
 -- ---- fewer
 
 -- what depends by some names depends by more
@@ -202,9 +237,10 @@ Depends-more : {n m : MapId → MapId → Bool} {on id : MapId} → ((j k : MapI
 Depends-more f (itself id e) = itself id e
 Depends-more f (through id other n d) = through id other (f id other n) (Depends-more f d)
 
-module _ (old new : Store) (runs : Runs) (on : MapId)
+module _ (old new : Store) (runs runs' : Runs) (on : MapId)
     (gone : (id : MapId) → Depends (names_between old) on id → found_in new id ≡ None)
-    (stays : (id : MapId) → ¬ Depends (names_between old) on id → found_in new id ≡ found_in old id) where
+    (stays : (id : MapId) → ¬ Depends (names_between old) on id → found_in new id ≡ found_in old id)
+    (same : (id : MapId) → found_in new id ≡ found_in old id → run_in runs' id ≡ run_in runs id) where
   -- a kept resolution names what its map does
   names_alike : (id other : MapId) → names_in (resolutions_in old runs) id other ≡ names_between old id other
   names_alike id other = ap (λ (o : Option Resolution). names_of o other) (kept_at old runs id) ∙ go (found_in old id)
@@ -213,14 +249,15 @@ module _ (old new : Store) (runs : Runs) (on : MapId)
       go None = refl
       go (Some f) = refl
 
-  pub kept_gone : (id : MapId) → Depends (names_in (resolutions_in old runs)) on id → kept_in (resolutions_in new runs) id ≡ None
-  kept_gone id d = kept_none new runs id (gone id (Depends-more (λ j k n. sym (names_alike j k) ∙ n) d))
+  pub kept_gone : (id : MapId) → Depends (names_in (resolutions_in old runs)) on id → kept_in (resolutions_in new runs') id ≡ None
+  kept_gone id d = kept_none new runs' id (gone id (Depends-more (λ j k n. sym (names_alike j k) ∙ n) d))
 
-  pub kept_stays : (id : MapId) → ¬ Depends (names_in (resolutions_in old runs)) on id → kept_in (resolutions_in new runs) id
+  pub kept_stays : (id : MapId) → ¬ Depends (names_in (resolutions_in old runs)) on id → kept_in (resolutions_in new runs') id
       ≡ kept_in (resolutions_in old runs) id
   kept_stays id none =
-      kept_at new runs id
-      ∙ ap (option_map (λ (f : Finished). resolution_at f (run_in runs id))) (stays id (λ d. none (Depends-more (λ j k n. names_alike j k ∙ n) d)))
+      let stood = stays id (λ d. none (Depends-more (λ j k n. names_alike j k ∙ n) d)) in
+      kept_at new runs' id
+      ∙ (λ i. option_map (λ (f : Finished). resolution_at f (same id stood i)) (stood i))
       ∙ sym (kept_at old runs id)
 
 -- ---- one after another

@@ -12,5 +12,17 @@ pub mod Turns
 pub mod Worlds
 pub mod Resolving
 pub mod NumberLemmas
+pub mod KeyIds
+pub mod Entering
+pub mod Dropping
 pub mod Asking
+pub mod Falling
 pub mod Counting
+pub use Rattle.hir_collector_rules.proofs as HirCollectorRules
+pub use Rattle.hir_collector_rules.proofs.HirCrateGraph as HirCrateGraph
+pub use Rattle.hir_def_collector_laws.proofs as HirDefCollectorLaws
+pub use Rattle.hir_collector_rules.proofs.HirDefMapRules as HirDefMapRules
+pub use Rattle.hir_collector_rules.proofs.HirItemTree as HirItemTree
+pub use Rattle.hir_collector_rules.proofs.HirMapParts as HirMapParts
+pub use Rattle.hir_collector_rules.proofs.HirScope as HirScope
+pub use Rattle.hir_collector_rules.proofs.HirTables as HirTables

@@ -4,28 +4,28 @@ use Rattle.std.proofs.Common.{◌⊎◌, inl, inr}
 use Rattle.std.specs.Option.{option_map, option_and_then}
 use Rattle.std.specs.List.{list_any}
 use Rattle.std.specs.BTreeMap.{is_at}
-use Rattle.hir_base.specs.declared.ast_id.BlockId.{BlockId}
-use Rattle.hir_base.specs.declared.ids.Crate.{Crate}
-use Rattle.hir_base.specs.declared.ids.MapId.{MapId}
-use Rattle.hir_base.specs.declared.ids.ModuleId.{ModuleId}
-use Rattle.hir_base.specs.contracts.ids.MapIdOrd.TheImpl as map_order
-use Rattle.hir_base.specs.contracts.ids.MapIdPartialEq.TheImpl as map_id
-use Rattle.hir_def_map_rules.specs.declared.reference.Reference.{Reference}
-use Rattle.hir_def_map_rules.specs.declared.reference.Reference.TheVariants as named
-use Rattle.hir_def_map.specs.WorldParts.{among, are_of_some, is_of_some}
-use Rattle.hir_def_map.specs.Inner.PartLaws.{among-only, among-there}
-use Rattle.hir_def_map_rules.specs.Inner.OverlayLaws.{exact_map}
-use Rattle.hir_def_map_rules.proofs.WellFormed.{complete, HasNoDanglingExtern-more, HasNoDanglingReference-more}
-use Rattle.hir_def_map_rules.specs.WellFormed.{AreWellFormed, HasNoDanglingExtern, Extends, IsWellFormed, HasNoDanglingReference}
-use Rattle.hir_def_map_rules.specs.References.{is_holder_for, is_well_formed, is_missing, is_there, lies_in, map_of_reference, any_reference_in, refers_to}
-use Rattle.hir_def_map_rules.specs.References.{any_own_crate, any_reference, prelude_reference, test_crate, test_extern, test_of}
-use Rattle.hir_def_map_rules.proofs.Fails.{of_less}
-use Rattle.hir_def_map_rules.proofs.Referred.{module_less}
-use Rattle.hir_def_map_rules.proofs.NoneOf.{neither, none_of_less}
-use Rattle.hir_def_map_rules.specs.State.{Local, Map, crate_map, module_at, variants_at}
-use Rattle.hir_def_map_rules.specs.Overlay.{Maps, Placed, overlay, holders_of, holders_under, map_in, module_in, placed_in}
-use Rattle.hir_crate_graph.specs.CrateSet.{has_crate}
-use Rattle.hir_scope.specs.ModuleTree.{same_crate}
+use Rattle.hir_collector_rules.specs.HirIds.declared.ast_id.BlockId.{BlockId}
+use Rattle.hir_collector_rules.specs.HirIds.declared.ids.Crate.{Crate}
+use Rattle.hir_collector_rules.specs.HirIds.declared.ids.MapId.{MapId}
+use Rattle.hir_collector_rules.specs.HirIds.declared.ids.ModuleId.{ModuleId}
+use Rattle.hir_collector_rules.specs.HirIds.contracts.ids.MapIdOrd.TheImpl as map_order
+use Rattle.hir_collector_rules.specs.HirIds.contracts.ids.MapIdPartialEq.TheImpl as map_id
+use Rattle.hir_collector_rules.specs.HirDefMapRules.declared.reference.Reference.{Reference}
+use Rattle.hir_collector_rules.specs.HirDefMapRules.declared.reference.Reference.TheVariants as named
+use Rattle.hir_collector_rules.specs.HirNameres.WorldParts.{among, are_of_some, is_of_some}
+use Rattle.hir_collector_rules.specs.HirNameres.Inner.PartLaws.{among-only, among-there}
+use Rattle.hir_collector_rules.specs.HirDefMapRules.Inner.OverlayLaws.{exact_map}
+use Rattle.hir_collector_rules.proofs.HirDefMapRules.WellFormed.{complete, HasNoDanglingExtern-more, HasNoDanglingReference-more}
+use Rattle.hir_collector_rules.specs.HirDefMapRules.WellFormed.{AreWellFormed, HasNoDanglingExtern, Extends, IsWellFormed, HasNoDanglingReference}
+use Rattle.hir_collector_rules.specs.HirDefMapRules.References.{is_holder_for, is_well_formed, is_missing, is_there, lies_in, map_of_reference, any_reference_in, refers_to}
+use Rattle.hir_collector_rules.specs.HirDefMapRules.References.{any_own_crate, any_reference, prelude_reference, test_crate, test_extern, test_of}
+use Rattle.hir_collector_rules.proofs.HirDefMapRules.Fails.{of_less}
+use Rattle.hir_collector_rules.proofs.HirDefMapRules.Referred.{module_less}
+use Rattle.hir_collector_rules.proofs.HirDefMapRules.NoneOf.{neither, none_of_less}
+use Rattle.hir_collector_rules.specs.HirDefMapRules.State.{Local, Map, crate_map, module_at, variants_at}
+use Rattle.hir_collector_rules.specs.HirDefMapRules.Overlay.{Maps, Placed, overlay, holders_of, holders_under, map_in, module_in, placed_in}
+use Rattle.hir_collector_rules.specs.HirCrateGraph.CrateSet.{has_crate}
+use Rattle.hir_collector_rules.specs.HirPerNs.ModuleTree.{same_crate}
 use Rattle.hir_session_state.specs.Kept.{Resolution, Resolutions, finished_by, kept_in, placed_by}
 use Rattle.hir_session_state.proofs.Ids.{equal_id, own_id}
 use Rattle.hir_session_state.proofs.Truth.{and_left, and_right, both_true, clash, no_value, on_bool, one_value, or_right}

@@ -10,20 +10,20 @@ use Rattle.std.specs.declared.cmp.Ordering.{Ordering}
 use Rattle.std.specs.declared.cmp.Ordering.TheVariants.{Equal, Greater, Less}
 use Rattle.std.proofs.lemmas.Bool.{lt-ltb, ltb-true}
 use mathlib.Core.Bool.{true≢false}
-use Rattle.hir_base.specs.Locations.{KeepsNumbers}
-use Rattle.hir_base.specs.Place.{PlaceValue}
-use Rattle.hir_base.specs.contracts.ast_id.SyntaxIdPartialEq.TheImpl as syntax_eq
-use Rattle.hir_base.specs.contracts.place.BlockPlaceEq.TheImpl.Laws.{laws-law as block_laws}
-use Rattle.hir_base.specs.contracts.place.BlockPlacePartialEq.TheImpl as block_eq
-use Rattle.hir_base.specs.contracts.place.PlaceElementPartialEq.TheImpl as element_eq
-use Rattle.hir_base.specs.contracts.place.PlaceOrd.TheImpl.Laws.{total-law as place_total}
-use Rattle.hir_base.specs.contracts.place.PlacePartialEq.TheImpl as place_eq
-use Rattle.hir_base.specs.declared.ast_id.BlockId.{BlockId}
-use Rattle.hir_base.specs.declared.place.BlockPlace.{BlockPlace}
-use Rattle.hir_base.specs.declared.place.PlaceElement.{PlaceElement}
-use Rattle.hir_base.specs.declared.ast_id.SyntaxId.{SyntaxId}
-use Rattle.hir_base.specs.declared.place.PlaceElement.TheVariants as element
-use Rattle.hir_tables.specs.Tables.{TablesValue, HasEachOnce, KeepsTables, block_at}
+use Rattle.hir_collector_rules.specs.HirBase.Locations.{KeepsNumbers}
+use Rattle.hir_collector_rules.specs.HirBase.Place.{PlaceValue}
+use Rattle.hir_collector_rules.specs.HirIds.contracts.ast_id.SyntaxIdPartialEq.TheImpl as syntax_eq
+use Rattle.hir_collector_rules.specs.HirBase.contracts.place.BlockPlaceEq.TheImpl.Laws.{laws-law as block_laws}
+use Rattle.hir_collector_rules.specs.HirBase.contracts.place.BlockPlacePartialEq.TheImpl as block_eq
+use Rattle.hir_collector_rules.specs.HirBase.contracts.place.PlaceElementPartialEq.TheImpl as element_eq
+use Rattle.hir_collector_rules.specs.HirBase.contracts.place.PlaceOrd.TheImpl.Laws.{total-law as place_total}
+use Rattle.hir_collector_rules.specs.HirBase.contracts.place.PlacePartialEq.TheImpl as place_eq
+use Rattle.hir_collector_rules.specs.HirIds.declared.ast_id.BlockId.{BlockId}
+use Rattle.hir_collector_rules.specs.HirBase.declared.place.BlockPlace.{BlockPlace}
+use Rattle.hir_collector_rules.specs.HirBase.declared.place.PlaceElement.{PlaceElement}
+use Rattle.hir_collector_rules.specs.HirIds.declared.ast_id.SyntaxId.{SyntaxId}
+use Rattle.hir_collector_rules.specs.HirBase.declared.place.PlaceElement.TheVariants as element
+use Rattle.hir_collector_rules.specs.HirTables.Tables.{TablesValue, HasEachOnce, KeepsTables, block_at}
 use Rattle.hir_session_state.specs.Blocks.{block_cmp, nesting_of, place_of_block}
 use Rattle.hir_session_state.specs.Standing.{block_number, number_from}
 use Rattle.hir_session_state.proofs.Truth.{no_value, one_value}

@@ -4,22 +4,22 @@ use Rattle.std.proofs.Common.{◌≡◌, inl, inr, ℕ, zero, suc, ◌<◌, Bool
 use Rattle.std.proofs.Common.{option_map, refl, sym, ap, ◌∙◌, subst, Contains, eq-eqb}
 use Rattle.std.specs.List.{list_any}
 use Rattle.std.specs.Option.{IsSome, option_and_then}
-use Rattle.hir_base.specs.contracts.ids.MapIdPartialEq.TheImpl as map_id
-use Rattle.hir_base.specs.declared.ast_id.BlockId.{BlockId}
-use Rattle.hir_base.specs.declared.place.BlockPlace.{BlockPlace}
-use Rattle.hir_base.specs.declared.ids.Crate.{Crate}
-use Rattle.hir_base.specs.declared.ids.MapId.{MapId}
-use Rattle.hir_base.specs.declared.ids.ModuleId.{ModuleId}
-use Rattle.hir_scope.specs.ModuleTree.{same_crate}
-use Rattle.hir_tables.specs.SourcePlaces.{file}
-use Rattle.hir_tables.specs.Tables.{KeepsTables, TablesValue, file_at}
-use Rattle.hir_def_map.specs.Inner.PartLaws.{among-only, among-there}
-use Rattle.hir_def_map.specs.WorldParts.{among, are_of_some, is_of_some}
-use Rattle.hir_def_map_rules.specs.Inner.OverlayLaws.{same_id}
-use Rattle.hir_def_map_rules.specs.Overlay.{Maps, Placed, holders_of, holders_under, module_in, overlay}
-use Rattle.hir_def_map_rules.specs.References.{is_missing, is_well_formed, test_crate}
-use Rattle.hir_def_map_rules.specs.State.{crate_map, module_at}
-use Rattle.hir_def_map_rules.specs.WellFormed.{AreWellFormed, Extends, HasNoDanglingExtern, HasNoDanglingReference}
+use Rattle.hir_collector_rules.specs.HirIds.contracts.ids.MapIdPartialEq.TheImpl as map_id
+use Rattle.hir_collector_rules.specs.HirIds.declared.ast_id.BlockId.{BlockId}
+use Rattle.hir_collector_rules.specs.HirBase.declared.place.BlockPlace.{BlockPlace}
+use Rattle.hir_collector_rules.specs.HirIds.declared.ids.Crate.{Crate}
+use Rattle.hir_collector_rules.specs.HirIds.declared.ids.MapId.{MapId}
+use Rattle.hir_collector_rules.specs.HirIds.declared.ids.ModuleId.{ModuleId}
+use Rattle.hir_collector_rules.specs.HirPerNs.ModuleTree.{same_crate}
+use Rattle.hir_collector_rules.specs.HirTables.SourcePlaces.{file}
+use Rattle.hir_collector_rules.specs.HirTables.Tables.{KeepsTables, TablesValue, file_at}
+use Rattle.hir_collector_rules.specs.HirNameres.Inner.PartLaws.{among-only, among-there}
+use Rattle.hir_collector_rules.specs.HirNameres.WorldParts.{among, are_of_some, is_of_some}
+use Rattle.hir_collector_rules.specs.HirDefMapRules.Inner.OverlayLaws.{same_id}
+use Rattle.hir_collector_rules.specs.HirDefMapRules.Overlay.{Maps, Placed, holders_of, holders_under, module_in, overlay}
+use Rattle.hir_collector_rules.specs.HirDefMapRules.References.{is_missing, is_well_formed, test_crate}
+use Rattle.hir_collector_rules.specs.HirDefMapRules.State.{crate_map, module_at}
+use Rattle.hir_collector_rules.specs.HirDefMapRules.WellFormed.{AreWellFormed, Extends, HasNoDanglingExtern, HasNoDanglingReference}
 use Rattle.hir_collector_rules.specs.Calls.{AreCallsPlaced, IsMeantAt}
 use Rattle.hir_collector_rules.specs.Derivation.{CollectedValue, Ends}
 use Rattle.hir_collector_rules.specs.Growth.{AnswersStand, AskedKeysHaveMeaning, LooksStand}
@@ -28,8 +28,8 @@ use Rattle.hir_collector_rules.specs.Workspace.{dependencies_of as named_by}
 use Rattle.hir_collector_rules.specs.declared.source_database.Dependency.{Dependency}
 use Rattle.hir_collector_rules.proofs.ModuleFiles.{site_kept}
 use Rattle.hir_def_collector_laws.specs.Whole.{RunsNameWhatIsThere, StandsOnWhole}
-use Rattle.hir_crate_graph.specs.CrateSet.{has_crate}
-use Rattle.hir_crate_graph.specs.Dependencies.DependsOn.{directly}
+use Rattle.hir_collector_rules.specs.HirCrateGraph.CrateSet.{has_crate}
+use Rattle.hir_collector_rules.specs.HirCrateGraph.Dependencies.DependsOn.{directly}
 use Rattle.hir_session_state.specs.Crates.{CrateValue, beginning_in, begins_in_block, config_in, crate_in, id_of, transitive_in}
 use Rattle.hir_session_state.specs.Due.{Grows}
 use Rattle.hir_session_state.specs.Kept.{collected_of, held, placed_by}

@@ -7,32 +7,32 @@ use Rattle.std.specs.Cmp.Lexicographic.{slice_cmp}
 use Rattle.std.specs.List.{list_any}
 use Rattle.std.specs.Ordering.{nat_cmp}
 use Rattle.std.specs.Prelude.{is_none, slice_get}
-use Rattle.hir_base.specs.Place.{PlaceValue}
-use Rattle.hir_base.specs.contracts.ids.MapIdPartialEq.TheImpl as map_id
-use Rattle.hir_base.specs.declared.ast_id.BlockId.{BlockId}
-use Rattle.hir_base.specs.declared.place.BlockPlace.{BlockPlace}
-use Rattle.hir_base.specs.declared.ids.Crate.{Crate}
-use Rattle.hir_base.specs.declared.ast_id.EditionedFileId.{EditionedFileId}
-use Rattle.hir_base.specs.declared.ast_id.HirFileId.{HirFileId}
-use Rattle.hir_base.specs.declared.macro_kind.MacroCallLoc.{MacroCallLoc}
-use Rattle.hir_base.specs.declared.ids.MapId.{MapId}
-use Rattle.hir_base.specs.declared.ids.ModuleId.{ModuleId}
-use Rattle.hir_base.specs.declared.place.PlaceElement.{PlaceElement}
-use Rattle.hir_base.specs.declared.ast_id.SyntaxId.{SyntaxId}
-use Rattle.hir_base.specs.declared.ast_id.HirFileId.TheVariants.{File, Macro}
-use Rattle.hir_base.specs.declared.place.PlaceElement.TheVariants as element
-use Rattle.hir_def_map_rules.specs.Diagnostics.{call_node}
-use Rattle.hir_def_map_rules.specs.Inner.OverlayLaws.{exact_map, same_id}
-use Rattle.hir_def_map_rules.specs.Overlay.{Maps, Placed, module_in, overlay, placed_in}
-use Rattle.hir_def_map_rules.specs.References.{any_reference_in, is_missing, test_child}
-use Rattle.hir_def_map_rules.specs.declared.reference.Reference.TheVariants as named
-use Rattle.hir_def_map_rules.proofs.NoneOf.{none_at, none_found}
-use Rattle.hir_def_map_rules.proofs.Referred.{module_parts}
-use Rattle.hir_def_map_rules.specs.State.{ModuleValue, child_at, child_of, crate_map, module_at, root_of}
-use Rattle.hir_def_map_rules.specs.declared.origin.ModuleOrigin.{ModuleOrigin}
-use Rattle.hir_def_map_rules.specs.declared.origin.ModuleOrigin.TheVariants as origin
+use Rattle.hir_collector_rules.specs.HirBase.Place.{PlaceValue}
+use Rattle.hir_collector_rules.specs.HirIds.contracts.ids.MapIdPartialEq.TheImpl as map_id
+use Rattle.hir_collector_rules.specs.HirIds.declared.ast_id.BlockId.{BlockId}
+use Rattle.hir_collector_rules.specs.HirBase.declared.place.BlockPlace.{BlockPlace}
+use Rattle.hir_collector_rules.specs.HirIds.declared.ids.Crate.{Crate}
+use Rattle.hir_collector_rules.specs.HirIds.declared.ast_id.EditionedFileId.{EditionedFileId}
+use Rattle.hir_collector_rules.specs.HirIds.declared.ast_id.HirFileId.{HirFileId}
+use Rattle.hir_collector_rules.specs.HirBase.declared.macro_kind.MacroCallLoc.{MacroCallLoc}
+use Rattle.hir_collector_rules.specs.HirIds.declared.ids.MapId.{MapId}
+use Rattle.hir_collector_rules.specs.HirIds.declared.ids.ModuleId.{ModuleId}
+use Rattle.hir_collector_rules.specs.HirBase.declared.place.PlaceElement.{PlaceElement}
+use Rattle.hir_collector_rules.specs.HirIds.declared.ast_id.SyntaxId.{SyntaxId}
+use Rattle.hir_collector_rules.specs.HirIds.declared.ast_id.HirFileId.TheVariants.{File, Macro}
+use Rattle.hir_collector_rules.specs.HirBase.declared.place.PlaceElement.TheVariants as element
+use Rattle.hir_collector_rules.specs.HirDefMapRules.Diagnostics.{call_node}
+use Rattle.hir_collector_rules.specs.HirDefMapRules.Inner.OverlayLaws.{exact_map, same_id}
+use Rattle.hir_collector_rules.specs.HirDefMapRules.Overlay.{Maps, Placed, module_in, overlay, placed_in}
+use Rattle.hir_collector_rules.specs.HirDefMapRules.References.{any_reference_in, is_missing, test_child}
+use Rattle.hir_collector_rules.specs.HirDefMapRules.declared.reference.Reference.TheVariants as named
+use Rattle.hir_collector_rules.proofs.HirDefMapRules.NoneOf.{none_at, none_found}
+use Rattle.hir_collector_rules.proofs.HirDefMapRules.Referred.{module_parts}
+use Rattle.hir_collector_rules.specs.HirDefMapRules.State.{ModuleValue, child_at, child_of, crate_map, module_at, root_of}
+use Rattle.hir_collector_rules.specs.HirMapParts.declared.origin.ModuleOrigin.{ModuleOrigin}
+use Rattle.hir_collector_rules.specs.HirMapParts.declared.origin.ModuleOrigin.TheVariants as origin
 use Rattle.hir_collector_rules.specs.Start.{Beginning, holder_of}
-use Rattle.hir_tables.specs.Tables.{TablesValue, KeepsTables, block_at, call_at}
+use Rattle.hir_collector_rules.specs.HirTables.Tables.{TablesValue, KeepsTables, block_at, call_at}
 use Rattle.hir_session_state.specs.Blocks.{Blocks}
 use Rattle.hir_session_state.specs.Crates.{begins_in_block}
 use Rattle.hir_session_state.specs.Kept.{Resolution, Resolutions, kept_in}

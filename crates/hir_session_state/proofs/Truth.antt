@@ -56,6 +56,11 @@ pub where_ok : {A C T E : Type 0} (r : Result T E) → OnOk r A → (A → C) �
 where_ok (Ok x) a f = f a
 where_ok (Err e) a f = a
 
+-- and from the bad one
+pub where_err : {A C T E : Type 0} (r : Result T E) → OnErr r A → (A → C) → OnErr r C
+where_err (Ok x) a f = a
+where_err (Err e) a f = f a
+
 pub one_value : {A : Type 0} {x y : A} → Some x ≡ Some y → x ≡ y
 one_value e = cc
 

@@ -1,20 +1,20 @@
 -- The finished maps that a place reads stay while what is kept of the crates and holders on which it stands does.
 use Rattle.std.proofs.Common.{◌≡◌, ◌≢◌, ◌⊎◌, inl, inr, ℕ, zero, suc, ◌<◌, List, [], ◌∷◌, ◌++◌, length, true, ◌&&◌, cond, is_some, arith, Option, Some, None}
 use Rattle.std.proofs.Common.{option_map, refl, sym, ap, ◌∙◌, subst, Contains, eq-eqb}
-use Rattle.hir_base.specs.contracts.ids.MapIdPartialEq.TheImpl as map_id
-use Rattle.hir_base.specs.declared.ast_id.BlockId.{BlockId}
-use Rattle.hir_base.specs.declared.ids.Crate.{Crate}
-use Rattle.hir_base.specs.declared.macro_kind.MacroId.{MacroId}
-use Rattle.hir_base.specs.declared.ids.MapId.{MapId}
-use Rattle.hir_base.specs.declared.ids.ModuleId.{ModuleId}
-use Rattle.hir_base.specs.declared.macro_kind.MacroId.TheVariants as macros
-use Rattle.hir_scope.specs.ModuleTree.{same_crate}
-use Rattle.hir_tables.specs.Tables.{TablesValue}
-use Rattle.hir_def_map.specs.Inner.PartLaws.{among_agrees}
-use Rattle.hir_def_map_rules.specs.Inner.OverlayLaws.{exact_map}
-use Rattle.hir_def_map_rules.specs.WellFormed.{HasNoDanglingExtern, HasNoDanglingReference}
-use Rattle.hir_def_map_rules.specs.Overlay.{Maps, Placed, holders_of, holders_under, overlay, no_maps}
-use Rattle.hir_def_map_rules.specs.State.{crate_map}
+use Rattle.hir_collector_rules.specs.HirIds.contracts.ids.MapIdPartialEq.TheImpl as map_id
+use Rattle.hir_collector_rules.specs.HirIds.declared.ast_id.BlockId.{BlockId}
+use Rattle.hir_collector_rules.specs.HirIds.declared.ids.Crate.{Crate}
+use Rattle.hir_collector_rules.specs.HirIds.declared.macro_kind.MacroId.{MacroId}
+use Rattle.hir_collector_rules.specs.HirIds.declared.ids.MapId.{MapId}
+use Rattle.hir_collector_rules.specs.HirIds.declared.ids.ModuleId.{ModuleId}
+use Rattle.hir_collector_rules.specs.HirIds.declared.macro_kind.MacroId.TheVariants as macros
+use Rattle.hir_collector_rules.specs.HirPerNs.ModuleTree.{same_crate}
+use Rattle.hir_collector_rules.specs.HirTables.Tables.{TablesValue}
+use Rattle.hir_collector_rules.specs.HirNameres.Inner.PartLaws.{among_agrees}
+use Rattle.hir_collector_rules.specs.HirDefMapRules.Inner.OverlayLaws.{exact_map}
+use Rattle.hir_collector_rules.specs.HirDefMapRules.WellFormed.{HasNoDanglingExtern, HasNoDanglingReference}
+use Rattle.hir_collector_rules.specs.HirDefMapRules.Overlay.{Maps, Placed, holders_of, holders_under, overlay, no_maps}
+use Rattle.hir_collector_rules.specs.HirDefMapRules.State.{crate_map}
 use Rattle.hir_collector_rules.specs.Causes.{HasCause}
 use Rattle.hir_collector_rules.specs.Causes.HasCause.{root_tree, of_holder, declared_enum, candidate, of_call, dependency}
 use Rattle.hir_collector_rules.specs.Calls.{Expanding, call_key, expansion_readings, text_readings}
@@ -27,14 +27,14 @@ use Rattle.hir_collector_rules.specs.Workspace.{Workspace, transitive_dependenci
 use Rattle.hir_collector_rules.specs.declared.source_database.Key.{Key}
 use Rattle.hir_collector_rules.specs.declared.macro_directive.MacroDirective.{MacroDirective}
 use Rattle.hir_collector_rules.specs.declared.source_database.Key.TheVariants as keys
-use Rattle.hir_crate_graph.specs.CrateSet.{has_crate}
+use Rattle.hir_collector_rules.specs.HirCrateGraph.CrateSet.{has_crate}
 use Rattle.hir_session_state.specs.Crates.{begins_in_block, id_of, transitive_in}
 use Rattle.hir_session_state.specs.SourceTable.{SourceTable}
 use Rattle.hir_session_state.specs.Kept.{Resolutions, collected_of, finished_by, kept_in, placed_by}
 use Rattle.hir_session_state.specs.SessionState.{SessionState, Resolution, workspace_of, beginning_by, beginning_of, finished_of, follows, read_under, kept_of}
 use Rattle.hir_session_state.specs.SessionState.{IsResolutionOf, IsSound}
-use Rattle.hir_crate_graph.specs.Dependencies.{DependsOn}
-use Rattle.hir_crate_graph.specs.Dependencies.DependsOn.{directly, through}
+use Rattle.hir_collector_rules.specs.HirCrateGraph.Dependencies.{DependsOn}
+use Rattle.hir_collector_rules.specs.HirCrateGraph.Dependencies.DependsOn.{directly, through}
 use Rattle.hir_session_state.proofs.Depending.{any-found, depended, found-any}
 use Rattle.hir_session_state.proofs.Following.{followed, followed_crate, followed_holder}
 use Rattle.hir_session_state.proofs.Holding.{block_held, held_block, holder_kept, holders_hold, start_holders}

@@ -1,31 +1,88 @@
--- Which places asked for a source? No public clause speaks of this.
-use Rattle.std.specs.Prelude.{◌≡◌, Bool, true, false, Option, None, Some, Contains}
-use Rattle.std.specs.BTreeMap.{get}
+-- Which places asked for which keys of a source? No public clause speaks of this.
+use Rattle.std.specs.Prelude.{◌≡◌, ◌&&◌, ◌||◌, Bool, false, cond, not, List, Option, None, Some}
+use Rattle.std.specs.List.{list_any}
+use Rattle.std.specs.BTreeMap.{BTreeMap, get, is_at}
 use Rattle.std.specs.BTreeSet.{BTreeSet, contains}
-use Rattle.hir_base.specs.declared.ids.MapId.{MapId}
-use Rattle.hir_base.specs.contracts.ids.MapIdOrd.TheImpl as map_order
-use Rattle.hir_tables.specs.Tables.{TablesValue}
+use Rattle.hir_collector_rules.specs.HirIds.declared.ids.MapId.{MapId}
+use Rattle.hir_collector_rules.specs.HirIds.contracts.ids.MapIdOrd.TheImpl as map_order
+use Rattle.hir_collector_rules.specs.HirTables.Tables.{TablesValue}
 use Rattle.hir_collector_rules.specs.declared.source_database.Key.{Key}
+use Rattle.hir_collector_rules.specs.contracts.source_database.KeyOrd.TheImpl as key_order
 use Rattle.hir_session_state.specs.declared.askers.Askers.{Askers}
 use Rattle.hir_session_state.specs.declared.source_number.SourceNumber.{SourceNumber}
 use Rattle.hir_session_state.specs.contracts.source_number.SourceNumberOrd.TheImpl as number_order
-use Rattle.hir_session_state.specs.Kept.{Resolutions, kept_in}
-use Rattle.hir_session_state.specs.SessionState.{Resolution}
-use Rattle.hir_session_state.specs.SourceNumbers.{asked_number}
+use Rattle.hir_session_state.specs.declared.runs.KeptRun.{KeptRun}
+use Rattle.hir_session_state.specs.Kept.{Resolution, Resolutions, asked_of, kept_in}
+use Rattle.hir_session_state.specs.SourceNumbers.{asks}
+
+-- by a key, the places that asked for it
+abbrev pub KeyAskers : Type 0
+KeyAskers = BTreeMap Key (BTreeSet MapId)
 
 abbrev pub is_in : Option (BTreeSet MapId) → MapId → Bool
 is_in None id = false
 is_in (Some ids) id = contains map_order.ghosts.cmp ids id
 
--- whether a place is among those that may have asked for a source
-abbrev pub is_asker : Askers → SourceNumber → MapId → Bool
-is_asker askers number id = is_in (get number_order.ghosts.cmp askers.by_source number) id
+-- whether a place is among those that asked for a key
+abbrev pub has_asked : KeyAskers → Key → MapId → Bool
+has_asked keys key id = is_in (get key_order.ghosts.cmp keys key) id
 
--- those that may have asked for a source still may
-abbrev pub KeepsAskers : Askers → Askers → Type 0
-KeepsAskers old new = (number : SourceNumber) (id : MapId) → is_asker old number id ≡ true → is_asker new number id ≡ true
+abbrev pub has_asked_in : Option KeyAskers → Key → MapId → Bool
+has_asked_in None key id = false
+has_asked_in (Some keys) key id = has_asked keys key id
 
--- each place of which something is kept is among those that asked for a source for which its run asked
-pub record AreNoted (tables : TablesValue) (kept : Resolutions) (askers : Askers) : Type 0 where
-  pub each : (id : MapId) (r : Resolution) (key : Key) (number : SourceNumber) → kept_in kept id ≡ Some r → Contains r.asked key
-      → asked_number tables key ≡ Some number → is_asker askers number id ≡ true
+-- whether a place is entered at a key of a source
+abbrev pub is_asker : Askers → SourceNumber → Key → MapId → Bool
+is_asker askers number key id = has_asked_in (get number_order.ghosts.cmp askers.by_source number) key id
+
+-- ---- one place
+
+-- whether some keys have one, which asks for a source
+abbrev pub is_asked : TablesValue → List Key → SourceNumber → Key → Bool
+is_asked tables keys number key = list_any (is_at (key_order.ghosts.cmp key)) keys && asks tables number key
+
+-- whether a key is one of those for which a place asked, under its source, and the place this one
+abbrev pub is_entry : TablesValue → List Key → MapId → SourceNumber → Key → MapId → Bool
+is_entry tables keys own number key id = is_asked tables keys number key && is_at (map_order.ghosts.cmp own) id
+
+-- a place is entered at each key for which it asked, under its source
+abbrev pub Enters : TablesValue → Askers → Askers → List Key → MapId → Type 0
+Enters tables old new keys own = (number : SourceNumber) (key : Key) (id : MapId)
+    → is_asker new number key id ≡ (is_asker old number key id || is_entry tables keys own number key id)
+
+-- a place is taken out at each key for which it asked
+abbrev pub Leaves : TablesValue → Askers → Askers → List Key → MapId → Type 0
+Leaves tables old new keys own = (number : SourceNumber) (key : Key) (id : MapId)
+    → is_asker new number key id ≡ (is_asker old number key id && not (is_entry tables keys own number key id))
+
+abbrev pub IsSame : Askers → Askers → Type 0
+IsSame old new = (number : SourceNumber) (key : Key) (id : MapId) → is_asker new number key id ≡ is_asker old number key id
+
+-- nothing changes but where a place may be entered
+abbrev pub IsSameBut : TablesValue → Askers → Askers → List Key → MapId → Type 0
+IsSameBut tables old new keys own = (number : SourceNumber) (key : Key) (id : MapId) → is_entry tables keys own number key id ≡ false
+    → is_asker new number key id ≡ is_asker old number key id
+
+-- ---- all of them
+
+-- whether a kept run asked for a key of a source
+abbrev pub asked_by : TablesValue → Option Resolution → SourceNumber → Key → Bool
+asked_by tables None number key = false
+asked_by tables (Some r) number key = is_asked tables r.asked number key
+
+-- each place is entered at exactly the keys for which its kept run asked, under their sources
+pub record HoldsExactly (tables : TablesValue) (kept : Resolutions) (askers : Askers) : Type 0 where
+  pub each : (number : SourceNumber) (key : Key) (id : MapId) → is_asker askers number key id ≡ asked_by tables (kept_in kept id) number key
+
+-- ---- as places fall
+
+-- whether a place is one of some
+abbrev pub is_one : List MapId → MapId → Bool
+is_one ids id = list_any (is_at (map_order.ghosts.cmp id)) ids
+
+-- the runs of some places are dropped, and the places taken out of those that asked for their keys
+pub record AreDropped (tables : TablesValue) (ids : List MapId) (old : BTreeMap MapId KeptRun) (before : Askers) (new : BTreeMap MapId KeptRun)
+    (after : Askers) : Type 0 where
+  pub runs : (id : MapId) → get map_order.ghosts.cmp new id ≡ cond (is_one ids id) None (get map_order.ghosts.cmp old id)
+  pub askers : (number : SourceNumber) (key : Key) (id : MapId) → is_asker after number key id
+      ≡ (is_asker before number key id && not (is_one ids id && is_asked tables (asked_of (get map_order.ghosts.cmp old id)) number key))

@@ -1,13 +1,13 @@
 -- How does a session begin?
 use Rattle.std.specs.Prelude.{◌≡◌, ℕ, ◌<◌, List, [], ◌∷◌, ◌++◌, length, map, None, Some}
-use Rattle.hir_base.specs.CfgOptions.{SetAlike}
-use Rattle.hir_wire.specs.CommandValue.{CrateInputValue}
-use Rattle.hir_wire.specs.declared.command.Dependency.{Dependency as HandedIn}
+use Rattle.hir_collector_rules.specs.HirBase.CfgOptions.{SetAlike}
+use Rattle.hir_messages.specs.CommandValue.{CrateInputValue}
+use Rattle.hir_messages.specs.declared.command.Dependency.{Dependency as HandedIn}
 use Rattle.hir_collector_rules.specs.declared.source_database.Dependency.{Dependency}
 use Rattle.hir_collector_rules.specs.Workspace.{ConfigValue}
-use Rattle.hir_base.specs.declared.ids.MapId.{MapId}
+use Rattle.hir_collector_rules.specs.HirIds.declared.ids.MapId.{MapId}
 use Rattle.hir_session_state.specs.Crates.{CrateValue, crate_in}
-use Rattle.hir_tables.specs.Tables.{TablesValue, file_at, KeepsTables}
+use Rattle.hir_collector_rules.specs.HirTables.Tables.{TablesValue, file_at, KeepsTables}
 use Rattle.hir_session_state.specs.SessionState.{SessionState, kept_of}
 
 -- a dependency as a run sees it

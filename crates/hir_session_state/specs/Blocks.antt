@@ -5,15 +5,15 @@ use Rattle.std.specs.Cmp.Lexicographic.{slice_cmp}
 use Rattle.std.specs.Map.{lookup}
 use Rattle.std.specs.Ordering.{nat_cmp, on, then_cmp}
 use Rattle.std.specs.declared.cmp.Ordering.{Ordering}
-use Rattle.hir_base.specs.Place.{PlaceValue}
-use Rattle.hir_base.specs.contracts.ids.CrateOrd.TheImpl as crate_order
-use Rattle.hir_base.specs.contracts.place.PlaceElementOrd.TheImpl as element_order
-use Rattle.hir_base.specs.contracts.place.PlaceOrd.TheImpl as place_order
-use Rattle.hir_base.specs.declared.place.BlockPlace.{BlockPlace}
-use Rattle.hir_base.specs.declared.ids.Crate.{Crate}
-use Rattle.hir_base.specs.declared.place.PlaceElement.{PlaceElement}
-use Rattle.hir_base.specs.declared.place.PlaceElement.TheVariants as element
-use Rattle.hir_item_tree.specs.Source.{SourceValue}
+use Rattle.hir_collector_rules.specs.HirBase.Place.{PlaceValue}
+use Rattle.hir_collector_rules.specs.HirIds.contracts.ids.CrateOrd.TheImpl as crate_order
+use Rattle.hir_collector_rules.specs.HirBase.contracts.place.PlaceElementOrd.TheImpl as element_order
+use Rattle.hir_collector_rules.specs.HirBase.contracts.place.PlaceOrd.TheImpl as place_order
+use Rattle.hir_collector_rules.specs.HirBase.declared.place.BlockPlace.{BlockPlace}
+use Rattle.hir_collector_rules.specs.HirIds.declared.ids.Crate.{Crate}
+use Rattle.hir_collector_rules.specs.HirBase.declared.place.PlaceElement.{PlaceElement}
+use Rattle.hir_collector_rules.specs.HirBase.declared.place.PlaceElement.TheVariants as element
+use Rattle.hir_collector_rules.specs.HirItemTree.Source.{SourceValue}
 
 -- the place of the root of a block
 abbrev pub place_of_block : BlockPlace → PlaceValue

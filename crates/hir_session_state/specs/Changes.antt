@@ -1,14 +1,14 @@
 -- What do the calls of a session change?
 use Rattle.std.specs.Prelude.{◌≡◌, true, false, List}
-use Rattle.hir_base.specs.Place.{PlaceValue}
-use Rattle.hir_base.specs.declared.ids.MapId.{MapId}
-use Rattle.hir_wire.specs.Edits.{EditValue}
+use Rattle.hir_collector_rules.specs.HirBase.Place.{PlaceValue}
+use Rattle.hir_collector_rules.specs.HirIds.declared.ids.MapId.{MapId}
+use Rattle.hir_messages.specs.Edits.{EditValue}
 use Rattle.hir_session_state.specs.SourceEdits.{edit_of, edited}
 use Rattle.hir_session_state.specs.SourceTable.{SourceTable}
 use Rattle.hir_session_state.specs.SessionState.{SessionState, workspace_of, kept_of, is_marked, IsSound}
 use Rattle.hir_session_state.specs.Marks.{marks_after}
 use Rattle.hir_session_state.specs.Due.{AreResolved, IsNext}
-use Rattle.hir_tables.specs.Tables.{KeepsTables}
+use Rattle.hir_collector_rules.specs.HirTables.Tables.{KeepsTables}
 
 -- the session with other sources
 abbrev pub with_sources : SessionState → SourceTable → SessionState

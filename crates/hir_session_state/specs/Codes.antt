@@ -1,6 +1,6 @@
 -- How are the values of a session stored?
 use Rattle.std.specs.Coded.{Coded, codes}
-use Rattle.hir_def_map_rules.specs.Inner.Codes.{coded_map}
+use Rattle.hir_collector_rules.specs.HirDefMapRules.Inner.Codes.{coded_map}
 use Rattle.hir_session_state.specs.SourceCodes.{coded_source}
 use Rattle.hir_session_state.specs.CrateCodes.{coded_crate}
 use Rattle.hir_session_state.specs.Files.{Files}

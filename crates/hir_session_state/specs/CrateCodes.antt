@@ -1,7 +1,7 @@
 -- How is a crate stored?
 use Rattle.std.specs.Prelude.{List}
 use Rattle.std.specs.Coded.{Coded, codes, coded_list}
-use Rattle.hir_item_tree.specs.CollectedCodes.{coded_atom}
+use Rattle.hir_collector_rules.specs.HirItemTree.CollectedCodes.{coded_atom}
 use Rattle.hir_session_state.specs.Crates.{CrateValue}
 use Rattle.hir_session_state.specs.SourceCodes.{coded_attributes}
 

@@ -1,19 +1,19 @@
 -- What is a crate of a session?
 use Rattle.std.specs.Prelude.{◌≡◌, ℕ, false, List, [], length, map, Option, None, Some, option_map, slice_get, slice_index_or}
-use Rattle.hir_item_tree.specs.Attributes.{no_attributes}
-use Rattle.hir_item_tree.specs.declared.tree_id.TreeId.{TreeId}
-use Rattle.hir_base.specs.declared.ast_id.BlockId.{BlockId}
-use Rattle.hir_base.specs.declared.cfg.CfgAtom.{CfgAtom}
-use Rattle.hir_base.specs.declared.ids.Crate.{Crate}
-use Rattle.hir_base.specs.declared.ast_id.EditionedFileId.{EditionedFileId}
-use Rattle.hir_base.specs.declared.ast_id.FileId.{FileId}
-use Rattle.hir_base.specs.declared.ids.MapId.{MapId}
-use Rattle.hir_base.specs.declared.ids.ModuleId.{ModuleId}
-use Rattle.hir_base.specs.declared.ast_id.SyntaxId.{SyntaxId}
-use Rattle.hir_base.specs.declared.ast_id.HirFileId.TheVariants.{File}
-use Rattle.hir_base.specs.declared.edition.Edition.TheVariants.{Edition2024}
-use Rattle.hir_crate_graph.specs.Dependencies.{AreTransitive, transitive_dependencies}
-use Rattle.hir_def_map_rules.specs.State.{crate_map}
+use Rattle.hir_collector_rules.specs.HirItemTree.Attributes.{no_attributes}
+use Rattle.hir_collector_rules.specs.HirBase.declared.tree_id.TreeId.{TreeId}
+use Rattle.hir_collector_rules.specs.HirIds.declared.ast_id.BlockId.{BlockId}
+use Rattle.hir_collector_rules.specs.HirBase.declared.cfg.CfgAtom.{CfgAtom}
+use Rattle.hir_collector_rules.specs.HirIds.declared.ids.Crate.{Crate}
+use Rattle.hir_collector_rules.specs.HirIds.declared.ast_id.EditionedFileId.{EditionedFileId}
+use Rattle.hir_collector_rules.specs.HirIds.declared.ast_id.FileId.{FileId}
+use Rattle.hir_collector_rules.specs.HirIds.declared.ids.MapId.{MapId}
+use Rattle.hir_collector_rules.specs.HirIds.declared.ids.ModuleId.{ModuleId}
+use Rattle.hir_collector_rules.specs.HirIds.declared.ast_id.SyntaxId.{SyntaxId}
+use Rattle.hir_collector_rules.specs.HirIds.declared.ast_id.HirFileId.TheVariants.{File}
+use Rattle.hir_collector_rules.specs.HirIds.declared.edition.Edition.TheVariants.{Edition2024}
+use Rattle.hir_collector_rules.specs.HirCrateGraph.Dependencies.{AreTransitive, transitive_dependencies}
+use Rattle.hir_collector_rules.specs.HirDefMapRules.State.{crate_map}
 use Rattle.hir_collector_rules.specs.Workspace.{ConfigValue, direct_by}
 use Rattle.hir_collector_rules.specs.Start.{Beginning, beginning}
 use Rattle.hir_collector_rules.specs.declared.source_database.CrateRoot.{CrateRoot}

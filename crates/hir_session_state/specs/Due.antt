@@ -1,11 +1,11 @@
 -- What is due, and what stands behind an answer?
 use Rattle.std.specs.Prelude.{◌≡◌, ◌≢◌, IsTrue, ℕ, ◌<◌, ◌≤◌, true, List, [], ◌∷◌, None, Some, length, Contains}
 use Rattle.std.specs.Ordering.{is_le}
-use Rattle.hir_base.specs.Locations.{max_locations}
-use Rattle.hir_base.specs.Place.{PlaceValue}
-use Rattle.hir_base.specs.declared.place.BlockPlace.{BlockPlace}
-use Rattle.hir_base.specs.declared.ids.MapId.{MapId}
-use Rattle.hir_base.specs.declared.ids.ModuleId.{ModuleId}
+use Rattle.hir_collector_rules.specs.HirBase.Locations.{max_locations}
+use Rattle.hir_collector_rules.specs.HirBase.Place.{PlaceValue}
+use Rattle.hir_collector_rules.specs.HirBase.declared.place.BlockPlace.{BlockPlace}
+use Rattle.hir_collector_rules.specs.HirIds.declared.ids.MapId.{MapId}
+use Rattle.hir_collector_rules.specs.HirIds.declared.ids.ModuleId.{ModuleId}
 use Rattle.hir_collector_rules.specs.Derivation.{IsOverlong}
 use Rattle.hir_collector_rules.specs.Start.{Beginning}
 use Rattle.hir_collector_rules.specs.declared.source_database.Key.{Key}
@@ -14,7 +14,7 @@ use Rattle.hir_session_state.specs.Crates.{id_of}
 use Rattle.hir_session_state.specs.Standing.{block_number, is_set, place_of_map}
 use Rattle.hir_session_state.specs.SessionState.{SessionState, Resolution, workspace_of, beginning_of, block_kept, follows, kept_of, is_marked, finished_of}
 use Rattle.hir_session_state.specs.SessionState.{module_of, IsSound}
-use Rattle.hir_tables.specs.Tables.{KeepsTables}
+use Rattle.hir_collector_rules.specs.HirTables.Tables.{KeepsTables}
 
 -- the place of the root of a crate
 abbrev pub root_place : ℕ → PlaceValue

@@ -1,19 +1,20 @@
 -- How does the code find what an edit touches? No public clause speaks of this.
-use Rattle.std.specs.Prelude.{◌≡◌, ◌⊎◌, ℕ, List, [], ◌∷◌, ◌++◌, Option, Some, None, Contains}
-use Rattle.hir_base.specs.declared.ast_id.AstKind.TheVariants.{MacroDef, MacroRules}
-use Rattle.hir_base.specs.declared.macro_kind.MacroId.{MacroId}
-use Rattle.hir_base.specs.declared.ids.MapId.{MapId}
-use Rattle.hir_base.specs.declared.macro_kind.MacroId.TheVariants.{Macro2Id, MacroRulesId, ProcMacroId}
-use Rattle.hir_def_map_rules.specs.Overlay.{no_maps}
+use Rattle.std.specs.Prelude.{◌≡◌, ◌⊎◌, ℕ, true, List, ◌++◌, Option, Some, None, Contains}
+use Rattle.hir_collector_rules.specs.HirIds.declared.ast_id.AstKind.TheVariants.{MacroDef, MacroRules}
+use Rattle.hir_collector_rules.specs.HirIds.declared.macro_kind.MacroId.{MacroId}
+use Rattle.hir_collector_rules.specs.HirIds.declared.ids.MapId.{MapId}
+use Rattle.hir_collector_rules.specs.HirIds.declared.macro_kind.MacroId.TheVariants.{Macro2Id, MacroRulesId, ProcMacroId}
+use Rattle.hir_collector_rules.specs.HirDefMapRules.Overlay.{no_maps}
 use Rattle.hir_collector_rules.specs.Workspace.{Workspace, seen_of}
-use Rattle.hir_collector_rules.specs.Keys.{AgreeOn, Look, input_of, of_input, of_map, of_text, of_tree, of_variants, text_of}
+use Rattle.hir_collector_rules.specs.Keys.{AgreeOn, Look, input_of, look, of_input, of_map, of_text, of_tree, of_variants, text_of}
 use Rattle.hir_collector_rules.specs.declared.source_database.Key.{Key}
 use Rattle.hir_collector_rules.specs.declared.source_database.Key.TheVariants.{Tree, Variants, Text, Input, Expansion, Map}
-use Rattle.hir_item_tree.specs.SourceTree.{SourceTreeValue, variants_of}
-use Rattle.hir_item_tree.specs.SyntaxIds.{node_id}
+use Rattle.hir_collector_rules.specs.HirItemTree.SourceTree.{SourceTreeValue, variants_of}
+use Rattle.hir_collector_rules.specs.HirItemTree.SyntaxIds.{node_id}
+use Rattle.hir_session_state.specs.Askers.{KeyAskers, has_asked_in}
 use Rattle.hir_session_state.specs.Kept.{Resolutions, kept_in}
 use Rattle.hir_session_state.specs.SessionState.{Resolution}
-use Rattle.hir_tables.specs.Tables.{TablesValue}
+use Rattle.hir_collector_rules.specs.HirTables.Tables.{TablesValue}
 use Rattle.hir_session_state.specs.Marks.{IsAltered}
 
 -- the text of a macro that a source defines
@@ -43,20 +44,21 @@ pub record IsAsked (tables : TablesValue) (v w : Workspace) (kept : Option Resol
   pub is : kept ≡ Some found
   pub altered : HasAltered tables v w found.asked
 
--- the place was added where one of the keys is altered
-pub data IsNoted (tables : TablesValue) (v w : Workspace) (keys : List Key) (id : MapId) (old new : List MapId) : Type 0 where
-  hit : HasAltered tables v w keys → new ≡ old ++ id ∷ [] → IsNoted tables v w keys id old new
-  missed : AgreeOn tables keys v no_maps w no_maps → new ≡ old → IsNoted tables v w keys id old new
+-- a key was judged: the places that asked for it are added where it is altered
+pub data IsJudged (tables : TablesValue) (v w : Workspace) (key : Key) (ids old new : List MapId) : Type 0 where
+  hit : IsAltered tables v w key → new ≡ old ++ ids → IsJudged tables v w key ids old new
+  missed : look tables w no_maps key ≡ look tables v no_maps key → new ≡ old → IsJudged tables v w key ids old new
 
--- the place was added where its run asked for something that is altered
-pub data IsJudged (tables : TablesValue) (v w : Workspace) (kept : Option Resolution) (id : MapId) (old new : List MapId) : Type 0 where
-  hit : IsAsked tables v w kept → new ≡ old ++ id ∷ [] → IsJudged tables v w kept id old new
-  missed : ((r : Resolution) → kept ≡ Some r → AgreeOn tables r.asked v no_maps w no_maps) → new ≡ old → IsJudged tables v w kept id old new
+-- the place is entered at a key that is altered
+pub record IsHit (tables : TablesValue) (v w : Workspace) (askers : Option KeyAskers) (id : MapId) : Type 0 where
+  pub key : Key
+  pub asked : has_asked_in askers key id ≡ true
+  pub altered : IsAltered tables v w key
 
--- these places were judged: the run of each that is hit asked for something that is altered, that of each other one didn't
-pub record AreJudged (tables : TablesValue) (v w : Workspace) (kept : Resolutions) (ids hits : List MapId) : Type 0 where
-  pub asked : (id : MapId) → Contains hits id → IsAsked tables v w (kept_in kept id)
-  pub missed : (id : MapId) (r : Resolution) → Contains ids id → kept_in kept id ≡ Some r → Contains hits id ⊎ AgreeOn tables r.asked v no_maps w no_maps
+-- these keys were judged: each place that is hit asked for one that is altered, and each place that asked for one that is altered is hit
+pub record AreJudged (tables : TablesValue) (v w : Workspace) (askers : Option KeyAskers) (hits : List MapId) : Type 0 where
+  pub asked : (id : MapId) → Contains hits id → IsHit tables v w askers id
+  pub missed : (key : Key) (id : MapId) → has_asked_in askers key id ≡ true → Contains hits id ⊎ (look tables w no_maps key ≡ look tables v no_maps key)
 
 -- the places are those whose run asked for something that is altered
 pub record AreHit (tables : TablesValue) (v w : Workspace) (kept : Resolutions) (hits : List MapId) : Type 0 where

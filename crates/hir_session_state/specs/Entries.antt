@@ -5,15 +5,15 @@ use Rattle.std.specs.Cmp.Lexicographic.{slice_cmp}
 use Rattle.std.specs.BTreeMap.{is_at, insert_entry}
 use Rattle.std.specs.Map.{lookup}
 use Rattle.std.specs.declared.cmp.Ordering.{Ordering}
-use Rattle.hir_base.specs.contracts.ids.CrateOrd.TheImpl as crate_order
-use Rattle.hir_base.specs.contracts.macro_kind.CallStyleOrd.TheImpl as style_order
-use Rattle.hir_base.specs.contracts.macro_kind.MacroTextOrd.TheImpl as text_order
-use Rattle.hir_base.specs.declared.macro_kind.ExpansionKey.{ExpansionKey}
-use Rattle.hir_item_tree.specs.Source.{SourceValue}
-use Rattle.hir_tables.specs.SourcePlaces.{ExpansionValue, expansion_value}
+use Rattle.hir_collector_rules.specs.HirIds.contracts.ids.CrateOrd.TheImpl as crate_order
+use Rattle.hir_collector_rules.specs.HirBase.contracts.macro_kind.CallStyleOrd.TheImpl as style_order
+use Rattle.hir_collector_rules.specs.HirBase.contracts.macro_kind.MacroTextOrd.TheImpl as text_order
+use Rattle.hir_collector_rules.specs.HirBase.declared.macro_kind.ExpansionKey.{ExpansionKey}
+use Rattle.hir_collector_rules.specs.HirItemTree.Source.{SourceValue}
+use Rattle.hir_collector_rules.specs.HirTables.SourcePlaces.{ExpansionValue, expansion_value}
 use Rattle.hir_collector_rules.specs.Workspace.{EntryLook}
 use Rattle.hir_collector_rules.specs.Keys.{absent_entry}
-use Rattle.hir_wire.specs.Edits.{EntryValue}
+use Rattle.hir_messages.specs.Edits.{EntryValue}
 
 -- what one expansion depends on is before what another does by its caller, then by the macro, by how that is called, by
 -- the input, and by the macros that the input reaches

@@ -4,7 +4,7 @@ use Rattle.std.specs.Ordering.{nat_cmp}
 use Rattle.std.specs.Cmp.Lexicographic.{slice_cmp}
 use Rattle.std.specs.BTreeMap.{is_at, insert_entry}
 use Rattle.std.specs.Map.{lookup}
-use Rattle.hir_item_tree.specs.Source.{SourceValue}
+use Rattle.hir_collector_rules.specs.HirItemTree.Source.{SourceValue}
 
 -- the sources of the files that are there, as they were handed in, in the order of their paths
 abbrev pub Files : Type 0

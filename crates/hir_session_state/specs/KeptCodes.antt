@@ -1,6 +1,6 @@
 -- How are kept resolutions stored?
 use Rattle.std.specs.Coded.{Coded, codes}
-use Rattle.hir_def_map_rules.specs.Inner.Codes.{coded_map}
+use Rattle.hir_collector_rules.specs.HirDefMapRules.Inner.Codes.{coded_map}
 use Rattle.hir_session_state.specs.Kept.{Resolutions}
 
 -- they are stored as the list of their ids and parts

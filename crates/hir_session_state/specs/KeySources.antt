@@ -1,11 +1,11 @@
 -- For which source does a key ask?
 use Rattle.std.specs.Prelude.{Option, Some, None, option_map}
 use Rattle.std.specs.Option.{option_and_then}
-use Rattle.hir_base.specs.declared.macro_kind.MacroId.{MacroId}
-use Rattle.hir_base.specs.declared.macro_kind.MacroId.TheVariants.{Macro2Id, MacroRulesId, ProcMacroId}
-use Rattle.hir_item_tree.specs.declared.tree_id.TreeKey.{TreeKey}
-use Rattle.hir_tables.specs.SourcePlaces.{SourcePlaceValue, expansion}
-use Rattle.hir_tables.specs.Tables.{TablesValue, entry_at, source_of}
+use Rattle.hir_collector_rules.specs.HirIds.declared.macro_kind.MacroId.{MacroId}
+use Rattle.hir_collector_rules.specs.HirIds.declared.macro_kind.MacroId.TheVariants.{Macro2Id, MacroRulesId, ProcMacroId}
+use Rattle.hir_collector_rules.specs.HirBase.declared.tree_id.TreeKey.{TreeKey}
+use Rattle.hir_collector_rules.specs.HirTables.SourcePlaces.{SourcePlaceValue, expansion}
+use Rattle.hir_collector_rules.specs.HirTables.Tables.{TablesValue, entry_at, source_of}
 use Rattle.hir_collector_rules.specs.Keys.{enum_key, macro_key, node_key}
 use Rattle.hir_collector_rules.specs.declared.source_database.Key.{Key}
 use Rattle.hir_collector_rules.specs.declared.source_database.Key.TheVariants.{Tree, Variants, Text, Input, Expansion, Map}

@@ -1,11 +1,11 @@
 -- Which places does an edit mark?
 use Rattle.std.specs.Prelude.{◌≡◌, ◌≢◌, true, Some, Contains}
-use Rattle.hir_base.specs.declared.ids.MapId.{MapId}
-use Rattle.hir_def_map_rules.specs.Overlay.{no_maps}
+use Rattle.hir_collector_rules.specs.HirIds.declared.ids.MapId.{MapId}
+use Rattle.hir_collector_rules.specs.HirDefMapRules.Overlay.{no_maps}
 use Rattle.hir_collector_rules.specs.Workspace.{Workspace}
 use Rattle.hir_collector_rules.specs.Keys.{look}
 use Rattle.hir_collector_rules.specs.declared.source_database.Key.{Key}
-use Rattle.hir_tables.specs.Tables.{TablesValue}
+use Rattle.hir_collector_rules.specs.HirTables.Tables.{TablesValue}
 use Rattle.hir_session_state.specs.SessionState.{SessionState, Resolution, workspace_of, follows, kept_of, is_marked}
 use Rattle.hir_session_state.specs.Spread.{Spread}
 

@@ -1,6 +1,6 @@
 -- How deep do items nest in one another?
 use Rattle.std.specs.Prelude.{ℕ, suc, max, Bool, false, nat_lt}
-use Rattle.hir_item_tree.specs.Source.{Item, Items, SourceValue, plain, holder, no_items, item, broken, unit}
+use Rattle.hir_collector_rules.specs.HirItemTree.Source.{Item, Items, SourceValue, plain, holder, no_items, item, broken, unit}
 
 abbrev mutual
   -- how many modules, traits, impls and extern blocks are in one another, the item itself among them

@@ -2,24 +2,24 @@
 use Rattle.std.specs.Prelude.{◌≡◌, ℕ, ◌+◌, Bool, false, true, ◌&&◌, not, nat_le, nat_lt, List, [], ◌∷◌, length, map, Option, Some, None, Result, Ok, Err}
 use Rattle.std.specs.Prelude.{if◌then◌else◌}
 use Rattle.std.specs.List.{list_all, list_any}
-use Rattle.hir_base.specs.declared.place.BlockPlace.{BlockPlace}
-use Rattle.hir_base.specs.declared.ids.Crate.{Crate}
-use Rattle.hir_base.specs.declared.limit.Limit.{Limit}
-use Rattle.hir_base.specs.declared.locations.LocationsError.{LocationsError}
-use Rattle.hir_base.specs.declared.macro_kind.MacroText.{MacroText}
-use Rattle.hir_base.specs.declared.place.PlaceElement.{PlaceElement}
-use Rattle.hir_base.specs.declared.locations.LocationsError.TheVariants as number_error
-use Rattle.hir_base.specs.declared.limit.Limit.TheVariants as limit
-use Rattle.hir_base.specs.declared.place.PlaceElement.TheVariants as element
-use Rattle.hir_tables.specs.SourcePlaces.{ExpansionValue}
-use Rattle.hir_item_tree.specs.Source.{SourceValue}
-use Rattle.hir_item_tree.specs.Check.{verdict_of_check}
-use Rattle.hir_item_tree.specs.Limits.{are_deep, have_long_attribute}
-use Rattle.hir_item_tree.specs.declared.check.CheckError.{CheckError}
-use Rattle.hir_item_tree.specs.declared.check.CheckError.TheVariants as check_error
-use Rattle.hir_wire.specs.CommandValue.{CrateInputValue}
-use Rattle.hir_wire.specs.declared.command.Dependency.{Dependency}
-use Rattle.hir_wire.specs.Edits.{EditValue, set_file, remove_file, set_block, remove_block, set_expansion, remove_expansion}
+use Rattle.hir_collector_rules.specs.HirBase.declared.place.BlockPlace.{BlockPlace}
+use Rattle.hir_collector_rules.specs.HirIds.declared.ids.Crate.{Crate}
+use Rattle.hir_collector_rules.specs.HirBase.declared.limit.Limit.{Limit}
+use Rattle.hir_collector_rules.specs.HirBase.declared.locations.LocationsError.{LocationsError}
+use Rattle.hir_collector_rules.specs.HirBase.declared.macro_kind.MacroText.{MacroText}
+use Rattle.hir_collector_rules.specs.HirBase.declared.place.PlaceElement.{PlaceElement}
+use Rattle.hir_collector_rules.specs.HirBase.declared.locations.LocationsError.TheVariants as number_error
+use Rattle.hir_collector_rules.specs.HirBase.declared.limit.Limit.TheVariants as limit
+use Rattle.hir_collector_rules.specs.HirBase.declared.place.PlaceElement.TheVariants as element
+use Rattle.hir_collector_rules.specs.HirTables.SourcePlaces.{ExpansionValue}
+use Rattle.hir_collector_rules.specs.HirItemTree.Source.{SourceValue}
+use Rattle.hir_collector_rules.specs.HirItemTree.Check.{verdict_of_check}
+use Rattle.hir_collector_rules.specs.HirItemTree.Limits.{are_deep, have_long_attribute}
+use Rattle.hir_collector_rules.specs.HirItemTree.declared.check.CheckError.{CheckError}
+use Rattle.hir_collector_rules.specs.HirItemTree.declared.check.CheckError.TheVariants as check_error
+use Rattle.hir_messages.specs.CommandValue.{CrateInputValue}
+use Rattle.hir_messages.specs.declared.command.Dependency.{Dependency}
+use Rattle.hir_messages.specs.Edits.{EditValue, set_file, remove_file, set_block, remove_block, set_expansion, remove_expansion}
 use Rattle.hir_session_state.specs.declared.error.NewSessionError.{NewSessionError}
 use Rattle.hir_session_state.specs.declared.error.NewSessionError.TheVariants as new_error
 use Rattle.hir_session_state.specs.declared.error.EditError.{EditError}

@@ -1,17 +1,17 @@
 -- Where does a session stand?
 use Rattle.std.specs.Prelude.{◌≡◌, ℕ, ◌<◌, ◌≤◌, Bool, true, false, List, [], ◌∷◌, length, is_none, Some, None, Option, option_map, Contains}
 use Rattle.std.specs.Option.{option_and_then}
-use Rattle.hir_base.specs.Place.{PlaceValue}
-use Rattle.hir_base.specs.declared.ast_id.BlockId.{BlockId}
-use Rattle.hir_base.specs.declared.place.BlockPlace.{BlockPlace}
-use Rattle.hir_base.specs.declared.ids.Crate.{Crate}
-use Rattle.hir_base.specs.declared.ids.MapId.{MapId}
-use Rattle.hir_base.specs.declared.ids.ModuleId.{ModuleId}
-use Rattle.hir_base.specs.declared.ast_id.SyntaxId.{SyntaxId}
-use Rattle.hir_def_map.specs.WorldParts.{among}
-use Rattle.hir_def_map_rules.specs.WellFormed.{HasNoDanglingExtern, HasNoDanglingReference}
-use Rattle.hir_def_map_rules.specs.Overlay.{Maps, holders_of, holders_under, overlay}
-use Rattle.hir_def_map_rules.specs.State.{crate_map}
+use Rattle.hir_collector_rules.specs.HirBase.Place.{PlaceValue}
+use Rattle.hir_collector_rules.specs.HirIds.declared.ast_id.BlockId.{BlockId}
+use Rattle.hir_collector_rules.specs.HirBase.declared.place.BlockPlace.{BlockPlace}
+use Rattle.hir_collector_rules.specs.HirIds.declared.ids.Crate.{Crate}
+use Rattle.hir_collector_rules.specs.HirIds.declared.ids.MapId.{MapId}
+use Rattle.hir_collector_rules.specs.HirIds.declared.ids.ModuleId.{ModuleId}
+use Rattle.hir_collector_rules.specs.HirIds.declared.ast_id.SyntaxId.{SyntaxId}
+use Rattle.hir_collector_rules.specs.HirNameres.WorldParts.{among}
+use Rattle.hir_collector_rules.specs.HirDefMapRules.WellFormed.{HasNoDanglingExtern, HasNoDanglingReference}
+use Rattle.hir_collector_rules.specs.HirDefMapRules.Overlay.{Maps, holders_of, holders_under, overlay}
+use Rattle.hir_collector_rules.specs.HirDefMapRules.State.{crate_map}
 use Rattle.hir_collector_rules.specs.Workspace.{Workspace}
 use Rattle.hir_collector_rules.specs.Calls.{AreCallsPlaced, IsMeantAt}
 use Rattle.hir_collector_rules.specs.Keys.{AgreeOn}
@@ -23,7 +23,7 @@ pub use Rattle.hir_session_state.specs.Kept.{Resolution}
 use Rattle.hir_session_state.specs.Kept.{Resolutions, collected_of, finished_by, kept_in}
 use Rattle.hir_session_state.specs.Standing.{Standing, definition_file, is_set, kept_block, module_by, standing_in}
 use Rattle.hir_session_state.specs.SourceTable.{SourceTable, workspace_in}
-use Rattle.hir_tables.specs.Tables.{TablesValue, block_at, file_at}
+use Rattle.hir_collector_rules.specs.HirTables.Tables.{TablesValue, block_at, file_at}
 
 -- the crates by number, what the numbers of sources mean, the files, blocks and expansions that are there,
 -- and what is kept of the places that were resolved

@@ -1,9 +1,9 @@
 -- What does an edit make of the sources?
 use Rattle.std.specs.Prelude.{◌≡◌, ℕ, ⊤, List, Option, Some, None}
-use Rattle.hir_item_tree.specs.Source.{SourceValue}
-use Rattle.hir_tables.specs.SourcePlaces.{ExpansionValue, SourcePlaceValue, file, block, expansion}
-use Rattle.hir_wire.specs.Edits.{EditValue, EntryValue, set_file, remove_file, set_block, remove_block, set_expansion, remove_expansion}
-use Rattle.hir_base.specs.declared.place.BlockPlace.{BlockPlace}
+use Rattle.hir_collector_rules.specs.HirItemTree.Source.{SourceValue}
+use Rattle.hir_collector_rules.specs.HirTables.SourcePlaces.{ExpansionValue, SourcePlaceValue, file, block, expansion}
+use Rattle.hir_messages.specs.Edits.{EditValue, EntryValue, set_file, remove_file, set_block, remove_block, set_expansion, remove_expansion}
+use Rattle.hir_collector_rules.specs.HirBase.declared.place.BlockPlace.{BlockPlace}
 use Rattle.hir_session_state.specs.Blocks.{blocks_with, place_of_block}
 use Rattle.hir_session_state.specs.Files.{edited_at}
 use Rattle.hir_session_state.specs.Entries.{entries_with, entry_at, look_of, source_of}

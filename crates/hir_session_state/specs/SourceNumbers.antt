@@ -1,12 +1,12 @@
 -- Which numbers have sources in the tables? No public clause speaks of this.
 use Rattle.std.specs.Prelude.{◌≡◌, Bool, false, Option, Some, None, option_map}
 use Rattle.std.specs.Option.{option_and_then}
-use Rattle.hir_base.specs.declared.ast_id.BlockId.{BlockId}
-use Rattle.hir_base.specs.declared.ast_id.HirFileId.{HirFileId}
-use Rattle.hir_base.specs.declared.ast_id.HirFileId.TheVariants as syntax
-use Rattle.hir_item_tree.specs.declared.tree_id.TreeKey.{TreeKey}
-use Rattle.hir_tables.specs.SourcePlaces.{SourcePlaceValue, file, block, expansion}
-use Rattle.hir_tables.specs.Tables.{TablesValue, HasEachOnce, block_at, call_at, entry_at, file_at}
+use Rattle.hir_collector_rules.specs.HirIds.declared.ast_id.BlockId.{BlockId}
+use Rattle.hir_collector_rules.specs.HirIds.declared.ast_id.HirFileId.{HirFileId}
+use Rattle.hir_collector_rules.specs.HirIds.declared.ast_id.HirFileId.TheVariants as syntax
+use Rattle.hir_collector_rules.specs.HirBase.declared.tree_id.TreeKey.{TreeKey}
+use Rattle.hir_collector_rules.specs.HirTables.SourcePlaces.{SourcePlaceValue, file, block, expansion}
+use Rattle.hir_collector_rules.specs.HirTables.Tables.{TablesValue, HasEachOnce, block_at, call_at, entry_at, file_at}
 use Rattle.hir_collector_rules.specs.Keys.{enum_key, node_key}
 use Rattle.hir_collector_rules.specs.declared.source_database.Key.{Key}
 use Rattle.hir_collector_rules.specs.declared.source_database.Key.TheVariants as keys

@@ -1,11 +1,11 @@
 -- What is handed in beside the crates?
 use Rattle.std.specs.Prelude.{ℕ, nat_eq, cond, List, Option, map}
 use Rattle.std.specs.Cmp.Lexicographic.{pointwise}
-use Rattle.hir_base.specs.CfgOptions.{is_set}
-use Rattle.hir_item_tree.specs.Attributes.{Attributes, no_attributes}
-use Rattle.hir_item_tree.specs.Source.{SourceValue}
-use Rattle.hir_item_tree.specs.SourceTree.{SourceTreeValue, source_tree_of}
-use Rattle.hir_tables.specs.SourcePlaces.{SourcePlaceValue, file, block, expansion}
+use Rattle.hir_collector_rules.specs.HirBase.CfgOptions.{is_set}
+use Rattle.hir_collector_rules.specs.HirItemTree.Attributes.{Attributes, no_attributes}
+use Rattle.hir_collector_rules.specs.HirItemTree.Source.{SourceValue}
+use Rattle.hir_collector_rules.specs.HirItemTree.SourceTree.{SourceTreeValue, source_tree_of}
+use Rattle.hir_collector_rules.specs.HirTables.SourcePlaces.{SourcePlaceValue, file, block, expansion}
 use Rattle.hir_collector_rules.specs.Workspace.{Workspace}
 use Rattle.hir_session_state.specs.Crates.{CrateValue, config_in, crate_in, options_in}
 use Rattle.hir_session_state.specs.Blocks.{Blocks, block_in, place_of_block}

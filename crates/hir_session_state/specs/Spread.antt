@@ -1,6 +1,6 @@
 -- Which places does a set of places reach?
 use Rattle.std.specs.Prelude.{List, Contains}
-use Rattle.hir_base.specs.declared.ids.MapId.{MapId}
+use Rattle.hir_collector_rules.specs.HirIds.declared.ids.MapId.{MapId}
 
 -- the least set that holds each place of P, and each that directly depends on one in it
 pub data Spread (follows : MapId → List MapId) (P : MapId → Type 0) : MapId → Type 0 where

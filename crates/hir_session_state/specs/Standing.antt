@@ -1,26 +1,26 @@
 -- Where do the steps of a place lead, in what is kept?
 use Rattle.std.specs.Prelude.{ℕ, Bool, ◌+◌, zero, suc, List, [], ◌∷◌, ◌++◌, Option, Some, None, option_map, is_some, cond}
 use Rattle.std.specs.Option.{option_and_then}
-use Rattle.hir_base.specs.Place.{PlaceValue}
-use Rattle.hir_base.specs.contracts.place.BlockPlacePartialEq.TheImpl as block_eq
-use Rattle.hir_base.specs.contracts.ids.MapIdPartialEq.TheImpl as map_id
-use Rattle.hir_base.specs.declared.ast_id.BlockId.{BlockId}
-use Rattle.hir_base.specs.declared.place.BlockPlace.{BlockPlace}
-use Rattle.hir_base.specs.declared.ids.Crate.{Crate}
-use Rattle.hir_base.specs.declared.ast_id.EditionedFileId.{EditionedFileId}
-use Rattle.hir_base.specs.declared.ast_id.HirFileId.{HirFileId}
-use Rattle.hir_base.specs.declared.macro_kind.MacroCallLoc.{MacroCallLoc}
-use Rattle.hir_base.specs.declared.ids.MapId.{MapId}
-use Rattle.hir_base.specs.declared.ids.ModuleId.{ModuleId}
-use Rattle.hir_base.specs.declared.place.PlaceElement.{PlaceElement}
-use Rattle.hir_base.specs.declared.ast_id.SyntaxId.{SyntaxId}
-use Rattle.hir_base.specs.declared.ast_id.HirFileId.TheVariants.{File, Macro}
-use Rattle.hir_base.specs.declared.place.PlaceElement.TheVariants as element
-use Rattle.hir_def_map_rules.specs.Diagnostics.{call_node}
-use Rattle.hir_def_map_rules.specs.State.{ModuleValue, child_at, crate_map, module_at, root_of}
-use Rattle.hir_def_map_rules.specs.declared.origin.ModuleOrigin.{ModuleOrigin}
-use Rattle.hir_def_map_rules.specs.declared.origin.ModuleOrigin.TheVariants as origin
-use Rattle.hir_tables.specs.Tables.{TablesValue, block_at, call_at}
+use Rattle.hir_collector_rules.specs.HirBase.Place.{PlaceValue}
+use Rattle.hir_collector_rules.specs.HirBase.contracts.place.BlockPlacePartialEq.TheImpl as block_eq
+use Rattle.hir_collector_rules.specs.HirIds.contracts.ids.MapIdPartialEq.TheImpl as map_id
+use Rattle.hir_collector_rules.specs.HirIds.declared.ast_id.BlockId.{BlockId}
+use Rattle.hir_collector_rules.specs.HirBase.declared.place.BlockPlace.{BlockPlace}
+use Rattle.hir_collector_rules.specs.HirIds.declared.ids.Crate.{Crate}
+use Rattle.hir_collector_rules.specs.HirIds.declared.ast_id.EditionedFileId.{EditionedFileId}
+use Rattle.hir_collector_rules.specs.HirIds.declared.ast_id.HirFileId.{HirFileId}
+use Rattle.hir_collector_rules.specs.HirBase.declared.macro_kind.MacroCallLoc.{MacroCallLoc}
+use Rattle.hir_collector_rules.specs.HirIds.declared.ids.MapId.{MapId}
+use Rattle.hir_collector_rules.specs.HirIds.declared.ids.ModuleId.{ModuleId}
+use Rattle.hir_collector_rules.specs.HirBase.declared.place.PlaceElement.{PlaceElement}
+use Rattle.hir_collector_rules.specs.HirIds.declared.ast_id.SyntaxId.{SyntaxId}
+use Rattle.hir_collector_rules.specs.HirIds.declared.ast_id.HirFileId.TheVariants.{File, Macro}
+use Rattle.hir_collector_rules.specs.HirBase.declared.place.PlaceElement.TheVariants as element
+use Rattle.hir_collector_rules.specs.HirDefMapRules.Diagnostics.{call_node}
+use Rattle.hir_collector_rules.specs.HirDefMapRules.State.{ModuleValue, child_at, crate_map, module_at, root_of}
+use Rattle.hir_collector_rules.specs.HirMapParts.declared.origin.ModuleOrigin.{ModuleOrigin}
+use Rattle.hir_collector_rules.specs.HirMapParts.declared.origin.ModuleOrigin.TheVariants as origin
+use Rattle.hir_collector_rules.specs.HirTables.Tables.{TablesValue, block_at, call_at}
 use Rattle.hir_session_state.specs.Blocks.{Blocks, block_in, place_of_block}
 use Rattle.hir_session_state.specs.Kept.{Resolution, Resolutions, kept_in}
 

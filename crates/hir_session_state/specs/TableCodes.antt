@@ -1,6 +1,6 @@
 -- How are sources stored?
 use Rattle.std.specs.Coded.{Coded, codes}
-use Rattle.hir_wire.specs.Edits.{EntryValue}
+use Rattle.hir_messages.specs.Edits.{EntryValue}
 use Rattle.hir_session_state.specs.SourceCodes.{coded_source}
 use Rattle.hir_session_state.specs.Entries.{Entries}
 use Rattle.hir_session_state.specs.SourceTable.{SourceTable}

@@ -1,14 +1,14 @@
 //! Attributes that are handed in for the top of a crate's root file.
 ghost use Rattle.std.specs.Prelude.{◌≡◌, IfOk, map};
 ghost use Rattle.std.specs.List.{list_any};
-ghost use Rattle.hir_item_tree.specs.Attributes.{attribute_view};
-ghost use Rattle.hir_wire.specs.CommandValue.{crate_input_view};
+ghost use Rattle.hir_collector_rules.specs.HirItemTree.Attributes.{attribute_view};
+ghost use Rattle.hir_messages.specs.CommandValue.{crate_input_view};
 ghost use Rattle.hir_session_state.specs.Refusals.{is_too_deep, is_too_long};
 
-use hir_item_tree::check::long_paths::any_long_attr;
-use hir_item_tree::check::nesting::deep_attrs;
-use hir_item_tree::raw_attr::RawAttr;
-use hir_wire::command::CrateInput;
+use hir_collector_rules::hir_item_tree::check::long_paths::any_long_attr;
+use hir_collector_rules::hir_item_tree::check::nesting::deep_attrs;
+use hir_collector_rules::hir_item_tree::raw_attr::RawAttr;
+use hir_messages::command::CrateInput;
 use std::alloc::{AllocError, Global};
 
 #[cycle(copy)]

@@ -1,28 +1,34 @@
 //! What is kept of the places that were resolved.
-ghost use Rattle.std.specs.Prelude.{◌≡◌, ◌≢◌, ◌↔◌, ◌+◌, ◌<◌, ◌^◌, IsTrue, true, None, Some, OnOk, OnErr, cond, is_some, length, option_map};
+ghost use Rattle.std.specs.Prelude.{◌≡◌, ◌≢◌, ◌↔◌, ◌+◌, ◌<◌, ◌≤◌, ◌^◌, [], IsTrue, true, false, None, Some, OnOk, OnErr, cond, is_some, length, option_map};
 ghost use Rattle.std.specs.List.Sorted.{IsStrictlySortedBy};
 ghost use Rattle.std.specs.Map.{keys_of as ids_of};
 ghost use Rattle.std.specs.Option.{option_and_then};
-ghost use Rattle.std.specs.BTreeMap.{get, IsUnchanged};
-ghost use Rattle.hir_base.specs.declared.ids.MapId.{MapId};
-ghost use Rattle.hir_base.specs.contracts.ids.MapIdOrd.TheImpl as map_order;
+ghost use Rattle.std.specs.BTreeMap.{btree_map_len, get, is_at, IsUnchanged, Updates};
+ghost use Rattle.std.specs.Vec.{vec_capacity};
+ghost use Rattle.hir_collector_rules.specs.HirIds.declared.ids.MapId.{MapId};
+ghost use Rattle.hir_collector_rules.specs.HirIds.contracts.ids.MapIdOrd.TheImpl as map_order;
 ghost use Rattle.hir_def_map.specs.Insertion.{may_join};
-ghost use Rattle.hir_def_map_rules.specs.References.{is_well_formed};
-ghost use Rattle.hir_def_map.specs.Removal.{Depends};
-ghost use Rattle.hir_def_map_rules.specs.Overlay.{holders_under, with_map};
+ghost use Rattle.hir_collector_rules.specs.HirDefMapRules.References.{is_well_formed};
+ghost use Rattle.hir_collector_rules.specs.HirNameres.Removal.{Depends};
+ghost use Rattle.hir_collector_rules.specs.HirDefMapRules.Overlay.{holders_under, with_map};
 ghost use Rattle.hir_collector_rules.specs.Derivation.{collected_view};
-ghost use Rattle.hir_def_map.specs.World.{finished_in, placed_of};
+ghost use Rattle.hir_collector_rules.specs.HirNameres.World.{finished_in, placed_of};
+ghost use Rattle.hir_collector_rules.specs.declared.source_database.Key.{Key};
+ghost use Rattle.hir_session_state.specs.declared.source_number.SourceNumber.{SourceNumber as Number};
+ghost use Rattle.hir_session_state.specs.Askers.{is_asker, AreDropped, Enters, HoldsExactly, IsSame, Leaves};
 ghost use Rattle.hir_session_state.specs.Kept.{finished_by, held, kept_in, names_in, leftover_of, was_limited, asked_of, keys_of, resolution_from, resolution_of, AreForgotten};
 
+use crate::askers::Askers;
 use crate::runs::{KeptRun, Runs};
-use hir_base::ids::{MapId, ModuleId};
 use hir_collector_rules::collected::{Asked, Collected};
+use hir_collector_rules::hir_base::ids::{MapId, ModuleId};
+use hir_collector_rules::hir_scope::imports::ImportOrExternCrate;
+use hir_collector_rules::hir_tables::Tables;
 use hir_def_map::nameres::DefMap;
 use hir_def_map::nameres::local_def_map::LocalDefMap;
 use hir_def_map::world::World;
 use hir_def_map::world::finished::Finished;
 use hir_def_map::world::insert::InsertError;
-use hir_scope::imports::ImportOrExternCrate;
 use std::alloc::{AllocError, Global};
 use std::marker::Model;
 
@@ -39,12 +45,12 @@ pub struct KeptResolution<'a> {
 }
 
 /// What is kept of each place that was resolved. Their maps stand in a world.
-///
-/// The run of a place whose map has fallen stays until the place is resolved again.
 #[derive(Drop)]
 pub struct Kept {
     world: World,
     runs: Runs,
+    /// The worklist of a removal: the places whose maps fell. Between two calls it is empty, with room for all.
+    fallen: Vec<MapId>,
 }
 
 impl Model for Kept {
@@ -58,6 +64,10 @@ impl Model for Kept {
     ghost use Rattle.hir_session_state.specs.Kept.{resolutions_in};
 
     ghost view = { λ k. resolutions_in k.world.maps k.runs.by_place };
+
+    ghost use Rattle.hir_def_map.specs.Inner.Dependents.{HasRoom};
+
+    ghost invariant = { λ k. HasRoom k.fallen k.world.maps };
 }
 
 fn leftover_in(run: Option<&KeptRun>) -> &[ImportOrExternCrate]
@@ -114,7 +124,7 @@ fn joined<'a>(
 }
 
 /// Adds a map that is complete beside the others.
-fn join(world: &mut World, map: DefMap, local: LocalDefMap) -> Result<(), AllocError>
+fn insert(world: &mut World, map: DefMap, local: LocalDefMap) -> Result<(), AllocError>
     requires may { may_join (finished_in world.old.maps) map local ≡ true }
     ensures maps { OnOk result ((id : MapId) → finished_in world.new.maps id ≡ with_map (finished_in world.old.maps) map local id) }
     ensures err { OnErr result (IsUnchanged world.old.maps world.new.maps) }
@@ -129,6 +139,76 @@ fn join(world: &mut World, map: DefMap, local: LocalDefMap) -> Result<(), AllocE
     }
 }
 
+/// The same. There is at most one map more then.
+fn join(world: &mut World, map: DefMap, local: LocalDefMap) -> Result<(), AllocError>
+    requires may { may_join (finished_in world.old.maps) map local ≡ true }
+    ensures maps { OnOk result ((id : MapId) → finished_in world.new.maps id ≡ with_map (finished_in world.old.maps) map local id) }
+    ensures len { OnOk result (btree_map_len world.new.maps ≤ btree_map_len world.old.maps + 1) }
+    ensures err { OnErr result (IsUnchanged world.old.maps world.new.maps) }
+{
+    let before = world.maps.len();
+    insert(world, map, local)?;
+    let after = world.maps.len();
+    prove!(after <= before + 1);
+    Ok(())
+}
+
+/// Makes room for the ids of all maps and of one more.
+fn make_room(fallen: &mut Vec<MapId>, world: &World) -> Result<(), AllocError>
+    ensures ok { OnOk result (btree_map_len world.now.maps + 1 ≤ vec_capacity fallen.new) }
+    ensures items { fallen.new.items ≡ fallen.old.items }
+    ensures capacity { vec_capacity fallen.old ≤ vec_capacity fallen.new }
+{
+    fallen.reserve(world.maps.len() + 1)
+}
+
+/// Keeps the run of a place, which asked for nothing yet, and enters it among those that asked for its keys.
+fn put_run(
+    runs: &mut Runs,
+    askers: &mut Askers,
+    tables: &Tables,
+    id: MapId,
+    run: KeptRun,
+) -> Result<(), AllocError>
+    requires fresh { (number : Number) (key : Key) → is_asker askers.old number key id ≡ false }
+    ensures here { OnOk result (get map_order.ghosts.cmp runs.new.by_place id ≡ Some run) }
+    ensures others { OnOk result ((j : MapId) → is_at (map_order.ghosts.cmp id) j ≡ false
+        → get map_order.ghosts.cmp runs.new.by_place j ≡ get map_order.ghosts.cmp runs.old.by_place j) }
+    ensures entered { OnOk result (Enters tables.now askers.old askers.new run.asked id) }
+    ensures err { OnErr result (IsUnchanged runs.old.by_place runs.new.by_place) }
+    ensures same { OnErr result (IsSame askers.old askers.new) }
+{
+    askers.enter(tables, &run.asked, id)?;
+    match runs.put(id, run) {
+        Ok(()) => Ok(()),
+        Err(run) => {
+            askers.leave(tables, &run.asked, id);
+            Err(AllocError)
+        }
+    }
+}
+
+/// Drops the run of a place, and takes the place out of those that asked for its keys.
+fn drop_run(runs: &mut Runs, askers: &mut Askers, tables: &Tables, id: MapId)
+    ensures runs { Updates map_order.ghosts.cmp runs.old.by_place runs.new.by_place id None }
+    ensures left { Leaves tables.now askers.old askers.new (asked_of (get map_order.ghosts.cmp runs.old.by_place id)) id }
+{
+    if let Some(run) = runs.take(id) {
+        askers.leave(tables, &run.asked, id);
+    }
+}
+
+/// The same of each place that fell, until none is left.
+fn drop_runs(runs: &mut Runs, askers: &mut Askers, tables: &Tables, fallen: &mut Vec<MapId>)
+    ensures none { fallen.new.items ≡ [] }
+    ensures capacity { vec_capacity fallen.new ≡ vec_capacity fallen.old }
+    ensures dropped { AreDropped tables.now fallen.old.items runs.old.by_place askers.old runs.new.by_place askers.new }
+{
+    'fall: while let Some(id) = fallen.pop() {
+        drop_run(runs, askers, tables, id);
+    }
+}
+
 impl Kept {
     /// Nothing kept of any place.
     pub fn new(alloc: Global) -> Kept
@@ -137,6 +217,7 @@ impl Kept {
         Kept {
             world: World::new(alloc),
             runs: Runs::new(alloc),
+            fallen: Vec::new(alloc),
         }
     }
 
@@ -154,42 +235,63 @@ impl Kept {
         joined(finished_at(&self.world, id), self.runs.get(id))
     }
 
-    /// Keeps what was found of a place, and what holds it. Its map names only what is kept of others.
-    pub fn keep(&mut self, found: Collected) -> Result<(), AllocError>
+    /// Keeps what was found of a place, and what holds it, and enters the place among those that asked for its keys. Its map
+    /// names only what is kept of others.
+    pub fn keep(
+        &mut self,
+        tables: &Tables,
+        askers: &mut Askers,
+        found: Collected,
+    ) -> Result<(), AllocError>
         requires free { kept_in self.old found.map.id ≡ None }
         requires complete { is_well_formed (finished_by self.old) found.map found.local ≡ true }
+        requires exact { HoldsExactly tables.now self.old askers.old }
         ensures here { OnOk result (kept_in self.new found.map.id
             ≡ Some (held (collected_view found) (holders_under (finished_by self.old) found.map.id found.map.holder))) }
         ensures others { OnOk result ((id : MapId) → id ≢ found.map.id → kept_in self.new id ≡ kept_in self.old id) }
+        ensures exact { HoldsExactly tables.now self.new askers.new }
         ensures err { OnErr result (self.new ≡ self.old) }
     {
+        make_room(&mut self.fallen, &self.world)?;
         let id = found.map.id();
         let run = KeptRun {
             leftover: found.leftover,
             round_limit_met: found.round_limit_met,
             asked: found.asked,
         };
-        self.runs.put(id, run)?;
-        join(&mut self.world, found.map, found.local)?;
-        Ok(())
+        put_run(&mut self.runs, askers, tables, id, run)?;
+        match join(&mut self.world, found.map, found.local) {
+            Ok(()) => Ok(()),
+            Err(refused) => {
+                drop_run(&mut self.runs, askers, tables, id);
+                Err(refused)
+            }
+        }
     }
 
-    /// Drops what is kept of a place, and of each that depends on it.
-    fn forget_one(&mut self, id: MapId)
+    /// Drops what is kept of a place, and of each that depends on it, and takes these out of those that asked for keys.
+    fn forget_one(&mut self, tables: &Tables, askers: &mut Askers, id: MapId)
+        requires exact { HoldsExactly tables.now self.old askers.old }
         ensures gone { (j : MapId) → Depends (names_in self.old) id j → kept_in self.new j ≡ None }
         ensures stay { (j : MapId) → ¬ Depends (names_in self.old) id j → kept_in self.new j ≡ kept_in self.old j }
+        ensures exact { HoldsExactly tables.now self.new askers.new }
     {
-        let _ = self.world.remove_with_dependents(id);
+        self.world.remove_with_dependents_into(id, &mut self.fallen);
+        drop_runs(&mut self.runs, askers, tables, &mut self.fallen);
     }
 
-    /// Drops what is kept of some places, and of each that depends on one of them.
+    /// Drops what is kept of some places, and of each that depends on one of them, and takes these out of those that asked for
+    /// keys.
     ///
-    /// Its cost grows with the maps that go and what these name, and hardly with those that stay.
-    pub fn forget(&mut self, ids: &Vec<MapId>)
+    /// It takes no memory. Its cost grows with the maps that go, what these name and the keys for which their runs asked, and
+    /// hardly with those that stay.
+    pub fn forget(&mut self, tables: &Tables, askers: &mut Askers, ids: &Vec<MapId>)
+        requires exact { HoldsExactly tables.now self.old askers.old }
         ensures forgotten { AreForgotten self.old ids.now.items self.new }
+        ensures exact { HoldsExactly tables.now self.new askers.new }
     {
         for id in ids {
-            self.forget_one(*id);
+            self.forget_one(tables, askers, *id);
         }
     }
 
@@ -212,17 +314,24 @@ impl Kept {
         }
     }
 
-    /// Drops what is kept of some places, and of each that depends on one of them; whether of every other place than this one what
-    /// was kept still is.
+    /// The same; whether of every other place than this one what was kept still is.
     ///
     /// It counts what is kept, so it costs no more than `forget`.
-    pub fn forget_around(&mut self, own: Option<MapId>, ids: &Vec<MapId>) -> bool
+    pub fn forget_around(
+        &mut self,
+        tables: &Tables,
+        askers: &mut Askers,
+        own: Option<MapId>,
+        ids: &Vec<MapId>,
+    ) -> bool
+        requires exact { HoldsExactly tables.now self.old askers.old }
         ensures forgotten { AreForgotten self.old ids.now.items self.new }
         ensures alone { IsTrue result ↔ ((id : MapId) → Some id ≢ own → kept_in self.new id ≡ kept_in self.old id) }
+        ensures exact { HoldsExactly tables.now self.new askers.new }
     {
         let before = self.len();
         let had = self.has(own);
-        self.forget(ids);
+        self.forget(tables, askers, ids);
         let has = self.has(own);
         is_as_many(before, has, self.len(), had)
     }

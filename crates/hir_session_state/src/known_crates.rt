@@ -1,10 +1,10 @@
 //! Whether a session has the crates that an edit names.
 ghost use Rattle.std.specs.Prelude.{◌≡◌, nat_lt};
 ghost use Rattle.std.specs.List.{list_all};
-ghost use Rattle.hir_tables.specs.SourcePlaces.{expansion_value};
+ghost use Rattle.hir_collector_rules.specs.HirTables.SourcePlaces.{expansion_value};
 ghost use Rattle.hir_session_state.specs.Refusals.{are_known};
 
-use hir_base::macro_kind::{ExpansionKey, MacroText};
+use hir_collector_rules::hir_base::macro_kind::{ExpansionKey, MacroText};
 
 /// Whether the macros are those of crates with numbers below this.
 fn are_below(count: usize, macros: &[MacroText]) -> bool

@@ -1,13 +1,13 @@
 //! What is kept of runs beside the maps.
-ghost use Rattle.std.specs.Prelude.{◌≡◌, false, Some, OnOk, OnErr, option_map};
-ghost use Rattle.std.specs.BTreeMap.{get, is_at, IsUnchanged};
-ghost use Rattle.hir_base.specs.declared.ids.MapId.{MapId};
-ghost use Rattle.hir_base.specs.contracts.ids.MapIdOrd.TheImpl as map_order;
+ghost use Rattle.std.specs.Prelude.{◌≡◌, false, None, Some, IfErr, OnOk, OnErr, option_map};
+ghost use Rattle.std.specs.BTreeMap.{get, is_at, IsUnchanged, Updates};
+ghost use Rattle.hir_collector_rules.specs.HirIds.declared.ids.MapId.{MapId};
+ghost use Rattle.hir_collector_rules.specs.HirIds.contracts.ids.MapIdOrd.TheImpl as map_order;
 
-use hir_base::ids::MapId;
 use hir_collector_rules::collected::Asked;
-use hir_scope::imports::ImportOrExternCrate;
-use std::alloc::{AllocError, Global};
+use hir_collector_rules::hir_base::ids::MapId;
+use hir_collector_rules::hir_scope::imports::ImportOrExternCrate;
+use std::alloc::Global;
 use std::collections::BTreeMap;
 
 /// What is kept of a run beside the map and the crates that its paths may begin with.
@@ -38,14 +38,28 @@ impl Runs {
         self.by_place.get(&id)
     }
 
-    /// Keeps the run of a place in place of its last.
-    pub fn put(&mut self, id: MapId, run: KeptRun) -> Result<(), AllocError>
+    /// Keeps the run of a place in place of its last, or hands it back where memory is refused.
+    pub fn put(&mut self, id: MapId, run: KeptRun) -> Result<(), KeptRun>
         ensures here { OnOk result (get map_order.ghosts.cmp self.new.by_place id ≡ Some run) }
         ensures others { OnOk result ((j : MapId) → is_at (map_order.ghosts.cmp id) j ≡ false
             → get map_order.ghosts.cmp self.new.by_place j ≡ get map_order.ghosts.cmp self.old.by_place j) }
+        ensures returned { IfErr result (λ r. r ≡ run) }
         ensures err { OnErr result (IsUnchanged self.old.by_place self.new.by_place) }
     {
-        self.by_place.insert(id, run)?;
-        Ok(())
+        match self.by_place.insert(id, run) {
+            Ok(_) => Ok(()),
+            Err(refused) => {
+                let (_, run) = refused.value;
+                Err(run)
+            }
+        }
+    }
+
+    /// Takes the last run of a place.
+    pub fn take(&mut self, id: MapId) -> Option<KeptRun>
+        ensures value { result ≡ get map_order.ghosts.cmp self.old.by_place id }
+        ensures updates { Updates map_order.ghosts.cmp self.old.by_place self.new.by_place id None }
+    {
+        self.by_place.remove(&id)
     }
 }

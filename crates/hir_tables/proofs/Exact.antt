@@ -7,12 +7,12 @@ use Rattle.std.specs.Option.{option_eq}
 use denote.Enum.Bare.{sameb, same_true}
 use mathlib.Core.Bool.{true≢false}
 use Rattle.hir_base.specs.Place.{PlaceValue}
-use Rattle.hir_base.specs.contracts.ast_id.AstKind.{the_type as ast_kinds}
-use Rattle.hir_base.specs.contracts.ast_id.AstIdPartialEq.TheImpl as ast_eq
-use Rattle.hir_base.specs.contracts.ast_id.BlockIdPartialEq.TheImpl as block_id_eq
-use Rattle.hir_base.specs.contracts.ast_id.HirFileIdPartialEq.TheImpl as hir_file_eq
-use Rattle.hir_base.specs.contracts.ast_id.SyntaxIdPartialEq.TheImpl as syntax_eq
-use Rattle.hir_base.specs.contracts.edition.Edition.{the_type as editions}
+use Rattle.hir_ids.specs.contracts.ast_id.AstKind.{the_type as ast_kinds}
+use Rattle.hir_ids.specs.contracts.ast_id.AstIdPartialEq.TheImpl as ast_eq
+use Rattle.hir_ids.specs.contracts.ast_id.BlockIdPartialEq.TheImpl as block_id_eq
+use Rattle.hir_ids.specs.contracts.ast_id.HirFileIdPartialEq.TheImpl as hir_file_eq
+use Rattle.hir_ids.specs.contracts.ast_id.SyntaxIdPartialEq.TheImpl as syntax_eq
+use Rattle.hir_ids.specs.contracts.edition.Edition.{the_type as editions}
 use Rattle.hir_base.specs.contracts.macro_kind.CallStylePartialEq.TheImpl as style_eq
 use Rattle.hir_base.specs.contracts.macro_kind.ExpansionKeyPartialEq.TheImpl as key_eq
 use Rattle.hir_base.specs.contracts.macro_kind.MacroCallKindPartialEq.TheImpl as kind_eq
@@ -25,18 +25,18 @@ use Rattle.hir_base.specs.contracts.place.BlockPlaceEq.TheImpl.Laws.{laws-law as
 use Rattle.hir_base.specs.contracts.place.BlockPlacePartialEq.TheImpl as block_eq
 use Rattle.hir_base.specs.contracts.place.PlaceElementPartialEq.TheImpl as element_eq
 use Rattle.hir_base.specs.contracts.place.PlacePartialEq.TheImpl as place_eq
-use Rattle.hir_base.specs.declared.ast_id.AstId.{AstId}
-use Rattle.hir_base.specs.declared.ast_id.BlockId.{BlockId}
+use Rattle.hir_ids.specs.declared.ast_id.AstId.{AstId}
+use Rattle.hir_ids.specs.declared.ast_id.BlockId.{BlockId}
 use Rattle.hir_base.specs.declared.place.BlockPlace.{BlockPlace}
 use Rattle.hir_base.specs.declared.macro_kind.CallStyle.{CallStyle}
 use Rattle.hir_base.specs.declared.macro_kind.ExpansionKey.{ExpansionKey}
-use Rattle.hir_base.specs.declared.ast_id.HirFileId.{HirFileId}
+use Rattle.hir_ids.specs.declared.ast_id.HirFileId.{HirFileId}
 use Rattle.hir_base.specs.declared.macro_kind.MacroCallKind.{MacroCallKind}
 use Rattle.hir_base.specs.declared.macro_kind.MacroCallLoc.{MacroCallLoc}
 use Rattle.hir_base.specs.declared.macro_kind.MacroText.{MacroText}
 use Rattle.hir_base.specs.declared.place.PlaceElement.{PlaceElement}
-use Rattle.hir_base.specs.declared.ast_id.SyntaxId.{SyntaxId}
-use Rattle.hir_base.specs.declared.ast_id.HirFileId.TheVariants as hir_file
+use Rattle.hir_ids.specs.declared.ast_id.SyntaxId.{SyntaxId}
+use Rattle.hir_ids.specs.declared.ast_id.HirFileId.TheVariants as hir_file
 use Rattle.hir_base.specs.declared.macro_kind.CallStyle.TheVariants as style
 use Rattle.hir_base.specs.declared.macro_kind.MacroCallKind.TheVariants as kind
 use Rattle.hir_base.specs.declared.place.PlaceElement.TheVariants as element

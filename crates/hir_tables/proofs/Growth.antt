@@ -1,9 +1,9 @@
 -- Tables that grow keep what their numbers mean.
 use Rattle.std.proofs.Common.{◌≡◌, Option, Some, None, refl, option_map}
 use Rattle.std.specs.Option.{option_and_then}
-use Rattle.hir_base.specs.declared.ast_id.BlockId.{BlockId}
-use Rattle.hir_base.specs.declared.ast_id.HirFileId.{HirFileId}
-use Rattle.hir_base.specs.declared.ast_id.HirFileId.TheVariants.{File, Macro}
+use Rattle.hir_ids.specs.declared.ast_id.BlockId.{BlockId}
+use Rattle.hir_ids.specs.declared.ast_id.HirFileId.{HirFileId}
+use Rattle.hir_ids.specs.declared.ast_id.HirFileId.TheVariants.{File, Macro}
 use Rattle.hir_tables.specs.Laws.{GrowthKeepsSources, GrowthIsTransitive, NoGrowthIsGrowth}
 use Rattle.hir_tables.specs.SourcePlaces.{SourcePlaceValue}
 use Rattle.hir_tables.specs.Tables.{TablesValue, KeepsTables, source_under, file_source, call_at}

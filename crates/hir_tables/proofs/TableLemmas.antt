@@ -8,10 +8,10 @@ use Rattle.hir_base.specs.contracts.macro_kind.MacroCallLocEq.TheImpl.Laws.{laws
 use Rattle.hir_base.specs.contracts.macro_kind.MacroCallLocPartialEq.TheImpl as call_eq
 use Rattle.hir_base.specs.contracts.place.BlockPlaceEq.TheImpl.Laws.{laws-law as block_laws}
 use Rattle.hir_base.specs.contracts.place.BlockPlacePartialEq.TheImpl as block_eq
-use Rattle.hir_base.specs.declared.ast_id.BlockId.{BlockId}
-use Rattle.hir_base.specs.declared.ast_id.EntryId.{EntryId}
-use Rattle.hir_base.specs.declared.ast_id.FileId.{FileId}
-use Rattle.hir_base.specs.declared.ast_id.MacroCallId.{MacroCallId}
+use Rattle.hir_ids.specs.declared.ast_id.BlockId.{BlockId}
+use Rattle.hir_ids.specs.declared.ast_id.EntryId.{EntryId}
+use Rattle.hir_ids.specs.declared.ast_id.FileId.{FileId}
+use Rattle.hir_ids.specs.declared.ast_id.MacroCallId.{MacroCallId}
 use Rattle.hir_tables.specs.SourcePlaces.{expansion_value}
 use Rattle.hir_tables.proofs.Exact.{decides_file, decides_block, decides_key, decides_call}
 use Rattle.hir_tables.proofs.PlainLemmas.{IsPlain, IsPlain-itself, IsPlain-mapped, IsId}

@@ -1,6 +1,6 @@
 -- What stays as tables grow?
 use Rattle.std.specs.Prelude.{◌≡◌, Some}
-use Rattle.hir_item_tree.specs.declared.tree_id.TreeId.{TreeId}
+use Rattle.hir_base.specs.declared.tree_id.TreeId.{TreeId}
 use Rattle.hir_tables.specs.SourcePlaces.{SourcePlaceValue}
 use Rattle.hir_tables.specs.Tables.{TablesValue, source_of, KeepsTables}
 

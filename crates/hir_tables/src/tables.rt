@@ -1,9 +1,9 @@
 //! The tables of files, blocks, expansions and macro calls.
 ghost use Rattle.std.specs.Prelude.{◌≡◌, ◌↔◌, [], OnOk, OnErr, IfOk, option_map, option_copied};
-ghost use Rattle.hir_base.specs.declared.ast_id.BlockId.{BlockId};
-ghost use Rattle.hir_base.specs.declared.ast_id.EntryId.{EntryId};
-ghost use Rattle.hir_base.specs.declared.ast_id.FileId.{FileId};
-ghost use Rattle.hir_base.specs.declared.ast_id.MacroCallId.{MacroCallId};
+ghost use Rattle.hir_ids.specs.declared.ast_id.BlockId.{BlockId};
+ghost use Rattle.hir_ids.specs.declared.ast_id.EntryId.{EntryId};
+ghost use Rattle.hir_ids.specs.declared.ast_id.FileId.{FileId};
+ghost use Rattle.hir_ids.specs.declared.ast_id.MacroCallId.{MacroCallId};
 ghost use Rattle.hir_tables.specs.Interning.{Interns, IsFull};
 ghost use Rattle.hir_tables.specs.SourcePlaces.{expansion_value, source_value};
 ghost use Rattle.hir_tables.specs.Tables.{file_at, block_at, entry_at, call_at, expansion_of, file_source, source_of, KeepsTables, HasEachOnce};
@@ -15,7 +15,7 @@ use hir_base::file_path::FilePath;
 use hir_base::locations::LocationsError;
 use hir_base::macro_kind::{ExpansionKey, MacroCallLoc};
 use hir_base::place::BlockPlace;
-use hir_item_tree::tree_id::TreeId;
+use hir_base::tree_id::TreeId;
 use std::alloc::Global;
 use std::marker::Model;
 

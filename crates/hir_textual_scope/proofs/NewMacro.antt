@@ -4,7 +4,7 @@ use Rattle.std.specs.Prelude.{nat_eq}
 use Rattle.std.specs.List.{last_or}
 use Rattle.std.specs.Cmp.Lexicographic.{pointwise, bytes_decides}
 use Rattle.std.proofs.lemmas.List.Elements.{All-cons, All-weaker}
-use Rattle.hir_base.specs.declared.macro_kind.MacroId.{MacroId}
+use Rattle.hir_ids.specs.declared.macro_kind.MacroId.{MacroId}
 use Rattle.hir_textual_scope.specs.Types.{TextualMacro}
 use Rattle.hir_textual_scope.specs.Macros.{has_name, macros_of}
 use Rattle.hir_textual_scope.specs.Node.{is_before, IsInOrder, with_named}

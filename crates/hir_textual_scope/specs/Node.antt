@@ -5,7 +5,7 @@ use Rattle.std.specs.Cmp.Lexicographic.{slice_cmp}
 use Rattle.std.specs.Ordering.{nat_cmp, is_lt}
 use Rattle.std.specs.declared.rc.Rc.{Rc}
 use Rattle.std.specs.declared.alloc.Global.{Global}
-use Rattle.hir_base.specs.declared.macro_kind.MacroId.{MacroId}
+use Rattle.hir_ids.specs.declared.macro_kind.MacroId.{MacroId}
 use Rattle.hir_textual_scope.specs.declared.textual_scope.TextualMacro.{TextualMacro}
 use Rattle.hir_textual_scope.specs.declared.node.Node.{Node}
 use Rattle.hir_textual_scope.specs.Macros.{has_name}

@@ -8,8 +8,8 @@ ghost use Rattle.hir_textual_scope.specs.Node.{macros_under, count_before, with_
 ghost use Rattle.hir_textual_scope.specs.Macros.{last_of};
 
 use crate::textual_scope::TextualMacro;
-use hir_base::macro_kind::MacroId;
-use hir_base::name::Name;
+use hir_ids::macro_kind::MacroId;
+use hir_ids::name::Name;
 use std::alloc::{AllocError, Global};
 use std::cmp::Ordering;
 use std::marker::Model;

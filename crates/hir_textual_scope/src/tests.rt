@@ -1,10 +1,10 @@
 //! Scopes that share, and large ones.
 use crate::textual_scope::TextualScope;
-use hir_base::ast_id::{EditionedFileId, FileId, HirFileId, SyntaxId};
-use hir_base::edition::Edition;
-use hir_base::ids::{Crate, MapId, ModuleId};
-use hir_base::macro_kind::{MacroCallStyles, MacroExpander, MacroId, MacroLoc, MacroRulesId};
-use hir_base::name::Name;
+use hir_ids::ast_id::{EditionedFileId, FileId, HirFileId, SyntaxId};
+use hir_ids::edition::Edition;
+use hir_ids::ids::{Crate, MapId, ModuleId};
+use hir_ids::macro_kind::{MacroCallStyles, MacroExpander, MacroId, MacroLoc, MacroRulesId};
+use hir_ids::name::Name;
 use std::alloc::Global;
 use std::test::Fail;
 

@@ -3,8 +3,8 @@ ghost use Rattle.std.specs.Prelude.{◌≡◌, ◌↔◌, [], drop, length, IsTr
 ghost use Rattle.hir_textual_scope.specs.Macros.{last_of, macros_of, with_macro};
 
 use crate::node::{self, Link};
-use hir_base::macro_kind::MacroId;
-use hir_base::name::Name;
+use hir_ids::macro_kind::MacroId;
+use hir_ids::name::Name;
 use std::alloc::{AllocError, Global};
 use std::marker::Model;
 
@@ -222,7 +222,7 @@ pub struct MacrosOf<'a> {
 
 impl<'a> Model for MacrosOf<'a> {
     ghost use Rattle.std.specs.Prelude.{List, drop};
-    ghost use Rattle.hir_base.specs.declared.macro_kind.MacroId.{MacroId};
+    ghost use Rattle.hir_ids.specs.declared.macro_kind.MacroId.{MacroId};
 
     ghost Value = { List MacroId };
 
@@ -236,7 +236,7 @@ impl<'a> Iterator for MacrosOf<'a> {
 
     ghost use Rattle.std.specs.Prelude.{List};
     ghost use Rattle.std.specs.Iterator.{YieldsFirst, item_count};
-    ghost use Rattle.hir_base.specs.declared.macro_kind.MacroId.{MacroId};
+    ghost use Rattle.hir_ids.specs.declared.macro_kind.MacroId.{MacroId};
 
     ghost next_gives = { YieldsFirst (λ (left : List MacroId). left) };
 

@@ -1,7 +1,7 @@
 -- How does the alias of an import print?
 use Rattle.std.specs.Prelude.{ℕ, List, codes, Some}
-use Rattle.hir_base.specs.Display.{shown}
-use Rattle.hir_base.specs.declared.edition.Edition.{Edition}
+use Rattle.hir_ids.specs.Display.{shown}
+use Rattle.hir_ids.specs.declared.edition.Edition.{Edition}
 use Rattle.hir_use_tree.specs.Types.{ImportAlias}
 use Rattle.hir_use_tree.specs.Types.import_aliases as aliases
 use Rattle.hir_use_tree.specs.declared.alias_display.ImportAliasDisplay.{ImportAliasDisplay}

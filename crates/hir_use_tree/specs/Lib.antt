@@ -7,3 +7,4 @@ pub mod Inner
 pub mod Laws
 pub mod Positions
 pub mod Types
+pub mod SharedPath

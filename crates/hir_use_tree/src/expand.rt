@@ -1,28 +1,31 @@
 //! The imports of a use tree, one by one, after rust-analyzer's `UseTree::expand`.
 //!
-//! A tree of many lists with long paths would take many times its size if the paths of all its leaves were there at
-//! once. So each leaf is handed out as it is met, and only the lists that are open are remembered, each with the one
-//! path before it.
+//! Each leaf is handed out as it is met, and only the lists that are open are remembered. A tree of many lists with long
+//! paths would take many times its size if the whole paths of all its leaves were there at once: so a leaf has its own
+//! part, and shares what stands before it with those beside it.
 ghost use Rattle.std.specs.Prelude.{◌≡◌, ℕ, ◌++◌, ◌+◌, ◌*◌, ◌<◌, ◌≤◌, ◌∷◌, [], IfOk, OnOk, OnErr, MatchOption};
 ghost use Rattle.std.specs.Option.{option_copied, option_to_list};
 ghost use Rattle.hir_use_tree.specs.Calls.{HandsOut, HandsOutPartly};
 ghost use Rattle.hir_use_tree.specs.Imports.{imports_of, imports_at, single_imports, glob_imports, joined_glob};
 ghost use Rattle.hir_use_tree.specs.Inner.Leaves.{level_imports, pending, step_imports, level_weight, weight, step_weight};
+ghost use Rattle.hir_use_tree.specs.SharedPath.{path_before};
 ghost use Rattle.hir_use_tree.specs.UseTree.{use_tree_view, tree_size};
 
 use crate::imports::{Import, ImportAlias, ImportKind};
 use crate::joined_path::{JoinedPath, join_path};
+use crate::shared_path::{Prefix, SharedPath, behind};
 use crate::use_tree::{UseTree, UseTreeKind, place_after};
 use hir_base::mod_path::ModPath;
 use std::alloc::{AllocError, Global};
 use std::collections::VecDeque;
+use std::rc::Rc;
 
 /// A list that is open: its trees that are left, the place of the first of them, and the path before them.
 #[derive(Drop)]
 struct Level<'a> {
     trees: &'a [UseTree],
     place: u32,
-    prefix: Option<ModPath>,
+    prefix: Option<Rc<Prefix>>,
 }
 
 /// What a tree is.
@@ -39,7 +42,7 @@ impl UseTree {
     /// its whole path, what it brings, and its alias. Where memory runs out, or the callback answers so, a beginning of
     /// the imports was handed out.
     pub fn expand<
-        F: FnMut(u32, ModPath, ImportKind, Option<ImportAlias>) -> Result<(), AllocError>,
+        F: FnMut(u32, SharedPath, ImportKind, Option<ImportAlias>) -> Result<(), AllocError>,
     >(&self, alloc: Global, cb: &mut F) -> Result<(), AllocError>
         requires callable { F.IsAlwaysCallable cb.old }
         ensures ok { OnOk result (HandsOut F.step cb.old (imports_of (use_tree_view self.now)) cb.new) }
@@ -63,7 +66,7 @@ fn opened(alloc: Global, tree: &UseTree) -> Result<VecDeque<Level<'_>>, AllocErr
     Ok(levels)
 }
 
-fn hand_out<F: FnMut(u32, ModPath, ImportKind, Option<ImportAlias>) -> Result<(), AllocError>>(
+fn hand_out<F: FnMut(u32, SharedPath, ImportKind, Option<ImportAlias>) -> Result<(), AllocError>>(
     alloc: Global,
     mut levels: VecDeque<Level<'_>>,
     cb: &mut F,
@@ -149,10 +152,11 @@ fn enter<'a>(levels: &mut VecDeque<Level<'a>>, step: Step<'a>) -> Result<Option<
 fn step_of<'a>(
     alloc: Global,
     place: u32,
-    prefix: Option<&ModPath>,
+    prefix: Option<&Rc<Prefix>>,
     tree: &'a UseTree,
 ) -> Result<Step<'a>, AllocError>
-    ensures value { IfOk result (λ s. step_imports s ≡ imports_at place (option_copied prefix.entry) (use_tree_view tree.now)) }
+    ensures value { IfOk result (λ s. step_imports s
+        ≡ imports_at place (path_before (option_copied prefix.entry)) (use_tree_view tree.now)) }
     ensures fewer { IfOk result (λ s. step_weight s < 2 * tree_size (use_tree_view tree.now)) }
 {
     match &tree.kind {
@@ -165,7 +169,7 @@ fn step_of<'a>(
             Ok(glob_step(place, joined))
         }
         UseTreeKind::Prefixed { prefix: None, list } => {
-            let prefix = copied(prefix)?;
+            let prefix = share(prefix)?;
             Ok(Step::List(Level {
                 trees: list.as_slice(),
                 place: place_after(place, 1),
@@ -179,15 +183,16 @@ fn step_of<'a>(
             JoinedPath::Whole(path) => Ok(Step::List(Level {
                 trees: list.as_slice(),
                 place: place_after(place, 1),
-                prefix: Some(path),
+                prefix: Some(Prefix::new(alloc, path)?),
             })),
             JoinedPath::Nothing | JoinedPath::Itself(_) => Ok(Step::Nothing),
         },
     }
 }
 
-fn copied(prefix: Option<&ModPath>) -> Result<Option<ModPath>, AllocError>
-    ensures value { IfOk result (λ p. p ≡ option_copied prefix.entry) }
+// The same prefix, without a copy.
+fn share(prefix: Option<&Rc<Prefix>>) -> Result<Option<Rc<Prefix>>, AllocError>
+    ensures value { IfOk result (λ p. path_before p ≡ path_before (option_copied prefix.entry)) }
 {
     match prefix {
         Some(prefix) => Ok(Some(prefix.clone()?)),
@@ -224,14 +229,15 @@ fn single_step<'a>(
 // The path of all names: its own, or the prefix.
 fn glob_path(
     alloc: Global,
-    prefix: Option<&ModPath>,
+    prefix: Option<&Rc<Prefix>>,
     path: &Option<ModPath>,
 ) -> Result<JoinedPath, AllocError>
-    ensures value { IfOk result (λ j. (place : ℕ) → joined_glob place j ≡ glob_imports place (option_copied prefix.entry) path.now) }
+    ensures value { IfOk result (λ j. (place : ℕ) → joined_glob place j
+        ≡ glob_imports place (path_before (option_copied prefix.entry)) path.now) }
 {
     match (path, prefix) {
         (Some(path), _) => join_path(alloc, prefix, path),
-        (None, Some(prefix)) => Ok(JoinedPath::Itself(prefix.clone()?)),
+        (None, Some(prefix)) => Ok(JoinedPath::Itself(behind(alloc, prefix, &[])?)),
         (None, None) => Ok(JoinedPath::Nothing),
     }
 }

@@ -1,7 +1,7 @@
 //! What an import of a use tree is: its path, what it brings, and its alias.
 ghost use Rattle.std.specs.Prelude.{◌≡◌, IfOk};
 
-use hir_base::mod_path::ModPath;
+use crate::shared_path::SharedPath;
 use hir_base::name::Name;
 use std::alloc::AllocError;
 
@@ -38,7 +38,7 @@ pub enum ImportKind {
 pub struct Import {
     /// The place of the leaf that writes it, among the parts of the tree in preorder.
     pub place: u32,
-    pub path: ModPath,
+    pub path: SharedPath,
     pub kind: ImportKind,
     pub alias: Option<ImportAlias>,
 }

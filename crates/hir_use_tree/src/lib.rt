@@ -9,4 +9,5 @@ pub mod joined_path;
 pub mod laws;
 pub mod limits;
 pub mod lower;
+pub mod shared_path;
 pub mod use_tree;

@@ -7,7 +7,7 @@ use Rattle.serde_json.specs.Read.{read}
 use Rattle.serde_json.specs.Written.{has_float}
 use Rattle.hir_wire.specs.Types.{Command, ReadError}
 use Rattle.hir_wire.specs.declared.read_error.ReadError.TheVariants as error
-use Rattle.hir_wire.specs.CommandValue.{command_view}
+use Rattle.hir_messages.specs.CommandValue.{command_view}
 use Rattle.hir_wire.specs.Commands.{command_of, data_of, reading_from}
 use Rattle.hir_wire.specs.Reading.{Reads, Tells}
 

@@ -4,8 +4,8 @@ use Rattle.std.specs.Str.{bytes_eq, is_utf8}
 use Rattle.serde_json.specs.Data.{Data, null, boolean, number, string, array, object, Members}
 use Rattle.serde_json.specs.Read.{read}
 use Rattle.serde_json.specs.Written.{has_float}
-use Rattle.hir_base.specs.declared.edition.Edition.{Edition}
-use Rattle.hir_base.specs.declared.edition.Edition.TheVariants as edition
+use Rattle.hir_ids.specs.declared.edition.Edition.{Edition}
+use Rattle.hir_ids.specs.declared.edition.Edition.TheVariants as edition
 use Rattle.hir_item_tree.specs.Attributes.{no_attributes}
 use Rattle.hir_wire.specs.Types.{Dependency, MacroStyle, Shadow}
 use Rattle.hir_wire.specs.Types.shadow
@@ -14,10 +14,10 @@ use Rattle.hir_wire.specs.declared.read.line.Verb.{Verb}
 use Rattle.hir_wire.specs.declared.read.line.Verb.TheVariants as verb
 use Rattle.hir_wire.specs.declared.read_error.ReadError.TheVariants.{Json, Command}
 use Rattle.hir_wire.specs.Attributes.{attributes_of}
-use Rattle.hir_wire.specs.CommandValue.{CommandValue, CrateInputValue, crate_modules, crates, diagnostics, dump, edit, file_modules, impl_items, names, refresh}
-use Rattle.hir_wire.specs.CommandValue.{resolve, status, trait_items, tree}
+use Rattle.hir_messages.specs.CommandValue.{CommandValue, CrateInputValue, crate_modules, crates, diagnostics, dump, edit, file_modules, impl_items, names, refresh}
+use Rattle.hir_messages.specs.CommandValue.{resolve, status, trait_items, tree}
 use Rattle.hir_wire.specs.Conditions.{option_of}
-use Rattle.hir_wire.specs.Edits.{set_file, remove_file, set_block, remove_block, set_expansion, remove_expansion}
+use Rattle.hir_messages.specs.Edits.{set_file, remove_file, set_block, remove_block, set_expansion, remove_expansion}
 use Rattle.hir_wire.specs.Expansions.{entry_in, key_of}
 use Rattle.hir_wire.specs.Nodes.{source_of}
 use Rattle.hir_wire.specs.Paths.{name_of, path_of, file_of, bool_of, crate_of, number_of, place_of, block_place_of}

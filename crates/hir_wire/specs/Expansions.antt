@@ -8,7 +8,7 @@ use Rattle.hir_base.specs.declared.macro_kind.MacroText.{MacroText}
 use Rattle.hir_base.specs.declared.macro_kind.CallStyle.TheVariants.{Bang, Derive, Attribute}
 use Rattle.hir_tables.specs.SourcePlaces.{ExpansionValue}
 use Rattle.hir_wire.specs.declared.read_error.ReadError.TheVariants.{Command}
-use Rattle.hir_wire.specs.Edits.{EntryValue}
+use Rattle.hir_messages.specs.Edits.{EntryValue}
 use Rattle.hir_wire.specs.Nodes.{source_of}
 use Rattle.hir_wire.specs.Paths.{crate_of, natural_of, of_two, text_of}
 use Rattle.hir_wire.specs.Reading.{Reading, made, paired, required, maybe, formed}

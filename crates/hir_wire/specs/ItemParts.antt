@@ -5,8 +5,8 @@ use Rattle.serde_json.specs.Data.{Data, Members}
 use Rattle.serde_json.specs.Find.{as_str}
 use Rattle.hir_item_tree.specs.Source.{NodeHead, import, extern_crate, function, constant, static_item, type_alias, macro_call, Item, plain, kind_step}
 use Rattle.hir_item_tree.specs.Source.{node_step}
-use Rattle.hir_item_tree.specs.declared.shape.ExternCrateName.{ExternCrateName}
-use Rattle.hir_item_tree.specs.declared.shape.ExternCrateName.TheVariants.{SelfCrate, Name}
+use Rattle.hir_base.specs.declared.shape.ExternCrateName.{ExternCrateName}
+use Rattle.hir_base.specs.declared.shape.ExternCrateName.TheVariants.{SelfCrate, Name}
 use Rattle.hir_item_tree.specs.declared.source.NodeKind.{NodeKind, fold-NodeKind}
 use Rattle.hir_wire.specs.Paths.{name_meant, name_of, path_of, text_as, text_of}
 use Rattle.hir_wire.specs.Reading.{Reading, made, paired, required, optional, maybe}

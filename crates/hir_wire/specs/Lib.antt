@@ -13,9 +13,9 @@ pub mod Structs
 pub mod Macros
 pub mod Nodes
 -- ---- Commands: what a line asks for
-pub mod Edits
+pub use Rattle.hir_messages.specs.Edits
 pub mod Expansions
-pub mod CommandValue
+pub use Rattle.hir_messages.specs.CommandValue
 pub mod Commands
 -- ---- Replies: the text of a reply
 pub mod Words

@@ -2,10 +2,10 @@
 use Rattle.std.specs.Prelude.{ℕ, List, [], ◌∷◌, false, ◌||◌, Option, Some, None, if◌then◌else◌, codes}
 use Rattle.std.specs.Str.{bytes_eq}
 use Rattle.serde_json.specs.Data.{Data, Members}
-use Rattle.hir_base.specs.MacroKind.{fn_like_alone, attr_alone, derive_alone}
-use Rattle.hir_base.specs.declared.macro_kind.MacroCallStyles.{MacroCallStyles}
-use Rattle.hir_base.specs.declared.macro_kind.MacroExpander.{MacroExpander}
-use Rattle.hir_base.specs.declared.macro_kind.MacroExpander.TheVariants as expander
+use Rattle.hir_ids.specs.MacroKind.{fn_like_alone, attr_alone, derive_alone}
+use Rattle.hir_ids.specs.declared.macro_kind.MacroCallStyles.{MacroCallStyles}
+use Rattle.hir_ids.specs.declared.macro_kind.MacroExpander.{MacroExpander}
+use Rattle.hir_ids.specs.declared.macro_kind.MacroExpander.TheVariants as expander
 use Rattle.hir_item_tree.specs.Source.{NodeHead, MacroValue, macro_rules, macro_def, Item, plain}
 use Rattle.hir_wire.specs.Paths.{name_of, text_of}
 use Rattle.hir_wire.specs.Reading.{Reading, made, paired, required, optional, word_as, list_of}

@@ -3,19 +3,19 @@ use Rattle.std.specs.Prelude.{ℕ, ◌^◌, List, Bool, Option, Some, None, opti
 use Rattle.serde_json.specs.Data.{Data, null, boolean, number, string, array, object, Items, no_items, item}
 use Rattle.serde_json.specs.Find.{as_bool, as_number, as_u64, as_array, as_str}
 use Rattle.hir_base.specs.ModPath.{Path}
-use Rattle.hir_base.specs.Name.{name_verdict}
+use Rattle.hir_ids.specs.Name.{name_verdict}
 use Rattle.hir_base.specs.ParseFile.{folded_path}
 use Rattle.hir_base.specs.ParsePath.{path_of_text}
 use Rattle.hir_base.specs.Place.{PlaceValue}
 use Rattle.hir_base.specs.declared.place.BlockPlace.{BlockPlace}
-use Rattle.hir_base.specs.declared.ids.Crate.{Crate}
-use Rattle.hir_base.specs.declared.name.NameError.{NameError}
+use Rattle.hir_ids.specs.declared.ids.Crate.{Crate}
+use Rattle.hir_ids.specs.declared.name.NameError.{NameError}
 use Rattle.hir_base.specs.declared.mod_path.ParseError.{ParseError}
 use Rattle.hir_base.specs.declared.place.PlaceElement.{PlaceElement}
-use Rattle.hir_base.specs.declared.ast_id.SyntaxId.{SyntaxId}
+use Rattle.hir_ids.specs.declared.ast_id.SyntaxId.{SyntaxId}
 use Rattle.hir_base.specs.declared.limit.Limit.TheVariants.{Name}
 use Rattle.hir_base.specs.declared.mod_path.ParseError.TheVariants as parse
-use Rattle.hir_base.specs.declared.name.NameError.TheVariants as naming
+use Rattle.hir_ids.specs.declared.name.NameError.TheVariants as naming
 use Rattle.hir_base.specs.declared.place.PlaceElement.TheVariants.{Module, Block}
 use Rattle.hir_wire.specs.declared.read_error.ReadError.TheVariants.{Command, TooLarge, Memory}
 use Rattle.hir_wire.specs.Reading.{Reading, made, paired, each_of, required, formed, if_there}

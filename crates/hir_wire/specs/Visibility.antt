@@ -4,7 +4,7 @@ use Rattle.std.specs.Str.{bytes_eq}
 use Rattle.serde_json.specs.Data.{Data, null, boolean, number, string, array, object}
 use Rattle.hir_raw_visibility.specs.declared.raw_visibility.RawVisibility.{RawVisibility}
 use Rattle.hir_raw_visibility.specs.declared.raw_visibility.RawVisibility.TheVariants as vis
-use Rattle.hir_raw_visibility.specs.declared.raw_visibility.VisibilityExplicitness.TheVariants.{Explicit, Implicit}
+use Rattle.hir_ids.specs.declared.explicitness.VisibilityExplicitness.TheVariants.{Explicit, Implicit}
 use Rattle.hir_wire.specs.declared.read_error.ReadError.TheVariants.{Command}
 use Rattle.hir_wire.specs.Paths.{path_of}
 use Rattle.hir_wire.specs.Reading.{Reading, made, required, formed}

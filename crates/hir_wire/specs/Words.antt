@@ -1,7 +1,7 @@
 -- Which words stand for kinds and statuses?
 use Rattle.std.specs.Prelude.{ℕ, List, codes}
-use Rattle.hir_base.specs.declared.ast_id.AstKind.{AstKind}
-use Rattle.hir_base.specs.declared.ast_id.AstKind.TheVariants as kind
+use Rattle.hir_ids.specs.declared.ast_id.AstKind.{AstKind}
+use Rattle.hir_ids.specs.declared.ast_id.AstKind.TheVariants as kind
 use Rattle.hir_wire.specs.Types.{SourceKind, Status}
 use Rattle.hir_wire.specs.Types.source
 use Rattle.hir_wire.specs.Types.status

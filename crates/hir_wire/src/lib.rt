@@ -1,16 +1,11 @@
 //! Commands and replies as lines of JSON.
 #![tactic(auto)]
 
-pub mod answer;
-pub mod command;
-pub mod diagnostic;
-pub mod edit;
-pub mod items;
+pub use hir_messages::{answer, command, diagnostic, edit, items, names, reply};
+
 pub mod json;
-pub mod names;
 pub mod read;
 pub mod read_error;
-pub mod reply;
 pub mod write;
 
 pub use answer::{

@@ -91,6 +91,35 @@ fn fitting(site: &Site, meanings: Vec<Meaning>) -> Vec<Meaning> {
     meanings.into_iter().filter(|it| !drops_macros || !is_macro(it)).collect()
 }
 
+/// The names by which paths may name one of these, and where those that are written somewhere are declared.
+fn names_and_places(space: &Workspace, targets: &[Value]) -> (HashSet<String>, Vec<(Key, Position, Position)>) {
+    let (mut names, mut places) = (HashSet::new(), Vec::new());
+    for it in targets {
+        let place = it["crate"].as_u64().and_then(|krate| {
+            let mut node = it.clone();
+            if node["kind"] == "ProcMacro" {
+                node["kind"] = "Fn".into();
+            }
+            space.locate(krate as u32, &node)
+        });
+        match place {
+            Some(located) => {
+                names.insert(match &located.node.detail {
+                    Detail::Derive(it) => it.clone(),
+                    _ => located.node.name.to_string(),
+                });
+                places.push((located.file, located.span.start, located.span.end));
+            }
+            None => names.extend(space.described(it).1.rsplit("::").next().map(str::to_owned)),
+        }
+        // A crate's root is also named by where the path begins.
+        if it["kind"] == "CrateRoot" {
+            names.insert("crate".to_owned());
+        }
+    }
+    (names, places)
+}
+
 /// Whether an answer of the program has one of these definitions in a namespace that fits.
 fn names_one(site: &Site, reply: &Value, targets: &[Value]) -> bool {
     let namespaces: &[&str] = match (site.goes_on, site.context) {
@@ -348,33 +377,9 @@ impl<W: Write> Server<W> {
         let Some(space) = self.space.as_ref() else {
             return Ok(Vec::new());
         };
-        let mut names: HashSet<String> = HashSet::new();
+        let (mut names, declared) = names_and_places(space, targets);
         let mut made: BTreeSet<(Key, Position, Position)> = BTreeSet::new();
-        for it in targets {
-            let place = it["crate"].as_u64().and_then(|krate| {
-                let mut node = it.clone();
-                if node["kind"] == "ProcMacro" {
-                    node["kind"] = "Fn".into();
-                }
-                space.locate(krate as u32, &node)
-            });
-            match place {
-                Some(located) => {
-                    names.insert(match &located.node.detail {
-                        Detail::Derive(it) => it.clone(),
-                        _ => located.node.name.to_string(),
-                    });
-                    if with_declaration {
-                        made.insert((located.file, located.span.start, located.span.end));
-                    }
-                }
-                None => names.extend(space.described(it).1.rsplit("::").next().map(str::to_owned)),
-            }
-            // A crate's root is also named by where the path begins.
-            if it["kind"] == "CrateRoot" {
-                names.insert("crate".to_owned());
-            }
-        }
+        made.extend(declared.into_iter().filter(|_| with_declaration));
         let asked: Vec<u32> =
             (0..space.crates.all.len() as u32).filter(|it| space.crates.all[*it as usize].is_asked).collect();
         let files: BTreeSet<Key> = asked.iter().flat_map(|it| space.files(*it)).map(|it| it.0.clone()).collect();

@@ -71,21 +71,19 @@ impl<W: Write> Server<W> {
             // What is private to a block is imported by no path.
             let module: Vec<Step> = place.into_iter().take_while(|it| matches!(it, Step::Module(_))).collect();
             let paths = self.with_space(|it| it.importable(krate, &module, first, wanted))?.unwrap_or_default();
-            for path in paths.iter().take(MOST_PATHS) {
-                let names: Vec<String> = path.split("::").enumerate().map(segment).collect();
-                let edit = json!({
-                    "range": text.range_of(offset..offset),
-                    "newText": format!("{before}use {};{behind}", names.join("::")),
-                });
-                actions.push(json!({
-                    "title": format!("Import `{path}`"),
-                    "kind": KIND,
-                    "edit": {"changes": {self.uri(key): [edit]}},
-                }));
-            }
+            let range = text.range_of(offset..offset);
+            let uri = self.uri(key);
+            actions.extend(paths.iter().take(MOST_PATHS).map(|it| action(it, &uri, &range, [&before, &behind])));
         }
         Ok(())
     }
+}
+
+/// The action that imports a path, written in a range of a file with this before and behind it.
+fn action(path: &str, uri: &str, range: &Value, [before, behind]: [&str; 2]) -> Value {
+    let names: Vec<String> = path.split("::").enumerate().map(segment).collect();
+    let edit = json!({"range": range, "newText": format!("{before}use {};{behind}", names.join("::"))});
+    json!({"title": format!("Import `{path}`"), "kind": KIND, "edit": {"changes": {uri: [edit]}}})
 }
 
 fn segment((at, name): (usize, &str)) -> String {

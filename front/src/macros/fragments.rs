@@ -66,8 +66,7 @@ impl Fragment {
 
 /// What the fragment takes from the front of the input, as what the variable stands for, and how many tokens.
 pub(super) fn take_fragment(fragment: Fragment, input: &[Token], steps: &mut usize) -> Option<(Vec<Token>, usize)> {
-    let first = input.first();
-    if let Some(Token { kind: Kind::Group(Delimiter::None, inner), .. }) = first {
+    if let Some(Token { kind: Kind::Group(Delimiter::None, inner), .. }) = input.first() {
         let fits = match fragment {
             Fragment::Ident => matches!(&inner[..], [it] if it.word().is_some()),
             Fragment::Lifetime => matches!(&inner[..], [Token { kind: Kind::Lifetime(_), .. }]),
@@ -90,7 +89,20 @@ pub(super) fn take_fragment(fragment: Fragment, input: &[Token], steps: &mut usi
             return None;
         }
     }
-    let taken = match fragment {
+    if fragment == Fragment::Visibility {
+        let taken = visibility(input);
+        return Some((grouped(&input[..taken]), taken));
+    }
+    let taken = count_taken(fragment, input, steps).filter(|it| *it > 0)?;
+    let tokens = &input[..taken];
+    let stays = matches!(fragment, Fragment::Tree | Fragment::Ident | Fragment::Lifetime);
+    Some((if stays { tokens.to_vec() } else { grouped(tokens) }, taken))
+}
+
+/// How many tokens the fragment takes from the front of the input.
+fn count_taken(fragment: Fragment, input: &[Token], steps: &mut usize) -> Option<usize> {
+    let first = input.first();
+    Some(match fragment {
         Fragment::Tree => 1 + usize::from(first?.goes_on_in(input.get(1))),
         Fragment::Ident => usize::from(first?.word().is_some_and(|it| it != "_")),
         Fragment::Lifetime => usize::from(matches!(first?.kind, Kind::Lifetime(_))),
@@ -106,10 +118,7 @@ pub(super) fn take_fragment(fragment: Fragment, input: &[Token], steps: &mut usi
                 _ => from,
             }
         }
-        Fragment::Visibility => {
-            let taken = visibility(input);
-            return Some((grouped(&input[..taken]), taken));
-        }
+        Fragment::Visibility => visibility(input),
         Fragment::Expression => {
             if first?.is_word("let") || first?.is("=>") || first?.is(",") || first?.is(";") {
                 return None;
@@ -124,13 +133,7 @@ pub(super) fn take_fragment(fragment: Fragment, input: &[Token], steps: &mut usi
             false => by_syn::<Statement>(input, &[], steps)?,
         },
         Fragment::Item => item(input)?,
-    };
-    if taken == 0 {
-        return None;
-    }
-    let tokens = &input[..taken];
-    let stays = matches!(fragment, Fragment::Tree | Fragment::Ident | Fragment::Lifetime);
-    Some((if stays { tokens.to_vec() } else { grouped(tokens) }, taken))
+    })
 }
 
 /// The tokens kept together, so that another macro sees them as the one fragment that they are.

@@ -9,8 +9,8 @@ use serde_json::Value;
 use super::{expanded_note, place_at, question, Diagnostic, Report};
 use crate::question::{names_of, BUILTIN_TYPES};
 use crate::token::Span;
-use crate::unit::Detail;
-use crate::workspace::{Leads, Located, PastItem, Workspace};
+use crate::unit::{Detail, Id, Leaf};
+use crate::workspace::{Key, Leads, Located, PastItem, Workspace};
 
 /// An import that isn't resolved, while it is looked into.
 pub(super) struct Import {
@@ -29,6 +29,31 @@ pub(super) type Bound = HashSet<(u32, Vec<String>, String)>;
 
 /// A crate's number, and the names from its root.
 pub(super) type Module = (u32, Vec<String>);
+
+/// What is asked of those imports of a crate in whose paths a type may stand before the last name: which leaf, and the
+/// command. `leaves` are those of all its imports, each with its module and its path.
+pub(crate) fn past_items(
+    krate: u32,
+    is_old: bool,
+    leaves: &[(Vec<String>, &str)],
+    is_type_name: &dyn Fn(&str) -> bool,
+) -> Vec<(usize, String)> {
+    let mut types: HashMap<&str, bool> = HashMap::new();
+    let mut is_type = |name| *types.entry(name).or_insert_with(|| BUILTIN_TYPES.contains(&name) || is_type_name(name));
+    let mut asks = Vec::new();
+    for (number, (place, path)) in leaves.iter().enumerate() {
+        let Some((holder, _)) = path.rsplit_once("::").filter(|it| it.1 != "*") else {
+            continue;
+        };
+        if !holder.split("::").any(&mut is_type) {
+            continue;
+        }
+        let before = if is_old && prefixes(path, true)[0].starts_with("::") { "::" } else { "" };
+        let path = format!("{before}{}", path.trim_start_matches(before));
+        asks.push((number, question(krate, place, &path)));
+    }
+    asks
+}
 
 /// The path up to each of its names but the last. Of an import in the edition 2015 it counts from the crate's root.
 pub(super) fn prefixes(path: &str, is_old: bool) -> Vec<String> {
@@ -107,30 +132,24 @@ impl Workspace {
     pub(super) fn imports_past_items(&mut self, krate: u32, report: &mut Report) -> Result<()> {
         let times = self.times_resolved(krate);
         if self.past_items.get(&krate).map(|it| it.0) != Some(times) {
-            let types = self.types_in_imports(krate);
-            let is_old = self.crates.all[krate as usize].edition == "2015";
-            let mut asks = Vec::new();
-            let mut leaves_of = Vec::new();
+            let mut leaves: Vec<(Vec<String>, &str)> = Vec::new();
+            let mut items = Vec::new();
             for (key, module) in self.files(krate) {
-                for (node, leaves) in self.built(key).into_iter().flat_map(|it| it.uses()) {
-                    for (at, leaf) in leaves.iter().enumerate() {
-                        let Some((holder, _)) = leaf.path.rsplit_once("::").filter(|it| it.1 != "*") else {
-                            continue;
-                        };
-                        if !holder.split("::").any(|it| types.contains(it)) {
-                            continue;
-                        }
-                        let mut place = module.clone();
-                        place.extend(node.modules.iter().map(|it| it.to_string()));
-                        let before = if is_old && prefixes(&leaf.path, true)[0].starts_with("::") { "::" } else { "" };
-                        let path = format!("{before}{}", leaf.path.trim_start_matches(before));
-                        asks.push(question(krate, &place, &path));
-                        leaves_of.push(PastItem { file: key.clone(), node: node.id, leaf: at });
+                for (node, of_node) in self.built(key).into_iter().flat_map(|it| it.uses()) {
+                    for (at, leaf) in of_node.iter().enumerate() {
+                        let names = node.modules.iter().map(|it| it.to_string());
+                        leaves.push((module.iter().cloned().chain(names).collect(), &*leaf.path));
+                        items.push((key, node.id, at));
                     }
                 }
             }
-            let replies = self.ask_all(&asks)?;
-            let found = leaves_of.into_iter().zip(replies).filter(|it| !it.1["ok"]["stop"].is_null());
+            let is_old = self.crates.all[krate as usize].edition == "2015";
+            let asks = past_items(krate, is_old, &leaves, &|it| self.is_type_name(it));
+            let item = |(key, node, leaf): (&Key, Id, usize)| PastItem { file: key.clone(), node, leaf };
+            let items: Vec<PastItem> = asks.iter().map(|it| item(items[it.0])).collect();
+            let asks: Vec<String> = asks.into_iter().map(|it| it.1).collect();
+            let replies = self.ask_unnoted(&asks)?;
+            let found = items.into_iter().zip(replies).filter(|it| !it.1["ok"]["stop"].is_null());
             let found = found.map(|it| it.0).collect();
             self.past_items.insert(krate, (times, found));
         }
@@ -139,33 +158,24 @@ impl Workspace {
                 continue;
             };
             if let Detail::Use(leaves) = &node.detail {
-                let leaf = &leaves[*at];
-                let (holder, name) = leaf.path.rsplit_once("::").unwrap_or(("", &leaf.path));
-                report.diagnostics.push(Diagnostic {
-                    place: place_at(key, leaf.span),
-                    kind: "unresolved import".to_owned(),
-                    code: Some("E0432"),
-                    message: format!("unresolved import `{}`", leaf.path),
-                    label: format!("no `{name}` in `{holder}`"),
-                    krate: self.crates.all[krate as usize].title.clone(),
-                    notes: Vec::new(),
-                    related: Vec::new(),
-                });
+                report.diagnostics.push(self.past_item_diagnostic(krate, key, &leaves[*at]));
             }
         }
         Ok(())
     }
 
-    /// The names within paths of a crate's imports that a type may have.
-    pub(super) fn types_in_imports(&self, krate: u32) -> HashSet<String> {
-        let mut within: HashSet<&str> = HashSet::new();
-        for (_, leaves) in self.files(krate).iter().filter_map(|it| self.built(&it.0)).flat_map(|it| it.uses()) {
-            let holders = leaves.iter().filter_map(|it| it.path.rsplit_once("::"));
-            within.extend(holders.flat_map(|it| it.0.split("::")));
+    fn past_item_diagnostic(&self, krate: u32, key: &Key, leaf: &Leaf) -> Diagnostic {
+        let (holder, name) = leaf.path.rsplit_once("::").unwrap_or(("", &leaf.path));
+        Diagnostic {
+            place: place_at(key, leaf.span),
+            kind: "unresolved import".to_owned(),
+            code: Some("E0432"),
+            message: format!("unresolved import `{}`", leaf.path),
+            label: format!("no `{name}` in `{holder}`"),
+            krate: self.crates.all[krate as usize].title.clone(),
+            notes: Vec::new(),
+            related: Vec::new(),
         }
-        let builtin = BUILTIN_TYPES.iter().copied().filter(|it| within.contains(it));
-        let declared = within.iter().copied().filter(|it| self.is_type_name(it));
-        builtin.chain(declared).map(str::to_owned).collect()
     }
 
     pub(super) fn import(&self, krate: u32, it: &Value) -> Option<Import> {

@@ -9,6 +9,8 @@
 //! Rounds of expansions in which derives alone are found count among those after which a crate stops. A crate in which so
 //! many macros may be found that it could come to that keeps its derives.
 
+use serde::{Deserialize, Serialize};
+
 use super::attributes::{builtin_name, conditional, expander_of, is_builtin, paths_of};
 use crate::syntax::{Attribute, Item, ItemKind, UseTree};
 use crate::token::{Kind, Token};
@@ -17,13 +19,18 @@ use crate::token::{Kind, Token};
 pub const NAMES: [&str; 8] = ["Clone", "Copy", "Debug", "Eq", "Hash", "Ord", "PartialEq", "PartialOrd"];
 
 /// Some of these names.
-#[derive(Clone, Copy, PartialEq, Eq, Default, Debug)]
+#[derive(Clone, Copy, PartialEq, Eq, Hash, Default, Debug, Serialize, Deserialize)]
 pub struct Derives(u8);
 
 impl Derives {
     /// The name, if it is one of them.
     pub fn of(name: &str) -> Derives {
         Derives(NAMES.iter().position(|it| *it == name).map_or(0, |it| 1 << it))
+    }
+
+    /// Whether it is none of them.
+    pub fn is_none(self) -> bool {
+        self.0 == 0
     }
 
     /// Whether a path is one of these names.

@@ -16,18 +16,18 @@ use crate::syntax::{Block, Call, Item, ItemKind, Unit};
 use crate::token::Hash;
 use crate::unit::{build_blocks, build_without, place_json, quoted, steps_of, Built, BuiltBlock, Known, Step, Without};
 
-/// What a file is to the program, and the blocks in it where the program takes them.
+/// What a file is to the program, and the blocks in it where these are handed in.
 pub(super) fn built_of(
     unit: &Unit,
     options: &Options,
     without: Without,
     replaced: &HashMap<Hash, Arc<Unit>>,
     expanded: Expanded,
-    takes_blocks: bool,
+    hands_in_blocks: bool,
 ) -> (Built, Vec<BuiltBlock>) {
     let replaced = |call: &Call| replaced.get(&call.identity).cloned();
     let known = Known { replaced: &replaced, expanded: &|call| expanded.with_blocks(call) };
-    let blocks = if takes_blocks { build_blocks(unit, options, known) } else { Vec::new() };
+    let blocks = if hands_in_blocks { build_blocks(unit, options, known) } else { Vec::new() };
     (build_without(unit, options, &replaced, without), blocks)
 }
 
@@ -111,10 +111,9 @@ impl Workspace {
         crates.iter().flat_map(|it| &self.states[*it as usize].files).map(|it| it.0.clone()).collect()
     }
 
-    /// Adds the commands for those of these files whose unit is another than the one that was handed in. Answers the
-    /// files that were built.
-    pub(super) fn build_files(&mut self, keys: Vec<Key>, lines: &mut Vec<String>) -> Result<HashSet<Key>> {
-        let mut work: Vec<(Key, u32, Vec<Arc<Unit>>)> = Vec::new();
+    /// Those of these files that aren't what was handed in, each with its crate and with what stands in place of its calls.
+    fn due_files(&self, keys: Vec<Key>) -> Vec<(Key, u32, Vec<Arc<Unit>>)> {
+        let mut work = Vec::new();
         let mut seen = HashSet::new();
         let same =
             |a: &[Arc<Unit>], b: &[Arc<Unit>]| a.len() == b.len() && a.iter().zip(b).all(|(a, b)| Arc::ptr_eq(a, b));
@@ -143,14 +142,22 @@ impl Workspace {
                 work.push((key, krate as u32, replaced));
             }
         }
-        let (all, parsed, replaced, takes_blocks) = (&self.crates.all, &self.parsed, &self.replaced, self.takes_blocks);
+        work
+    }
+
+    /// Adds the commands for those of these files whose unit is another than the one that was handed in. Answers the
+    /// files that were built.
+    pub(super) fn build_files(&mut self, keys: Vec<Key>, lines: &mut Vec<String>) -> Result<HashSet<Key>> {
+        let work = self.due_files(keys);
+        let (all, parsed, replaced, has_blocks) =
+            (&self.crates.all, &self.parsed, &self.replaced, self.hands_in_blocks());
         let (states, cache, moved, is_brief) = (&self.states, &self.cache, &self.moved, self.is_brief);
         let made = on_threads(&work, |(key, krate, _)| {
             let (parsed, krate) = (&parsed[key], *krate);
             let expanded = Expanded { krate, state: &states[krate as usize], cache, moved };
             let options = &all[krate as usize].options;
             let without = Without { derives: left_out_of(key, states), associated: is_brief };
-            let (mut built, blocks) = built_of(&parsed.unit, options, without, replaced, expanded, takes_blocks);
+            let (mut built, blocks) = built_of(&parsed.unit, options, without, replaced, expanded, has_blocks);
             if parsed.error.is_some() {
                 built.json = "\"broken\"".to_owned();
             }
@@ -178,7 +185,7 @@ impl Workspace {
     /// Adds the commands for the blocks that are others than those that were handed in, of the crates that were walked, and
     /// of those with a file that was built.
     pub(super) fn set_blocks(&mut self, walked: &[u32], built: &HashSet<Key>, lines: &mut Vec<String>) {
-        if !self.takes_blocks {
+        if !self.hands_in_blocks() {
             return;
         }
         let has_built = |it: &CrateState| built.iter().any(|key| it.places.contains_key(key));

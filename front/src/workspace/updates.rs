@@ -9,6 +9,7 @@ use anyhow::Result;
 use super::files::{key_of, parse, parse_text, path_of_key};
 use super::hand_in::built_of;
 use super::left_out::left_out_of;
+use super::looked_at::looked_at;
 use super::{Key, Parsed, Sent, Workspace};
 use crate::syntax::Unit;
 use crate::token::Hash;
@@ -83,11 +84,16 @@ impl Workspace {
         let Some(sent) = self.sent.get(key).filter(|_| self.refused.iter().all(|it| it.0 != *key)) else {
             return false;
         };
+        // Of what blocks bring, what doesn't end is told although they aren't handed in.
+        if self.is_brief && looked_at(&sent.unit) != looked_at(&parsed.unit) {
+            return false;
+        }
         self.moved.get_mut().unwrap_or_else(PoisonError::into_inner).clear();
         let (options, expanded) = (&self.crates.all[krate as usize].options, self.expanded(krate));
         let left_out = left_out_of(key, &self.states);
         let without = Without { derives: left_out, associated: self.is_brief };
-        let (built, blocks) = built_of(&parsed.unit, options, without, &self.replaced, expanded, self.takes_blocks);
+        let has_blocks = self.hands_in_blocks();
+        let (built, blocks) = built_of(&parsed.unit, options, without, &self.replaced, expanded, has_blocks);
         let is_same = |it: (&BuiltBlock, &BuiltBlock)| it.0.is_same(it.1);
         let are_same = blocks.len() == sent.blocks.len() && blocks.iter().zip(&sent.blocks).all(is_same);
         if built.json != sent.built.json || left_out != sent.left_out || !are_same {

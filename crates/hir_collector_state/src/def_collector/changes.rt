@@ -1,10 +1,10 @@
 //! Which slots may have changed.
 ghost use Rattle.std.specs.Prelude.{◌≡◌, IsSome, None};
-ghost use Rattle.hir_def_map_rules.specs.State.{variants_at};
-ghost use Rattle.hir_import_rules.specs.Changed.{everything};
+ghost use Rattle.hir_collector_rules.specs.HirDefMapRules.State.{variants_at};
+ghost use Rattle.hir_collector_rules.specs.HirImportRules.Changed.{everything};
 
-use hir_base::ids::EnumId;
-use hir_def_map::nameres::DefMap;
+use hir_collector_rules::hir_base::ids::EnumId;
+use hir_collector_rules::hir_nameres::nameres::DefMap;
 use hir_import_growth::Changed;
 
 /// All slots may have changed where an enum gets variants that has some.

@@ -2,8 +2,8 @@
 #![tactic(auto, unfolding(hir_collector_rules::specs::State::core_in))]
 
 ghost use Rattle.std.specs.Prelude.{◌≡◌, ◌<◌, true, false, length, option_map, OnOk};
-ghost use Rattle.hir_def_map.specs.WorldParts.{part_of};
-ghost use Rattle.hir_def_map_rules.specs.Macros.{with_derive_helper, with_exported, with_macro_data};
+ghost use Rattle.hir_collector_rules.specs.HirNameres.WorldParts.{part_of};
+ghost use Rattle.hir_collector_rules.specs.HirDefMapRules.Macros.{with_derive_helper, with_exported, with_macro_data};
 ghost use Rattle.hir_collector_rules.specs.State.{core_in, with_exported_function, with_map};
 ghost use Rattle.hir_collector_rules.specs.Attributes.{exports_from};
 ghost use Rattle.hir_collector_rules.specs.Calls.{called_macro, is_inert_now, kept_of, macro_among, suited};
@@ -12,21 +12,21 @@ ghost use Rattle.hir_collector_rules.specs.Changes.{with_derived};
 ghost use Rattle.hir_collector_state.specs.Waiting.{IsNoted, call_reads};
 
 use crate::def_collector::DefCollector;
-use hir_base::ast_id::AstId;
-use hir_base::ids::HasModule;
-use hir_base::macro_kind::{BuiltinDeriveImplId, MacroId, ProcMacroId};
 use hir_collector_rules::exported::ExportedFunction;
+use hir_collector_rules::hir_base::ast_id::AstId;
+use hir_collector_rules::hir_base::ids::HasModule;
+use hir_collector_rules::hir_base::macro_kind::{BuiltinDeriveImplId, MacroId, ProcMacroId};
+use hir_collector_rules::hir_nameres::def_maps::DefMaps;
+use hir_collector_rules::hir_nameres::nameres::DefMap;
+use hir_collector_rules::hir_nameres::nameres::derive_helpers::DeriveHelper;
+use hir_collector_rules::hir_nameres::nameres::macro_data::MacroData;
+use hir_collector_rules::hir_nameres::nameres::path_resolution::query::Query;
+use hir_collector_rules::hir_nameres::nameres::path_resolution::slots::PathSlots;
+use hir_collector_rules::hir_nameres::nameres::path_resolution::{BuiltinShadowMode, ResolveMode};
+use hir_collector_rules::hir_nameres::world::part::WorldPart;
+use hir_collector_rules::hir_scope::per_ns::PerNs;
 use hir_collector_rules::macro_directive::{MacroDirective, MacroDirectiveKind};
 use hir_collector_start::helpers::is_helper;
-use hir_def_map::def_maps::DefMaps;
-use hir_def_map::nameres::DefMap;
-use hir_def_map::nameres::derive_helpers::DeriveHelper;
-use hir_def_map::nameres::macro_data::MacroData;
-use hir_def_map::nameres::path_resolution::query::Query;
-use hir_def_map::nameres::path_resolution::slots::PathSlots;
-use hir_def_map::nameres::path_resolution::{BuiltinShadowMode, ResolveMode};
-use hir_def_map::world::part::WorldPart;
-use hir_scope::per_ns::PerNs;
 use std::alloc::AllocError;
 
 /// The macro among what a path reaches.

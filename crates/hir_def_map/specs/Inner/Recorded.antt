@@ -2,15 +2,15 @@
 use Rattle.std.specs.Prelude.{◌≡◌, ◌⊎◌, ◌&&◌, ◌||◌, Bool, true, not, is_none, List}
 use Rattle.std.specs.BTreeMap.{BTreeMap, is_at}
 use Rattle.std.specs.BTreeSet.{BTreeSet, contains}
-use Rattle.hir_base.specs.declared.ids.Crate.{Crate}
-use Rattle.hir_base.specs.declared.ids.MapId.{MapId}
-use Rattle.hir_base.specs.contracts.ids.MapIdOrd.TheImpl as map_order
-use Rattle.hir_base.specs.contracts.ids.MapIdPartialEq.TheImpl as map_id
-use Rattle.hir_crate_graph.specs.CrateSet.{has_crate}
-use Rattle.hir_def_map.specs.declared.world.finished.Finished.{Finished}
+use Rattle.hir_nameres.specs.HirIds.declared.ids.Crate.{Crate}
+use Rattle.hir_nameres.specs.HirIds.declared.ids.MapId.{MapId}
+use Rattle.hir_nameres.specs.HirIds.contracts.ids.MapIdOrd.TheImpl as map_order
+use Rattle.hir_nameres.specs.HirIds.contracts.ids.MapIdPartialEq.TheImpl as map_id
+use Rattle.hir_nameres.specs.HirCrateGraph.CrateSet.{has_crate}
+use Rattle.hir_nameres.specs.declared.world.finished.Finished.{Finished}
 use Rattle.hir_def_map_rules.specs.State.{Local, Map, crate_map}
 use Rattle.hir_def_map_rules.specs.References.{refers_to}
-use Rattle.hir_def_map.specs.Removal.{FallsWith, lists_in}
+use Rattle.hir_nameres.specs.Removal.{FallsWith, lists_in}
 
 -- a map falls with one that is recorded
 pub record IsCovered (maps : BTreeMap MapId Finished) (recorded : BTreeSet MapId) (id : MapId) : Type 0 where

@@ -4,10 +4,10 @@ ghost use Rattle.std.specs.List.{list_all};
 ghost use Rattle.hir_def_map.specs.Agreement.{agrees_at};
 
 use crate::world::World;
-use hir_base::ids::MapId;
+use hir_nameres::hir_base::ids::MapId;
 
 impl World {
-    #[tactic(auto, unfolding(crate::specs::World::finished_in))]
+    #[tactic(auto, unfolding(hir_nameres::specs::World::finished_in))]
     fn agrees_at(&self, other: &World, id: &MapId) -> bool
         ensures value { result ≡ agrees_at self.now.maps other.now.maps id.now }
     {

@@ -2,20 +2,20 @@
 ghost use Rattle.std.specs.Prelude.{◌≡◌, ◌+◌, ◌≤◌, None, Some, cond, IfErr, IfOk, OnOk, OnErr};
 ghost use Rattle.std.specs.Vec.{vec_capacity};
 ghost use Rattle.std.specs.BTreeMap.{btree_map_len, get, is_at, IsUnchanged, Updates};
-ghost use Rattle.hir_base.specs.contracts.ids.MapIdOrd.TheImpl as map_order;
-ghost use Rattle.hir_base.specs.declared.ids.MapId.{MapId};
+ghost use Rattle.hir_nameres.specs.HirIds.contracts.ids.MapIdOrd.TheImpl as map_order;
+ghost use Rattle.hir_nameres.specs.HirIds.declared.ids.MapId.{MapId};
 ghost use Rattle.hir_def_map_rules.specs.Overlay.{holders_under, with_map};
 ghost use Rattle.hir_def_map.specs.Inner.Dependents.{HasRoom, IsEntered, IsIndexed};
 ghost use Rattle.hir_def_map.specs.Insertion.{may_join, Inserts};
 ghost use Rattle.hir_def_map.specs.Inner.Recorded.{IsRecordedFor};
-ghost use Rattle.hir_def_map.specs.World.{finished_in, local_in};
+ghost use Rattle.hir_nameres.specs.World.{finished_in, local_in};
 
 use crate::nameres::DefMap;
 use crate::world::World;
 use crate::world::dependents::Dependents;
 use crate::world::finished::Finished;
-use hir_base::ids::{MapId, ModuleId};
 use hir_def_map_rules::local_def_map::LocalDefMap;
+use hir_nameres::hir_base::ids::{MapId, ModuleId};
 use std::alloc::AllocError;
 use std::collections::{BTreeMap, BTreeSet};
 
@@ -111,7 +111,7 @@ fn add_with_room(
 
 impl World {
     /// The modules that hold a map: that of its block, that of this one's block, and so on.
-    #[tactic(auto, unfolding(crate::specs::World::finished_in))]
+    #[tactic(auto, unfolding(hir_nameres::specs::World::finished_in))]
     fn holders_under(
         &self,
         id: MapId,

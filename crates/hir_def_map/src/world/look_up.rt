@@ -3,16 +3,16 @@ ghost use Rattle.std.specs.Prelude.{◌≡◌, option_map, length, slice_get};
 ghost use Rattle.hir_def_map_rules.specs.Overlay.{map_in};
 ghost use Rattle.hir_def_map_rules.specs.Ancestors.{frames_of, head_of, holders_of_frame};
 ghost use Rattle.hir_def_map_rules.specs.References.{crate_map};
-ghost use Rattle.hir_def_map.specs.World.{finished_in, local_in};
+ghost use Rattle.hir_nameres.specs.World.{finished_in, local_in};
 
 use crate::nameres::DefMap;
 use crate::world::World;
-use hir_base::ids::{Crate, MapId, ModuleId};
 use hir_def_map_rules::local_def_map::LocalDefMap;
+use hir_nameres::hir_base::ids::{Crate, MapId, ModuleId};
 
 impl World {
     /// The map of an id, where it is there.
-    #[tactic(auto, unfolding(crate::specs::World::finished_in))]
+    #[tactic(auto, unfolding(hir_nameres::specs::World::finished_in))]
     pub fn map(&self, id: MapId) -> Option<&DefMap>
         ensures value { option_map (λ m. m.now) result ≡ map_in (finished_in self.now.maps) id }
     {
@@ -33,7 +33,7 @@ impl World {
     }
 
     /// The module that holds the block of a map.
-    #[tactic(auto, unfolding(crate::specs::World::finished_in, hir_def_map_rules::specs::Ancestors::frames_of))]
+    #[tactic(auto, unfolding(hir_nameres::specs::World::finished_in, hir_def_map_rules::specs::Ancestors::frames_of))]
     pub fn holder(&self, id: MapId) -> Option<ModuleId>
         ensures value { result ≡ head_of (holders_of_frame (frames_of (finished_in self.now.maps) id)) }
     {

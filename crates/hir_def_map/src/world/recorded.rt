@@ -5,7 +5,7 @@
 ghost use Rattle.std.specs.Prelude.{◌≡◌, IfOk, OnOk, ◌||◌};
 ghost use Rattle.std.specs.List.{list_any};
 ghost use Rattle.std.specs.BTreeMap.{is_at};
-ghost use Rattle.hir_base.specs.contracts.ids.MapIdOrd.TheImpl as map_order;
+ghost use Rattle.hir_nameres.specs.HirIds.contracts.ids.MapIdOrd.TheImpl as map_order;
 ghost use Rattle.hir_def_map.specs.Insertion.{Gains};
 ghost use Rattle.hir_def_map.specs.Inner.Recorded.{AreCovered, GainsOnly, IsRecordedFor, Records, is_left_out};
 ghost use Rattle.hir_def_map_rules.specs.Inner.ReferenceLists.{any_listed, listed_besides, listed_in};
@@ -14,11 +14,11 @@ ghost use Rattle.hir_def_map_rules.specs.References.{any_own_crate, lies_in, tes
 use crate::nameres::DefMap;
 use crate::world::World;
 use crate::world::references::{MapReferences, ModuleReferences};
-use hir_base::ids::{Crate, MapId};
-use hir_crate_graph::CrateSet;
 use hir_def_map_rules::local_def_map::LocalDefMap;
 use hir_def_map_rules::module_data::ModuleData;
 use hir_def_map_rules::reference::Reference;
+use hir_nameres::hir_base::ids::{Crate, MapId};
+use hir_nameres::hir_crate_graph::CrateSet;
 use std::alloc::AllocError;
 use std::collections::BTreeSet;
 

@@ -2,15 +2,15 @@
 ghost use Rattle.std.specs.Prelude.{◌≡◌, ◌+◌, ◌++◌, ◌∷◌, ◌<◌, ◌≤◌, [], if◌then◌else◌, is_some, true, None};
 ghost use Rattle.std.specs.Vec.{vec_capacity, vec_len};
 ghost use Rattle.std.specs.BTreeMap.{btree_map_len, get, IsUnchanged, Updates};
-ghost use Rattle.hir_base.specs.declared.ids.MapId.{MapId};
-ghost use Rattle.hir_base.specs.contracts.ids.MapIdOrd.TheImpl as map_order;
+ghost use Rattle.hir_nameres.specs.HirIds.declared.ids.MapId.{MapId};
+ghost use Rattle.hir_nameres.specs.HirIds.contracts.ids.MapIdOrd.TheImpl as map_order;
 ghost use Rattle.hir_def_map.specs.Inner.Dependents.{HasRoom, IsIndexed};
-ghost use Rattle.hir_def_map.specs.Removal.{refers_in, Depends, GainsRemoved, IsClosed, IsFalling};
+ghost use Rattle.hir_nameres.specs.Removal.{refers_in, Depends, GainsRemoved, IsClosed, IsFalling};
 
 use crate::world::World;
 use crate::world::dependents::Dependents;
 use crate::world::finished::Finished;
-use hir_base::ids::MapId;
+use hir_nameres::hir_base::ids::MapId;
 use std::alloc::AllocError;
 use std::collections::BTreeMap;
 

@@ -3,7 +3,7 @@
 ghost use Rattle.std.specs.Prelude.{◌≡◌, is_some};
 ghost use Rattle.std.specs.List.{list_any};
 ghost use Rattle.hir_def_map_rules.specs.Overlay.{overlay, module_in, variants_in};
-ghost use Rattle.hir_def_map.specs.World.{finished_in};
+ghost use Rattle.hir_nameres.specs.World.{finished_in};
 ghost use Rattle.hir_def_map_rules.specs.Inner.ReferenceLists.{any_listed, listed_besides, listed_in};
 ghost use Rattle.hir_def_map.specs.Insertion.{may_join};
 ghost use Rattle.hir_def_map_rules.specs.References.{any_reference, is_holder_for, is_missing, is_well_formed, test_of};
@@ -11,14 +11,14 @@ ghost use Rattle.hir_def_map_rules.specs.References.{any_reference, is_holder_fo
 use crate::nameres::DefMap;
 use crate::world::World;
 use crate::world::references::{MapReferences, ModuleReferences};
-use hir_base::ids::{EnumId, MapId, ModuleId};
 use hir_def_map_rules::local_def_map::LocalDefMap;
 use hir_def_map_rules::module_data::ModuleData;
 use hir_def_map_rules::reference::Reference;
+use hir_nameres::hir_base::ids::{EnumId, MapId, ModuleId};
 
 impl World {
     /// Whether a module is there, in a finished map or in the current one.
-    #[tactic(auto, unfolding(crate::specs::World::finished_in))]
+    #[tactic(auto, unfolding(hir_nameres::specs::World::finished_in))]
     fn has_module(&self, map: &DefMap, id: ModuleId) -> bool
         ensures value { result ≡ is_some (module_in (overlay (finished_in self.now.maps) map.now) id) }
     {
@@ -32,7 +32,7 @@ impl World {
     }
 
     /// Whether the variants of an enum are there.
-    #[tactic(auto, unfolding(crate::specs::World::finished_in))]
+    #[tactic(auto, unfolding(hir_nameres::specs::World::finished_in))]
     fn has_enum(&self, map: &DefMap, id: EnumId) -> bool
         ensures value { result ≡ is_some (variants_in (overlay (finished_in self.now.maps) map.now) id) }
     {
@@ -45,7 +45,7 @@ impl World {
         }
     }
 
-    #[tactic(auto, unfolding(crate::specs::World::finished_in))]
+    #[tactic(auto, unfolding(hir_nameres::specs::World::finished_in))]
     fn has_map(&self, map: &DefMap, id: MapId) -> bool
         ensures value { result ≡ is_some (overlay (finished_in self.now.maps) map.now id) }
     {
@@ -124,7 +124,7 @@ impl World {
     }
 
     /// Whether the holder, if there is one, is a module of a finished map of the crate.
-    #[tactic(auto, unfolding(crate::specs::World::finished_in))]
+    #[tactic(auto, unfolding(hir_nameres::specs::World::finished_in))]
     fn is_holder_for(&self, id: MapId, holder: Option<ModuleId>) -> bool
         ensures value { result ≡ is_holder_for (finished_in self.now.maps) id holder }
     {
@@ -152,7 +152,7 @@ impl World {
     }
 
     /// Whether a map may join the finished ones.
-    #[tactic(auto, unfolding(crate::specs::World::finished_in))]
+    #[tactic(auto, unfolding(hir_nameres::specs::World::finished_in))]
     pub(crate) fn may_join(&self, map: &DefMap, local: &LocalDefMap) -> bool
         ensures value { result ≡ may_join (finished_in self.now.maps) map.now local.now }
     {

@@ -1,5 +1,5 @@
 -- Each change of a map adds only what the test doesn't hold of.
-use Rattle.hir_def_map_rules.proofs.StaysSourced.{HoldsNowhereIn-enum, HoldsNowhereIn-listed, HoldsNowhereIn-made, HoldsNowhereIn-pushed}
+use Rattle.hir_nameres.proofs.HirDefMapRules.StaysSourced.{HoldsNowhereIn-enum, HoldsNowhereIn-listed, HoldsNowhereIn-made, HoldsNowhereIn-pushed}
 use Rattle.hir_def_map_laws.proofs.building_keeps_to_sources.Goals as goal
 
 pub returns : goal.returns

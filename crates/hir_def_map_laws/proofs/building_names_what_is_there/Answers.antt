@@ -1,6 +1,6 @@
 -- Each part by itself.
-use Rattle.hir_def_map_rules.proofs.StaysWellFormed.{HasNoDanglingReference-enum, HasNoDanglingReference-listed, HasNoDanglingReference-made}
-use Rattle.hir_def_map_rules.proofs.StaysWellFormed.{HasNoDanglingReference-pushed, HasNoDanglingReference-scope}
+use Rattle.hir_nameres.proofs.HirDefMapRules.StaysWellFormed.{HasNoDanglingReference-enum, HasNoDanglingReference-listed, HasNoDanglingReference-made}
+use Rattle.hir_nameres.proofs.HirDefMapRules.StaysWellFormed.{HasNoDanglingReference-pushed, HasNoDanglingReference-scope}
 use Rattle.hir_def_map_laws.proofs.Updates.{updates_name}
 use Rattle.hir_def_map_laws.proofs.building_names_what_is_there.Goals as goal
 

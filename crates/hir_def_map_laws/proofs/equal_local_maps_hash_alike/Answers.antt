@@ -1,6 +1,6 @@
 -- The type's own laws say it.
-use Rattle.hir_def_map_rules.specs.Inner.LocalHash.{local_alike}
-use Rattle.hir_def_map_rules.specs.Equality.{same_local_equiv}
+use Rattle.hir_nameres.specs.HirMapParts.Inner.LocalHash.{local_alike}
+use Rattle.hir_nameres.specs.HirDefMapRules.Equality.{same_local_equiv}
 use Rattle.hir_def_map_laws.proofs.equal_local_maps_hash_alike.Goals as goal
 
 pub returns : goal.returns

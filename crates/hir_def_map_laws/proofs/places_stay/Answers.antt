@@ -1,10 +1,10 @@
 -- What lies above a module hangs on frames alone.
 use Rattle.std.proofs.Common.{◌≡◌}
-use Rattle.hir_base.specs.declared.ids.MapId.{MapId}
-use Rattle.hir_def_map_rules.specs.Overlay.{Maps}
-use Rattle.hir_def_map_rules.specs.Ancestors.{above_by, above_in, frames_of, holders_by}
-use Rattle.hir_def_map_rules.proofs.Grown.{frames_of-pushed}
-use Rattle.hir_def_map_rules.proofs.Listed.{frames_of-listed}
+use Rattle.hir_nameres.specs.HirIds.declared.ids.MapId.{MapId}
+use Rattle.hir_nameres.specs.HirDefMapRules.Overlay.{Maps}
+use Rattle.hir_nameres.specs.HirDefMapRules.Ancestors.{above_by, above_in, frames_of, holders_by}
+use Rattle.hir_nameres.proofs.HirDefMapRules.Grown.{frames_of-pushed}
+use Rattle.hir_nameres.proofs.HirDefMapRules.Listed.{frames_of-listed}
 use Rattle.hir_def_map_laws.specs.Building.{KeepsPlaces}
 use Rattle.hir_def_map_laws.proofs.places_stay.Goals as goal
 

@@ -1,5 +1,5 @@
 -- A path is followed in both maps at once.
-use Rattle.hir_def_map_rules.specs.Reaches.{by_import}
+use Rattle.hir_nameres.specs.HirDefMapRules.Reaches.{by_import}
 use Rattle.hir_def_map_laws.proofs.ReadLaw.{reads_decide}
 use Rattle.hir_def_map_laws.proofs.Whole.{StandsBeside-whole}
 use Rattle.hir_def_map_laws.proofs.reads_decide_answers.Goals as goal

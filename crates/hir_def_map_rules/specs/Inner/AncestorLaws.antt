@@ -4,11 +4,11 @@ use Rattle.std.specs.Prelude.{length, cond, nat_lt, option_map, All}
 use Rattle.std.proofs.Common.{refl, ap, sym, subst, ◌∙◌, inl, inr, arith}
 use Rattle.std.proofs.lemmas.Grind.{common_steps}
 use Rattle.std.proofs.lemmas.List.Elements.{All-cons, All-nil}
-use Rattle.hir_base.specs.declared.ids.Crate.{Crate}
-use Rattle.hir_base.specs.declared.ids.MapId.{MapId}
-use Rattle.hir_base.specs.declared.ids.ModuleId.{ModuleId}
+use Rattle.hir_scope.specs.HirIds.declared.ids.Crate.{Crate}
+use Rattle.hir_scope.specs.HirIds.declared.ids.MapId.{MapId}
+use Rattle.hir_scope.specs.HirIds.declared.ids.ModuleId.{ModuleId}
 use Rattle.hir_scope.specs.Bindings.{first_of}
-use Rattle.hir_scope.specs.ModuleTree.{chain_from, up_of, IsInOneCrate}
+use Rattle.hir_scope.specs.HirPerNs.ModuleTree.{chain_from, up_of, IsInOneCrate}
 use Rattle.hir_def_map_rules.specs.Overlay.{Maps}
 use Rattle.hir_def_map_rules.specs.State.{numbered}
 use Rattle.hir_def_map_rules.specs.Ancestors.{Frame, Frames, above_by, above_in, above_inside, above_under, ends_from, ends_within, frames_of, head_of}

@@ -1,7 +1,7 @@
 -- What is left to print of a map whose modules print one after another?
 use Rattle.std.specs.Prelude.{ℕ, zero, suc, List, [], ◌∷◌, ◌++◌, map, reverse, Option, None, Some}
 use Rattle.std.specs.List.{flat_map, fold}
-use Rattle.hir_base.specs.declared.ids.ModuleId.{ModuleId}
+use Rattle.hir_scope.specs.HirIds.declared.ids.ModuleId.{ModuleId}
 use Rattle.hir_def_map_rules.specs.State.{Map, ModuleValue}
 use Rattle.hir_def_map_rules.specs.Dump.{Page, page_text, next_page_text, pages_within, path_below}
 

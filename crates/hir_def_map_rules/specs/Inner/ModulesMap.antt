@@ -2,8 +2,8 @@
 use Rattle.std.specs.Prelude.{List, Bool, ◌&&◌, length, nat_lt, slice_set}
 use Rattle.std.specs.Borrow.{Lends, MutBor, Fml, Array}
 use Rattle.std.specs.List.{refill}
-use Rattle.hir_base.specs.declared.ids.ModuleId.{ModuleId}
-use Rattle.hir_base.specs.contracts.ids.MapIdPartialEq.TheImpl as map_id
+use Rattle.hir_scope.specs.HirIds.declared.ids.ModuleId.{ModuleId}
+use Rattle.hir_scope.specs.HirIds.contracts.ids.MapIdPartialEq.TheImpl as map_id
 use Rattle.hir_def_map_rules.specs.State.{Modules, ModuleValue}
 use Rattle.hir_def_map_rules.specs.contracts.modules_map.ModulesMap as modules_map
 use Rattle.hir_def_map_rules.specs.contracts.module_data.ModuleData as module_data

@@ -3,12 +3,12 @@ use Rattle.std.specs.Prelude.{◌≡◌, ◌==◌, Bool, true, false, ◌&&◌, 
 use Rattle.std.specs.Cmp.{unsigned_Decides, first_so, second_so}
 use Rattle.std.proofs.Common.{refl, ap, sym, subst, ◌∙◌}
 use mathlib.Core.Bool.{true≢false}
-use Rattle.hir_base.specs.declared.ast_id.BlockId.{BlockId}
-use Rattle.hir_base.specs.declared.ids.Crate.{Crate}
-use Rattle.hir_base.specs.declared.ids.MapId.{MapId}
-use Rattle.hir_base.specs.declared.ids.ModuleId.{ModuleId}
-use Rattle.hir_base.specs.contracts.ids.MapIdPartialEq.TheImpl as map_id
-use Rattle.hir_scope.specs.ModuleTree.{same_crate}
+use Rattle.hir_scope.specs.HirIds.declared.ast_id.BlockId.{BlockId}
+use Rattle.hir_scope.specs.HirIds.declared.ids.Crate.{Crate}
+use Rattle.hir_scope.specs.HirIds.declared.ids.MapId.{MapId}
+use Rattle.hir_scope.specs.HirIds.declared.ids.ModuleId.{ModuleId}
+use Rattle.hir_scope.specs.HirIds.contracts.ids.MapIdPartialEq.TheImpl as map_id
+use Rattle.hir_scope.specs.HirPerNs.ModuleTree.{same_crate}
 use Rattle.hir_def_map_rules.specs.State.{Local, Map}
 use Rattle.hir_def_map_rules.specs.Overlay.{Maps, Placed, overlay, holders_of, holders_or, holders_under, no_maps, placed_with, with_map}
 use Rattle.hir_def_map_rules.specs.Ancestors.{frame_of, frames_of, holders_of_frame, HolderLeads, IsPlaced}

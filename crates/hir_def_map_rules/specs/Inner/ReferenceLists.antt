@@ -1,20 +1,20 @@
 -- The references of a map, one after another, as the code walks over them; `None` stands for what has no reference.
 use Rattle.std.specs.Prelude.{ℕ, Bool, ◌||◌, List, [], ◌∷◌, ◌++◌, Option, None, Some, is_some, cond, map, option_map}
 use Rattle.std.specs.List.{list_any}
-use Rattle.hir_base.specs.declared.ids.Crate.{Crate}
-use Rattle.hir_base.specs.declared.ids.ExternCrateId.{ExternCrateId}
-use Rattle.hir_base.specs.declared.macro_kind.MacroId.{MacroId}
-use Rattle.hir_base.specs.declared.ids.MapId.{MapId}
-use Rattle.hir_base.specs.declared.ids.ModuleDefId.{ModuleDefId}
-use Rattle.hir_base.specs.declared.ids.ModuleId.{ModuleId}
-use Rattle.hir_base.specs.declared.ids.TraitId.{TraitId}
-use Rattle.hir_base.specs.declared.ids.UseId.{UseId}
+use Rattle.hir_scope.specs.HirIds.declared.ids.Crate.{Crate}
+use Rattle.hir_scope.specs.HirIds.declared.ids.ExternCrateId.{ExternCrateId}
+use Rattle.hir_scope.specs.HirIds.declared.macro_kind.MacroId.{MacroId}
+use Rattle.hir_scope.specs.HirIds.declared.ids.MapId.{MapId}
+use Rattle.hir_scope.specs.HirIds.declared.ids.ModuleDefId.{ModuleDefId}
+use Rattle.hir_scope.specs.HirIds.declared.ids.ModuleId.{ModuleId}
+use Rattle.hir_scope.specs.HirIds.declared.ids.TraitId.{TraitId}
+use Rattle.hir_scope.specs.HirIds.declared.ids.UseId.{UseId}
 use Rattle.hir_scope.specs.Scope.{ScopeValue}
-use Rattle.hir_scope.specs.declared.imports.ImportId.{ImportId}
-use Rattle.hir_scope.specs.declared.imports.ImportOrExternCrate.{ImportOrExternCrate}
-use Rattle.hir_scope.specs.declared.imports.ImportOrGlob.{ImportOrGlob}
-use Rattle.hir_scope.specs.declared.visibility.Visibility.{Visibility}
-use Rattle.hir_scope.specs.PerNs.{Item}
+use Rattle.hir_scope.specs.HirPerNs.declared.imports.ImportId.{ImportId}
+use Rattle.hir_scope.specs.HirPerNs.declared.imports.ImportOrExternCrate.{ImportOrExternCrate}
+use Rattle.hir_scope.specs.HirPerNs.declared.imports.ImportOrGlob.{ImportOrGlob}
+use Rattle.hir_scope.specs.HirPerNs.declared.visibility.Visibility.{Visibility}
+use Rattle.hir_scope.specs.HirPerNs.PerNs.{Item}
 use Rattle.hir_def_map_rules.specs.declared.reference.Reference.{Reference}
 use Rattle.hir_def_map_rules.specs.declared.reference.Reference.TheVariants as reference
 use Rattle.hir_def_map_rules.specs.References.{reference_to, test_of, visibility_reference}

@@ -1,9 +1,9 @@
 -- What does a path mean that is asked from inside a block?
 use Rattle.std.specs.Prelude.{ℕ, List, [], ◌∷◌, max, ◌&&◌, ◌||◌, not, is_some, Option, None, Some, cond}
-use Rattle.hir_base.specs.declared.ids.ModuleId.{ModuleId}
+use Rattle.hir_scope.specs.HirIds.declared.ids.ModuleId.{ModuleId}
 use Rattle.hir_base.specs.declared.mod_path.PathKind.{PathKind}
 use Rattle.hir_base.specs.declared.mod_path.PathKind.TheVariants as kinds
-use Rattle.hir_scope.specs.PerNs.{or_of}
+use Rattle.hir_scope.specs.HirPerNs.PerNs.{or_of}
 use Rattle.hir_def_map_rules.specs.Overlay.{Maps, map_in}
 use Rattle.hir_def_map_rules.specs.Ancestors.{holders_in}
 use Rattle.hir_def_map_rules.specs.Scoping.Asking.{Asking}

@@ -1,22 +1,22 @@
 -- What does the first segment of a path name in a module?
 use Rattle.std.specs.Prelude.{◌==◌, ℕ, ◌-◌, List, [], ◌∷◌, length, Bool, true, false, ◌&&◌, ◌||◌, is_some, Option, None, Some, cond, slice_get, option_and_then}
 use Rattle.std.specs.Prelude.{option_map}
-use Rattle.hir_base.specs.BuiltinType.{builtin_named}
-use Rattle.hir_base.specs.MacroKind.{styles_of}
-use Rattle.hir_base.specs.declared.builtin_type.BuiltinType.{BuiltinType as AnyBuiltin}
+use Rattle.hir_scope.specs.HirIds.BuiltinType.{builtin_named}
+use Rattle.hir_scope.specs.HirIds.MacroKind.{styles_of}
+use Rattle.hir_scope.specs.HirIds.declared.builtin_type.BuiltinType.{BuiltinType as AnyBuiltin}
 use Rattle.hir_base.specs.declared.resolve_mode.BuiltinShadowMode.{BuiltinShadowMode}
-use Rattle.hir_base.specs.declared.ids.ExternCrateId.{ExternCrateId}
-use Rattle.hir_base.specs.declared.macro_kind.MacroId.{MacroId}
+use Rattle.hir_scope.specs.HirIds.declared.ids.ExternCrateId.{ExternCrateId}
+use Rattle.hir_scope.specs.HirIds.declared.macro_kind.MacroId.{MacroId}
 use Rattle.hir_base.specs.declared.resolve_mode.MacroSubNs.{MacroSubNs}
-use Rattle.hir_base.specs.declared.ids.ModuleDefId.{ModuleDefId}
-use Rattle.hir_base.specs.declared.ids.UseId.{UseId}
-use Rattle.hir_base.specs.declared.ids.ModuleId.{ModuleId as AnyModule}
-use Rattle.hir_base.specs.declared.ids.ModuleDefId.TheVariants.{ModuleId, BuiltinType}
-use Rattle.hir_scope.specs.declared.imports.ImportOrExternCrate.{ImportOrExternCrate}
-use Rattle.hir_scope.specs.declared.per_ns.PerNs.{PerNs}
-use Rattle.hir_scope.specs.declared.imports.ImportOrExternCrate.TheVariants as ways
-use Rattle.hir_scope.specs.PerNs.{Item, nothing, types_only, macros_only, or_of}
-use Rattle.hir_scope.specs.declared.visibility.Visibility.TheVariants.{Public}
+use Rattle.hir_scope.specs.HirIds.declared.ids.ModuleDefId.{ModuleDefId}
+use Rattle.hir_scope.specs.HirIds.declared.ids.UseId.{UseId}
+use Rattle.hir_scope.specs.HirIds.declared.ids.ModuleId.{ModuleId as AnyModule}
+use Rattle.hir_scope.specs.HirIds.declared.ids.ModuleDefId.TheVariants.{ModuleId, BuiltinType}
+use Rattle.hir_scope.specs.HirPerNs.declared.imports.ImportOrExternCrate.{ImportOrExternCrate}
+use Rattle.hir_scope.specs.HirPerNs.declared.per_ns.PerNs.{PerNs}
+use Rattle.hir_scope.specs.HirPerNs.declared.imports.ImportOrExternCrate.TheVariants as ways
+use Rattle.hir_scope.specs.HirPerNs.PerNs.{Item, nothing, types_only, macros_only, or_of}
+use Rattle.hir_scope.specs.HirPerNs.declared.visibility.Visibility.TheVariants.{Public}
 use Rattle.hir_scope.specs.Scope.Reads.{last_legacy_at}
 use Rattle.hir_def_map_rules.specs.State.{Local, Map, ModuleValue, at_name, crate_root}
 use Rattle.hir_def_map_rules.specs.Overlay.{Maps, entry_in, map_in, module_in}

@@ -1,17 +1,17 @@
 -- Where does a path start?
 use Rattle.std.specs.Prelude.{ℕ, zero, suc, List, [], ◌∷◌, Bool, false, ◌&&◌, ◌||◌, not, is_some, Option, None, Some, cond, option_and_then}
 use Rattle.std.specs.List.{list_any}
-use Rattle.hir_base.specs.declared.ids.Crate.{Crate}
-use Rattle.hir_base.specs.declared.edition.Edition.{Edition}
+use Rattle.hir_scope.specs.HirIds.declared.ids.Crate.{Crate}
+use Rattle.hir_scope.specs.HirIds.declared.edition.Edition.{Edition}
 use Rattle.hir_base.specs.declared.mod_path.PathKind.{PathKind}
-use Rattle.hir_base.specs.declared.edition.Edition.TheVariants as editions
-use Rattle.hir_base.specs.declared.ids.ModuleId.{ModuleId as AnyModule}
-use Rattle.hir_base.specs.declared.ids.ModuleDefId.TheVariants.{ModuleId}
+use Rattle.hir_scope.specs.HirIds.declared.edition.Edition.TheVariants as editions
+use Rattle.hir_scope.specs.HirIds.declared.ids.ModuleId.{ModuleId as AnyModule}
+use Rattle.hir_scope.specs.HirIds.declared.ids.ModuleDefId.TheVariants.{ModuleId}
 use Rattle.hir_base.specs.declared.mod_path.PathKind.TheVariants as kinds
-use Rattle.hir_scope.specs.declared.per_ns.PerNs.{PerNs}
-use Rattle.hir_scope.specs.declared.visibility.Visibility.TheVariants.{Public}
-use Rattle.hir_scope.specs.ModuleTree.{same_block, same_crate}
-use Rattle.hir_scope.specs.PerNs.{types_only}
+use Rattle.hir_scope.specs.HirPerNs.declared.per_ns.PerNs.{PerNs}
+use Rattle.hir_scope.specs.HirPerNs.declared.visibility.Visibility.TheVariants.{Public}
+use Rattle.hir_scope.specs.HirPerNs.ModuleTree.{same_block, same_crate}
+use Rattle.hir_scope.specs.HirPerNs.PerNs.{types_only}
 pub use Rattle.hir_def_map_rules.specs.State.{crate_root}
 use Rattle.hir_def_map_rules.specs.State.{Map}
 use Rattle.hir_def_map_rules.specs.Overlay.{Maps, map_in, parent_in}

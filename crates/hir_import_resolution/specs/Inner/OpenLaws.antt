@@ -1,8 +1,8 @@
 -- Writes leave the finished maps beside the scopes.
 use Rattle.std.proofs.Common.{◌≡◌, sym, subst, refl, Option, None, Some}
-use Rattle.hir_scope.specs.declared.imports.GlobId.{GlobId}
-use Rattle.hir_scope.specs.declared.visibility.Visibility.{Visibility}
-use Rattle.hir_def_map.specs.WorldParts.{part_of}
+use Rattle.hir_nameres.specs.HirPerNs.declared.imports.GlobId.{GlobId}
+use Rattle.hir_nameres.specs.HirPerNs.declared.visibility.Visibility.{Visibility}
+use Rattle.hir_nameres.specs.WorldParts.{part_of}
 use Rattle.hir_glob_imports.specs.View.{Binds, IsNameTable, with_vis}
 use Rattle.hir_glob_imports.specs.declared.edge.Bound.{Bound}
 use Rattle.hir_glob_imports.specs.declared.edge.Key.{Key}

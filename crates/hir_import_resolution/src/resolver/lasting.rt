@@ -1,7 +1,7 @@
 //! Whether what was found out lasts as the map grows.
 ghost use Rattle.std.specs.Prelude.{◌≡◌, true, false, Some};
-ghost use Rattle.hir_base.specs.declared.ids.TraitId.{TraitId};
-ghost use Rattle.hir_scope.specs.declared.visibility.Visibility.{Visibility};
+ghost use Rattle.hir_nameres.specs.HirIds.declared.ids.TraitId.{TraitId};
+ghost use Rattle.hir_nameres.specs.HirPerNs.declared.visibility.Visibility.{Visibility};
 ghost use Rattle.hir_def_map_rules.specs.State.{module_at};
 ghost use Rattle.hir_def_map_laws.specs.ReadLaw.{stops_bare};
 ghost use Rattle.hir_import_resolution.specs.Inner.State.{with_lasting};
@@ -10,9 +10,9 @@ ghost use Rattle.hir_import_rules.specs.Names.{trait_vis};
 
 use crate::lasting::{has_variants, is_placed, is_trait_placed, stops_bare};
 use crate::resolver::Resolver;
-use hir_base::ids::TraitId;
-use hir_def_map::nameres::path_resolution::ResolvePathResult;
 use hir_glob_imports::Edge;
+use hir_nameres::hir_base::ids::TraitId;
+use hir_nameres::nameres::path_resolution::ResolvePathResult;
 
 impl Resolver<'_> {
     /// Notes whether a path stops at an enum that has no variants yet.

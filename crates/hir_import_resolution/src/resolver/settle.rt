@@ -83,7 +83,7 @@ impl Resolver<'_> {
         ensures many { result ≡ Err ImportError.TooMany → IsSpent (finished_by self.old) (state_by self.old) }
     {
         self.watch(i)?;
-        let Some(path) = self.path_at(i) else {
+        let Some(path) = self.path_at(i)? else {
             return Ok(());
         };
         self.note_stop(path);

@@ -12,17 +12,18 @@ use crate::answers::{
     answer, answer_of_crate, imported, kept, target_among, trait_among, visibility,
 };
 use crate::resolver::Resolver;
-use hir_base::ids::TraitId;
-use hir_base::name::Name;
-use hir_def_map::nameres::path_resolution::{ReachedFixedPoint, ResolvePathResult};
 use hir_glob_imports::{Edge, MAX_STEPS, Target};
 use hir_import_rules::directive::{ImportDirective, ImportSource, is_one_name};
 use hir_import_rules::error::ImportError;
 use hir_import_rules::namespaces::Namespaces;
 use hir_import_rules::taken::Taken;
-use hir_item_tree::shape::ImportKind;
-use hir_scope::per_ns::PerNs;
-use hir_scope::visibility::Visibility;
+use hir_nameres::hir_base::ids::TraitId;
+use hir_nameres::hir_base::mod_path::ModPath;
+use hir_nameres::hir_base::name::Name;
+use hir_nameres::hir_scope::per_ns::PerNs;
+use hir_nameres::hir_scope::visibility::Visibility;
+use hir_nameres::nameres::path_resolution::{ReachedFixedPoint, ResolvePathResult};
+use hir_use_tree::imports::ImportKind;
 use std::alloc::AllocError;
 
 /// What is to be done to take an import.
@@ -66,8 +67,9 @@ fn note_target(taken: &mut Vec<Taken>, i: usize, target: Target) -> Result<(), A
 }
 
 impl Resolver<'_> {
-    /// What the path of an import reaches.
-    fn path_answer(&self, import: &ImportDirective) -> ResolvePathResult
+    /// What a path reaches, which is that of an import.
+    fn answer_by(&self, import: &ImportDirective, path: &ModPath) -> ResolvePathResult
+        requires path { path.now ≡ import.now.path }
         ensures value { result ≡ path_answer (finished_by self.now) self.now.local self.now.scopes.map import.now }
     {
         answer(
@@ -75,17 +77,27 @@ impl Resolver<'_> {
             &self.local,
             self.scopes.world(),
             self.scopes.module_id(import.home),
-            &import.path,
+            path,
         )
     }
 
+    /// What the path of an import reaches.
+    fn path_answer(&self, import: &ImportDirective) -> Result<ResolvePathResult, AllocError>
+        ensures value { IfOk result (λ answer. answer ≡ path_answer (finished_by self.now) self.now.local self.now.scopes.map import.now) }
+    {
+        match import.path.as_path() {
+            Some(path) => Ok(self.answer_by(import, path)),
+            None => Ok(self.answer_by(import, &import.path.to_path(self.alloc)?)),
+        }
+    }
+
     /// What the path of the import at the place reaches, if there is one.
-    pub(crate) fn path_at(&self, i: usize) -> Option<ResolvePathResult>
-        ensures value { result ≡ option_map (path_answer (finished_by self.now) self.now.local self.now.scopes.map) (slice_get self.now.imports.items i) }
+    pub(crate) fn path_at(&self, i: usize) -> Result<Option<ResolvePathResult>, AllocError>
+        ensures value { IfOk result (λ answer. answer ≡ option_map (path_answer (finished_by self.now) self.now.local self.now.scopes.map) (slice_get self.now.imports.items i)) }
     {
         match self.imports.get(i) {
-            Some(import) => Some(self.path_answer(import)),
-            None => None,
+            Some(import) => Ok(Some(self.path_answer(import)?)),
+            None => Ok(None),
         }
     }
 

@@ -9,10 +9,10 @@ ghost use Rattle.hir_import_rules.specs.Lasting.{IsThere};
 
 use crate::lasting::is_there;
 use crate::resolver::Resolver;
-use hir_base::name::Name;
-use hir_def_map::nameres::path_resolution::slots::{PathSlots, Slot};
-use hir_def_map::nameres::path_resolution::{BuiltinShadowMode, ResolveMode};
 use hir_import_rules::directive::ImportSource;
+use hir_nameres::hir_base::name::Name;
+use hir_nameres::nameres::path_resolution::slots::{PathSlots, Slot};
+use hir_nameres::nameres::path_resolution::{BuiltinShadowMode, ResolveMode};
 use hir_worklist::{Watchers, Worklist};
 use std::alloc::AllocError;
 
@@ -92,11 +92,12 @@ impl Resolver<'_> {
         let ImportSource::Use { .. } = import.source else {
             return Ok(());
         };
+        let path = import.path.to_path(self.alloc)?;
         let slots = self.scopes.maps().path_slots(
             Some(&self.local),
             ResolveMode::Import,
             self.scopes.module_id(import.home),
-            &import.path,
+            &path,
             BuiltinShadowMode::Module,
             None,
         );

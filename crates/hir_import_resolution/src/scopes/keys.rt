@@ -1,21 +1,21 @@
 //! The keys at which something is bound, in the order in which a glob brings it.
 ghost use Rattle.std.specs.Prelude.{◌≡◌, ◌++◌, IfOk, OnOk, option_copied, option_map};
 ghost use Rattle.hir_def_map_rules.specs.Overlay.{overlay, variants_in};
-ghost use Rattle.hir_def_map.specs.WorldParts.{part_of};
+ghost use Rattle.hir_nameres.specs.WorldParts.{part_of};
 ghost use Rattle.hir_import_resolution.specs.KeyLists.{enum_keys, has_namespace, key_in, keys_among, keys_in, keys_of, name_keys, scope_in, scope_keys, trait_key, trait_keys, traits_in, variant_keys};
 ghost use Rattle.hir_import_resolution.specs.Scopes.{value_of};
 
 use crate::scopes::{OpenScopes, is_foreign, is_open, variant_items};
-use hir_base::ids::{EnumId, ModuleId, TraitId};
-use hir_base::name::Name;
-use hir_def_map::def_maps::DefMaps;
-use hir_def_map::nameres::enum_variants::EnumVariants;
-use hir_def_map::world::part::WorldPart;
 use hir_glob_imports::{Key, Target};
-use hir_scope::item_scope::ItemScope;
-use hir_scope::item_scope::iter::bindings::Bindings;
-use hir_scope::per_ns::{Namespace, PerNs};
-use hir_scope::visibility::Visibility;
+use hir_nameres::def_maps::DefMaps;
+use hir_nameres::hir_base::ids::{EnumId, ModuleId, TraitId};
+use hir_nameres::hir_base::name::Name;
+use hir_nameres::hir_scope::item_scope::ItemScope;
+use hir_nameres::hir_scope::item_scope::iter::bindings::Bindings;
+use hir_nameres::hir_scope::per_ns::{Namespace, PerNs};
+use hir_nameres::hir_scope::visibility::Visibility;
+use hir_nameres::nameres::enum_variants::EnumVariants;
+use hir_nameres::world::part::WorldPart;
 use std::alloc::{AllocError, Global};
 
 fn key_in(namespace: Namespace, name: &Name) -> Result<Key, AllocError>

@@ -1,22 +1,22 @@
 //! The names of a map that is built, as its imports read and write them.
 ghost use Rattle.std.specs.Prelude.{◌≡◌, OnOk, Some};
-ghost use Rattle.hir_def_map.specs.DefMaps.{maps_of};
+ghost use Rattle.hir_nameres.specs.DefMaps.{maps_of};
 ghost use Rattle.hir_def_map_rules.specs.Overlay.{overlay};
 ghost use Rattle.hir_def_map_rules.specs.State.{globs_after, module_at, numbered, pushed, with_scope};
-ghost use Rattle.hir_def_map.specs.WorldParts.{part_of};
+ghost use Rattle.hir_nameres.specs.WorldParts.{part_of};
 ghost use Rattle.hir_import_rules.specs.Changes.{kept_vis};
 ghost use Rattle.hir_import_rules.specs.Names.{trait_vis, with_trait};
 
 use crate::scopes::{OpenScopes, keep_trait_at, trait_vis};
-use hir_base::ids::{ModuleId, TraitId};
-use hir_base::name::Name;
-use hir_def_map::def_maps::DefMaps;
-use hir_def_map::nameres::DefMap;
-use hir_def_map::world::part::WorldPart;
 use hir_glob_imports::Names;
-use hir_scope::imports::{ImportId, ImportOrExternCrate};
-use hir_scope::per_ns::PerNs;
-use hir_scope::visibility::Visibility;
+use hir_nameres::def_maps::DefMaps;
+use hir_nameres::hir_base::ids::{ModuleId, TraitId};
+use hir_nameres::hir_base::name::Name;
+use hir_nameres::hir_scope::imports::{ImportId, ImportOrExternCrate};
+use hir_nameres::hir_scope::per_ns::PerNs;
+use hir_nameres::hir_scope::visibility::Visibility;
+use hir_nameres::nameres::DefMap;
+use hir_nameres::world::part::WorldPart;
 use std::alloc::AllocError;
 
 impl<'a> OpenScopes<'a> {
@@ -35,7 +35,7 @@ impl<'a> OpenScopes<'a> {
     }
 
     /// The finished maps, and the one that is built.
-    #[tactic(auto, unfolding(hir_def_map::specs::DefMaps::maps_of))]
+    #[tactic(auto, unfolding(hir_nameres::specs::DefMaps::maps_of))]
     pub fn maps(&self) -> DefMaps<'_>
         ensures value { maps_of result ≡ overlay (part_of self.now.world) self.now.map }
         ensures own { result.own.now ≡ self.now.map }

@@ -3,19 +3,19 @@ use Rattle.std.specs.Prelude.{ℕ, List, ◌++◌, map, Option, None, Some, [], 
 use Rattle.std.specs.Ordering.{nat_cmp}
 use Rattle.std.specs.Cmp.Lexicographic.{slice_cmp}
 use Rattle.std.specs.Map.{keys_of}
-use Rattle.hir_base.specs.declared.ids.ModuleDefId.TheVariants as def
-use Rattle.hir_base.specs.declared.ids.TraitId.{TraitId}
-use Rattle.hir_scope.specs.declared.imports.ImportId.{ImportId}
-use Rattle.hir_scope.specs.declared.imports.ImportOrExternCrate.{ImportOrExternCrate}
-use Rattle.hir_scope.specs.declared.imports.ImportOrExternCrate.TheVariants as item
-use Rattle.hir_scope.specs.PerNs.{Item, types_only}
-use Rattle.hir_scope.specs.declared.per_ns.PerNs.{PerNs}
+use Rattle.hir_ids.specs.declared.ids.ModuleDefId.TheVariants as def
+use Rattle.hir_ids.specs.declared.ids.TraitId.{TraitId}
+use Rattle.hir_per_ns.specs.declared.imports.ImportId.{ImportId}
+use Rattle.hir_per_ns.specs.declared.imports.ImportOrExternCrate.{ImportOrExternCrate}
+use Rattle.hir_per_ns.specs.declared.imports.ImportOrExternCrate.TheVariants as item
+use Rattle.hir_per_ns.specs.PerNs.{Item, types_only}
+use Rattle.hir_per_ns.specs.declared.per_ns.PerNs.{PerNs}
 use Rattle.hir_scope.specs.Scope.{ScopeValue, binding_of}
 use Rattle.hir_scope.specs.Merge.{merge}
 use Rattle.std.specs.declared.cmp.Ordering.{Ordering}
-use Rattle.hir_scope.specs.contracts.imports.ImportIdOrd.TheImpl as import_id
-use Rattle.hir_scope.specs.declared.imports.ImportOrGlob.{ImportOrGlob}
-use Rattle.hir_scope.specs.declared.imports.ImportOrGlob.TheVariants as value
+use Rattle.hir_per_ns.specs.contracts.imports.ImportIdOrd.TheImpl as import_id
+use Rattle.hir_per_ns.specs.declared.imports.ImportOrGlob.{ImportOrGlob}
+use Rattle.hir_per_ns.specs.declared.imports.ImportOrGlob.TheVariants as value
 
 -- the names of a scope in order, each once: the bound ones, and the unresolved ones
 abbrev pub scope_names : ScopeValue → List (List ℕ)

@@ -6,25 +6,25 @@ use Rattle.std.specs.Cmp.Lexicographic.{slice_cmp}
 use Rattle.std.specs.BTreeMap.{is_at}
 use Rattle.std.specs.BTreeSet.{insert_key}
 use Rattle.std.specs.List.{list_any}
-use Rattle.hir_base.specs.declared.macro_kind.MacroId.{MacroId}
-use Rattle.hir_base.specs.declared.ids.ModuleDefId.{ModuleDefId}
-use Rattle.hir_base.specs.contracts.ids.ModuleDefIdPartialEq.TheImpl as module_def
-use Rattle.hir_base.specs.contracts.macro_kind.MacroIdPartialEq.TheImpl as makro
-use Rattle.hir_scope.specs.contracts.imports.ImportOrExternCratePartialEq.TheImpl as item_import
-use Rattle.hir_scope.specs.contracts.imports.ImportOrGlobPartialEq.TheImpl as value_import
-use Rattle.hir_scope.specs.contracts.imports.ImportOrExternCrateOrd.TheImpl as item_order
-use Rattle.hir_scope.specs.contracts.imports.ImportOrGlobOrd.TheImpl as value_order
-use Rattle.hir_scope.specs.declared.imports.ImportOrExternCrate.{ImportOrExternCrate}
-use Rattle.hir_scope.specs.declared.imports.ImportOrGlob.{ImportOrGlob}
-use Rattle.hir_scope.specs.declared.per_ns.PerNs.{PerNs}
+use Rattle.hir_ids.specs.declared.macro_kind.MacroId.{MacroId}
+use Rattle.hir_ids.specs.declared.ids.ModuleDefId.{ModuleDefId}
+use Rattle.hir_ids.specs.contracts.ids.ModuleDefIdPartialEq.TheImpl as module_def
+use Rattle.hir_ids.specs.contracts.macro_kind.MacroIdPartialEq.TheImpl as makro
+use Rattle.hir_per_ns.specs.contracts.imports.ImportOrExternCratePartialEq.TheImpl as item_import
+use Rattle.hir_per_ns.specs.contracts.imports.ImportOrGlobPartialEq.TheImpl as value_import
+use Rattle.hir_per_ns.specs.contracts.imports.ImportOrExternCrateOrd.TheImpl as item_order
+use Rattle.hir_per_ns.specs.contracts.imports.ImportOrGlobOrd.TheImpl as value_order
+use Rattle.hir_per_ns.specs.declared.imports.ImportOrExternCrate.{ImportOrExternCrate}
+use Rattle.hir_per_ns.specs.declared.imports.ImportOrGlob.{ImportOrGlob}
+use Rattle.hir_per_ns.specs.declared.per_ns.PerNs.{PerNs}
 use Rattle.hir_scope.specs.Bindings.{Candidate, PushesSlot, Records, type_candidate, value_candidate, macro_candidate, slot_at, slot_after_candidate, taken}
 use Rattle.hir_scope.specs.Bindings.{written_items, written_places, written_records, Slot}
 use Rattle.hir_scope.specs.declared.item_scope.push.Candidates.{Candidates}
 use Rattle.hir_scope.specs.Globs.{Place, GlobNames}
 use Rattle.hir_scope.specs.Scope.{ScopeValue}
-use Rattle.hir_scope.specs.PerNs.{is_nothing}
+use Rattle.hir_per_ns.specs.PerNs.{is_nothing}
 use Rattle.std.specs.declared.cmp.Ordering.{Ordering}
-use Rattle.hir_scope.specs.declared.imports.ImportOrDef.{ImportOrDef}
+use Rattle.hir_per_ns.specs.declared.imports.ImportOrDef.{ImportOrDef}
 use Rattle.hir_scope.specs.Entries.{value_at}
 
 -- ---- the candidates that change their slots

@@ -6,21 +6,21 @@ use Rattle.std.specs.Cmp.Lexicographic.{slice_cmp}
 use Rattle.std.specs.BTreeMap.{is_at}
 use Rattle.std.specs.Map.{lookup, set_value, remove_entry}
 use Rattle.indexmap.specs.IndexMap.{insert_entry}
-use Rattle.hir_base.specs.declared.ids.Crate.{Crate}
-use Rattle.hir_base.specs.declared.macro_kind.MacroId.{MacroId}
-use Rattle.hir_base.specs.declared.ids.ModuleDefId.{ModuleDefId}
-use Rattle.hir_base.specs.declared.ids.TraitId.{TraitId}
-use Rattle.hir_base.specs.contracts.ids.ModuleDefIdPartialEq.TheImpl as module_def
-use Rattle.hir_base.specs.contracts.ids.TraitIdPartialEq.TheImpl as trait_id
-use Rattle.hir_scope.specs.declared.imports.ImportId.{ImportId}
-use Rattle.hir_scope.specs.declared.imports.ImportOrGlob.{ImportOrGlob}
-use Rattle.hir_scope.specs.PerNs.{Item}
-use Rattle.hir_scope.specs.declared.visibility.Visibility.{Visibility}
+use Rattle.hir_ids.specs.declared.ids.Crate.{Crate}
+use Rattle.hir_ids.specs.declared.macro_kind.MacroId.{MacroId}
+use Rattle.hir_ids.specs.declared.ids.ModuleDefId.{ModuleDefId}
+use Rattle.hir_ids.specs.declared.ids.TraitId.{TraitId}
+use Rattle.hir_ids.specs.contracts.ids.ModuleDefIdPartialEq.TheImpl as module_def
+use Rattle.hir_ids.specs.contracts.ids.TraitIdPartialEq.TheImpl as trait_id
+use Rattle.hir_per_ns.specs.declared.imports.ImportId.{ImportId}
+use Rattle.hir_per_ns.specs.declared.imports.ImportOrGlob.{ImportOrGlob}
+use Rattle.hir_per_ns.specs.PerNs.{Item}
+use Rattle.hir_per_ns.specs.declared.visibility.Visibility.{Visibility}
 use Rattle.hir_scope.specs.Entries.{item_at}
 use Rattle.hir_scope.specs.Bindings.{with_item_visibility, with_item_definition}
-use Rattle.hir_base.specs.declared.macro_kind.MacroId.TheVariants as macros
-use Rattle.hir_scope.specs.declared.imports.ImportOrExternCrate.{ImportOrExternCrate}
-use Rattle.hir_scope.specs.declared.visibility.Visibility.TheVariants.{PubCrate}
+use Rattle.hir_ids.specs.declared.macro_kind.MacroId.TheVariants as macros
+use Rattle.hir_per_ns.specs.declared.imports.ImportOrExternCrate.{ImportOrExternCrate}
+use Rattle.hir_per_ns.specs.declared.visibility.Visibility.TheVariants.{PubCrate}
 use Rattle.hir_scope.specs.Scope.{ScopeValue}
 
 -- the import of an unnamed trait: that of the first push stays

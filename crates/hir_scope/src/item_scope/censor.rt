@@ -6,8 +6,8 @@ use crate::imports::{ImportId, ImportOrExternCrate};
 use crate::item_scope::ItemScope;
 use crate::per_ns::{Item, MacrosItem, TypesItem, ValuesItem};
 use crate::visibility::Visibility;
-use hir_base::ids::{Crate, TraitId};
-use hir_base::macro_kind::MacroId;
+use hir_ids::ids::{Crate, TraitId};
+use hir_ids::macro_kind::MacroId;
 use hir_scope_table::entry::Revise;
 use indexmap::IndexMap;
 

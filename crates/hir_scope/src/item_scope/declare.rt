@@ -7,9 +7,9 @@ use crate::imports::ImportId;
 use crate::item_scope::ItemScope;
 use crate::per_ns::Item;
 use crate::visibility::Visibility;
-use hir_base::ids::{ConstId, ExternBlockId, ExternCrateId, ImplId, ModuleDefId, TraitId, UseId};
-use hir_base::macro_kind::{BuiltinDeriveImplId, MacroId};
-use hir_base::name::Name;
+use hir_ids::ids::{ConstId, ExternBlockId, ExternCrateId, ImplId, ModuleDefId, TraitId, UseId};
+use hir_ids::macro_kind::{BuiltinDeriveImplId, MacroId};
+use hir_ids::name::Name;
 use hir_textual_scope::textual_scope::TextualScope;
 use std::alloc::AllocError;
 

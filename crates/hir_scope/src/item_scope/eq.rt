@@ -9,7 +9,7 @@ use crate::item_scope::ItemScope;
 use crate::item_scope::iter::bindings::Bindings;
 use crate::item_scope::macro_calls::{DeriveAttribute, DeriveAttributes};
 use crate::per_ns::{Item, MacrosItem, TypesItem, ValuesItem};
-use hir_base::name::Name;
+use hir_ids::name::Name;
 use hir_scope_table::entry::Entry;
 use indexmap::IndexMap;
 use std::hash::Hash;

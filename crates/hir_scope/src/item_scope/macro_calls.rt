@@ -5,8 +5,8 @@ ghost use Rattle.hir_scope.specs.MacroScope.{with_item_behind, with_call, with_d
 
 use crate::item_scope::ItemScope;
 use either::Either;
-use hir_base::ast_id::{AstId, AttrId, MacroCallId};
-use hir_base::macro_kind::BuiltinDeriveImplId;
+use hir_ids::ast_id::{AstId, AttrId, MacroCallId};
+use hir_ids::macro_kind::BuiltinDeriveImplId;
 use indexmap::IndexMap;
 use std::alloc::{AllocError, Global};
 use std::marker::Model;

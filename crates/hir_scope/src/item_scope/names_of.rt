@@ -7,7 +7,7 @@ use crate::item_in_ns::ItemInNs;
 use crate::item_scope::ItemScope;
 use crate::item_scope::iter::bindings::Bindings;
 use crate::visibility::Visibility;
-use hir_base::name::Name;
+use hir_ids::name::Name;
 
 impl ItemScope {
     /// The first name, by name, under which an item is bound; its visibility, and whether it has no import.

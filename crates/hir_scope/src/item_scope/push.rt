@@ -2,7 +2,7 @@
 ghost use Rattle.std.specs.Prelude.{◌≡◌, ◌≢◌, true, false, not, OnOk, OnErr, IfOk};
 ghost use Rattle.hir_scope.specs.Bindings.{type_candidate, value_candidate, macro_candidate};
 ghost use Rattle.hir_scope.specs.ImportRecords.{is_glob, reached_by, value_reached_by};
-ghost use Rattle.hir_scope.specs.PerNs.{is_nothing};
+ghost use Rattle.hir_per_ns.specs.PerNs.{is_nothing};
 ghost use Rattle.hir_scope.specs.Scope.Push.{taken_candidates, written_scope, written_globs, is_unresolved, with_unresolved, pushed_scope, pushed_globs, push_changes, PushesType, PushesValue, PushesMacro, RecordsType, RecordsValue, RecordsMacro, IsNewlyUnresolved, slots_of};
 
 use crate::glob_imports::PerNsGlobImports;
@@ -10,9 +10,9 @@ use crate::imports::{ImportOrDef, ImportOrExternCrate, ImportOrGlob};
 use crate::item_scope::ItemScope;
 use crate::per_ns::{Item, MacrosItem, PerNs, TypesItem, ValuesItem, value_import};
 use crate::visibility::Visibility;
-use hir_base::ids::{ModuleDefId, ModuleId};
-use hir_base::macro_kind::MacroId;
-use hir_base::name::Name;
+use hir_ids::ids::{ModuleDefId, ModuleId};
+use hir_ids::macro_kind::MacroId;
+use hir_ids::name::Name;
 use hir_scope_table::item::{Candidate, Push};
 use hir_scope_table::records::{pushed_item, reserve, roll_back, taken, write};
 use std::alloc::AllocError;

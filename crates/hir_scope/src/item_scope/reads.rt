@@ -7,10 +7,10 @@ use crate::item_scope::ItemScope;
 use crate::item_scope::macro_calls::DeriveAttribute;
 use crate::per_ns::{MacrosItem, TypesItem, ValuesItem};
 use crate::visibility::Visibility;
-use hir_base::ast_id::{AstId, AttrId, MacroCallId};
-use hir_base::ids::{ConstId, ExternBlockId, ExternCrateId, ModuleDefId, TraitId, UseId};
-use hir_base::macro_kind::{BuiltinDeriveImplId, MacroId};
-use hir_base::name::Name;
+use hir_ids::ast_id::{AstId, AttrId, MacroCallId};
+use hir_ids::ids::{ConstId, ExternBlockId, ExternCrateId, ModuleDefId, TraitId, UseId};
+use hir_ids::macro_kind::{BuiltinDeriveImplId, MacroId};
+use hir_ids::name::Name;
 use hir_textual_scope::textual_scope::{MacrosOf, TextualScope};
 
 impl ItemScope {

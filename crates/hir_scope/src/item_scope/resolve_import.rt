@@ -7,8 +7,8 @@ use crate::item_scope::ItemScope;
 use crate::per_ns::{Item, Namespace, PerNs};
 use crate::scopes::Scopes;
 use crate::visibility::Visibility;
-use hir_base::ids::ModuleDefId;
-use hir_base::macro_kind::MacroId;
+use hir_ids::ids::ModuleDefId;
+use hir_ids::macro_kind::MacroId;
 
 /// How many records of a chain are read at most.
 pub const MAX_RECORDS: u32 = 4096;

@@ -7,9 +7,9 @@ ghost use Rattle.hir_scope.specs.Scope.Updates.{with_visibility, with_definition
 use crate::item_scope::ItemScope;
 use crate::per_ns::Item;
 use crate::visibility::Visibility;
-use hir_base::ids::ModuleDefId;
-use hir_base::macro_kind::MacroId;
-use hir_base::name::Name;
+use hir_ids::ids::ModuleDefId;
+use hir_ids::macro_kind::MacroId;
+use hir_ids::name::Name;
 
 /// An item with another visibility.
 fn with_visibility<Def: Copy, Import: Copy>(

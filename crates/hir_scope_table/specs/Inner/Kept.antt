@@ -6,7 +6,7 @@ use Rattle.std.specs.Ordering.{nat_cmp}
 use Rattle.std.specs.Cmp.Lexicographic.{slice_cmp}
 use Rattle.std.specs.declared.boxed.Box.{Box}
 use Rattle.std.specs.declared.alloc.Global.{Global}
-use Rattle.hir_scope_table.specs.Bindings.{first_of}
+use Rattle.hir_scope_item.specs.Bindings.{first_of}
 use Rattle.hir_scope_table.specs.Entries.{item_at}
 use Rattle.hir_scope_table.specs.Slots.{Slots, NamedSlots, is_vacant}
 

@@ -1,7 +1,7 @@
 //! A module tree with a grandchild.
 ghost use Rattle.std.specs.Prelude.{◌≡◌};
 ghost use Rattle.std.proofs.Common.{ap};
-ghost use Rattle.hir_base.specs.declared.ids.MapId.{MapId};
+ghost use Rattle.hir_ids.specs.declared.ids.MapId.{MapId};
 ghost use Rattle.hir_scope_tests.specs.SmallTree.{parent_at, holder_at, above, holders, above_unfolds, holders_unfold, all_in_crate};
 
 use hir_base::ids::{MapId, ModuleId};

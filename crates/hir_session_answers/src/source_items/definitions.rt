@@ -1,19 +1,19 @@
 //! What types, values and macros stand for.
 ghost use Rattle.std.specs.Prelude.{◌≡◌, IfOk, option_map};
-ghost use Rattle.hir_tables.specs.Tables.{block_at};
-ghost use Rattle.hir_def_map.specs.DefMaps.{maps_of};
-ghost use Rattle.hir_def_map_rules.specs.Overlay.{module_in};
+ghost use Rattle.hir_session_state.specs.HirTables.Tables.{block_at};
+ghost use Rattle.hir_session_state.specs.HirNameres.DefMaps.{maps_of};
+ghost use Rattle.hir_session_state.specs.HirDefMapRules.Overlay.{module_in};
 ghost use Rattle.hir_session_answers.specs.SourceItems.{block_definition, item_of, crate_of, module_by, module_definition, adt_definition, macro_definition, definition_of};
 
 use super::item_at;
-use hir_base::ast_id::{AstKind, BlockId, HirFileId, SyntaxId};
-use hir_base::ids::{AdtId, Crate, ItemContainerId, ModuleDefId, ModuleId};
-use hir_base::macro_kind::MacroId;
-use hir_def_map::def_maps::DefMaps;
-use hir_def_map::nameres::origin::ModuleOrigin;
 use hir_session_sources::blocks::root_of_block;
-use hir_tables::Tables;
-use hir_wire::answer::{Definition, SourceKind};
+use hir_session_state::hir_base::ast_id::{AstKind, BlockId, HirFileId, SyntaxId};
+use hir_session_state::hir_base::ids::{AdtId, Crate, ItemContainerId, ModuleDefId, ModuleId};
+use hir_session_state::hir_base::macro_kind::MacroId;
+use hir_session_state::hir_def_map::def_maps::DefMaps;
+use hir_session_state::hir_def_map::nameres::origin::ModuleOrigin;
+use hir_session_state::hir_messages::answer::{Definition, SourceKind};
+use hir_session_state::hir_tables::Tables;
 use std::alloc::{AllocError, Global};
 
 /// The crate of what holds an item.

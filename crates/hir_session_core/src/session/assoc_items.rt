@@ -3,14 +3,14 @@
 //! They are read from the present sources, so nothing of them is kept. The macro calls in them get numbers, and that is all that
 //! such a query changes.
 ghost use Rattle.std.specs.Prelude.{◌≡◌, ◌≢◌, ◌<◌, ◌⊎◌, false, is_none, length, Some, IfOk, IfErr, Ok, Err};
-ghost use Rattle.hir_base.specs.declared.ast_id.AstKind.TheVariants as kind;
-ghost use Rattle.hir_base.specs.declared.ids.ImplId.{ImplId};
-ghost use Rattle.hir_base.specs.declared.ids.TraitId.{TraitId};
-ghost use Rattle.hir_base.specs.declared.ids.ItemContainerId.TheVariants as container;
+ghost use Rattle.hir_session_state.specs.HirIds.declared.ast_id.AstKind.TheVariants as kind;
+ghost use Rattle.hir_session_state.specs.HirIds.declared.ids.ImplId.{ImplId};
+ghost use Rattle.hir_session_state.specs.HirIds.declared.ids.TraitId.{TraitId};
+ghost use Rattle.hir_session_state.specs.HirIds.declared.ids.ItemContainerId.TheVariants as container;
 ghost use Rattle.hir_assoc_items.specs.AssocItems.{items_written, listing_of};
-ghost use Rattle.hir_def_map.specs.DefMaps.{maps_of};
-ghost use Rattle.hir_def_map.specs.WorldParts.{among};
-ghost use Rattle.hir_def_map_rules.specs.Overlay.{overlay};
+ghost use Rattle.hir_session_state.specs.HirNameres.DefMaps.{maps_of};
+ghost use Rattle.hir_session_state.specs.HirNameres.WorldParts.{among};
+ghost use Rattle.hir_session_state.specs.HirDefMapRules.Overlay.{overlay};
 ghost use Rattle.hir_session_state.specs.Crates.{transitive_in};
 ghost use Rattle.hir_session_state.specs.Due.{Grows};
 ghost use Rattle.hir_session_state.specs.Kept.{finished_by, kept_in, resolution_of};
@@ -19,19 +19,19 @@ ghost use Rattle.hir_session_answers.specs.AssocItems.{impl_asked, impl_at, impl
 
 use super::Session;
 use hir_assoc_items::error::AssocItemsError;
-use hir_base::ids::{Crate, ImplId, MapId, TraitId};
-use hir_base::mod_path::ModPath;
-use hir_base::place::Place;
-use hir_crate_graph::crate_set::CrateSet;
-use hir_def_map::def_maps::DefMaps;
-use hir_def_map::world::part::WorldPart;
 use hir_session_answers::assoc_items::{impl_at, items_at, trait_at};
 use hir_session_invalidation::inputs::AssocList;
 use hir_session_sources::crates::Crates;
 use hir_session_state::error::{ImplItemsError, TraitItemsError};
+use hir_session_state::hir_base::ids::{Crate, ImplId, MapId, TraitId};
+use hir_session_state::hir_base::mod_path::ModPath;
+use hir_session_state::hir_base::place::Place;
+use hir_session_state::hir_crate_graph::crate_set::CrateSet;
+use hir_session_state::hir_def_map::def_maps::DefMaps;
+use hir_session_state::hir_def_map::world::part::WorldPart;
+use hir_session_state::hir_messages::items::Items;
+use hir_session_state::hir_messages::reply::Status;
 use hir_session_state::kept::{Kept, KeptResolution};
-use hir_wire::items::Items;
-use hir_wire::reply::Status;
 use std::alloc::{AllocError, Global};
 use std::rc::Rc;
 

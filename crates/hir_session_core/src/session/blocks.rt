@@ -1,7 +1,7 @@
 //! Edits of blocks.
 ghost use Rattle.std.specs.Prelude.{◌≡◌, ◌⊎◌, None, Some, OnOk, OnErr, IfErr, Ok, Err, length, nat_lt, option_map};
-ghost use Rattle.hir_base.specs.Refusal.{Gives};
-ghost use Rattle.hir_item_tree.specs.Source.{source_view};
+ghost use Rattle.hir_session_state.specs.HirIds.Refusal.{Gives};
+ghost use Rattle.hir_session_state.specs.HirItemTree.Source.{source_view};
 ghost use Rattle.hir_session_state.specs.Blocks.{place_of_block};
 ghost use Rattle.hir_session_state.specs.Changes.{Becomes};
 ghost use Rattle.hir_session_state.specs.Refusals.{verdict_of_block, verdict_of_source, verdict_with_steps, IsEditMemory};
@@ -11,12 +11,12 @@ ghost use Rattle.hir_session_core.specs.BlockVerdicts.{told_with_steps};
 
 use super::pending::{PendingBlock, forget_block, settle};
 use super::{Session, check_source};
-use hir_base::ids::MapId;
-use hir_base::place::BlockPlace;
-use hir_item_tree::source::Source;
 use hir_session_invalidation::invalidate::{Invalidation, invalidated};
 use hir_session_sources::source_edit::SourceEdit;
 use hir_session_state::error::EditError;
+use hir_session_state::hir_base::ids::MapId;
+use hir_session_state::hir_base::place::BlockPlace;
+use hir_session_state::hir_item_tree::source::Source;
 use hir_session_state::steps::check_with_steps;
 use std::alloc::{AllocError, Global};
 
@@ -80,14 +80,20 @@ impl Session {
             alloc,
             &self.inputs,
             &self.tables,
-            &self.kept,
             &self.askers,
             edit,
         )?;
         let one = PendingBlock::new(alloc, &block)?;
         let own = self.block_id(&block);
         self.inputs.set_block(block, source)?;
-        forget_block(&mut self.kept, &mut self.pending, own, &hits);
+        forget_block(
+            &self.tables,
+            &mut self.kept,
+            &mut self.askers,
+            &mut self.pending,
+            own,
+            &hits,
+        );
         let is_kept = self.kept.has(own);
         settle(&mut self.pending, one, !is_kept);
         Ok(())
@@ -106,14 +112,20 @@ impl Session {
             alloc,
             &self.inputs,
             &self.tables,
-            &self.kept,
             &self.askers,
             edit,
         )?;
         let one = PendingBlock::new(alloc, block)?;
         let own = self.block_id(block);
         self.inputs.remove_block(block)?;
-        forget_block(&mut self.kept, &mut self.pending, own, &hits);
+        forget_block(
+            &self.tables,
+            &mut self.kept,
+            &mut self.askers,
+            &mut self.pending,
+            own,
+            &hits,
+        );
         settle(&mut self.pending, one, false);
         Ok(())
     }

@@ -1,15 +1,18 @@
 //! Blocks that wait to be resolved.
 ghost use Rattle.std.specs.Prelude.{◌≡◌, ◌≢◌, ◌⊎◌, true, false, IfOk, IfSome, OnOk, None, Some, is_none, length};
-ghost use Rattle.hir_base.specs.declared.ids.MapId.{MapId};
+ghost use Rattle.hir_session_state.specs.HirIds.declared.ids.MapId.{MapId};
+ghost use Rattle.hir_session_state.specs.Askers.{HoldsExactly};
 ghost use Rattle.hir_session_state.specs.Blocks.{place_of_block};
 ghost use Rattle.hir_session_state.specs.Kept.{kept_in, AreForgotten};
 ghost use Rattle.hir_session_state.specs.SessionState.{block_kept, is_marked, IsSound};
 ghost use Rattle.hir_session_core.specs.Progress.{pending_of, with_pending, ArePending, HasAllPending, IsPendingAt, IsSettled, IsSifted};
 
 use super::Session;
-use hir_base::ids::MapId;
-use hir_base::place::{BlockPlace, Place};
 use hir_session_sources::blocks::root_of_block;
+use hir_session_state::askers::Askers;
+use hir_session_state::hir_base::ids::MapId;
+use hir_session_state::hir_base::place::{BlockPlace, Place};
+use hir_session_state::hir_tables::Tables;
 use hir_session_state::kept::Kept;
 use hir_session_state::steps::nesting;
 use std::alloc::{AllocError, Global};
@@ -64,8 +67,16 @@ pub fn settle(pending: &mut Option<BTreeSet<PendingBlock>>, block: PendingBlock,
 }
 
 /// Drops what is kept of these places, and of what depends on them. Where there are some, which blocks wait isn't known then.
-pub fn forget(kept: &mut Kept, pending: &mut Option<BTreeSet<PendingBlock>>, hits: &Vec<MapId>)
+pub fn forget(
+    tables: &Tables,
+    kept: &mut Kept,
+    askers: &mut Askers,
+    pending: &mut Option<BTreeSet<PendingBlock>>,
+    hits: &Vec<MapId>,
+)
+    requires exact { HoldsExactly tables.now kept.old askers.old }
     ensures forgotten { AreForgotten kept.old hits.now.items kept.new }
+    ensures exact { HoldsExactly tables.now kept.new askers.new }
     ensures known { length hits.now.items ≡ 0 → pending.new ≡ pending.old }
     ensures pending { (pending.new ≡ None)
         ⊎ ((pending.new ≡ pending.old) × ((id : MapId) → kept_in kept.new id ≡ kept_in kept.old id)) }
@@ -74,23 +85,27 @@ pub fn forget(kept: &mut Kept, pending: &mut Option<BTreeSet<PendingBlock>>, hit
         return;
     }
     *pending = None;
-    kept.forget(hits);
+    kept.forget(tables, askers, hits);
 }
 
 /// The same after an edit of a block. Where of every other place what was kept still is, the other blocks that wait are known
 /// still.
 pub fn forget_block(
+    tables: &Tables,
     kept: &mut Kept,
+    askers: &mut Askers,
     pending: &mut Option<BTreeSet<PendingBlock>>,
     own: Option<MapId>,
     hits: &Vec<MapId>,
 )
+    requires exact { HoldsExactly tables.now kept.old askers.old }
     ensures forgotten { AreForgotten kept.old hits.now.items kept.new }
+    ensures exact { HoldsExactly tables.now kept.new askers.new }
     ensures known { ((id : MapId) → Some id ≢ own → kept_in kept.new id ≡ kept_in kept.old id) → pending.new ≡ pending.old }
     ensures pending { (pending.new ≡ None)
         ⊎ ((pending.new ≡ pending.old) × ((id : MapId) → Some id ≢ own → kept_in kept.new id ≡ kept_in kept.old id)) }
 {
-    if kept.forget_around(own, hits) {
+    if kept.forget_around(tables, askers, own, hits) {
         return;
     }
     *pending = None;

@@ -3,11 +3,11 @@
 //! Crates come first, by number, so that a run finds what it depends on. Once no crate is marked, blocks follow, an outer one
 //! before those within it: whether the module that holds a block is there is known once the blocks around it were resolved.
 ghost use Rattle.std.specs.Prelude.{◌≡◌, ◌≢◌, ℕ, ◌<◌, ◌≤◌, ◌++◌, ◌∷◌, [], true, false, length, None, Some, IfOk, IfSome, IsSome, OnOk, OnErr, OnSome, Err};
-ghost use Rattle.hir_base.specs.Locations.{max_locations};
-ghost use Rattle.hir_base.specs.Place.{PlaceValue};
-ghost use Rattle.hir_base.specs.declared.place.BlockPlace.{BlockPlace};
-ghost use Rattle.hir_collector_rules.specs.Derivation.{IsOverlong, collected_view};
-ghost use Rattle.hir_tables.specs.Tables.{block_at, file_at};
+ghost use Rattle.hir_session_state.specs.HirBase.Locations.{max_locations};
+ghost use Rattle.hir_session_state.specs.HirBase.Place.{PlaceValue};
+ghost use Rattle.hir_session_state.specs.HirBase.declared.place.BlockPlace.{BlockPlace};
+ghost use Rattle.hir_session_state.specs.HirCollectorRules.Derivation.{IsOverlong, collected_view};
+ghost use Rattle.hir_session_state.specs.HirTables.Tables.{block_at, file_at};
 ghost use Rattle.hir_session_state.specs.Blocks.{place_of_block};
 ghost use Rattle.hir_session_state.specs.Crates.{begins_in_block, id_of};
 ghost use Rattle.hir_session_state.specs.Changes.{Refreshes, RefreshesPartly};
@@ -16,19 +16,19 @@ ghost use Rattle.hir_session_state.specs.SessionState.{SessionState, Resolution,
 ghost use Rattle.hir_session_state.specs.Standing.{block_map, block_number, definition_file, is_set};
 ghost use Rattle.hir_session_core.specs.Progress.{held_in, AreCratesCurrent, AreFollowedCurrent, HasAllPending, HasResolved, IsBlockResolved, IsModuleThere, IsRefreshed};
 ghost use Rattle.hir_session_answers.specs.Status.{status_of};
-ghost use Rattle.hir_wire.specs.declared.reply.Status.TheVariants as status;
+ghost use Rattle.hir_session_state.specs.HirMessages.declared.reply.Status.TheVariants as status;
 
 use super::Session;
 use super::pending::PendingBlock;
-use hir_base::ast_id::{BlockId, EditionedFileId};
-use hir_base::ids::{Crate, MapId, ModuleId};
-use hir_base::place::{BlockPlace, Place};
-use hir_collector_rules::collected::Collected;
-use hir_collector_rules::start::CollectError;
 use hir_session_answers::definition_files::definition_file_at;
 use hir_session_invalidation::sources::{CollectDefs, HeldBlock};
 use hir_session_sources::source_trees::copied_place;
 use hir_session_state::error::RefreshError;
+use hir_session_state::hir_base::ast_id::{BlockId, EditionedFileId};
+use hir_session_state::hir_base::ids::{Crate, MapId, ModuleId};
+use hir_session_state::hir_base::place::{BlockPlace, Place};
+use hir_session_state::hir_collector_rules::collected::Collected;
+use hir_session_state::hir_collector_rules::start::CollectError;
 use std::alloc::{AllocError, Global};
 use std::collections::BTreeSet;
 
@@ -71,19 +71,18 @@ fn refresh_error(error: CollectError) -> RefreshError
 
 impl Session {
     /// Keeps what a run came to for a marked place, of which what it depends on is current.
-    fn keep_found(&mut self, id: MapId, found: Collected) -> Result<(), AllocError>
-        requires place { IsPlace self.old id }
-        requires marked { is_marked self.old id ≡ true }
-        requires found { IsResolutionOf self.old id (held_in self.old (collected_view found)) }
-        requires behind { AreFollowedCurrent self.old id found.map.holder }
-        ensures ok { OnOk result (Resolved self.old id (held_in self.old (collected_view found)) self.new) }
+    fn keep_found(&mut self, found: Collected) -> Result<(), AllocError>
+        requires place { IsPlace self.old found.map.id }
+        requires marked { is_marked self.old found.map.id ≡ true }
+        requires found { IsResolutionOf self.old found.map.id (held_in self.old (collected_view found)) }
+        requires behind { AreFollowedCurrent self.old found.map.id found.map.holder }
+        ensures ok { OnOk result (Resolved self.old found.map.id (held_in self.old (collected_view found)) self.new) }
         ensures sound { IsSound self.new }
         ensures err { OnErr result (self.new ≡ self.old) }
     {
         // Fewer blocks may wait now. `refresh_blocks` says which do.
         self.pending = None;
-        self.askers.note(&self.tables, &found.asked, id)?;
-        self.kept.keep(found)?;
+        self.kept.keep(&self.tables, &mut self.askers, found)?;
         Ok(())
     }
 
@@ -122,7 +121,7 @@ impl Session {
         ensures err { OnErr result (Grows self.old self.new) }
     {
         let found = self.found_at::<C>(alloc, k)?;
-        self.keep_found(MapId::of_crate(Crate(k)), found)?;
+        self.keep_found(found)?;
         Ok(())
     }
 
@@ -211,11 +210,7 @@ impl Session {
         ensures err { OnErr result (Grows self.old self.new) }
     {
         let found = self.found_in::<C>(alloc, at)?;
-        let id = MapId {
-            krate: at.krate,
-            block: Some(at.block),
-        };
-        self.keep_found(id, found)?;
+        self.keep_found(found)?;
         Ok(())
     }
 

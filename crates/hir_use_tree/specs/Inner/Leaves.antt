@@ -2,13 +2,14 @@
 use Rattle.std.specs.Prelude.{ℕ, ◌+◌, ◌*◌, List, [], ◌∷◌, ◌++◌}
 use Rattle.hir_use_tree.specs.UseTree.{use_trees_view, trees_size}
 use Rattle.hir_use_tree.specs.Imports.{Import, all_imports_at}
+use Rattle.hir_use_tree.specs.SharedPath.{path_before}
 use Rattle.hir_use_tree.specs.declared.expand.Level.{Level}
 use Rattle.hir_use_tree.specs.declared.expand.Step.{Step}
 use Rattle.hir_use_tree.specs.declared.expand.Step.TheVariants as steps
 
 -- the imports of the trees that are left of a list
 abbrev pub level_imports : Level → List Import
-level_imports l = all_imports_at l.place l.prefix (use_trees_view l.trees.now)
+level_imports l = all_imports_at l.place (path_before l.prefix) (use_trees_view l.trees.now)
 
 -- those of the trees that are left of lists, the innermost first
 abbrev pub pending : List Level → List Import

@@ -1,6 +1,6 @@
 //! Crates.
 ghost use Rattle.serde_json.specs.View.{members_view};
-ghost use Rattle.hir_wire.specs.CommandValue.{crate_input_view};
+ghost use Rattle.hir_messages.specs.CommandValue.{crate_input_view};
 ghost use Rattle.hir_wire.specs.Reading.{Reads};
 ghost use Rattle.hir_wire.specs.Commands.{dependency_in, crate_input_in};
 
@@ -54,7 +54,7 @@ fn read_dependency_members(
 }
 
 impl FromJson for Dependency {
-    ghost use Rattle.hir_wire.specs.declared.command.Dependency.{Dependency};
+    ghost use Rattle.hir_messages.specs.declared.command.Dependency.{Dependency};
     ghost use Rattle.hir_wire.specs.Commands.{dependency_of};
 
     ghost Seen = { Dependency };
@@ -105,7 +105,7 @@ fn read_crate_members(alloc: Global, members: &Map<String, Value>) -> Result<Cra
 }
 
 impl FromJson for CrateInput {
-    ghost use Rattle.hir_wire.specs.CommandValue.{CrateInputValue, crate_input_view};
+    ghost use Rattle.hir_messages.specs.CommandValue.{CrateInputValue, crate_input_view};
     ghost use Rattle.hir_wire.specs.Commands.{crate_input_of};
 
     ghost Seen = { CrateInputValue };

@@ -2,7 +2,7 @@
 ghost use Rattle.std.specs.Prelude.{◌≡◌};
 ghost use Rattle.serde_json.specs.View.{view, members_view, items_view};
 ghost use Rattle.hir_tables.specs.SourcePlaces.{expansion_value};
-ghost use Rattle.hir_wire.specs.Edits.{entry_view};
+ghost use Rattle.hir_messages.specs.Edits.{entry_view};
 ghost use Rattle.hir_wire.specs.Expansions.{call_of_word, attribute_call, call_of_items, call_of, macro_text_in, key_in, entry_in};
 ghost use Rattle.hir_wire.specs.Reading.{Reads};
 

@@ -35,7 +35,7 @@ fn crate_name_of_text(alloc: Global, text: &str) -> Result<ExternCrateName, Read
 }
 
 impl FromJson for ExternCrateName {
-    ghost use Rattle.hir_item_tree.specs.declared.shape.ExternCrateName.{ExternCrateName};
+    ghost use Rattle.hir_base.specs.declared.shape.ExternCrateName.{ExternCrateName};
     ghost use Rattle.hir_wire.specs.ItemParts.{crate_name_of};
 
     ghost Seen = { ExternCrateName };

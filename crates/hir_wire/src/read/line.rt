@@ -1,7 +1,7 @@
 //! From a line to a command.
 ghost use Rattle.std.specs.Prelude.{◌≡◌, ◌≢◌, MatchResult, codes};
 ghost use Rattle.serde_json.specs.View.{view, members_view};
-ghost use Rattle.hir_wire.specs.CommandValue.{command_view, crate_modules, file_modules};
+ghost use Rattle.hir_messages.specs.CommandValue.{command_view, crate_modules, file_modules};
 ghost use Rattle.hir_wire.specs.Paths.{crate_of, file_of};
 ghost use Rattle.hir_wire.specs.Reading.{Reads, made, required, word_as};
 ghost use Rattle.hir_wire.specs.Commands.{verb_of_word, set_file_in, set_expansion_in, set_block_in, resolve_in, trait_items_in, impl_items_in, modules_in, tree_in, fields_of, command_with, command_of, data_of, reading_of};

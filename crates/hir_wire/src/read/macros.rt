@@ -65,7 +65,7 @@ fn read_styles(alloc: Global, items: &[Value]) -> Result<MacroCallStyles, ReadEr
 }
 
 impl FromJson for MacroCallStyles {
-    ghost use Rattle.hir_base.specs.declared.macro_kind.MacroCallStyles.{MacroCallStyles};
+    ghost use Rattle.hir_ids.specs.declared.macro_kind.MacroCallStyles.{MacroCallStyles};
     ghost use Rattle.hir_wire.specs.Macros.{styles_of};
 
     ghost Seen = { MacroCallStyles };

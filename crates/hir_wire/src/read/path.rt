@@ -139,7 +139,7 @@ fn id_of_value(value: &Value) -> Option<SyntaxId>
 }
 
 impl FromJson for SyntaxId {
-    ghost use Rattle.hir_base.specs.declared.ast_id.SyntaxId.{SyntaxId};
+    ghost use Rattle.hir_ids.specs.declared.ast_id.SyntaxId.{SyntaxId};
     ghost use Rattle.hir_wire.specs.Paths.{id_meant};
 
     ghost Seen = { SyntaxId };
@@ -175,7 +175,7 @@ impl FromJson for u32 {
 }
 
 impl FromJson for Crate {
-    ghost use Rattle.hir_base.specs.declared.ids.Crate.{Crate};
+    ghost use Rattle.hir_ids.specs.declared.ids.Crate.{Crate};
     ghost use Rattle.hir_wire.specs.Paths.{crate_of};
 
     ghost Seen = { Crate };

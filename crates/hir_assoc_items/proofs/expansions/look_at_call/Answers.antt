@@ -1,11 +1,11 @@
 -- A call and what it depends on get numbers, and its expansion is looked up.
 use Rattle.std.proofs.Common.{◌≡◌, ◌∙◌, ap, subst, sym}
-use Rattle.hir_base.specs.declared.ids.Crate.{Crate}
-use Rattle.hir_item_tree.specs.declared.tree_id.TreeId.{TreeId}
-use Rattle.hir_tables.specs.Interning.{IsFull}
-use Rattle.hir_tables.specs.SourcePlaces.{ExpansionValue, expansion_value}
-use Rattle.hir_tables.specs.Tables.{TablesValue}
-use Rattle.hir_tables.proofs.Growth.{KeepsTables-refl, KeepsTables-trans}
+use Rattle.hir_collector_rules.specs.HirIds.declared.ids.Crate.{Crate}
+use Rattle.hir_collector_rules.specs.HirBase.declared.tree_id.TreeId.{TreeId}
+use Rattle.hir_collector_rules.specs.HirTables.Interning.{IsFull}
+use Rattle.hir_collector_rules.specs.HirTables.SourcePlaces.{ExpansionValue, expansion_value}
+use Rattle.hir_collector_rules.specs.HirTables.Tables.{TablesValue}
+use Rattle.hir_collector_rules.proofs.HirTables.Growth.{KeepsTables-refl, KeepsTables-trans}
 use Rattle.hir_collector_rules.specs.Calls.{AreCallsPlaced, call_key, error_of}
 use Rattle.hir_collector_rules.specs.Keys.{environment, input_at, source_in}
 use Rattle.hir_collector_rules.specs.Workspace.{Workspace}

@@ -1,6 +1,6 @@
 -- One item after another is taken.
 use Rattle.std.proofs.Common.{rules, ◌≡◌, ◌∙◌, List, [], ◌∷◌, map, ap, refl, subst, arith}
-use Rattle.hir_tables.proofs.Growth.{KeepsTables-refl, KeepsTables-trans}
+use Rattle.hir_collector_rules.proofs.HirTables.Growth.{KeepsTables-refl, KeepsTables-trans}
 use Rattle.hir_collector_rules.specs.Keys.{environment}
 use Rattle.hir_collector_rules.specs.Workspace.{Workspace}
 use Rattle.hir_assoc_items.specs.Steps.{IsGivenUp, LeadsToUnknown, Takes, container_view, left_of, listing_view}

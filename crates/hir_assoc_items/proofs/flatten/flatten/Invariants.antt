@@ -1,6 +1,6 @@
 -- What was found and what is left come to what all items come to.
 use Rattle.std.proofs.Common.{◌≡◌, ◌-◌, ◌≤◌, map}
-use Rattle.hir_tables.specs.Tables.{KeepsTables}
+use Rattle.hir_collector_rules.specs.HirTables.Tables.{KeepsTables}
 use Rattle.hir_collector_rules.specs.Calls.{AreCallsPlaced}
 use Rattle.hir_collector_rules.specs.declared.start.TheConstants.{STEP_LIMIT}
 use Rattle.hir_assoc_items.specs.Steps.{IsOnItsWay, container_view, left_of, listing_view}

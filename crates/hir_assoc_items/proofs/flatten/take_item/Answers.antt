@@ -1,7 +1,7 @@
 -- An item is told, listed or taken as a call.
 use Rattle.std.proofs.Common.{◌≡◌, ◌∙◌, None, Some, ap, sym}
 use Rattle.std.specs.Prelude.{option_map}
-use Rattle.hir_base.specs.Cfg.{cfg_view}
+use Rattle.hir_collector_rules.specs.HirBase.Cfg.{cfg_view}
 use Rattle.hir_collector_rules.specs.Keys.{environment}
 use Rattle.hir_assoc_items.specs.AssocItems.{definition_of, left_out, listed, listed_by, unconfigured}
 use Rattle.hir_assoc_items.specs.Steps.{container_view, left_of, listing_view}

@@ -2,10 +2,10 @@
 use Rattle.std.proofs.Common.{◌≡◌, ◌∙◌, Some, ap, map, sym}
 use Rattle.std.specs.Prelude.{IsSome}
 use Rattle.std.specs.Option.{option_and_then}
-use Rattle.hir_item_tree.specs.SideLists.{entry_associated, row_item}
-use Rattle.hir_item_tree.specs.SourceTree.{SourceTreeValue, side_of}
-use Rattle.hir_item_tree.specs.SyntaxIds.{node_id}
-use Rattle.hir_tables.specs.Tables.{source_of}
+use Rattle.hir_collector_rules.specs.HirItemTree.SideLists.{entry_associated, row_item}
+use Rattle.hir_collector_rules.specs.HirItemTree.SourceTree.{SourceTreeValue, side_of}
+use Rattle.hir_collector_rules.specs.HirItemTree.SyntaxIds.{node_id}
+use Rattle.hir_collector_rules.specs.HirTables.Tables.{source_of}
 use Rattle.hir_collector_rules.specs.Keys.{source_in}
 use Rattle.hir_assoc_items.specs.AssocItems.{loc_key, loc_tree}
 use Rattle.hir_assoc_items.specs.Written.{written, written_view}

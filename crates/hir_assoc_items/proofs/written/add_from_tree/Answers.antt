@@ -1,8 +1,8 @@
 -- The item of the number is added.
 use Rattle.std.proofs.Common.{◌∙◌, ◌++◌, List, ap, map}
-use Rattle.hir_item_tree.specs.Collected.{collected_of}
-use Rattle.hir_item_tree.specs.KeptForest.{all_items}
-use Rattle.hir_item_tree.specs.Kinds.{kind_content}
+use Rattle.hir_collector_rules.specs.HirItemTree.Collected.{collected_of}
+use Rattle.hir_collector_rules.specs.HirItemTree.KeptForest.{all_items}
+use Rattle.hir_collector_rules.specs.HirItemTree.Kinds.{kind_content}
 use Rattle.hir_assoc_items.specs.Written.{WrittenValue, written_view}
 use Rattle.hir_assoc_items.proofs.Reading.{found_written}
 use Rattle.hir_assoc_items.proofs.written.add_from_tree.Goals as goal

@@ -1,6 +1,6 @@
 -- What was read and what is left give the whole list.
 use Rattle.std.proofs.Common.{◌≡◌, ◌++◌, length, map}
-use Rattle.hir_item_tree.specs.SideLists.{row_item}
+use Rattle.hir_collector_rules.specs.HirItemTree.SideLists.{row_item}
 use Rattle.hir_assoc_items.specs.Written.{written, written_view}
 use Rattle.hir_assoc_items.proofs.written.of_rows.Given as goal
 

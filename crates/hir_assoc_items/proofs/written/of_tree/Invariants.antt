@@ -1,7 +1,7 @@
 -- What was read and what is left give the whole list.
 use Rattle.std.proofs.Common.{◌≡◌, ◌++◌, drop, map}
-use Rattle.hir_item_tree.specs.KeptForest.{all_items}
-use Rattle.hir_item_tree.specs.Rows.{items_at, numbers_of}
+use Rattle.hir_collector_rules.specs.HirItemTree.KeptForest.{all_items}
+use Rattle.hir_collector_rules.specs.HirItemTree.Rows.{items_at, numbers_of}
 use Rattle.hir_assoc_items.specs.Written.{top_items, written, written_view}
 use Rattle.hir_assoc_items.proofs.written.of_tree.Given as goal
 

@@ -1,11 +1,11 @@
 -- Each path is listed, one after another.
 use Rattle.std.proofs.Common.{rules, ◌≡◌, ◌∙◌, ◌∷◌, ◌+◌, ◌≤◌, ℕ, List, ap, drop, get_or, length, refl, subst, sym}
 use Rattle.std.proofs.lemmas.List.{drop_all, drop_more}
-use Rattle.hir_base.specs.ModPath.{Path}
-use Rattle.hir_use_tree.specs.UseTree.{count_of}
-use Rattle.hir_collector_rules.specs.declared.macro_directive.MacroDirective.{MacroDirective}
-use Rattle.hir_collector_rules.specs.State.{Core, core_in, with_calls}
-use Rattle.hir_collector_rules.specs.Steps.{derive_at, derives_from}
+use Rattle.hir_collector_state.specs.HirBase.ModPath.{Path}
+use Rattle.hir_collector_state.specs.HirUseTree.UseTree.{count_of}
+use Rattle.hir_collector_state.specs.HirCollectorRules.declared.macro_directive.MacroDirective.{MacroDirective}
+use Rattle.hir_collector_state.specs.HirCollectorRules.State.{Core, core_in, with_calls}
+use Rattle.hir_collector_state.specs.HirCollectorRules.Steps.{derive_at, derives_from}
 use Rattle.hir_attr_resolution.proofs.Deriving.{no_more_calls, one_more_call}
 use Rattle.hir_collector_state.proofs.Noted.{noted_follow, noted_itself}
 use Rattle.hir_attr_resolution.proofs.attributes.await_derives.Goals as goal

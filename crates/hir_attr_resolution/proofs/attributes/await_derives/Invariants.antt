@@ -1,6 +1,6 @@
 use Rattle.std.proofs.Common.{◌≡◌, drop}
-use Rattle.hir_collector_rules.specs.State.{core_in, with_calls}
-use Rattle.hir_collector_rules.specs.Steps.{derives_from}
+use Rattle.hir_collector_state.specs.HirCollectorRules.State.{core_in, with_calls}
+use Rattle.hir_collector_state.specs.HirCollectorRules.Steps.{derives_from}
 use Rattle.hir_collector_state.specs.Waiting.{IsNoted}
 use Rattle.hir_attr_resolution.proofs.attributes.await_derives.Given as goal
 

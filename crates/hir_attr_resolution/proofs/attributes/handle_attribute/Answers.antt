@@ -1,19 +1,19 @@
 -- A `derive` is taken, and the item goes on; for any other attribute it waits.
 use Rattle.std.proofs.Common.{rules, ◌≡◌, ◌∙◌, ◌+◌, ◌≤◌, ◌∷◌, [], ℕ, Bool, Some, arith, get_or, length, slice_get, subst, sym, ap}
-use Rattle.hir_item_tree.specs.Collected.{numbered}
-use Rattle.hir_item_tree.specs.KeptForest.{all_items}
-use Rattle.hir_item_tree.specs.SourceTree.{SourceTreeValue}
-use Rattle.hir_item_tree.specs.declared.attrs.Attr.{Attr}
-use Rattle.hir_tables.specs.Tables.{KeepsTables, TablesValue}
-use Rattle.hir_collector_rules.specs.declared.macro_directive.WaitingItem.{WaitingItem}
-use Rattle.hir_collector_rules.specs.declared.start.TheConstants.{STEP_LIMIT}
-use Rattle.hir_collector_rules.specs.Calls.{AreCallsPlaced, item_kept}
-use Rattle.hir_collector_rules.specs.Attributes.{attr_id, is_derive}
-use Rattle.hir_collector_rules.specs.Moves.{HandlesAttribute, LacksDeriveNumber, TakesDerive, goes_behind}
-use Rattle.hir_collector_rules.specs.State.{Core, core_in, counted, visit, with_calls}
-use Rattle.hir_collector_rules.specs.Steps.{attribute_at}
+use Rattle.hir_collector_state.specs.HirItemTree.Collected.{numbered}
+use Rattle.hir_collector_state.specs.HirItemTree.KeptForest.{all_items}
+use Rattle.hir_collector_state.specs.HirItemTree.SourceTree.{SourceTreeValue}
+use Rattle.hir_collector_state.specs.HirItemTree.declared.attrs.Attr.{Attr}
+use Rattle.hir_collector_state.specs.HirTables.Tables.{KeepsTables, TablesValue}
+use Rattle.hir_collector_state.specs.HirCollectorRules.declared.macro_directive.WaitingItem.{WaitingItem}
+use Rattle.hir_collector_state.specs.HirCollectorRules.declared.start.TheConstants.{STEP_LIMIT}
+use Rattle.hir_collector_state.specs.HirCollectorRules.Calls.{AreCallsPlaced, item_kept}
+use Rattle.hir_collector_state.specs.HirCollectorRules.Attributes.{attr_id, is_derive}
+use Rattle.hir_collector_state.specs.HirCollectorRules.Moves.{HandlesAttribute, LacksDeriveNumber, TakesDerive, goes_behind}
+use Rattle.hir_collector_state.specs.HirCollectorRules.State.{Core, core_in, counted, visit, with_calls}
+use Rattle.hir_collector_state.specs.HirCollectorRules.Steps.{attribute_at}
 use Rattle.hir_collector_state.specs.Waiting.{IsNoted}
-use Rattle.hir_collector_rules.proofs.Numbers.{tables_stay}
+use Rattle.hir_collector_state.proofs.HirCollectorRules.Numbers.{tables_stay}
 use Rattle.hir_collector_state.proofs.Noted.{noted_follow}
 use Rattle.hir_attr_resolution.proofs.Passing.{awaited, awaited_too_far, item_is, taken, taken_count, taken_modules, taken_too_far, unnumbered_too_far}
 use Rattle.hir_attr_resolution.proofs.attributes.handle_attribute.Goals as goal

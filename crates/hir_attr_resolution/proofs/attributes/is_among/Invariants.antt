@@ -1,5 +1,5 @@
 use Rattle.std.proofs.Common.{◌≡◌, drop}
-use Rattle.hir_collector_rules.specs.Attributes.{is_among}
+use Rattle.hir_collector_state.specs.HirCollectorRules.Attributes.{is_among}
 use Rattle.hir_attr_resolution.proofs.attributes.is_among.Given as goal
 
 -- it is one of those that are left where it is one of all

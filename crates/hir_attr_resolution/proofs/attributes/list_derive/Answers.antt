@@ -1,7 +1,7 @@
 -- The call of a `derive` gets a number, its paths wait, and it is noted.
 use Rattle.std.proofs.Common.{rules, ◌∙◌, ◌<◌, ap, length, subst, sym}
-use Rattle.hir_collector_rules.specs.Invocations.{derive_met, with_noted}
-use Rattle.hir_collector_rules.specs.State.{Core, with_map}
+use Rattle.hir_collector_state.specs.HirCollectorRules.Invocations.{derive_met, with_noted}
+use Rattle.hir_collector_state.specs.HirCollectorRules.State.{Core, with_map}
 use Rattle.hir_collector_state.proofs.Noted.{noted_follow}
 use Rattle.hir_attr_resolution.proofs.attributes.list_derive.Goals as goal
 

@@ -1,9 +1,9 @@
 -- Those that are passed, up to one that isn't.
 use Rattle.std.proofs.Common.{◌≡◌, ◌∙◌, ◌+◌, ℕ, suc, List, Some, ap, drop, map, refl, slice_get, subst, sym, option_map, arith}
 use Rattle.std.proofs.lemmas.Option.{slice_get-map}
-use Rattle.hir_item_tree.specs.Collected.{Numbered, numbered}
-use Rattle.hir_item_tree.specs.declared.attrs.Attr.{Attr}
-use Rattle.hir_collector_rules.specs.Attributes.{first_looked_up, next_among}
+use Rattle.hir_collector_state.specs.HirItemTree.Collected.{Numbered, numbered}
+use Rattle.hir_collector_state.specs.HirItemTree.declared.attrs.Attr.{Attr}
+use Rattle.hir_collector_state.specs.HirCollectorRules.Attributes.{first_looked_up, next_among}
 use Rattle.hir_attr_resolution.proofs.Passing.{item_there, passed_over, place_of, stopped_at}
 use Rattle.hir_attr_resolution.proofs.attributes.next_attribute.Goals as goal
 

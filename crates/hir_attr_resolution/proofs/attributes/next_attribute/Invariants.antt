@@ -1,6 +1,6 @@
 use Rattle.std.proofs.Common.{◌≡◌, ◌≤◌, ◌-◌, drop, length, map}
-use Rattle.hir_item_tree.specs.Collected.{numbered}
-use Rattle.hir_collector_rules.specs.Attributes.{first_looked_up, next_among}
+use Rattle.hir_collector_state.specs.HirItemTree.Collected.{numbered}
+use Rattle.hir_collector_state.specs.HirCollectorRules.Attributes.{first_looked_up, next_among}
 use Rattle.hir_attr_resolution.proofs.attributes.next_attribute.Given as goal
 
 -- those before this place are passed

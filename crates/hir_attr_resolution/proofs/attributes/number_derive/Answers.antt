@@ -1,17 +1,17 @@
 -- The expansion gets a number, and then the call.
 use Rattle.std.proofs.Common.{◌≡◌, ◌∙◌, Some, ap, subst, sym}
-use Rattle.hir_base.specs.declared.ids.MapId.{MapId}
-use Rattle.hir_base.specs.declared.macro_kind.MacroCallKind.TheVariants.{Attr}
-use Rattle.hir_tables.specs.Interning.{IsFull}
-use Rattle.hir_tables.specs.SourcePlaces.{ExpansionValue, expansion_value}
-use Rattle.hir_tables.specs.Tables.{TablesValue}
-use Rattle.hir_tables.proofs.Growth.{KeepsTables-trans}
-use Rattle.hir_def_map_rules.specs.State.{Map}
-use Rattle.hir_collector_rules.specs.Calls.{AreCallsPlaced, derive_expansion, derive_loc}
-use Rattle.hir_collector_rules.specs.NumberedOut.{IsCallNumberedOut, IsDeriveNumberedOut, call_out, expansion_out}
-use Rattle.hir_collector_rules.specs.State.{core_in}
-use Rattle.hir_collector_rules.proofs.Numbers.{full_out, refused_full}
-use Rattle.hir_collector_start.proofs.CallPlaces.{placed_grown, placed_loc}
+use Rattle.hir_collector_state.specs.HirIds.declared.ids.MapId.{MapId}
+use Rattle.hir_collector_state.specs.HirBase.declared.macro_kind.MacroCallKind.TheVariants.{Attr}
+use Rattle.hir_collector_state.specs.HirTables.Interning.{IsFull}
+use Rattle.hir_collector_state.specs.HirTables.SourcePlaces.{ExpansionValue, expansion_value}
+use Rattle.hir_collector_state.specs.HirTables.Tables.{TablesValue}
+use Rattle.hir_collector_state.proofs.HirTables.Growth.{KeepsTables-trans}
+use Rattle.hir_collector_state.specs.HirDefMapRules.State.{Map}
+use Rattle.hir_collector_state.specs.HirCollectorRules.Calls.{AreCallsPlaced, derive_expansion, derive_loc}
+use Rattle.hir_collector_state.specs.HirCollectorRules.NumberedOut.{IsCallNumberedOut, IsDeriveNumberedOut, call_out, expansion_out}
+use Rattle.hir_collector_state.specs.HirCollectorRules.State.{core_in}
+use Rattle.hir_collector_state.proofs.HirCollectorRules.Numbers.{full_out, refused_full}
+use Rattle.hir_collector_state.proofs.HirCollectorStart.CallPlaces.{placed_grown, placed_loc}
 use Rattle.hir_attr_resolution.proofs.attributes.number_derive.Goals as goal
 
 pub returns-in_err-id-clause-placed : goal.returns-in_err-id-clause-placed

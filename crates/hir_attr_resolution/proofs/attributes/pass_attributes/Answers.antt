@@ -1,16 +1,16 @@
 -- One attribute after another, until none is left or the item waits.
 use Rattle.std.proofs.Common.{rules, ◌≡◌, ◌∙◌, ◌<◌, ℕ, Bool, true, false, Some, None, map, subst, sym}
-use Rattle.hir_item_tree.specs.Collected.{numbered}
-use Rattle.hir_def_map_rules.specs.State.{Map}
-use Rattle.hir_tables.proofs.Growth.{KeepsTables-trans}
+use Rattle.hir_collector_state.specs.HirItemTree.Collected.{numbered}
+use Rattle.hir_collector_state.specs.HirDefMapRules.State.{Map}
+use Rattle.hir_collector_state.proofs.HirTables.Growth.{KeepsTables-trans}
 use Rattle.hir_attr_resolution.specs.declared.attributes.Visited.{Visited}
-use Rattle.hir_collector_rules.specs.Attributes.{next_among, next_attribute}
-use Rattle.hir_collector_rules.specs.Moves.{HandlesAttribute, goes_behind}
-use Rattle.hir_collector_rules.specs.State.{Core, core_in, visit}
-use Rattle.hir_collector_rules.specs.Keys.{node_tree}
-use Rattle.hir_collector_rules.proofs.Lists.{get_there}
-use Rattle.hir_collector_rules.proofs.ModuleFiles.{source_kept}
-use Rattle.hir_collector_rules.proofs.Numbers.{tables_stay}
+use Rattle.hir_collector_state.specs.HirCollectorRules.Attributes.{next_among, next_attribute}
+use Rattle.hir_collector_state.specs.HirCollectorRules.Moves.{HandlesAttribute, goes_behind}
+use Rattle.hir_collector_state.specs.HirCollectorRules.State.{Core, core_in, visit}
+use Rattle.hir_collector_state.specs.HirCollectorRules.Keys.{node_tree}
+use Rattle.hir_collector_state.proofs.HirCollectorRules.Lists.{get_there}
+use Rattle.hir_collector_state.proofs.HirCollectorRules.ModuleFiles.{source_kept}
+use Rattle.hir_collector_state.proofs.HirCollectorRules.Numbers.{tables_stay}
 use Rattle.hir_collector_state.proofs.Noted.{noted_follow, noted_itself}
 use Rattle.hir_attr_resolution.proofs.Passing.{PassesTo, passes_all, passes_far, passes_next, passes_none, passes_waits, place_of, visited_at, visited_none}
 use Rattle.hir_attr_resolution.proofs.attributes.pass_attributes.Goals as goal

@@ -1,11 +1,11 @@
 use Rattle.std.proofs.Common.{◌-◌, ◌<◌, length}
-use Rattle.hir_item_tree.specs.KeptForest.{KeptItem}
-use Rattle.hir_tables.specs.Tables.{KeepsTables}
-use Rattle.hir_def_map_rules.specs.Overlay.{Maps}
-use Rattle.hir_collector_rules.specs.Calls.{AreCallsPlaced}
-use Rattle.hir_collector_rules.specs.Keys.{Environment}
+use Rattle.hir_collector_state.specs.HirItemTree.KeptForest.{KeptItem}
+use Rattle.hir_collector_state.specs.HirTables.Tables.{KeepsTables}
+use Rattle.hir_collector_state.specs.HirDefMapRules.Overlay.{Maps}
+use Rattle.hir_collector_state.specs.HirCollectorRules.Calls.{AreCallsPlaced}
+use Rattle.hir_collector_state.specs.HirCollectorRules.Keys.{Environment}
 use Rattle.hir_attr_resolution.specs.Visiting.{IsVisited}
-use Rattle.hir_collector_rules.specs.State.{core_in}
+use Rattle.hir_collector_state.specs.HirCollectorRules.State.{core_in}
 use Rattle.hir_collector_state.specs.Waiting.{IsNoted}
 use Rattle.hir_attr_resolution.proofs.Passing.{PassesTo}
 use Rattle.hir_attr_resolution.proofs.attributes.pass_attributes.Given as goal

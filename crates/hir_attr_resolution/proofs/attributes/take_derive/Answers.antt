@@ -1,14 +1,14 @@
 -- The paths that are listed, or what is reported.
 use Rattle.std.proofs.Common.{◌∙◌, sym, ap}
 use Rattle.std.proofs.lemmas.Result.{on_ok_weaker}
-use Rattle.hir_base.specs.declared.ids.ModuleId.{ModuleId}
-use Rattle.hir_item_tree.specs.Collected.{numbered}
-use Rattle.hir_def_map_rules.specs.Macros.{with_diagnostic}
-use Rattle.hir_def_map_rules.specs.declared.diagnostics.DefDiagnostic.{DefDiagnostic}
-use Rattle.hir_collector_rules.specs.Attributes.{attr_id}
-use Rattle.hir_collector_rules.specs.Moves.{listed, no_paths, no_target}
-use Rattle.hir_collector_rules.specs.Reports.{invalid_target, malformed_derive}
-use Rattle.hir_collector_rules.specs.State.{Core, core_in, with_map}
+use Rattle.hir_collector_state.specs.HirIds.declared.ids.ModuleId.{ModuleId}
+use Rattle.hir_collector_state.specs.HirItemTree.Collected.{numbered}
+use Rattle.hir_collector_state.specs.HirDefMapRules.Macros.{with_diagnostic}
+use Rattle.hir_collector_state.specs.HirMapParts.declared.diagnostics.DefDiagnostic.{DefDiagnostic}
+use Rattle.hir_collector_state.specs.HirCollectorRules.Attributes.{attr_id}
+use Rattle.hir_collector_state.specs.HirCollectorRules.Moves.{listed, no_paths, no_target}
+use Rattle.hir_collector_state.specs.HirCollectorRules.Reports.{invalid_target, malformed_derive}
+use Rattle.hir_collector_state.specs.HirCollectorRules.State.{Core, core_in, with_map}
 use Rattle.hir_attr_resolution.proofs.attributes.take_derive.Goals as goal
 
 pub returns-in-Some-paths_in-clause-ok : goal.returns-in-Some-paths_in-clause-ok

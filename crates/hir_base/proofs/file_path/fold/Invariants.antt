@@ -1,7 +1,7 @@
 use Rattle.std.proofs.Common.{◌≡◌, length}
 use Rattle.std.specs.Prelude.{Some}
 use Rattle.std.specs.List.{fold}
-use Rattle.hir_base.specs.Text.{nows}
+use Rattle.hir_ids.specs.Text.{nows}
 use Rattle.hir_base.specs.ParseFile.{one_more, folded_segments}
 use Rattle.hir_base.proofs.file_path.fold.Given as goal
 

@@ -1,6 +1,6 @@
 use Rattle.std.proofs.Common.{◌≡◌, ◌++◌, length, string_bytes}
 use Rattle.std.specs.List.{join_with_byte}
-use Rattle.hir_base.specs.Text.{nows}
+use Rattle.hir_ids.specs.Text.{nows}
 use Rattle.hir_base.proofs.FileLemmas.{tail}
 use Rattle.hir_base.proofs.file_path.join.Given as goal
 

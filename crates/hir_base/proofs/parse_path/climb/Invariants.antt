@@ -1,5 +1,5 @@
 use Rattle.std.proofs.Common.{◌≡◌, ◌+◌, ◌<◌, ◌^◌, length}
-use Rattle.hir_base.specs.Text.{nows}
+use Rattle.hir_ids.specs.Text.{nows}
 use Rattle.hir_base.specs.ParsePath.{climb}
 use Rattle.hir_base.proofs.parse_path.climb.Given as goal
 

@@ -1,7 +1,7 @@
 use Rattle.std.proofs.Common.{◌≡◌, length, nat_lt}
 use Rattle.std.specs.List.{list_any}
-use Rattle.hir_base.specs.Text.{nows}
-use Rattle.hir_base.specs.NameForm.{max_name}
+use Rattle.hir_ids.specs.Text.{nows}
+use Rattle.hir_ids.specs.NameForm.{max_name}
 use Rattle.hir_base.proofs.parse_path.has_long_name.Given as goal
 
 abbrev pub invariant-names : goal.invariant-names

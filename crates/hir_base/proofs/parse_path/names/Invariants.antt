@@ -1,7 +1,7 @@
 use Rattle.std.proofs.Common.{◌≡◌, ◌++◌, length, nat_lt, true, false}
 use Rattle.std.specs.List.{list_all, list_any}
-use Rattle.hir_base.specs.Text.{nows}
-use Rattle.hir_base.specs.NameForm.{is_name, max_name}
+use Rattle.hir_ids.specs.Text.{nows}
+use Rattle.hir_ids.specs.NameForm.{is_name, max_name}
 use Rattle.hir_base.proofs.parse_path.names.Given as goal
 
 abbrev pub invariant-names : goal.invariant-names

@@ -1,5 +1,5 @@
 use Rattle.std.proofs.Common.{◌≡◌, length}
-use Rattle.hir_base.specs.Text.{nows}
+use Rattle.hir_ids.specs.Text.{nows}
 use Rattle.hir_base.specs.ParsePath.{parts_of_pieces, parts}
 use Rattle.hir_base.proofs.PathLemmas.{after}
 use Rattle.hir_base.proofs.parse_path.parts.Given as goal

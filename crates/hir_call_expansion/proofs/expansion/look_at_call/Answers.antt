@@ -1,24 +1,24 @@
 -- All that the expansion of a call depends on is asked for, and the expansion.
 use Rattle.std.proofs.Common.{◌≡◌, ◌∙◌, Some, ap, refl, subst, sym}
-use Rattle.hir_base.specs.declared.ast_id.AstId.{AstId}
-use Rattle.hir_base.specs.declared.macro_kind.CallStyle.{CallStyle}
-use Rattle.hir_base.specs.declared.macro_kind.MacroCallKind.{MacroCallKind}
-use Rattle.hir_base.specs.declared.ids.MapId.{MapId}
-use Rattle.hir_tables.specs.Interning.{Interns, IsFull}
-use Rattle.hir_tables.specs.SourcePlaces.{ExpansionValue, expansion_value}
-use Rattle.hir_tables.specs.Tables.{TablesValue}
-use Rattle.hir_tables.proofs.Growth.{KeepsTables-trans}
-use Rattle.hir_def_map_rules.specs.State.{Map}
-use Rattle.hir_def_map.specs.WorldParts.{part_of}
-use Rattle.hir_collector_rules.specs.declared.source_database.Key.TheVariants as keys
-use Rattle.hir_collector_rules.specs.Calls.{AreCallsPlaced, Expanding, call_key, call_loc, call_style, expansion_of_call}
-use Rattle.hir_collector_rules.specs.Keys.{environment, input_at, source_in}
-use Rattle.hir_collector_rules.specs.Moves.{OnceGrown}
-use Rattle.hir_collector_rules.specs.NumberedOut.{LacksExpansion, expansion_by}
-use Rattle.hir_collector_rules.specs.State.{Core, core_in, with_asked}
-use Rattle.hir_collector_rules.specs.Workspace.{Workspace, entry_look, seen_of}
-use Rattle.hir_collector_start.proofs.CallPlaces.{placed_grown}
-use Rattle.hir_collector_rules.proofs.Numbers.{refused_full, tables_stay}
+use Rattle.hir_collector_state.specs.HirIds.declared.ast_id.AstId.{AstId}
+use Rattle.hir_collector_state.specs.HirBase.declared.macro_kind.CallStyle.{CallStyle}
+use Rattle.hir_collector_state.specs.HirBase.declared.macro_kind.MacroCallKind.{MacroCallKind}
+use Rattle.hir_collector_state.specs.HirIds.declared.ids.MapId.{MapId}
+use Rattle.hir_collector_state.specs.HirTables.Interning.{Interns, IsFull}
+use Rattle.hir_collector_state.specs.HirTables.SourcePlaces.{ExpansionValue, expansion_value}
+use Rattle.hir_collector_state.specs.HirTables.Tables.{TablesValue}
+use Rattle.hir_collector_state.proofs.HirTables.Growth.{KeepsTables-trans}
+use Rattle.hir_collector_state.specs.HirDefMapRules.State.{Map}
+use Rattle.hir_collector_state.specs.HirNameres.WorldParts.{part_of}
+use Rattle.hir_collector_state.specs.HirCollectorRules.declared.source_database.Key.TheVariants as keys
+use Rattle.hir_collector_state.specs.HirCollectorRules.Calls.{AreCallsPlaced, Expanding, call_key, call_loc, call_style, expansion_of_call}
+use Rattle.hir_collector_state.specs.HirCollectorRules.Keys.{environment, input_at, source_in}
+use Rattle.hir_collector_state.specs.HirCollectorRules.Moves.{OnceGrown}
+use Rattle.hir_collector_state.specs.HirCollectorRules.NumberedOut.{LacksExpansion, expansion_by}
+use Rattle.hir_collector_state.specs.HirCollectorRules.State.{Core, core_in, with_asked}
+use Rattle.hir_collector_state.specs.HirCollectorRules.Workspace.{Workspace, entry_look, seen_of}
+use Rattle.hir_collector_state.proofs.HirCollectorStart.CallPlaces.{placed_grown}
+use Rattle.hir_collector_state.proofs.HirCollectorRules.Numbers.{refused_full, tables_stay}
 use Rattle.hir_call_expansion.proofs.Looking.{asked_all, key_of_call, lacks_expansion, lacks_its_call, placed_call, sees_call}
 use Rattle.hir_collector_state.proofs.Noted.{noted_follow}
 use Rattle.hir_call_expansion.proofs.expansion.look_at_call.Goals as goal

@@ -1,7 +1,7 @@
 -- One more is watched in each turn.
 use Rattle.std.proofs.Common.{[], ◌∷◌, ◌++◌, rules}
 use Rattle.std.proofs.lemmas.List.Elements.{All-push}
-use Rattle.hir_def_map.specs.contracts.nameres.path_resolution.slots.SlotOrd.TheImpl.Laws.{total-law as slot_total}
+use Rattle.hir_nameres.specs.contracts.nameres.path_resolution.slots.SlotOrd.TheImpl.Laws.{total-law as slot_total}
 use Rattle.hir_import_resolution.specs.Inner.Queue.{slot_cmp}
 use Rattle.hir_worklist.proofs.Woken.{keeps_besides, one_done, watches_more}
 use Rattle.hir_import_rules.specs.Changed.{IsThere}

@@ -1,7 +1,7 @@
 -- The item is watched besides, if there is one.
 use Rattle.std.proofs.Common.{◌≡◌, true, subst}
-use Rattle.hir_base.specs.declared.ast_id.AstId.{AstId}
-use Rattle.hir_base.specs.contracts.ast_id.AstIdOrd.TheImpl.Laws.{total-law as item_total}
+use Rattle.hir_nameres.specs.HirIds.declared.ast_id.AstId.{AstId}
+use Rattle.hir_nameres.specs.HirIds.contracts.ast_id.AstIdOrd.TheImpl.Laws.{total-law as item_total}
 use Rattle.hir_worklist.proofs.Woken.{keeps_besides, watches_its}
 use Rattle.hir_import_rules.specs.Changed.{item_cmp}
 use Rattle.hir_call_queue.specs.Waking.{watches_item}

@@ -1,26 +1,26 @@
 use Rattle.std.proofs.Common.{rules, ◌≡◌, ◌∙◌, Bool, Option, None, refl, sym, ap, subst}
 use Rattle.std.specs.Prelude.{IsSome, option_map}
-use Rattle.hir_base.specs.declared.ids.Crate.{Crate}
-use Rattle.hir_item_tree.specs.ItemTree.{Tree}
-use Rattle.hir_item_tree.specs.SourceTree.{SourceTreeValue}
-use Rattle.hir_tables.specs.SourcePlaces.{source_value}
-use Rattle.hir_tables.specs.Tables.{source_of}
-use Rattle.hir_tables.proofs.Growth.{KeepsTables-trans}
-use Rattle.hir_def_map_rules.specs.State.{IsInOrder, new_module}
-use Rattle.hir_def_map.specs.WorldParts.{part_of}
-use Rattle.hir_collector_rules.specs.Workspace.{ConfigValue, Workspace, config_view, crate_in}
-use Rattle.hir_collector_rules.specs.Calls.{IsMeantAt}
-use Rattle.hir_collector_rules.specs.Keys.{environment, source_in}
-use Rattle.hir_collector_rules.specs.Start.{core_of, exports_macros, krate_of, origin_of, root_site, tree_key, tree_visits, root_visibility}
-use Rattle.hir_collector_rules.specs.State.{Core, State, at_rest, core_in, joined}
-use Rattle.hir_collector_rules.specs.Steps.{Steps, none}
-use Rattle.hir_collector_rules.specs.Derivation.{IsSpent}
-use Rattle.hir_collector_state.proofs.InOrder.{root_in_order}
+use Rattle.hir_mod_collector.specs.HirIds.declared.ids.Crate.{Crate}
+use Rattle.hir_mod_collector.specs.HirItemTree.ItemTree.{Tree}
+use Rattle.hir_mod_collector.specs.HirItemTree.SourceTree.{SourceTreeValue}
+use Rattle.hir_mod_collector.specs.HirTables.SourcePlaces.{source_value}
+use Rattle.hir_mod_collector.specs.HirTables.Tables.{source_of}
+use Rattle.hir_mod_collector.proofs.HirTables.Growth.{KeepsTables-trans}
+use Rattle.hir_mod_collector.specs.HirDefMapRules.State.{IsInOrder, new_module}
+use Rattle.hir_nameres.specs.WorldParts.{part_of}
+use Rattle.hir_mod_collector.specs.HirCollectorRules.Workspace.{ConfigValue, Workspace, config_view, crate_in}
+use Rattle.hir_mod_collector.specs.HirCollectorRules.Calls.{IsMeantAt}
+use Rattle.hir_mod_collector.specs.HirCollectorRules.Keys.{environment, source_in}
+use Rattle.hir_mod_collector.specs.HirCollectorRules.Start.{core_of, exports_macros, krate_of, origin_of, root_site, tree_key, tree_visits, root_visibility}
+use Rattle.hir_mod_collector.specs.HirCollectorRules.State.{Core, State, at_rest, core_in, joined}
+use Rattle.hir_mod_collector.specs.HirCollectorRules.Steps.{Steps, none}
+use Rattle.hir_mod_collector.specs.HirCollectorRules.Derivation.{IsSpent}
+use Rattle.hir_mod_collector.proofs.HirCollectorState.InOrder.{root_in_order}
 use Rattle.hir_collector_begin.proofs.Begun.{begun_absent, begun_grown, none_there, nothing_there, some_there}
-use Rattle.hir_collector_rules.proofs.ModuleFiles.{site_kept}
-use Rattle.hir_collector_rules.proofs.Numbers.{tables_stay}
-use Rattle.hir_collector_imports.proofs.Ready.{ready_start}
-use Rattle.hir_collector_start.proofs.Rootless.{ready_empty, rests_empty}
+use Rattle.hir_mod_collector.proofs.HirCollectorRules.ModuleFiles.{site_kept}
+use Rattle.hir_mod_collector.proofs.HirCollectorRules.Numbers.{tables_stay}
+use Rattle.hir_mod_collector.proofs.HirCollectorImports.Ready.{ready_start}
+use Rattle.hir_mod_collector.proofs.HirCollectorStart.Rootless.{ready_empty, rests_empty}
 use Rattle.hir_collector_begin.proofs.begin.begin.Goals as goal
 
 pub returns-then-is_none-clause-ok : goal.returns-then-is_none-clause-ok

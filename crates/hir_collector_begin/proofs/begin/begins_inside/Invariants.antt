@@ -1,5 +1,5 @@
 use Rattle.std.proofs.Common.{◌≡◌, length}
-use Rattle.hir_collector_imports.specs.Outside.{begins_inside}
+use Rattle.hir_mod_collector.specs.HirCollectorImports.Outside.{begins_inside}
 use Rattle.hir_collector_begin.proofs.begin.begins_inside.Given as goal
 
 -- those that are left decide

@@ -1,23 +1,23 @@
 use Rattle.std.proofs.Common.{rules, ◌≡◌, ◌∙◌, ◌<◌, true, false, None, Option, length, sym, ap, subst}
 use Rattle.std.proofs.lemmas.List.Elements.{All-map}
 use Rattle.std.specs.List.{All}
-use Rattle.hir_base.specs.declared.ast_id.FileId.{FileId}
-use Rattle.hir_item_tree.specs.ItemTree.{Tree}
-use Rattle.hir_item_tree.specs.SourceTree.{SourceTreeValue}
-use Rattle.hir_item_tree.specs.KeptForest.{all_items}
-use Rattle.hir_item_tree.specs.Rows.{items_at, numbers_of}
-use Rattle.hir_item_tree.specs.declared.rows.ModItemId.{ModItemId}
-use Rattle.hir_mod_dir.specs.Directory.{Directory}
-use Rattle.hir_def_map.specs.WorldParts.{part_of}
-use Rattle.hir_collector_rules.specs.Keys.{environment}
-use Rattle.hir_collector_rules.specs.ModuleFiles.{IsFileMeant, file_of_tree}
-use Rattle.hir_collector_rules.specs.Moves.{Walks, WalksTooFar}
-use Rattle.hir_collector_rules.specs.Start.{is_declared, root_site}
-use Rattle.hir_collector_rules.specs.TreeReads.{visits_at}
-use Rattle.hir_collector_rules.proofs.Numbers.{tables_stay}
+use Rattle.hir_mod_collector.specs.HirIds.declared.ast_id.FileId.{FileId}
+use Rattle.hir_mod_collector.specs.HirItemTree.ItemTree.{Tree}
+use Rattle.hir_mod_collector.specs.HirItemTree.SourceTree.{SourceTreeValue}
+use Rattle.hir_mod_collector.specs.HirItemTree.KeptForest.{all_items}
+use Rattle.hir_mod_collector.specs.HirItemTree.Rows.{items_at, numbers_of}
+use Rattle.hir_mod_collector.specs.HirItemTree.declared.rows.ModItemId.{ModItemId}
+use Rattle.hir_mod_collector.specs.HirModDir.Directory.{Directory}
+use Rattle.hir_nameres.specs.WorldParts.{part_of}
+use Rattle.hir_mod_collector.specs.HirCollectorRules.Keys.{environment}
+use Rattle.hir_mod_collector.specs.HirCollectorRules.ModuleFiles.{IsFileMeant, file_of_tree}
+use Rattle.hir_mod_collector.specs.HirCollectorRules.Moves.{Walks, WalksTooFar}
+use Rattle.hir_mod_collector.specs.HirCollectorRules.Start.{is_declared, root_site}
+use Rattle.hir_mod_collector.specs.HirCollectorRules.TreeReads.{visits_at}
+use Rattle.hir_mod_collector.proofs.HirCollectorRules.Numbers.{tables_stay}
 use Rattle.hir_mod_collector.proofs.Walked.{spent_present, walks_disabled, walks_present}
 use Rattle.hir_collector_begin.proofs.begin.walk_root.Goals as goal
-use Rattle.hir_collector_rules.specs.State.{core_in}
+use Rattle.hir_mod_collector.specs.HirCollectorRules.State.{core_in}
 
 pub returns-then-not-is_declared-clause-kept : goal.returns-then-not-is_declared-clause-kept
 returns-then-not-is_declared-clause-kept g c = tables_stay c.args.locations.now

@@ -1,17 +1,17 @@
 -- A path of a derive that reaches a builtin macro is handled: an impl is listed, and its helpers are brought.
 use Rattle.std.proofs.Common.{rules, ◌≡◌, ◌∙◌, ◌<◌, ◌≤◌, ℕ, List, Some, ap, length, map, subst, sym}
 use Rattle.either.specs.declared.Either.TheVariants as either
-use Rattle.hir_def_map.specs.WorldParts.{part_of}
-use Rattle.hir_def_map_rules.proofs.Grown.{length-changed}
-use Rattle.hir_def_map_rules.specs.State.{with_module_scope}
-use Rattle.hir_def_map_rules.specs.declared.derive_helpers.DeriveHelper.{DeriveHelper}
-use Rattle.hir_collector_rules.specs.declared.start.TheConstants.{STEP_LIMIT}
-use Rattle.hir_collector_rules.specs.declared.macro_directive.MacroDirective.{MacroDirective}
-use Rattle.hir_collector_rules.specs.Calls.{DerivedCall, helper_by, helpers_brought}
-use Rattle.hir_collector_rules.specs.Changes.{with_builtin_derive}
-use Rattle.hir_collector_rules.specs.Moves.{Makes}
-use Rattle.hir_collector_rules.specs.State.{Core, core_in}
-use Rattle.hir_collector_rules.specs.Steps.{bringing, derives_builtin}
+use Rattle.hir_collector_state.specs.HirNameres.WorldParts.{part_of}
+use Rattle.hir_collector_state.proofs.HirDefMapRules.Grown.{length-changed}
+use Rattle.hir_collector_state.specs.HirDefMapRules.State.{with_module_scope}
+use Rattle.hir_collector_state.specs.HirMapParts.declared.derive_helpers.DeriveHelper.{DeriveHelper}
+use Rattle.hir_collector_state.specs.HirCollectorRules.declared.start.TheConstants.{STEP_LIMIT}
+use Rattle.hir_collector_state.specs.HirCollectorRules.declared.macro_directive.MacroDirective.{MacroDirective}
+use Rattle.hir_collector_state.specs.HirCollectorRules.Calls.{DerivedCall, helper_by, helpers_brought}
+use Rattle.hir_collector_state.specs.HirCollectorRules.Changes.{with_builtin_derive}
+use Rattle.hir_collector_state.specs.HirCollectorRules.Moves.{Makes}
+use Rattle.hir_collector_state.specs.HirCollectorRules.State.{Core, core_in}
+use Rattle.hir_collector_state.specs.HirCollectorRules.Steps.{bringing, derives_builtin}
 use Rattle.hir_collector_derives.proofs.CallSteps.{derived, fate_helped, past_rule}
 use Rattle.hir_collector_state.proofs.Made.{count_kept}
 use Rattle.hir_collector_state.proofs.Noted.{noted_follow}

@@ -1,7 +1,7 @@
 -- A call that is too deep is handled, and one step is counted.
 use Rattle.std.proofs.Common.{rules, ◌∙◌, ◌≤◌, ap, subst}
-use Rattle.hir_collector_rules.specs.declared.start.TheConstants.{STEP_LIMIT}
-use Rattle.hir_collector_rules.specs.State.{Core, counted}
+use Rattle.hir_collector_state.specs.HirCollectorRules.declared.start.TheConstants.{STEP_LIMIT}
+use Rattle.hir_collector_state.specs.HirCollectorRules.State.{Core, counted}
 use Rattle.hir_collector_state.proofs.Noted.{noted_follow}
 use Rattle.hir_collector_derives.proofs.derives.drop_call.Goals as goal
 

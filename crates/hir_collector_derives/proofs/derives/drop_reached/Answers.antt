@@ -1,11 +1,11 @@
 -- What reaches a macro and is too deep is handled, and brings its helpers.
 use Rattle.std.proofs.Common.{rules, ◌≡◌, ◌∙◌, ◌≤◌, None, ap, subst}
-use Rattle.hir_def_map.specs.WorldParts.{part_of}
-use Rattle.hir_collector_rules.specs.declared.start.TheConstants.{STEP_LIMIT}
-use Rattle.hir_collector_rules.specs.declared.macro_directive.MacroDirective.{MacroDirective}
-use Rattle.hir_collector_rules.specs.Calls.{helpers_brought}
-use Rattle.hir_collector_rules.specs.State.{Core, core_in}
-use Rattle.hir_collector_rules.specs.Steps.{bringing, drops_reached}
+use Rattle.hir_collector_state.specs.HirNameres.WorldParts.{part_of}
+use Rattle.hir_collector_state.specs.HirCollectorRules.declared.start.TheConstants.{STEP_LIMIT}
+use Rattle.hir_collector_state.specs.HirCollectorRules.declared.macro_directive.MacroDirective.{MacroDirective}
+use Rattle.hir_collector_state.specs.HirCollectorRules.Calls.{helpers_brought}
+use Rattle.hir_collector_state.specs.HirCollectorRules.State.{Core, core_in}
+use Rattle.hir_collector_state.specs.HirCollectorRules.Steps.{bringing, drops_reached}
 use Rattle.hir_collector_derives.proofs.CallSteps.{dropped_reached, fate_helped, past_rule}
 use Rattle.hir_collector_state.proofs.Made.{count_kept}
 use Rattle.hir_collector_state.proofs.Noted.{noted_follow}

@@ -1,10 +1,10 @@
 -- Each helper is brought, one after another.
 use Rattle.std.proofs.Common.{rules, ◌≡◌, ◌∙◌, ◌∷◌, [], ◌<◌, ◌≤◌, ◌+◌, List, ap, drop, get_or, length, map, subst, sym, arith, ℕ}
 use Rattle.std.proofs.lemmas.List.{drop_all, drop_more}
-use Rattle.hir_def_map_rules.specs.Macros.{with_derive_helper}
-use Rattle.hir_def_map_rules.specs.declared.derive_helpers.DeriveHelper.{DeriveHelper}
-use Rattle.hir_collector_rules.specs.Calls.{helper_by}
-use Rattle.hir_collector_rules.specs.State.{Core, core_in, with_map}
+use Rattle.hir_collector_state.specs.HirDefMapRules.Macros.{with_derive_helper}
+use Rattle.hir_collector_state.specs.HirMapParts.declared.derive_helpers.DeriveHelper.{DeriveHelper}
+use Rattle.hir_collector_state.specs.HirCollectorRules.Calls.{helper_by}
+use Rattle.hir_collector_state.specs.HirCollectorRules.State.{Core, core_in, with_map}
 use Rattle.hir_collector_derives.proofs.Helping.{MakesWithLeft, all_brought, none_brought, one_brought}
 use Rattle.hir_collector_state.proofs.Noted.{noted_follow, noted_itself}
 use Rattle.hir_collector_derives.proofs.derives.help_all.Goals as goal

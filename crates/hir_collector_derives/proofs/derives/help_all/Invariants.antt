@@ -1,6 +1,6 @@
 use Rattle.std.proofs.Common.{drop, map}
-use Rattle.hir_collector_rules.specs.Calls.{helper_by}
-use Rattle.hir_collector_rules.specs.State.{core_in}
+use Rattle.hir_collector_state.specs.HirCollectorRules.Calls.{helper_by}
+use Rattle.hir_collector_state.specs.HirCollectorRules.State.{core_in}
 use Rattle.hir_collector_state.specs.Waiting.{IsNoted}
 use Rattle.hir_collector_derives.proofs.Helping.{MakesWithLeft}
 use Rattle.hir_collector_derives.proofs.derives.help_all.Given as goal

@@ -1,7 +1,7 @@
 -- Names that go along globs do so in the run.
 use Rattle.std.proofs.Common.{◌≡◌, refl, length, subst}
-use Rattle.hir_def_map_rules.specs.State.{Map}
-use Rattle.hir_def_map.specs.WorldParts.{part_of}
+use Rattle.hir_collector_state.specs.HirDefMapRules.State.{Map}
+use Rattle.hir_collector_state.specs.HirNameres.WorldParts.{part_of}
 use Rattle.hir_import_resolution.specs.Inner.State.{state_in}
 use Rattle.hir_collector_rules.specs.Derivation.{IsSpent}
 use Rattle.hir_collector_state.specs.contracts.def_collector.DefCollector.{the_view}

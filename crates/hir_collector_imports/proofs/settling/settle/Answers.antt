@@ -1,13 +1,13 @@
 -- Imports that are taken are so in the run.
 use Rattle.std.proofs.Common.{rules, ◌≡◌, ◌<◌, ℕ, List, Some, length, slice_get, refl, sym, subst}
-use Rattle.hir_def_map_rules.specs.State.{IsInOrder}
-use Rattle.hir_def_map.specs.WorldParts.{part_of}
-use Rattle.hir_def_map.specs.declared.nameres.path_resolution.slots.Slot.{Slot}
-use Rattle.hir_import_rules.specs.declared.directive.ImportDirective.{ImportDirective}
+use Rattle.hir_collector_state.specs.HirDefMapRules.State.{IsInOrder}
+use Rattle.hir_collector_state.specs.HirNameres.WorldParts.{part_of}
+use Rattle.hir_collector_state.specs.HirNameres.declared.nameres.path_resolution.slots.Slot.{Slot}
+use Rattle.hir_collector_state.specs.HirImportRules.declared.directive.ImportDirective.{ImportDirective}
 use Rattle.hir_import_resolution.specs.Inner.State.{state_in}
-use Rattle.hir_import_growth.specs.Growth.{GlobsLast}
+use Rattle.hir_collector_state.specs.HirImportGrowth.Growth.{GlobsLast}
 use Rattle.hir_import_resolution.specs.Rounds.{IsResumable}
-use Rattle.hir_import_rules.specs.Changed.{with_slots}
+use Rattle.hir_collector_state.specs.HirImportRules.Changed.{with_slots}
 use Rattle.hir_collector_rules.specs.Derivation.{IsSpent}
 use Rattle.hir_collector_state.specs.contracts.def_collector.DefCollector.{the_view}
 use Rattle.hir_collector_rules.specs.State.{Run, State, at_rest, core_in, import_state, with_import_state}

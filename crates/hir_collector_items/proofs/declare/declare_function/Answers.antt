@@ -1,9 +1,9 @@
 use Rattle.std.proofs.Common.{◌≡◌, ◌∙◌, Some, None, sym, refl}
-use Rattle.hir_item_tree.specs.KeptForest.{function, leaf}
-use Rattle.hir_collector_rules.specs.Attributes.{export_at}
-use Rattle.hir_collector_rules.specs.State.{core_in}
-use Rattle.hir_collector_rules.specs.Steps.{visit}
-use Rattle.hir_collector_rules.specs.TreeReads.{head_of}
+use Rattle.hir_collector_state.specs.HirItemTree.KeptForest.{function, leaf}
+use Rattle.hir_collector_state.specs.HirCollectorRules.Attributes.{export_at}
+use Rattle.hir_collector_state.specs.HirCollectorRules.State.{core_in}
+use Rattle.hir_collector_state.specs.HirCollectorRules.Steps.{visit}
+use Rattle.hir_collector_state.specs.HirCollectorRules.TreeReads.{head_of}
 use Rattle.hir_collector_state.proofs.Made.{declared, declared_export}
 use Rattle.hir_collector_items.proofs.declare.declare_function.Goals as goal
 

@@ -1,7 +1,7 @@
 use Rattle.std.proofs.Common.{refl}
-use Rattle.hir_item_tree.specs.KeptForest.{leaf, union_structure}
-use Rattle.hir_collector_rules.specs.Steps.{visit}
-use Rattle.hir_collector_rules.specs.TreeReads.{head_of}
+use Rattle.hir_collector_state.specs.HirItemTree.KeptForest.{leaf, union_structure}
+use Rattle.hir_collector_state.specs.HirCollectorRules.Steps.{visit}
+use Rattle.hir_collector_state.specs.HirCollectorRules.TreeReads.{head_of}
 use Rattle.hir_collector_state.proofs.Made.{declared}
 use Rattle.hir_collector_items.proofs.declare.declare_union.Goals as goal
 

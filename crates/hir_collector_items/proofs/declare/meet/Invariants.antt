@@ -1,8 +1,8 @@
 use Rattle.std.proofs.Common.{◌≡◌, drop, map}
-use Rattle.hir_def_map.specs.WorldParts.{part_of}
-use Rattle.hir_collector_rules.specs.Items.{meet_of}
-use Rattle.hir_import_rules.specs.Visibilities.{visibility_in}
-use Rattle.hir_collector_rules.specs.State.{core_in}
+use Rattle.hir_collector_state.specs.HirNameres.WorldParts.{part_of}
+use Rattle.hir_collector_state.specs.HirCollectorRules.Items.{meet_of}
+use Rattle.hir_collector_state.specs.HirImportRules.Visibilities.{visibility_in}
+use Rattle.hir_collector_state.specs.HirCollectorRules.State.{core_in}
 use Rattle.hir_collector_items.proofs.declare.meet.Given as goal
 
 abbrev pub invariant-loop-other : goal.invariant-loop-other

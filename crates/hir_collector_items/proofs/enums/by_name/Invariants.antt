@@ -1,6 +1,6 @@
 use Rattle.std.proofs.Common.{◌≡◌, drop}
 use Rattle.std.specs.Prelude.{fold}
-use Rattle.hir_collector_rules.specs.Enums.{variants_by_name, with_variant}
+use Rattle.hir_collector_state.specs.HirCollectorRules.Enums.{variants_by_name, with_variant}
 use Rattle.hir_collector_items.proofs.enums.by_name.Given as goal
 
 abbrev pub invariant-loop-item : goal.invariant-loop-item

@@ -1,17 +1,17 @@
 use Rattle.std.proofs.Common.{◌≡◌, ◌∙◌, List, Option, sym, ap, refl}
-use Rattle.hir_item_tree.specs.SourceTree.{SourceTreeValue, variants_of}
-use Rattle.hir_item_tree.specs.declared.side_lists.VariantItem.{VariantItem}
-use Rattle.hir_base.specs.declared.ids.MapId.{MapId}
-use Rattle.hir_def_map_rules.specs.State.{Map}
-use Rattle.hir_def_map.specs.WorldParts.{part_of}
-use Rattle.hir_collector_rules.specs.ItemIds.{enum_id}
-use Rattle.hir_collector_rules.specs.Keys.{look, of_variants, source_in}
-use Rattle.hir_collector_rules.specs.State.{core_in}
-use Rattle.hir_collector_rules.specs.TreeReads.{head_of}
-use Rattle.hir_collector_rules.specs.declared.source_database.Key.{Key}
-use Rattle.hir_collector_rules.specs.declared.source_database.Key.TheVariants as keys
+use Rattle.hir_collector_state.specs.HirItemTree.SourceTree.{SourceTreeValue, variants_of}
+use Rattle.hir_collector_state.specs.HirItemTree.declared.side_lists.VariantItem.{VariantItem}
+use Rattle.hir_collector_state.specs.HirIds.declared.ids.MapId.{MapId}
+use Rattle.hir_collector_state.specs.HirDefMapRules.State.{Map}
+use Rattle.hir_collector_state.specs.HirNameres.WorldParts.{part_of}
+use Rattle.hir_collector_state.specs.HirCollectorRules.ItemIds.{enum_id}
+use Rattle.hir_collector_state.specs.HirCollectorRules.Keys.{look, of_variants, source_in}
+use Rattle.hir_collector_state.specs.HirCollectorRules.State.{core_in}
+use Rattle.hir_collector_state.specs.HirCollectorRules.TreeReads.{head_of}
+use Rattle.hir_collector_state.specs.HirCollectorRules.declared.source_database.Key.{Key}
+use Rattle.hir_collector_state.specs.HirCollectorRules.declared.source_database.Key.TheVariants as keys
 use Rattle.hir_collector_state.proofs.Made.{declared_enum}
-use Rattle.hir_collector_rules.proofs.Meaning.{looks_stand}
+use Rattle.hir_collector_state.proofs.HirCollectorRules.Meaning.{looks_stand}
 use Rattle.hir_collector_state.proofs.Noted.{noted_follow}
 use Rattle.hir_collector_items.proofs.enums.declare_enum.Goals as goal
 

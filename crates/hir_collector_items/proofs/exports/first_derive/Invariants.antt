@@ -1,6 +1,6 @@
 use Rattle.std.proofs.Common.{◌≡◌, drop, map}
-use Rattle.hir_item_tree.specs.Collected.{numbered}
-use Rattle.hir_collector_rules.specs.Attributes.{first_derive}
+use Rattle.hir_collector_state.specs.HirItemTree.Collected.{numbered}
+use Rattle.hir_collector_state.specs.HirCollectorRules.Attributes.{first_derive}
 use Rattle.hir_collector_items.proofs.exports.first_derive.Given as goal
 
 -- those that are left name what all do

@@ -1,7 +1,7 @@
 use Rattle.std.proofs.Common.{rules, ◌≡◌, ◌++◌, [], ◌∷◌, List, refl}
 use Rattle.std.specs.List.{FoldsTo}
 use Rattle.std.proofs.lemmas.Fn.{chained_keeps}
-use Rattle.hir_use_tree.specs.declared.imports.Import.{Import}
+use Rattle.hir_collector_state.specs.HirUseTree.declared.imports.Import.{Import}
 use Rattle.hir_collector_macros.specs.contracts.imports.fn.expanded.expand as closure
 use Rattle.hir_collector_macros.proofs.imports.expanded.Goals as goal
 

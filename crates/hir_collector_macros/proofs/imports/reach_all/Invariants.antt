@@ -1,6 +1,6 @@
 use Rattle.std.proofs.Common.{◌≡◌, length, map}
-use Rattle.hir_collector_rules.specs.State.{core_in, with_imports}
-use Rattle.hir_collector_rules.specs.Imports.{reached_import}
+use Rattle.hir_collector_state.specs.HirCollectorRules.State.{core_in, with_imports}
+use Rattle.hir_collector_state.specs.HirCollectorRules.Imports.{reached_import}
 use Rattle.hir_collector_state.specs.Waiting.{IsNoted}
 use Rattle.hir_collector_macros.proofs.imports.reach_all.Given as goal
 

@@ -1,7 +1,7 @@
 use Rattle.std.proofs.Common.{refl}
-use Rattle.hir_item_tree.specs.UseTree.{use_tree_view}
-use Rattle.hir_collector_rules.specs.TreeReads.{head_of}
-use Rattle.hir_collector_rules.specs.Steps.{reaches_imports}
+use Rattle.hir_collector_state.specs.HirItemTree.UseTree.{use_tree_view}
+use Rattle.hir_collector_state.specs.HirCollectorRules.TreeReads.{head_of}
+use Rattle.hir_collector_state.specs.HirCollectorRules.Steps.{reaches_imports}
 use Rattle.hir_collector_state.proofs.Made.{made}
 use Rattle.hir_collector_state.proofs.Noted.{noted_follow}
 use Rattle.hir_collector_macros.proofs.imports.reach_use.Goals as goal

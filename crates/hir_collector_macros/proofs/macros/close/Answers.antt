@@ -1,10 +1,10 @@
 use Rattle.std.proofs.Common.{Bool, inl, rules, subst, sym, refl}
-use Rattle.hir_collector_rules.specs.Moves.{Walks, WalksTooFar}
-use Rattle.hir_collector_rules.specs.Steps.{closing, none}
+use Rattle.hir_collector_state.specs.HirCollectorRules.Moves.{Walks, WalksTooFar}
+use Rattle.hir_collector_state.specs.HirCollectorRules.Steps.{closing, none}
 use Rattle.hir_collector_macros.proofs.Closing.{closed, closed_far}
 use Rattle.hir_collector_state.proofs.Noted.{noted_follow, noted_itself}
 use Rattle.hir_collector_macros.proofs.macros.close.Goals as goal
-use Rattle.hir_collector_rules.specs.State.{core_in}
+use Rattle.hir_collector_state.specs.HirCollectorRules.State.{core_in}
 
 pub returns-then-not-macro_use-clause-ok : goal.returns-then-not-macro_use-clause-ok
 returns-then-not-macro_use-clause-ok c = λ env finished.

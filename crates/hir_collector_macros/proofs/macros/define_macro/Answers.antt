@@ -1,10 +1,10 @@
 use Rattle.std.proofs.Common.{◌≡◌, refl, rules}
-use Rattle.hir_base.specs.declared.macro_kind.MacroId.TheVariants as macros
-use Rattle.hir_collector_rules.specs.TreeReads.{head_of}
+use Rattle.hir_collector_state.specs.HirIds.declared.macro_kind.MacroId.TheVariants as macros
+use Rattle.hir_collector_state.specs.HirCollectorRules.TreeReads.{head_of}
 use Rattle.hir_collector_state.proofs.Made.{count_kept, defined_macro}
 use Rattle.hir_collector_state.proofs.Noted.{noted_follow}
 use Rattle.hir_collector_macros.proofs.macros.define_macro.Goals as goal
-use Rattle.hir_collector_rules.specs.State.{core_in}
+use Rattle.hir_collector_state.specs.HirCollectorRules.State.{core_in}
 
 pub returns-in_err-tick-clause-many : goal.returns-in_err-tick-clause-many
 returns-in_err-tick-clause-many c =

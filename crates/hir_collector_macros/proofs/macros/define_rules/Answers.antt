@@ -1,9 +1,9 @@
 use Rattle.std.proofs.Common.{◌≡◌, ◌∙◌, refl, rules}
-use Rattle.hir_collector_rules.specs.TreeReads.{head_of}
+use Rattle.hir_collector_state.specs.HirCollectorRules.TreeReads.{head_of}
 use Rattle.hir_collector_state.proofs.Made.{count_kept, defined_rules}
 use Rattle.hir_collector_state.proofs.Noted.{noted_follow}
 use Rattle.hir_collector_macros.proofs.macros.define_rules.Goals as goal
-use Rattle.hir_collector_rules.specs.State.{core_in}
+use Rattle.hir_collector_state.specs.HirCollectorRules.State.{core_in}
 
 pub returns-in_err-tick-clause-many : goal.returns-in_err-tick-clause-many
 returns-in_err-tick-clause-many c =

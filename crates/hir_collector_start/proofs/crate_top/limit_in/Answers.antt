@@ -1,6 +1,6 @@
 use Rattle.std.proofs.Common.{◌≡◌, ◌∙◌, rules, option_map}
 use Rattle.std.specs.Str.Parse.{without_leading_plus}
-use Rattle.hir_item_tree.specs.Attributes.{input_view}
+use Rattle.hir_collector_rules.specs.HirItemTree.Attributes.{input_view}
 use Rattle.hir_collector_rules.specs.CrateTop.{limit_in, number_in}
 use Rattle.hir_collector_start.proofs.Digits.{number_parsed}
 use Rattle.hir_collector_start.proofs.crate_top.limit_in.Goals as goal

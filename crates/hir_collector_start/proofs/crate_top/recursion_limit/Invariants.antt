@@ -1,5 +1,5 @@
 use Rattle.std.proofs.Common.{◌≡◌, drop, map}
-use Rattle.hir_item_tree.specs.Collected.{numbered}
+use Rattle.hir_collector_rules.specs.HirItemTree.Collected.{numbered}
 use Rattle.hir_collector_rules.specs.CrateTop.{limit_after}
 use Rattle.hir_collector_start.proofs.crate_top.recursion_limit.Given as goal
 

@@ -1,5 +1,5 @@
 use Rattle.std.proofs.Common.{◌≡◌, ◌++◌, drop, map}
-use Rattle.hir_mod_dir.specs.declared.candidate.Candidate.{Candidate}
+use Rattle.hir_collector_rules.specs.HirModDir.declared.candidate.Candidate.{Candidate}
 use Rattle.hir_collector_start.proofs.diagnostics.texts_of.Given as goal
 
 -- with those of the candidates that are left, all are there

@@ -1,5 +1,5 @@
 use Rattle.std.proofs.Common.{◌≡◌, drop, map}
-use Rattle.hir_item_tree.specs.Collected.{numbered}
+use Rattle.hir_collector_rules.specs.HirItemTree.Collected.{numbered}
 use Rattle.hir_collector_rules.specs.Macros.{wants_all}
 use Rattle.hir_collector_start.proofs.macro_use.wants_all.Given as goal
 

@@ -3,8 +3,8 @@ use Rattle.std.proofs.Common.{rules, ◌≡◌, ◌∙◌, List, ℕ, sym, ap}
 use Rattle.std.proofs.lemmas.Cmp.{nat_list_cmp_total}
 use Rattle.std.specs.Cmp.Lexicographic.{slice_cmp}
 use Rattle.std.specs.Ordering.{nat_cmp}
-use Rattle.hir_def_map_rules.specs.State.{CrateData}
-use Rattle.hir_def_map_rules.proofs.Copies.{key_copied}
+use Rattle.hir_collector_rules.specs.HirDefMapRules.State.{CrateData}
+use Rattle.hir_collector_rules.proofs.HirMapParts.Copies.{key_copied}
 use Rattle.hir_collector_start.proofs.start_data.copy_features.Goals as goal
 
 -- data that differ from those at first in the features alone still do where the features change

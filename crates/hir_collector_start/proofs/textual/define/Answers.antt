@@ -1,10 +1,10 @@
 -- What is left behind the scope is in its module.
 use Rattle.std.proofs.Common.{◌≡◌}
-use Rattle.hir_scope.proofs.Pushes.{on_ok}
-use Rattle.hir_scope.specs.Scope.{ScopeValue}
-use Rattle.hir_textual_scope.specs.Macros.{with_macro}
-use Rattle.hir_def_map_rules.specs.State.{with_scope}
-use Rattle.hir_import_rules.proofs.Lent.{scope_left}
+use Rattle.hir_collector_rules.proofs.HirScope.Pushes.{on_ok}
+use Rattle.hir_collector_rules.specs.HirScope.Scope.{ScopeValue}
+use Rattle.hir_collector_rules.specs.HirTextualScope.Macros.{with_macro}
+use Rattle.hir_collector_rules.specs.HirDefMapRules.State.{with_scope}
+use Rattle.hir_collector_rules.proofs.HirImportRules.Lent.{scope_left}
 use Rattle.hir_collector_rules.specs.Macros.{with_textual_macro}
 use Rattle.hir_collector_start.proofs.textual.define.Goals as goal
 

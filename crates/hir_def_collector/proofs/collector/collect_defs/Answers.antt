@@ -1,29 +1,29 @@
 -- The walk's steps lead on to where imports and calls rest.
 use Rattle.std.proofs.Common.{rules, ◌≡◌, ◌∙◌, false, List, None, option_map, ap, sym, subst}
 use Rattle.std.specs.Prelude.{IsSome}
-use Rattle.hir_base.specs.declared.ids.Crate.{Crate}
-use Rattle.hir_tables.specs.SourcePlaces.{source_value}
-use Rattle.hir_tables.specs.Tables.{source_of}
-use Rattle.hir_tables.proofs.Growth.{KeepsTables-trans}
-use Rattle.hir_def_map.specs.WorldParts.{among, part_of}
-use Rattle.hir_def_map_rules.specs.Overlay.{map_in}
-use Rattle.hir_def_map.specs.World.{finished_in}
-use Rattle.hir_collector_rules.specs.CallMoves.{ComesToRest}
-use Rattle.hir_collector_rules.specs.Derivation.{IsSpent, collected_view}
-use Rattle.hir_collector_rules.specs.Keys.{environment}
-use Rattle.hir_collector_rules.specs.ModuleFiles.{file_of_tree, is_file_meant}
-use Rattle.hir_collector_rules.specs.Moves.{OnceGrown}
-use Rattle.hir_collector_rules.specs.Start.{beginning, holders_by, id_of, krate_of}
-use Rattle.hir_collector_rules.specs.State.{at_rest, core_in}
-use Rattle.hir_collector_rules.specs.Steps.{Steps, none}
-use Rattle.hir_collector_rules.specs.UnknownSources.{LeadsToUnknownSource, of_file, of_macro}
-use Rattle.hir_collector_rules.specs.Workspace.{Workspace, transitive_dependencies_in}
-use Rattle.hir_collector_imports.specs.Outside.{begins_outside}
+use Rattle.hir_mod_collector.specs.HirIds.declared.ids.Crate.{Crate}
+use Rattle.hir_mod_collector.specs.HirTables.SourcePlaces.{source_value}
+use Rattle.hir_mod_collector.specs.HirTables.Tables.{source_of}
+use Rattle.hir_mod_collector.proofs.HirTables.Growth.{KeepsTables-trans}
+use Rattle.hir_mod_collector.specs.HirNameres.WorldParts.{among, part_of}
+use Rattle.hir_mod_collector.specs.HirDefMapRules.Overlay.{map_in}
+use Rattle.hir_mod_collector.specs.HirNameres.World.{finished_in}
+use Rattle.hir_mod_collector.specs.HirCollectorRules.CallMoves.{ComesToRest}
+use Rattle.hir_mod_collector.specs.HirCollectorRules.Derivation.{IsSpent, collected_view}
+use Rattle.hir_mod_collector.specs.HirCollectorRules.Keys.{environment}
+use Rattle.hir_mod_collector.specs.HirCollectorRules.ModuleFiles.{file_of_tree, is_file_meant}
+use Rattle.hir_mod_collector.specs.HirCollectorRules.Moves.{OnceGrown}
+use Rattle.hir_mod_collector.specs.HirCollectorRules.Start.{beginning, holders_by, id_of, krate_of}
+use Rattle.hir_mod_collector.specs.HirCollectorRules.State.{at_rest, core_in}
+use Rattle.hir_mod_collector.specs.HirCollectorRules.Steps.{Steps, none}
+use Rattle.hir_mod_collector.specs.HirCollectorRules.UnknownSources.{LeadsToUnknownSource, of_file, of_macro}
+use Rattle.hir_mod_collector.specs.HirCollectorRules.Workspace.{Workspace, transitive_dependencies_in}
+use Rattle.hir_mod_collector.specs.HirCollectorImports.Outside.{begins_outside}
 use Rattle.hir_collector_begin.proofs.Begun.{none_there, some_there}
-use Rattle.hir_collector_rules.proofs.Changes.{id-Steps}
-use Rattle.hir_collector_rules.proofs.Derived.{begun, depends_on, ends_from}
-use Rattle.hir_collector_rules.proofs.Moves.{spent_after, unknown_after}
-use Rattle.hir_collector_rules.proofs.Numbers.{known_step, refused_step, tables_stay}
+use Rattle.hir_mod_collector.proofs.HirCollectorRules.Changes.{id-Steps}
+use Rattle.hir_mod_collector.proofs.HirCollectorRules.Derived.{begun, depends_on, ends_from}
+use Rattle.hir_mod_collector.proofs.HirCollectorRules.Moves.{spent_after, unknown_after}
+use Rattle.hir_mod_collector.proofs.HirCollectorRules.Numbers.{known_step, refused_step, tables_stay}
 use Rattle.hir_def_collector.proofs.Resolved.{apart, lacking, meant_by, no_map, none_and, not_lacking, unmeant_by}
 use Rattle.hir_def_collector.proofs.collector.collect_defs.Goals as goal
 

@@ -1,6 +1,6 @@
 -- Namespace after namespace.
 use Rattle.hir_glob_imports.specs.Waves.{brought_of}
-use Rattle.hir_def_map_rules.proofs.Modules.{OnOk-map}
+use Rattle.hir_nameres.proofs.HirDefMapRules.Modules.{OnOk-map}
 use Rattle.hir_import_growth.proofs.Forgotten.{forgotten_thrice, kept_thrice}
 use Rattle.hir_import_growth.proofs.forgetting.forget.Goals as goal
 

@@ -1,7 +1,7 @@
 -- One trait less is left in each turn.
 use Rattle.std.proofs.Common.{◌≡◌, inl, subst, sym, rules, Some, List, [], ◌∷◌}
 use Rattle.std.specs.Prelude.{Contains}
-use Rattle.hir_base.specs.declared.ids.TraitId.{TraitId}
+use Rattle.hir_nameres.specs.HirIds.declared.ids.TraitId.{TraitId}
 use Rattle.hir_def_map_rules.specs.State.{module_at}
 use Rattle.hir_import_rules.specs.Names.{trait_vis}
 use Rattle.hir_import_resolution.proofs.KeyLists.{listed_in}

@@ -1,8 +1,8 @@
 use Rattle.std.proofs.Common.{◌≡◌, ◌⊎◌, Some}
 use Rattle.std.specs.Prelude.{Contains}
-use Rattle.hir_base.specs.declared.ids.TraitId.{TraitId}
+use Rattle.hir_nameres.specs.HirIds.declared.ids.TraitId.{TraitId}
 use Rattle.hir_def_map_rules.specs.State.{module_at}
-use Rattle.hir_scope.specs.declared.visibility.Visibility.{Visibility}
+use Rattle.hir_nameres.specs.HirPerNs.declared.visibility.Visibility.{Visibility}
 use Rattle.hir_import_rules.specs.Lasting.{IsPlaced}
 use Rattle.hir_import_rules.specs.Names.{trait_vis}
 use Rattle.hir_import_resolution.proofs.lasting.has_traits_placed.Given as goal

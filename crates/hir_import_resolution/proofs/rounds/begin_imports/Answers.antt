@@ -1,6 +1,6 @@
 -- All imports are queued.
 use Rattle.std.proofs.Common.{◌≡◌, ◌∙◌, Bool, IfOk, ap, rules, subst, sym}
-use Rattle.hir_def_map.specs.WorldParts.{part_of}
+use Rattle.hir_nameres.specs.WorldParts.{part_of}
 use Rattle.hir_import_resolution.specs.Inner.State.{state_in}
 use Rattle.hir_import_resolution.specs.Rounds.{is_apart, is_lasting}
 use Rattle.hir_import_resolution.proofs.Growing.{queued_first}

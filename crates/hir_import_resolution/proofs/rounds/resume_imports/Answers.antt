@@ -2,8 +2,8 @@
 use Rattle.std.proofs.Common.{◌∙◌, ap, rules}
 use Rattle.std.specs.declared.alloc.Global.{Global}
 use Rattle.std.specs.declared.vec.Vec.{Vec}
-use Rattle.hir_def_map.specs.WorldParts.{part_of}
-use Rattle.hir_def_map.specs.declared.nameres.path_resolution.slots.Slot.{Slot as PathSlot}
+use Rattle.hir_nameres.specs.WorldParts.{part_of}
+use Rattle.hir_nameres.specs.declared.nameres.path_resolution.slots.Slot.{Slot as PathSlot}
 use Rattle.hir_import_resolution.specs.Inner.State.{finished_by, state_by, state_in}
 use Rattle.hir_import_resolution.specs.Rounds.{is_apart}
 use Rattle.hir_import_rules.specs.State.{ImportState}

@@ -1,6 +1,6 @@
 -- What read a slot that has changed is queued, and so is what came besides.
 use Rattle.std.proofs.Common.{◌∙◌, ap, rules, sym}
-use Rattle.hir_def_map.specs.WorldParts.{part_of}
+use Rattle.hir_nameres.specs.WorldParts.{part_of}
 use Rattle.hir_import_resolution.specs.Types.{ImportQueue}
 use Rattle.hir_import_resolution.specs.Inner.State.{state_in}
 use Rattle.hir_import_resolution.specs.Rounds.{is_apart, is_lasting}

@@ -1,7 +1,7 @@
 -- What is left behind the scope is in its module, where that is there.
 use Rattle.std.proofs.Common.{◌≡◌, arith}
-use Rattle.hir_scope.specs.Scope.{ScopeValue}
-use Rattle.hir_scope.proofs.Pushes.{on_ok}
+use Rattle.hir_nameres.specs.HirScope.Scope.{ScopeValue}
+use Rattle.hir_nameres.proofs.HirScope.Pushes.{on_ok}
 use Rattle.hir_def_map_rules.specs.State.{with_scope}
 use Rattle.hir_import_rules.specs.Names.{revised}
 use Rattle.hir_import_rules.proofs.Lent.{scope_left, scope_past}

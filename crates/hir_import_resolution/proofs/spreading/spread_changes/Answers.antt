@@ -1,6 +1,6 @@
 -- The imports are taken over, and given back.
 use Rattle.std.proofs.Common.{◌∙◌, ap, sym}
-use Rattle.hir_def_map.specs.WorldParts.{part_of}
+use Rattle.hir_nameres.specs.WorldParts.{part_of}
 use Rattle.hir_import_resolution.specs.Inner.State.{finished_by, state_by, state_in}
 use Rattle.hir_import_resolution.proofs.GlobsLasting.{globs_after, kept_through}
 use Rattle.hir_import_resolution.proofs.Starting.{lasts_through}

@@ -1,6 +1,6 @@
 -- The imports are taken over, their globs are opened, and names go along them.
 use Rattle.std.proofs.Common.{◌≤◌, ◌∙◌, ap, rules, subst, sym}
-use Rattle.hir_def_map.specs.WorldParts.{part_of}
+use Rattle.hir_nameres.specs.WorldParts.{part_of}
 use Rattle.hir_glob_imports.specs.declared.step.TheConstants.{MAX_STEPS}
 use Rattle.hir_import_resolution.specs.Inner.State.{finished_by, state_by, state_in}
 use Rattle.hir_import_rules.specs.State.{ImportState}

@@ -2,7 +2,7 @@
 use Rattle.std.proofs.Common.{◌≡◌, ◌++◌, ◌∷◌, [], inr, refl, sym, subst}
 use Rattle.std.proofs.lemmas.Result.{on_ok_weaker, IfErr-weaker}
 use Rattle.std.specs.Io.KnownBytes.{Appends}
-use Rattle.hir_wire.specs.declared.reply.Reply.TheVariants as reply
+use Rattle.hir_messages.specs.declared.reply.Reply.TheVariants as reply
 use Rattle.hir_wire.specs.Replies.{text_of}
 use Rattle.hir_lines.specs.Output.{WritesPart}
 use Rattle.hir_lines.proofs.output.write_reply.Goals as goal

@@ -1,19 +1,19 @@
 -- What is due is done about what waits.
 use Rattle.std.proofs.Common.{rules, ◌≡◌, ◌∙◌, Some, None, ap, refl, slice_get, subst, sym}
-use Rattle.hir_def_map.specs.WorldParts.{part_of}
-use Rattle.hir_macro_rounds.specs.declared.calls.Due.TheVariants.{Derives, Drops, Nothing, Reaches, Skips, TooDeep}
-use Rattle.hir_collector_rules.specs.declared.macro_directive.Fate.TheVariants.{Handled, Waits}
-use Rattle.hir_collector_rules.specs.CallMoves.{handled, left}
-use Rattle.hir_macro_rounds.specs.Turns.{IsDueOf}
-use Rattle.hir_collector_rules.specs.Calls.{waiting_item}
-use Rattle.hir_collector_rules.specs.Keys.{environment}
-use Rattle.hir_collector_rules.specs.State.{Core, at_rest, core_in}
-use Rattle.hir_collector_rules.specs.Steps.{IsDeep, drops_call, none}
+use Rattle.hir_mod_collector.specs.HirNameres.WorldParts.{part_of}
+use Rattle.hir_macro_calls.specs.declared.due.Due.TheVariants.{Derives, Drops, Nothing, Reaches, Skips, TooDeep}
+use Rattle.hir_mod_collector.specs.HirCollectorRules.declared.macro_directive.Fate.TheVariants.{Handled, Waits}
+use Rattle.hir_mod_collector.specs.HirCollectorRules.CallMoves.{handled, left}
+use Rattle.hir_macro_calls.specs.Due.{IsDueOf}
+use Rattle.hir_mod_collector.specs.HirCollectorRules.Calls.{waiting_item}
+use Rattle.hir_mod_collector.specs.HirCollectorRules.Keys.{environment}
+use Rattle.hir_mod_collector.specs.HirCollectorRules.State.{Core, at_rest, core_in}
+use Rattle.hir_mod_collector.specs.HirCollectorRules.Steps.{IsDeep, drops_call, none}
 use Rattle.hir_collector_derives.proofs.CallSteps.{dropped, past_rule}
-use Rattle.hir_collector_rules.proofs.Lists.{get_inside, get_set_same}
-use Rattle.hir_collector_rules.proofs.Numbers.{known_step, refused_step}
-use Rattle.hir_macro_rounds.proofs.GivingUp.{has_impl, nothing_due}
-use Rattle.hir_collector_state.proofs.Noted.{noted_beside, noted_itself}
+use Rattle.hir_mod_collector.proofs.HirCollectorRules.Lists.{get_inside, get_set_same}
+use Rattle.hir_mod_collector.proofs.HirCollectorRules.Numbers.{known_step, refused_step}
+use Rattle.hir_macro_calls.proofs.GivingUp.{has_impl, nothing_due}
+use Rattle.hir_mod_collector.proofs.HirCollectorState.Noted.{noted_beside, noted_itself}
 use Rattle.hir_macro_rounds.proofs.calls.do_due.Goals as goal
 
 -- nothing is

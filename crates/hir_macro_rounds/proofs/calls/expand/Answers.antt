@@ -1,6 +1,6 @@
 -- What waits is expanded, unless the source that writes the macro has no number.
 use Rattle.std.proofs.Common.{◌∙◌, sym}
-use Rattle.hir_collector_rules.proofs.Numbers.{known_step, refused_step, tables_stay}
+use Rattle.hir_mod_collector.proofs.HirCollectorRules.Numbers.{known_step, refused_step, tables_stay}
 use Rattle.hir_macro_rounds.proofs.calls.expand.Goals as goal
 
 -- the source has none

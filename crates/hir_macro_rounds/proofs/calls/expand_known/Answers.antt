@@ -2,19 +2,19 @@
 use Rattle.std.proofs.Common.{rules, ◌≡◌, ◌∙◌, ◌<◌, length, ap, subst, sym}
 use Rattle.std.proofs.lemmas.List.Elements.{All-map}
 use Rattle.std.specs.List.{All}
-use Rattle.hir_item_tree.specs.ItemTree.{Tree}
-use Rattle.hir_item_tree.specs.KeptForest.{all_items}
-use Rattle.hir_item_tree.specs.Rows.{items_at, numbers_of}
-use Rattle.hir_item_tree.specs.SourceTree.{SourceTreeValue}
-use Rattle.hir_item_tree.specs.declared.rows.ModItemId.{ModItemId}
-use Rattle.hir_tables.proofs.Growth.{KeepsTables-trans}
-use Rattle.hir_def_map.specs.WorldParts.{part_of}
-use Rattle.hir_collector_rules.specs.Moves.{OnceGrown, Walks, WalksTooFar}
-use Rattle.hir_collector_rules.specs.State.{Core, core_in}
-use Rattle.hir_collector_rules.specs.TreeReads.{visits_at}
+use Rattle.hir_mod_collector.specs.HirItemTree.ItemTree.{Tree}
+use Rattle.hir_mod_collector.specs.HirItemTree.KeptForest.{all_items}
+use Rattle.hir_mod_collector.specs.HirItemTree.Rows.{items_at, numbers_of}
+use Rattle.hir_mod_collector.specs.HirItemTree.SourceTree.{SourceTreeValue}
+use Rattle.hir_mod_collector.specs.HirItemTree.declared.rows.ModItemId.{ModItemId}
+use Rattle.hir_mod_collector.proofs.HirTables.Growth.{KeepsTables-trans}
+use Rattle.hir_mod_collector.specs.HirNameres.WorldParts.{part_of}
+use Rattle.hir_mod_collector.specs.HirCollectorRules.Moves.{OnceGrown, Walks, WalksTooFar}
+use Rattle.hir_mod_collector.specs.HirCollectorRules.State.{Core, core_in}
+use Rattle.hir_mod_collector.specs.HirCollectorRules.TreeReads.{visits_at}
 use Rattle.hir_collector_derives.proofs.CallSteps.{expanded_and_walked, expanded_too_far, handled_at_last, past_reported, site_inside, site_meant}
 use Rattle.hir_collector_derives.proofs.CallSteps.{spent_by_numbers}
-use Rattle.hir_collector_state.proofs.Noted.{beside_follow, noted_beside, noted_follow}
+use Rattle.hir_mod_collector.proofs.HirCollectorState.Noted.{beside_follow, noted_beside, noted_follow}
 use Rattle.hir_macro_rounds.proofs.calls.expand_known.Goals as goal
 
 pub look_at_call-requires : goal.look_at_call-requires

@@ -1,32 +1,32 @@
 -- Turns, one after another, until nothing that waits leads anywhere and no attribute waits, or there were too many rounds.
 use Rattle.std.proofs.Common.{rules, ◌≡◌, ◌∙◌, ap, refl, subst, sym, false, arith, ◌<◌, length}
-use Rattle.hir_base.specs.declared.ids.MapId.{MapId}
-use Rattle.hir_tables.proofs.Growth.{KeepsTables-trans}
-use Rattle.hir_def_map_rules.specs.Overlay.{Maps}
-use Rattle.hir_def_map.specs.WorldParts.{part_of}
+use Rattle.hir_mod_collector.specs.HirIds.declared.ids.MapId.{MapId}
+use Rattle.hir_mod_collector.proofs.HirTables.Growth.{KeepsTables-trans}
+use Rattle.hir_mod_collector.specs.HirDefMapRules.Overlay.{Maps}
+use Rattle.hir_mod_collector.specs.HirNameres.WorldParts.{part_of}
 use Rattle.hir_worklist.specs.Queue.{Queue}
 use Rattle.hir_import_resolution.specs.Rounds.{is_lasting}
-use Rattle.hir_import_rules.specs.Changed.{joined}
+use Rattle.hir_mod_collector.specs.HirImportRules.Changed.{joined}
 use Rattle.hir_macro_rounds.specs.declared.calls.Turn.{Turn}
 use Rattle.hir_macro_rounds.specs.declared.calls.Turn.TheVariants.{GaveUp, Round}
-use Rattle.hir_collector_rules.specs.CallMoves.{ComesToRest, EndsInRound, NoneWaitsBefore, cut_off, rested}
+use Rattle.hir_mod_collector.specs.HirCollectorRules.CallMoves.{ComesToRest, EndsInRound, NoneWaitsBefore, cut_off, rested}
 use Rattle.hir_macro_rounds.specs.Turns.{CountsOn, TakesTurn}
-use Rattle.hir_collector_rules.specs.Derivation.{IsSpent}
-use Rattle.hir_collector_rules.specs.Keys.{Environment, environment}
-use Rattle.hir_collector_rules.specs.Moves.{OnceGrown}
-use Rattle.hir_collector_rules.specs.Rounds as rounds
-use Rattle.hir_collector_rules.specs.State.{Core, at_rest, core_in}
-use Rattle.hir_collector_rules.specs.Steps as steps
-use Rattle.hir_collector_rules.specs.Steps.{Steps}
-use Rattle.hir_collector_rules.specs.UnknownSources.{LeadsToUnknownSource}
-use Rattle.hir_collector_rules.specs.Workspace.{Workspace}
-use Rattle.hir_collector_rules.proofs.Moves.{Steps-append, spent_after, unknown_after}
-use Rattle.hir_collector_rules.proofs.Numbers.{known_step, refused_step, tables_stay}
-use Rattle.hir_collector_imports.proofs.Ready.{ready_after, ready_grown}
-use Rattle.hir_collector_imports.proofs.Outside.{apart-Steps}
-use Rattle.hir_macro_rounds.proofs.Queued.{has_rounds_steps, rounds_next, rounds_then}
-use Rattle.hir_macro_rounds.proofs.Resuming.{behind_first}
-use Rattle.hir_macro_rounds.proofs.Waiting.{stale_now, up_to_date_first}
+use Rattle.hir_mod_collector.specs.HirCollectorRules.Derivation.{IsSpent}
+use Rattle.hir_mod_collector.specs.HirCollectorRules.Keys.{Environment, environment}
+use Rattle.hir_mod_collector.specs.HirCollectorRules.Moves.{OnceGrown}
+use Rattle.hir_mod_collector.specs.HirCollectorRules.Rounds as rounds
+use Rattle.hir_mod_collector.specs.HirCollectorRules.State.{Core, at_rest, core_in}
+use Rattle.hir_mod_collector.specs.HirCollectorRules.Steps as steps
+use Rattle.hir_mod_collector.specs.HirCollectorRules.Steps.{Steps}
+use Rattle.hir_mod_collector.specs.HirCollectorRules.UnknownSources.{LeadsToUnknownSource}
+use Rattle.hir_mod_collector.specs.HirCollectorRules.Workspace.{Workspace}
+use Rattle.hir_mod_collector.proofs.HirCollectorRules.Moves.{Steps-append, spent_after, unknown_after}
+use Rattle.hir_mod_collector.proofs.HirCollectorRules.Numbers.{known_step, refused_step, tables_stay}
+use Rattle.hir_mod_collector.proofs.HirCollectorImports.Ready.{ready_after, ready_grown}
+use Rattle.hir_mod_collector.proofs.HirCollectorImports.Outside.{apart-Steps}
+use Rattle.hir_macro_calls.proofs.Queued.{has_rounds_steps, rounds_next, rounds_then}
+use Rattle.hir_macro_calls.proofs.Resuming.{behind_first}
+use Rattle.hir_macro_calls.proofs.UpToDate.{stale_now, up_to_date_first}
 use Rattle.hir_macro_rounds.proofs.calls.resolve_rounds.Goals as goal
 
 pub rounds-init : goal.rounds-init

@@ -1,16 +1,16 @@
 use Rattle.std.proofs.Common.{◌≡◌, ◌-◌, true}
-use Rattle.hir_tables.specs.Tables.{KeepsTables}
-use Rattle.hir_def_map.specs.WorldParts.{part_of}
+use Rattle.hir_mod_collector.specs.HirTables.Tables.{KeepsTables}
+use Rattle.hir_mod_collector.specs.HirNameres.WorldParts.{part_of}
 use Rattle.hir_import_resolution.specs.Rounds.{is_apart as are_apart, is_lasting}
-use Rattle.hir_import_rules.specs.Changed.{joined}
+use Rattle.hir_mod_collector.specs.HirImportRules.Changed.{joined}
 use Rattle.hir_call_queue.specs.Waking.{is_apart}
-use Rattle.hir_collector_rules.specs.CallMoves.{IsReady, NoneWaitsBefore}
-use Rattle.hir_collector_rules.specs.declared.start.TheConstants.{STEP_LIMIT}
-use Rattle.hir_collector_rules.specs.Calls.{AreCallsPlaced}
-use Rattle.hir_collector_rules.specs.Moves.{OnceGrown}
-use Rattle.hir_collector_rules.specs.State.{at_rest, core_in}
-use Rattle.hir_collector_imports.specs.Waiting.{IsBehind, IsBetweenPasses, IsStale, KeepsApart}
-use Rattle.hir_macro_rounds.proofs.Queued.{HasRounds}
+use Rattle.hir_mod_collector.specs.HirCollectorRules.CallMoves.{IsReady, NoneWaitsBefore}
+use Rattle.hir_mod_collector.specs.HirCollectorRules.declared.start.TheConstants.{STEP_LIMIT}
+use Rattle.hir_mod_collector.specs.HirCollectorRules.Calls.{AreCallsPlaced}
+use Rattle.hir_mod_collector.specs.HirCollectorRules.Moves.{OnceGrown}
+use Rattle.hir_mod_collector.specs.HirCollectorRules.State.{at_rest, core_in}
+use Rattle.hir_mod_collector.specs.HirCollectorImports.Waiting.{IsBehind, IsBetweenPasses, IsStale, KeepsApart}
+use Rattle.hir_macro_calls.proofs.Queued.{HasRounds}
 use Rattle.hir_macro_rounds.proofs.calls.resolve_rounds.Given as goal
 
 abbrev pub invariant-rounds : goal.invariant-rounds

@@ -1,15 +1,15 @@
 -- Imports rest, and then calls may be expanded.
 use Rattle.std.proofs.Common.{rules, ◌≡◌, ◌∙◌, ◌+◌, ◌<◌, ◌≤◌, ap, arith, length, subst, sym}
-use Rattle.hir_def_map.specs.WorldParts.{part_of}
-use Rattle.hir_import_rules.specs.Rest.{IsAtRest}
-use Rattle.hir_collector_rules.specs.declared.start.TheConstants.{STEP_LIMIT}
-use Rattle.hir_collector_rules.specs.State.{Core, at_rest, core_in, import_state}
-use Rattle.hir_collector_rules.proofs.Changes.{count-Steps}
+use Rattle.hir_mod_collector.specs.HirNameres.WorldParts.{part_of}
+use Rattle.hir_mod_collector.specs.HirImportRules.Rest.{IsAtRest}
+use Rattle.hir_mod_collector.specs.HirCollectorRules.declared.start.TheConstants.{STEP_LIMIT}
+use Rattle.hir_mod_collector.specs.HirCollectorRules.State.{Core, at_rest, core_in, import_state}
+use Rattle.hir_mod_collector.proofs.HirCollectorRules.Changes.{count-Steps}
 use Rattle.hir_collector_derives.proofs.CallSteps.{count_rested, rest_rested, rested, rested_past, settled_rested}
-use Rattle.hir_collector_rules.proofs.Moves.{Steps-append, spent_after}
-use Rattle.hir_collector_state.proofs.Noted.{slots_follow}
-use Rattle.hir_collector_imports.proofs.Outside.{outside-Steps}
-use Rattle.hir_macro_rounds.proofs.Resuming.{behind_settled}
+use Rattle.hir_mod_collector.proofs.HirCollectorRules.Moves.{Steps-append, spent_after}
+use Rattle.hir_mod_collector.proofs.HirCollectorState.Noted.{slots_follow}
+use Rattle.hir_mod_collector.proofs.HirCollectorImports.Outside.{outside-Steps}
+use Rattle.hir_macro_calls.proofs.Resuming.{behind_settled}
 use Rattle.hir_mod_collector.proofs.Walked.{nowhere}
 use Rattle.hir_macro_rounds.proofs.calls.settle.Goals as goal
 

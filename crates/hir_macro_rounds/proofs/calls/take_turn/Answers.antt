@@ -1,19 +1,19 @@
 -- One turn: imports rest, and then what waits is tried.
 use Rattle.std.proofs.lemmas.Result.{err_from_is_err_and}
 use Rattle.std.proofs.Common.{Err, ◌≡◌, ◌∙◌, ap, subst, sym}
-use Rattle.hir_def_map.specs.WorldParts.{part_of}
-use Rattle.hir_import_rules.specs.Changed.{ChangedValue, joined}
-use Rattle.hir_collector_rules.specs.Keys.{environment}
-use Rattle.hir_collector_rules.specs.State.{core_in}
-use Rattle.hir_collector_imports.specs.Waiting.{IsBehind}
-use Rattle.hir_macro_rounds.proofs.GivingUp.{none_waits_later}
-use Rattle.hir_collector_rules.proofs.Moves.{Steps-append, spent_after, unknown_after}
-use Rattle.hir_collector_rules.proofs.Numbers.{known_step, refused_step}
-use Rattle.hir_collector_imports.proofs.Outside.{apart-Steps}
-use Rattle.hir_collector_imports.proofs.Ready.{ready_after}
-use Rattle.hir_macro_rounds.proofs.Resuming.{one_error, resumable_behind}
-use Rattle.hir_macro_rounds.proofs.Waiting.{keeps_waiting, stale_later}
-use Rattle.hir_collector_rules.specs.declared.start.CollectError.TheVariants.{TooMany, UnknownSource}
+use Rattle.hir_mod_collector.specs.HirNameres.WorldParts.{part_of}
+use Rattle.hir_mod_collector.specs.HirImportRules.Changed.{ChangedValue, joined}
+use Rattle.hir_mod_collector.specs.HirCollectorRules.Keys.{environment}
+use Rattle.hir_mod_collector.specs.HirCollectorRules.State.{core_in}
+use Rattle.hir_mod_collector.specs.HirCollectorImports.Waiting.{IsBehind}
+use Rattle.hir_macro_calls.proofs.GivingUp.{none_waits_later}
+use Rattle.hir_mod_collector.proofs.HirCollectorRules.Moves.{Steps-append, spent_after, unknown_after}
+use Rattle.hir_mod_collector.proofs.HirCollectorRules.Numbers.{known_step, refused_step}
+use Rattle.hir_mod_collector.proofs.HirCollectorImports.Outside.{apart-Steps}
+use Rattle.hir_mod_collector.proofs.HirCollectorImports.Ready.{ready_after}
+use Rattle.hir_macro_calls.proofs.Resuming.{one_error, resumable_behind}
+use Rattle.hir_macro_calls.proofs.UpToDate.{keeps_waiting, stale_later}
+use Rattle.hir_mod_collector.specs.HirCollectorRules.declared.start.CollectError.TheVariants.{TooMany, UnknownSource}
 use Rattle.hir_macro_rounds.proofs.Turning.{counts_from, turned_from}
 use Rattle.hir_macro_rounds.proofs.calls.take_turn.Goals as goal
 

@@ -1,27 +1,27 @@
 -- What waits is tried; where nothing was handled the first attribute that waits is given up.
 use Rattle.std.proofs.lemmas.Result.{err_from_is_err_and}
 use Rattle.std.proofs.Common.{Err, ◌≡◌, ◌∙◌, ◌<◌, None, Some, ap, false, length, subst, sym, true, arith}
-use Rattle.hir_tables.proofs.Growth.{KeepsTables-trans}
-use Rattle.hir_def_map.specs.WorldParts.{part_of}
-use Rattle.hir_import_rules.specs.Rest.{IsAtRest}
-use Rattle.hir_collector_rules.specs.CallMoves.{IsGivenUp, IsReady}
-use Rattle.hir_collector_rules.specs.Calls.{LeadsNowhere}
-use Rattle.hir_collector_rules.specs.Derivation.{IsSpent}
-use Rattle.hir_collector_rules.specs.Keys.{environment}
-use Rattle.hir_collector_rules.specs.Moves.{OnceGrown}
-use Rattle.hir_collector_rules.specs.State.{Core, at_rest, core_in, import_state}
-use Rattle.hir_collector_rules.specs.Steps.{Steps}
-use Rattle.hir_collector_imports.specs.Waiting.{KeepsApart}
-use Rattle.hir_collector_rules.specs.Workspace.{Workspace}
-use Rattle.hir_collector_rules.proofs.Changes.{count-Steps, counts_on}
-use Rattle.hir_macro_rounds.proofs.GivingUp.{none_waits_later}
-use Rattle.hir_collector_rules.proofs.Moves.{Steps-append, spent_after, unknown_after}
-use Rattle.hir_collector_rules.proofs.Numbers.{known_step, refused_step, tables_stay}
-use Rattle.hir_macro_rounds.proofs.Queued.{none_handled, of_round, requeued_steps, rests_idle, rises_on}
-use Rattle.hir_collector_imports.proofs.Ready.{ready_after, ready_grown}
-use Rattle.hir_macro_rounds.proofs.Resuming.{behind_later, behind_tried, one_error}
-use Rattle.hir_macro_rounds.proofs.Waiting.{keeps_waiting, stale_later, stale_now}
-use Rattle.hir_collector_rules.specs.declared.start.CollectError.TheVariants.{TooMany, UnknownSource}
+use Rattle.hir_mod_collector.proofs.HirTables.Growth.{KeepsTables-trans}
+use Rattle.hir_mod_collector.specs.HirNameres.WorldParts.{part_of}
+use Rattle.hir_mod_collector.specs.HirImportRules.Rest.{IsAtRest}
+use Rattle.hir_mod_collector.specs.HirCollectorRules.CallMoves.{IsGivenUp, IsReady}
+use Rattle.hir_mod_collector.specs.HirCollectorRules.Calls.{LeadsNowhere}
+use Rattle.hir_mod_collector.specs.HirCollectorRules.Derivation.{IsSpent}
+use Rattle.hir_mod_collector.specs.HirCollectorRules.Keys.{environment}
+use Rattle.hir_mod_collector.specs.HirCollectorRules.Moves.{OnceGrown}
+use Rattle.hir_mod_collector.specs.HirCollectorRules.State.{Core, at_rest, core_in, import_state}
+use Rattle.hir_mod_collector.specs.HirCollectorRules.Steps.{Steps}
+use Rattle.hir_mod_collector.specs.HirCollectorImports.Waiting.{KeepsApart}
+use Rattle.hir_mod_collector.specs.HirCollectorRules.Workspace.{Workspace}
+use Rattle.hir_mod_collector.proofs.HirCollectorRules.Changes.{count-Steps, counts_on}
+use Rattle.hir_macro_calls.proofs.GivingUp.{none_waits_later}
+use Rattle.hir_mod_collector.proofs.HirCollectorRules.Moves.{Steps-append, spent_after, unknown_after}
+use Rattle.hir_mod_collector.proofs.HirCollectorRules.Numbers.{known_step, refused_step, tables_stay}
+use Rattle.hir_macro_calls.proofs.Queued.{none_handled, of_round, requeued_steps, rests_idle, rises_on}
+use Rattle.hir_mod_collector.proofs.HirCollectorImports.Ready.{ready_after, ready_grown}
+use Rattle.hir_macro_calls.proofs.Resuming.{behind_later, behind_tried, one_error}
+use Rattle.hir_macro_calls.proofs.UpToDate.{keeps_waiting, stale_later, stale_now}
+use Rattle.hir_mod_collector.specs.HirCollectorRules.declared.start.CollectError.TheVariants.{TooMany, UnknownSource}
 use Rattle.hir_macro_rounds.proofs.calls.take_waiting.Goals as goal
 
 -- what each goal below needs: `settled` is where imports rest and the queue is up to date, `tried` where what is queued was tried

@@ -1,16 +1,16 @@
 -- What waits at a place is handled, or left to wait where nothing is to be done about it.
 use Rattle.std.proofs.Common.{◌≡◌, ◌<◌, None, Some, false, refl, slice_get, subst, sym, true}
-use Rattle.hir_base.specs.declared.macro_kind.MacroId.{MacroId}
-use Rattle.hir_def_map.specs.WorldParts.{part_of}
-use Rattle.hir_macro_rounds.specs.declared.calls.Due.{Due}
-use Rattle.hir_macro_rounds.specs.declared.calls.Due.TheVariants.{Nothing, Reaches}
-use Rattle.hir_collector_rules.specs.declared.macro_directive.MacroDirective.{MacroDirective}
-use Rattle.hir_collector_rules.specs.CallMoves.{left}
-use Rattle.hir_macro_rounds.specs.Turns.{IsDueOf}
-use Rattle.hir_collector_rules.specs.State.{Core, at_rest, core_in}
-use Rattle.hir_collector_rules.specs.Steps.{IsDue, none}
-use Rattle.hir_macro_rounds.proofs.GivingUp.{nothing_due, nothing_waits}
-use Rattle.hir_collector_state.proofs.Noted.{noted_beside, noted_itself}
+use Rattle.hir_mod_collector.specs.HirIds.declared.macro_kind.MacroId.{MacroId}
+use Rattle.hir_mod_collector.specs.HirNameres.WorldParts.{part_of}
+use Rattle.hir_macro_calls.specs.declared.due.Due.{Due}
+use Rattle.hir_macro_calls.specs.declared.due.Due.TheVariants.{Nothing, Reaches}
+use Rattle.hir_mod_collector.specs.HirCollectorRules.declared.macro_directive.MacroDirective.{MacroDirective}
+use Rattle.hir_mod_collector.specs.HirCollectorRules.CallMoves.{left}
+use Rattle.hir_macro_calls.specs.Due.{IsDueOf}
+use Rattle.hir_mod_collector.specs.HirCollectorRules.State.{Core, at_rest, core_in}
+use Rattle.hir_mod_collector.specs.HirCollectorRules.Steps.{IsDue, none}
+use Rattle.hir_macro_calls.proofs.GivingUp.{nothing_due, nothing_waits}
+use Rattle.hir_mod_collector.proofs.HirCollectorState.Noted.{noted_beside, noted_itself}
 use Rattle.hir_macro_rounds.proofs.calls.try_call.Goals as goal
 
 -- nothing waits at the place

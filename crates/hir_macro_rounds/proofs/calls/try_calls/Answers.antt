@@ -1,25 +1,25 @@
 -- Each call that is queued is tried, one after another.
 use Rattle.std.proofs.Common.{rules, ◌≡◌, ◌∙◌, ℕ, ◌<◌, ◌≤◌, ap, refl, subst, sym, arith, true, false}
 use Rattle.std.proofs.lemmas.Bool.Decides.{nat_tests}
-use Rattle.hir_tables.proofs.Growth.{KeepsTables-trans}
-use Rattle.hir_def_map.specs.WorldParts.{part_of}
+use Rattle.hir_mod_collector.proofs.HirTables.Growth.{KeepsTables-trans}
+use Rattle.hir_mod_collector.specs.HirNameres.WorldParts.{part_of}
 use Rattle.hir_worklist.specs.Moves.{Takes, opened}
 use Rattle.hir_worklist.specs.Queue.{Queue, count_of, is_ahead}
 use Rattle.hir_call_queue.specs.Waking.{is_apart, worklist_of}
-use Rattle.hir_collector_rules.specs.Derivation.{IsSpent}
-use Rattle.hir_collector_rules.specs.Keys.{environment}
-use Rattle.hir_collector_rules.specs.Moves.{OnceGrown}
-use Rattle.hir_collector_rules.specs.State.{at_rest, core_in}
-use Rattle.hir_collector_rules.specs.Steps.{Steps, none}
-use Rattle.hir_collector_rules.specs.UnknownSources.{LeadsToUnknownSource}
-use Rattle.hir_collector_rules.specs.Workspace.{Workspace}
-use Rattle.hir_collector_rules.proofs.Changes.{id-Steps}
-use Rattle.hir_collector_rules.proofs.Moves.{Steps-append, spent_after, unknown_after}
-use Rattle.hir_collector_rules.proofs.Numbers.{tables_stay}
-use Rattle.hir_macro_rounds.proofs.Queued.{AreTried, left_or_tried, tried_all, tried_first, tried_next}
-use Rattle.hir_collector_imports.proofs.Ready.{ready_after, ready_grown}
-use Rattle.hir_collector_rules.proofs.Tried.{settled_bounded, settled_more}
-use Rattle.hir_macro_rounds.proofs.Waiting.{apart_later, up_to_date_closed, up_to_date_opened, up_to_date_taken}
+use Rattle.hir_mod_collector.specs.HirCollectorRules.Derivation.{IsSpent}
+use Rattle.hir_mod_collector.specs.HirCollectorRules.Keys.{environment}
+use Rattle.hir_mod_collector.specs.HirCollectorRules.Moves.{OnceGrown}
+use Rattle.hir_mod_collector.specs.HirCollectorRules.State.{at_rest, core_in}
+use Rattle.hir_mod_collector.specs.HirCollectorRules.Steps.{Steps, none}
+use Rattle.hir_mod_collector.specs.HirCollectorRules.UnknownSources.{LeadsToUnknownSource}
+use Rattle.hir_mod_collector.specs.HirCollectorRules.Workspace.{Workspace}
+use Rattle.hir_mod_collector.proofs.HirCollectorRules.Changes.{id-Steps}
+use Rattle.hir_mod_collector.proofs.HirCollectorRules.Moves.{Steps-append, spent_after, unknown_after}
+use Rattle.hir_mod_collector.proofs.HirCollectorRules.Numbers.{tables_stay}
+use Rattle.hir_macro_calls.proofs.Queued.{AreTried, left_or_tried, tried_all, tried_first, tried_next}
+use Rattle.hir_mod_collector.proofs.HirCollectorImports.Ready.{ready_after, ready_grown}
+use Rattle.hir_mod_collector.proofs.HirCollectorRules.Tried.{settled_bounded, settled_more}
+use Rattle.hir_macro_calls.proofs.UpToDate.{apart_later, up_to_date_closed, up_to_date_opened, up_to_date_taken}
 use Rattle.hir_macro_rounds.proofs.calls.try_calls.Goals as goal
 
 -- what is taken of a pass lies before its end

@@ -1,14 +1,14 @@
 use Rattle.std.proofs.Common.{◌≡◌, ◌-◌, ◌≤◌, None, length}
-use Rattle.hir_tables.specs.Tables.{KeepsTables}
-use Rattle.hir_def_map.specs.WorldParts.{part_of}
+use Rattle.hir_mod_collector.specs.HirTables.Tables.{KeepsTables}
+use Rattle.hir_mod_collector.specs.HirNameres.WorldParts.{part_of}
 use Rattle.hir_call_queue.specs.Waking.{is_apart, worklist_of}
-use Rattle.hir_collector_rules.specs.CallMoves.{IsReady}
-use Rattle.hir_collector_rules.specs.Calls.{AreCallsPlaced}
-use Rattle.hir_collector_rules.specs.Moves.{OnceGrown}
-use Rattle.hir_collector_rules.specs.State.{at_rest, core_in}
-use Rattle.hir_collector_rules.specs.Steps.{Steps}
-use Rattle.hir_collector_imports.specs.Waiting.{IsGathered, IsUpToDate}
-use Rattle.hir_macro_rounds.proofs.Queued.{AreTried}
+use Rattle.hir_mod_collector.specs.HirCollectorRules.CallMoves.{IsReady}
+use Rattle.hir_mod_collector.specs.HirCollectorRules.Calls.{AreCallsPlaced}
+use Rattle.hir_mod_collector.specs.HirCollectorRules.Moves.{OnceGrown}
+use Rattle.hir_mod_collector.specs.HirCollectorRules.State.{at_rest, core_in}
+use Rattle.hir_mod_collector.specs.HirCollectorRules.Steps.{Steps}
+use Rattle.hir_mod_collector.specs.HirCollectorImports.Waiting.{IsGathered, IsUpToDate}
+use Rattle.hir_macro_calls.proofs.Queued.{AreTried}
 use Rattle.hir_macro_rounds.proofs.calls.try_calls.Given as goal
 
 abbrev pub invariant-tries : goal.invariant-tries

@@ -1,19 +1,19 @@
 -- A call is tried, and then what has read what has changed is queued, or it watches what it has read.
 use Rattle.std.proofs.Common.{◌≡◌, ◌∙◌, ◌<◌, ap, subst, sym, true, None, Some, length, slice_get}
-use Rattle.hir_def_map_rules.specs.State.{IsInOrder}
-use Rattle.hir_def_map.specs.WorldParts.{part_of}
-use Rattle.hir_import_rules.specs.Changed.{joined}
-use Rattle.hir_collector_rules.specs.CallMoves.{TriesCall}
-use Rattle.hir_collector_rules.specs.Calls.{LeadsNowhere}
-use Rattle.hir_collector_rules.specs.Keys.{environment}
-use Rattle.hir_collector_rules.specs.State.{Core, at_rest, core_in}
-use Rattle.hir_collector_rules.specs.Steps.{Steps}
-use Rattle.hir_collector_imports.specs.Waiting.{IsUpToDate, LiesApart}
-use Rattle.hir_collector_rules.specs.declared.macro_directive.MacroDirective.{MacroDirective}
-use Rattle.hir_collector_rules.proofs.Numbers.{tables_stay}
-use Rattle.hir_macro_rounds.proofs.Queued.{was_handled, was_left}
-use Rattle.hir_macro_rounds.proofs.Resuming.{behind_gathered, behind_later}
-use Rattle.hir_macro_rounds.proofs.Waiting.{apart_later, keeps_waiting, up_to_date_handled, waits_no_more}
+use Rattle.hir_mod_collector.specs.HirDefMapRules.State.{IsInOrder}
+use Rattle.hir_mod_collector.specs.HirNameres.WorldParts.{part_of}
+use Rattle.hir_mod_collector.specs.HirImportRules.Changed.{joined}
+use Rattle.hir_mod_collector.specs.HirCollectorRules.CallMoves.{TriesCall}
+use Rattle.hir_mod_collector.specs.HirCollectorRules.Calls.{LeadsNowhere}
+use Rattle.hir_mod_collector.specs.HirCollectorRules.Keys.{environment}
+use Rattle.hir_mod_collector.specs.HirCollectorRules.State.{Core, at_rest, core_in}
+use Rattle.hir_mod_collector.specs.HirCollectorRules.Steps.{Steps}
+use Rattle.hir_mod_collector.specs.HirCollectorImports.Waiting.{IsUpToDate, LiesApart}
+use Rattle.hir_mod_collector.specs.HirCollectorRules.declared.macro_directive.MacroDirective.{MacroDirective}
+use Rattle.hir_mod_collector.proofs.HirCollectorRules.Numbers.{tables_stay}
+use Rattle.hir_macro_calls.proofs.Queued.{was_handled, was_left}
+use Rattle.hir_macro_calls.proofs.Resuming.{behind_gathered, behind_later}
+use Rattle.hir_macro_calls.proofs.UpToDate.{apart_later, keeps_waiting, up_to_date_handled, waits_no_more}
 use Rattle.hir_macro_rounds.proofs.calls.try_queued.Goals as goal
 
 -- ---- where it was handled

@@ -1,12 +1,12 @@
 -- Where no attribute waits nothing changes; the other ways out aren't taken, since an attribute that waits has an item.
 use Rattle.std.proofs.Common.{arith, rules, ◌≡◌, ◌∙◌, None, Some, ap, refl, subst, sym}
-use Rattle.hir_collector_rules.specs.declared.macro_directive.MacroDirective.{MacroDirective}
-use Rattle.hir_collector_rules.specs.CallMoves.{IsAttributeWaiting}
-use Rattle.hir_collector_rules.specs.Calls.{IsWaiting, waiting_item}
-use Rattle.hir_collector_rules.specs.State.{Core, at_rest, core_in}
-use Rattle.hir_collector_rules.specs.Steps.{none}
-use Rattle.hir_macro_rounds.proofs.GivingUp.{has_item}
-use Rattle.hir_collector_state.proofs.Noted.{noted_beside, noted_itself}
+use Rattle.hir_mod_collector.specs.HirCollectorRules.declared.macro_directive.MacroDirective.{MacroDirective}
+use Rattle.hir_mod_collector.specs.HirCollectorRules.CallMoves.{IsAttributeWaiting}
+use Rattle.hir_mod_collector.specs.HirCollectorRules.Calls.{IsWaiting, waiting_item}
+use Rattle.hir_mod_collector.specs.HirCollectorRules.State.{Core, at_rest, core_in}
+use Rattle.hir_mod_collector.specs.HirCollectorRules.Steps.{none}
+use Rattle.hir_macro_calls.proofs.GivingUp.{has_item}
+use Rattle.hir_mod_collector.proofs.HirCollectorState.Noted.{noted_beside, noted_itself}
 use Rattle.hir_macro_rounds.proofs.resume.give_up.Goals as goal
 
 pub returns-in_default-clause-ok : goal.returns-in_default-clause-ok

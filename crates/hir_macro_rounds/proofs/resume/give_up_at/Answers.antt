@@ -1,26 +1,26 @@
 -- An attribute is given up in one step, and then its item is handled behind it.
 use Rattle.std.proofs.Common.{rules, arith, ◌≡◌, ◌∙◌, ◌+◌, ◌<◌, ◌≤◌, ◌++◌, [], Some, ap, length, refl, subst, sym}
-use Rattle.hir_collector_rules.proofs.Changes.{count-Steps}
-use Rattle.hir_item_tree.specs.KeptForest.{all_items}
-use Rattle.hir_item_tree.specs.SourceTree.{SourceTreeValue}
-use Rattle.hir_def_map_rules.specs.Macros.{with_diagnostic}
-use Rattle.hir_def_map.specs.WorldParts.{part_of}
-use Rattle.hir_def_map_rules.specs.declared.diagnostics.DefDiagnostic.{DefDiagnostic}
-use Rattle.hir_collector_rules.specs.declared.start.TheConstants.{STEP_LIMIT}
-use Rattle.hir_collector_rules.specs.declared.macro_directive.Fate.TheVariants.{GivenUp, Waits}
-use Rattle.hir_collector_rules.specs.declared.site.Site.{Site}
-use Rattle.hir_collector_rules.specs.Calls.{IsMeantAt, IsMeantCall}
-use Rattle.hir_collector_rules.specs.Keys.{environment}
-use Rattle.hir_collector_rules.specs.Moves.{Walks, WalksTooFar}
-use Rattle.hir_collector_rules.specs.Reports.{call_report}
-use Rattle.hir_collector_rules.specs.State.{Core, at_rest, core_in, counted, with_map}
-use Rattle.hir_collector_rules.specs.Steps.{FallsBack, falls_back}
-use Rattle.hir_collector_rules.specs.TreeReads.{visits_behind}
+use Rattle.hir_mod_collector.proofs.HirCollectorRules.Changes.{count-Steps}
+use Rattle.hir_mod_collector.specs.HirItemTree.KeptForest.{all_items}
+use Rattle.hir_mod_collector.specs.HirItemTree.SourceTree.{SourceTreeValue}
+use Rattle.hir_mod_collector.specs.HirDefMapRules.Macros.{with_diagnostic}
+use Rattle.hir_mod_collector.specs.HirNameres.WorldParts.{part_of}
+use Rattle.hir_mod_collector.specs.HirMapParts.declared.diagnostics.DefDiagnostic.{DefDiagnostic}
+use Rattle.hir_mod_collector.specs.HirCollectorRules.declared.start.TheConstants.{STEP_LIMIT}
+use Rattle.hir_mod_collector.specs.HirCollectorRules.declared.macro_directive.Fate.TheVariants.{GivenUp, Waits}
+use Rattle.hir_mod_collector.specs.HirCollectorRules.declared.site.Site.{Site}
+use Rattle.hir_mod_collector.specs.HirCollectorRules.Calls.{IsMeantAt, IsMeantCall}
+use Rattle.hir_mod_collector.specs.HirCollectorRules.Keys.{environment}
+use Rattle.hir_mod_collector.specs.HirCollectorRules.Moves.{Walks, WalksTooFar}
+use Rattle.hir_mod_collector.specs.HirCollectorRules.Reports.{call_report}
+use Rattle.hir_mod_collector.specs.HirCollectorRules.State.{Core, at_rest, core_in, counted, with_map}
+use Rattle.hir_mod_collector.specs.HirCollectorRules.Steps.{FallsBack, falls_back}
+use Rattle.hir_mod_collector.specs.HirCollectorRules.TreeReads.{visits_behind}
 use Rattle.hir_collector_derives.proofs.CallSteps.{falls_back_at, given_up, kept_inside, kept_item, past_rule, went_on, went_too_far}
-use Rattle.hir_macro_rounds.proofs.GivingUp.{none_before}
-use Rattle.hir_collector_rules.proofs.Lists.{get_inside}
-use Rattle.hir_collector_rules.proofs.Numbers.{tables_stay}
-use Rattle.hir_collector_state.proofs.Noted.{beside_follow, noted_beside, noted_follow}
+use Rattle.hir_macro_calls.proofs.GivingUp.{none_before}
+use Rattle.hir_mod_collector.proofs.HirCollectorRules.Lists.{get_inside}
+use Rattle.hir_mod_collector.proofs.HirCollectorRules.Numbers.{tables_stay}
+use Rattle.hir_mod_collector.proofs.HirCollectorState.Noted.{beside_follow, noted_beside, noted_follow}
 use Rattle.hir_macro_rounds.proofs.resume.give_up_at.Goals as goal
 
 pub walk_item-requires-clause-in_range : goal.walk_item-requires-clause-in_range

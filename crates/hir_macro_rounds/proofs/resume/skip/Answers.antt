@@ -1,25 +1,25 @@
 -- The item of an attribute that is passed over is handled behind it.
 use Rattle.std.proofs.Common.{rules, [], ◌≡◌, ◌∙◌, ◌<◌, ◌≤◌, Some, ap, length, slice_get, subst, sym}
 use Rattle.std.specs.Prelude.{IsSome}
-use Rattle.hir_item_tree.specs.KeptForest.{KeptItem, all_items}
-use Rattle.hir_item_tree.specs.SourceTree.{SourceTreeValue}
-use Rattle.hir_def_map.specs.WorldParts.{part_of}
-use Rattle.hir_collector_rules.specs.declared.start.TheConstants.{STEP_LIMIT}
-use Rattle.hir_collector_rules.specs.declared.macro_directive.Fate.TheVariants.{Handled, Waits}
-use Rattle.hir_collector_rules.specs.declared.site.Site.{Site}
-use Rattle.hir_collector_rules.specs.declared.macro_directive.WaitingItem.{WaitingItem}
-use Rattle.hir_collector_rules.specs.Calls.{IsMeantAt, IsMeantCall, item_kept}
-use Rattle.hir_collector_rules.specs.Derivation.{IsSpent}
-use Rattle.hir_collector_rules.specs.Keys.{environment}
-use Rattle.hir_collector_rules.specs.Moves.{OnceGrown, Walks, WalksTooFar}
-use Rattle.hir_collector_rules.specs.State.{Core, at_rest, core_in, counted, joined, visits}
-use Rattle.hir_collector_rules.specs.Steps.{Skips, Step, skips_attribute, visit_behind}
-use Rattle.hir_collector_rules.specs.TreeReads.{visits_behind}
+use Rattle.hir_mod_collector.specs.HirItemTree.KeptForest.{KeptItem, all_items}
+use Rattle.hir_mod_collector.specs.HirItemTree.SourceTree.{SourceTreeValue}
+use Rattle.hir_mod_collector.specs.HirNameres.WorldParts.{part_of}
+use Rattle.hir_mod_collector.specs.HirCollectorRules.declared.start.TheConstants.{STEP_LIMIT}
+use Rattle.hir_mod_collector.specs.HirCollectorRules.declared.macro_directive.Fate.TheVariants.{Handled, Waits}
+use Rattle.hir_mod_collector.specs.HirCollectorRules.declared.site.Site.{Site}
+use Rattle.hir_mod_collector.specs.HirCollectorRules.declared.macro_directive.WaitingItem.{WaitingItem}
+use Rattle.hir_mod_collector.specs.HirCollectorRules.Calls.{IsMeantAt, IsMeantCall, item_kept}
+use Rattle.hir_mod_collector.specs.HirCollectorRules.Derivation.{IsSpent}
+use Rattle.hir_mod_collector.specs.HirCollectorRules.Keys.{environment}
+use Rattle.hir_mod_collector.specs.HirCollectorRules.Moves.{OnceGrown, Walks, WalksTooFar}
+use Rattle.hir_mod_collector.specs.HirCollectorRules.State.{Core, at_rest, core_in, counted, joined, visits}
+use Rattle.hir_mod_collector.specs.HirCollectorRules.Steps.{Skips, Step, skips_attribute, visit_behind}
+use Rattle.hir_mod_collector.specs.HirCollectorRules.TreeReads.{visits_behind}
 use Rattle.hir_collector_derives.proofs.CallSteps.{kept_inside, kept_item, past_rule, skipped, went_on, went_too_far}
-use Rattle.hir_collector_rules.proofs.Lists.{get_inside, get_set_same}
-use Rattle.hir_collector_rules.proofs.Numbers.{tables_stay}
-use Rattle.hir_collector_rules.proofs.Tried.{handled_stays}
-use Rattle.hir_collector_state.proofs.Noted.{beside_follow, noted_beside, noted_follow}
+use Rattle.hir_mod_collector.proofs.HirCollectorRules.Lists.{get_inside, get_set_same}
+use Rattle.hir_mod_collector.proofs.HirCollectorRules.Numbers.{tables_stay}
+use Rattle.hir_mod_collector.proofs.HirCollectorRules.Tried.{handled_stays}
+use Rattle.hir_mod_collector.proofs.HirCollectorState.Noted.{beside_follow, noted_beside, noted_follow}
 use Rattle.hir_macro_rounds.proofs.resume.skip.Goals as goal
 
 pub walk_item-requires-clause-in_range : goal.walk_item-requires-clause-in_range

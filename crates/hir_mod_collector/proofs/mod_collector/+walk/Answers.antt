@@ -3,31 +3,31 @@ use Rattle.std.proofs.lemmas.List.Elements.{All-map}
 use Rattle.std.specs.List.{All}
 use Rattle.std.specs.Option.{IfSome}
 use Rattle.std.specs.Prelude.{not, option_map}
-use Rattle.hir_base.specs.Cfg.{cfg_view}
-use Rattle.hir_base.specs.declared.cfg.CfgExpr.{CfgExpr}
-use Rattle.hir_item_tree.specs.ItemTree.{Tree}
-use Rattle.hir_item_tree.specs.KeptForest.{KeptItem, all_items}
-use Rattle.hir_item_tree.specs.Kinds.{item_head, kind_content, kind_of}
-use Rattle.hir_item_tree.specs.Rows.{numbers_of, held_numbers, item_of, items_at}
-use Rattle.hir_item_tree.specs.SourceTree.{SourceTreeValue}
-use Rattle.hir_item_tree.specs.declared.rows.ModItemId.{ModItemId}
-use Rattle.hir_tables.specs.Tables.{KeepsTables}
-use Rattle.hir_tables.proofs.Growth.{KeepsTables-trans}
-use Rattle.hir_def_map.specs.WorldParts.{part_of}
-use Rattle.hir_def_map_rules.specs.declared.diagnostics.DefDiagnosticKind.TheVariants as diagnostics
-use Rattle.hir_collector_rules.specs.ItemIds.{module_id, node_of}
-use Rattle.hir_collector_rules.specs.Workspace.{Workspace}
-use Rattle.hir_collector_rules.specs.Calls.{IsMeantAt}
-use Rattle.hir_collector_rules.specs.Keys.{Environment, environment}
-use Rattle.hir_collector_rules.specs.Moves.{HandlesAndSpreads, OnceGrown, Passes, PassesTooFar, Walks, WalksTooFar}
+use Rattle.hir_collector_state.specs.HirBase.Cfg.{cfg_view}
+use Rattle.hir_collector_state.specs.HirBase.declared.cfg.CfgExpr.{CfgExpr}
+use Rattle.hir_collector_state.specs.HirItemTree.ItemTree.{Tree}
+use Rattle.hir_collector_state.specs.HirItemTree.KeptForest.{KeptItem, all_items}
+use Rattle.hir_collector_state.specs.HirItemTree.Kinds.{item_head, kind_content, kind_of}
+use Rattle.hir_collector_state.specs.HirItemTree.Rows.{numbers_of, held_numbers, item_of, items_at}
+use Rattle.hir_collector_state.specs.HirItemTree.SourceTree.{SourceTreeValue}
+use Rattle.hir_collector_state.specs.HirItemTree.declared.rows.ModItemId.{ModItemId}
+use Rattle.hir_collector_state.specs.HirTables.Tables.{KeepsTables}
+use Rattle.hir_collector_state.proofs.HirTables.Growth.{KeepsTables-trans}
+use Rattle.hir_collector_state.specs.HirNameres.WorldParts.{part_of}
+use Rattle.hir_collector_state.specs.HirMapParts.declared.diagnostics.DefDiagnosticKind.TheVariants as diagnostics
+use Rattle.hir_collector_state.specs.HirCollectorRules.ItemIds.{module_id, node_of}
+use Rattle.hir_collector_state.specs.HirCollectorRules.Workspace.{Workspace}
+use Rattle.hir_collector_state.specs.HirCollectorRules.Calls.{IsMeantAt}
+use Rattle.hir_collector_state.specs.HirCollectorRules.Keys.{Environment, environment}
+use Rattle.hir_collector_state.specs.HirCollectorRules.Moves.{HandlesAndSpreads, OnceGrown, Passes, PassesTooFar, Walks, WalksTooFar}
 use Rattle.hir_mod_resolution.specs.Walking.{GoesInside, IsOfFile, IsWithin, tasks_of}
-use Rattle.hir_collector_rules.specs.State.{Task, Visit, core_in, visits, visits_over}
-use Rattle.hir_collector_rules.specs.Steps.{behind, closing, none, visit}
-use Rattle.hir_collector_rules.specs.TreeReads.{head_of, visits_at, visits_behind, above}
+use Rattle.hir_collector_state.specs.HirCollectorRules.State.{Task, Visit, core_in, visits, visits_over}
+use Rattle.hir_collector_state.specs.HirCollectorRules.Steps.{behind, closing, none, visit}
+use Rattle.hir_collector_state.specs.HirCollectorRules.TreeReads.{head_of, visits_at, visits_behind, above}
 use Rattle.hir_mod_resolution.specs.declared.modules.Inside.{Inside}
-use Rattle.hir_collector_rules.proofs.Numbers.{tables_stay}
+use Rattle.hir_collector_state.proofs.HirCollectorRules.Numbers.{tables_stay}
 use Rattle.hir_mod_resolution.proofs.Finding.{falls_inside, falls_to_file, falls_to_item}
-use Rattle.hir_collector_rules.proofs.ModuleFiles.{site_kept}
+use Rattle.hir_collector_state.proofs.HirCollectorRules.ModuleFiles.{site_kept}
 use Rattle.hir_mod_resolution.proofs.Outline.{meant_inside}
 use Rattle.hir_mod_collector.proofs.Walked.{All-below, All-same_numbers, Walks-all, Walks-append, Walks-through, Walks-waits, WalksTo-next, WalksTo-none}
 use Rattle.hir_mod_collector.proofs.Walked.{WalksTooFar-behind, WalksTooFar-first, WalksTooFar-here, WalksTooFar-next, WalksTooFar-passed, WalksTooFar-passing}

@@ -1,14 +1,14 @@
 use Rattle.std.proofs.Common.{◌≡◌, ◌<◌, ◌+◌, ◌-◌, ◌*◌, length, min}
-use Rattle.hir_item_tree.specs.Rows.{numbers_of}
-use Rattle.hir_tables.specs.Tables.{KeepsTables}
-use Rattle.hir_def_map.specs.WorldParts.{part_of}
-use Rattle.hir_collector_rules.specs.Calls.{AreCallsPlaced}
-use Rattle.hir_collector_rules.specs.Moves.{OnceGrown}
-use Rattle.hir_collector_rules.specs.TreeReads.{above}
+use Rattle.hir_collector_state.specs.HirItemTree.Rows.{numbers_of}
+use Rattle.hir_collector_state.specs.HirTables.Tables.{KeepsTables}
+use Rattle.hir_collector_state.specs.HirNameres.WorldParts.{part_of}
+use Rattle.hir_collector_state.specs.HirCollectorRules.Calls.{AreCallsPlaced}
+use Rattle.hir_collector_state.specs.HirCollectorRules.Moves.{OnceGrown}
+use Rattle.hir_collector_state.specs.HirCollectorRules.TreeReads.{above}
 use Rattle.hir_collector_state.specs.Waiting.{IsNotedBeside}
 use Rattle.hir_mod_collector.proofs.Walked.{WalksTo}
 use Rattle.hir_mod_collector.proofs.mod_collector.+walk.Given as goal
-use Rattle.hir_collector_rules.specs.State.{core_in}
+use Rattle.hir_collector_state.specs.HirCollectorRules.State.{core_in}
 
 abbrev pub invariant-walk_all-loop-id : goal.invariant-walk_all-loop-id
 invariant-walk_all-loop-id g l = record {

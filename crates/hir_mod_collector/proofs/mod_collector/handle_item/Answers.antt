@@ -1,12 +1,12 @@
 use Rattle.std.proofs.Common.{rules, ◌≡◌, true, inl}
-use Rattle.hir_def_map.specs.WorldParts.{part_of}
-use Rattle.hir_collector_rules.specs.Keys.{environment}
-use Rattle.hir_collector_rules.specs.Moves.{is_single}
-use Rattle.hir_collector_rules.specs.TreeReads.{head_of}
-use Rattle.hir_collector_rules.proofs.Numbers.{tables_stay}
+use Rattle.hir_collector_state.specs.HirNameres.WorldParts.{part_of}
+use Rattle.hir_collector_state.specs.HirCollectorRules.Keys.{environment}
+use Rattle.hir_collector_state.specs.HirCollectorRules.Moves.{is_single}
+use Rattle.hir_collector_state.specs.HirCollectorRules.TreeReads.{head_of}
+use Rattle.hir_collector_state.proofs.HirCollectorRules.Numbers.{tables_stay}
 use Rattle.hir_mod_collector.proofs.Walked.{block_here, far_item, inline_here, single_here}
 use Rattle.hir_mod_collector.proofs.mod_collector.handle_item.Goals as goal
-use Rattle.hir_collector_rules.specs.State.{core_in}
+use Rattle.hir_collector_state.specs.HirCollectorRules.State.{core_in}
 
 pub returns-in_err-visit_leaf-in_default : goal.returns-in_err-visit_leaf-in_default
 returns-in_err-visit_leaf-in_default g c = record {

@@ -1,6 +1,6 @@
 use Rattle.std.proofs.Common.{refl}
-use Rattle.hir_collector_rules.specs.TreeReads.{head_of}
-use Rattle.hir_collector_rules.specs.Steps.{lists_impl}
+use Rattle.hir_collector_state.specs.HirCollectorRules.TreeReads.{head_of}
+use Rattle.hir_collector_state.specs.HirCollectorRules.Steps.{lists_impl}
 use Rattle.hir_collector_state.proofs.Made.{made}
 use Rattle.hir_collector_state.proofs.Noted.{noted_follow}
 use Rattle.hir_mod_collector.proofs.mod_collector.list_impl.Goals as goal

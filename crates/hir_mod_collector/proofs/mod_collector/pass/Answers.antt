@@ -1,20 +1,20 @@
 use Rattle.std.proofs.Common.{◌≡◌, ◌∙◌, List, map, slice_get, ap, subst}
 use Rattle.std.specs.Option.{IfSome}
 use Rattle.std.proofs.lemmas.Result.{IfOk-weaker}
-use Rattle.hir_item_tree.specs.Collected.{numbered}
-use Rattle.hir_item_tree.specs.ItemTree.{Tree}
-use Rattle.hir_item_tree.specs.KeptForest.{KeptItem, all_items}
-use Rattle.hir_item_tree.specs.Kinds.{item_head, kind_content, kind_of}
-use Rattle.hir_item_tree.specs.Rows.{item_of}
-use Rattle.hir_item_tree.specs.SourceTree.{SourceTreeValue}
-use Rattle.hir_item_tree.specs.declared.attrs.Attr.{Attr}
-use Rattle.hir_base.specs.declared.ast_id.AstKind.{AstKind}
-use Rattle.hir_collector_rules.specs.ItemIds.{node_of}
-use Rattle.hir_collector_rules.specs.Moves.{Passes, PassesTooFar}
+use Rattle.hir_collector_state.specs.HirItemTree.Collected.{numbered}
+use Rattle.hir_collector_state.specs.HirItemTree.ItemTree.{Tree}
+use Rattle.hir_collector_state.specs.HirItemTree.KeptForest.{KeptItem, all_items}
+use Rattle.hir_collector_state.specs.HirItemTree.Kinds.{item_head, kind_content, kind_of}
+use Rattle.hir_collector_state.specs.HirItemTree.Rows.{item_of}
+use Rattle.hir_collector_state.specs.HirItemTree.SourceTree.{SourceTreeValue}
+use Rattle.hir_collector_state.specs.HirItemTree.declared.attrs.Attr.{Attr}
+use Rattle.hir_collector_state.specs.HirIds.declared.ast_id.AstKind.{AstKind}
+use Rattle.hir_collector_state.specs.HirCollectorRules.ItemIds.{node_of}
+use Rattle.hir_collector_state.specs.HirCollectorRules.Moves.{Passes, PassesTooFar}
 use Rattle.hir_attr_resolution.specs.Visiting.{IsVisited}
-use Rattle.hir_collector_rules.specs.State.{core_in}
-use Rattle.hir_collector_rules.specs.Steps.{visit}
-use Rattle.hir_collector_rules.specs.TreeReads.{head_of}
+use Rattle.hir_collector_state.specs.HirCollectorRules.State.{core_in}
+use Rattle.hir_collector_state.specs.HirCollectorRules.Steps.{visit}
+use Rattle.hir_collector_state.specs.HirCollectorRules.TreeReads.{head_of}
 use Rattle.hir_attr_resolution.specs.declared.attributes.Visited.{Visited}
 use Rattle.hir_mod_collector.proofs.Walked.{holds_at_one, visited_one}
 use Rattle.hir_mod_collector.proofs.mod_collector.pass.Goals as goal

@@ -1,6 +1,6 @@
 use Rattle.std.proofs.Common.{refl}
-use Rattle.hir_collector_rules.specs.TreeReads.{head_of}
-use Rattle.hir_collector_rules.specs.Steps.{reaches_call}
+use Rattle.hir_collector_state.specs.HirCollectorRules.TreeReads.{head_of}
+use Rattle.hir_collector_state.specs.HirCollectorRules.Steps.{reaches_call}
 use Rattle.hir_collector_state.proofs.Made.{made}
 use Rattle.hir_collector_state.proofs.Noted.{noted_follow}
 use Rattle.hir_mod_collector.proofs.mod_collector.reach_call.Goals as goal

@@ -1,10 +1,10 @@
 -- The item is handled, and what it binds goes along globs.
 use Rattle.std.proofs.Common.{rules, ℕ, sym, subst}
-use Rattle.hir_item_tree.specs.Kinds.{kind_content}
-use Rattle.hir_item_tree.specs.Rows.{held_numbers}
-use Rattle.hir_collector_rules.specs.Keys.{environment}
+use Rattle.hir_collector_state.specs.HirItemTree.Kinds.{kind_content}
+use Rattle.hir_collector_state.specs.HirItemTree.Rows.{held_numbers}
+use Rattle.hir_collector_state.specs.HirCollectorRules.Keys.{environment}
 use Rattle.hir_mod_resolution.specs.Walking.{GoesInside}
-use Rattle.hir_collector_rules.proofs.Moves.{Steps-first, Steps-one, spent_after}
+use Rattle.hir_collector_state.proofs.HirCollectorRules.Moves.{Steps-first, Steps-one, spent_after}
 use Rattle.hir_collector_state.proofs.Noted.{beside_follow, noted_beside}
 use Rattle.hir_mod_collector.proofs.mod_collector.visit_item.Goals as goal
 

@@ -1,16 +1,16 @@
 use Rattle.std.proofs.Common.{rules, ◌≡◌, ◌∙◌, ◌-◌, true, false, List, Option, None, length, take, drop, sym, subst}
 use Rattle.std.specs.Prelude.{option_map}
 use Rattle.std.specs.Option.{option_map_or}
-use Rattle.hir_mod_dir.specs.declared.candidate.Candidate.{Candidate}
-use Rattle.hir_tables.proofs.Growth.{KeepsTables-trans}
-use Rattle.hir_collector_rules.specs.Workspace.{Workspace}
-use Rattle.hir_collector_rules.specs.ModuleFiles.{IsTriedFile, LookedAt, ModuleFile, taken_by}
-use Rattle.hir_collector_rules.specs.Moves.{Finds}
+use Rattle.hir_collector_state.specs.HirModDir.declared.candidate.Candidate.{Candidate}
+use Rattle.hir_collector_state.proofs.HirTables.Growth.{KeepsTables-trans}
+use Rattle.hir_collector_state.specs.HirCollectorRules.Workspace.{Workspace}
+use Rattle.hir_collector_state.specs.HirCollectorRules.ModuleFiles.{IsTriedFile, LookedAt, ModuleFile, taken_by}
+use Rattle.hir_collector_state.specs.HirCollectorRules.Moves.{Finds}
 use Rattle.hir_mod_resolution.specs.Walking.{found_view, looked_view}
 use Rattle.hir_mod_resolution.proofs.Finding.{finds_here, finds_later, finds_none, looked_there, none_left, one_first, tried_first, tried_later}
 use Rattle.hir_collector_state.proofs.Noted.{noted_follow, noted_itself}
 use Rattle.hir_mod_resolution.proofs.mod_resolution.+find_file.Goals as goal
-use Rattle.hir_collector_rules.specs.State.{core_in}
+use Rattle.hir_collector_state.specs.HirCollectorRules.State.{core_in}
 
 pub returns-in_default-clause-ok : goal.returns-in_default-clause-ok
 returns-in_default-clause-ok g t c =

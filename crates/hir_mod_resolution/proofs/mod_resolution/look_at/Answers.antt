@@ -1,10 +1,10 @@
 -- Calls stay placed where a file gets a number.
 use Rattle.std.proofs.Common.{◌∙◌, subst, sym}
-use Rattle.hir_tables.specs.Interning.{IsFull}
-use Rattle.hir_tables.specs.Tables.{TablesValue}
-use Rattle.hir_collector_rules.specs.NumberedOut.{IsNumberedOut}
-use Rattle.hir_collector_rules.proofs.Numbers.{full_out, refused_full}
-use Rattle.hir_collector_start.proofs.CallPlaces.{placed_file}
+use Rattle.hir_collector_state.specs.HirTables.Interning.{IsFull}
+use Rattle.hir_collector_state.specs.HirTables.Tables.{TablesValue}
+use Rattle.hir_collector_state.specs.HirCollectorRules.NumberedOut.{IsNumberedOut}
+use Rattle.hir_collector_state.proofs.HirCollectorRules.Numbers.{full_out, refused_full}
+use Rattle.hir_collector_state.proofs.HirCollectorStart.CallPlaces.{placed_file}
 use Rattle.hir_collector_state.proofs.Noted.{noted_itself}
 use Rattle.hir_mod_resolution.proofs.mod_resolution.look_at.Goals as goal
 

@@ -1,6 +1,6 @@
 use Rattle.std.proofs.Common.{◌≡◌, drop, map}
-use Rattle.hir_item_tree.specs.Collected.{numbered}
-use Rattle.hir_collector_rules.specs.ModuleFiles.{path_attribute}
+use Rattle.hir_collector_state.specs.HirItemTree.Collected.{numbered}
+use Rattle.hir_collector_state.specs.HirCollectorRules.ModuleFiles.{path_attribute}
 use Rattle.hir_mod_resolution.proofs.mod_resolution.path_attr.Given as goal
 
 -- those that are left say the same

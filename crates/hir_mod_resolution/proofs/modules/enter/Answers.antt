@@ -1,11 +1,11 @@
 use Rattle.std.proofs.Common.{◌≡◌, refl, arith, append-nil}
-use Rattle.hir_def_map_rules.specs.State.{with_extern_block}
-use Rattle.hir_collector_rules.specs.ItemIds.{extern_block_id}
-use Rattle.hir_collector_rules.specs.State.{core_in, counted, with_map}
-use Rattle.hir_collector_rules.specs.TreeReads.{head_of}
-use Rattle.hir_collector_rules.specs.Steps.{enters_block}
+use Rattle.hir_collector_state.specs.HirDefMapRules.State.{with_extern_block}
+use Rattle.hir_collector_state.specs.HirCollectorRules.ItemIds.{extern_block_id}
+use Rattle.hir_collector_state.specs.HirCollectorRules.State.{core_in, counted, with_map}
+use Rattle.hir_collector_state.specs.HirCollectorRules.TreeReads.{head_of}
+use Rattle.hir_collector_state.specs.HirCollectorRules.Steps.{enters_block}
 use Rattle.hir_collector_state.proofs.Made.{made}
-use Rattle.hir_collector_rules.proofs.Grows.{longer_by_block}
+use Rattle.hir_collector_state.proofs.HirCollectorRules.Grows.{longer_by_block}
 use Rattle.hir_collector_state.proofs.Noted.{noted_follow}
 use Rattle.hir_mod_resolution.proofs.modules.enter.Goals as goal
 

@@ -1,14 +1,14 @@
 use Rattle.std.proofs.Common.{rules, ◌≡◌, ◌∙◌, Option, Some, option_map, inl, refl, sym, ap}
-use Rattle.hir_base.specs.Cfg.{cfg_view}
-use Rattle.hir_base.specs.declared.ast_id.AstKind.TheVariants as nodes
-use Rattle.hir_base.specs.declared.cfg.CfgExpr.{CfgExpr}
-use Rattle.hir_item_tree.specs.Collected.{Collected}
-use Rattle.hir_item_tree.specs.ItemTree.{Tree}
-use Rattle.hir_item_tree.specs.SourceTree.{SourceTreeValue}
-use Rattle.hir_def_map_rules.specs.declared.diagnostics.DefDiagnosticKind.TheVariants as kinds
-use Rattle.hir_collector_rules.specs.ItemIds.{module_id, node_of}
-use Rattle.hir_collector_rules.specs.Moves.{may_drop}
-use Rattle.hir_collector_rules.specs.State.{core_in}
+use Rattle.hir_collector_state.specs.HirBase.Cfg.{cfg_view}
+use Rattle.hir_collector_state.specs.HirIds.declared.ast_id.AstKind.TheVariants as nodes
+use Rattle.hir_collector_state.specs.HirBase.declared.cfg.CfgExpr.{CfgExpr}
+use Rattle.hir_collector_state.specs.HirItemTree.Collected.{Collected}
+use Rattle.hir_collector_state.specs.HirItemTree.ItemTree.{Tree}
+use Rattle.hir_collector_state.specs.HirItemTree.SourceTree.{SourceTreeValue}
+use Rattle.hir_collector_state.specs.HirMapParts.declared.diagnostics.DefDiagnosticKind.TheVariants as kinds
+use Rattle.hir_collector_state.specs.HirCollectorRules.ItemIds.{module_id, node_of}
+use Rattle.hir_collector_state.specs.HirCollectorRules.Moves.{may_drop}
+use Rattle.hir_collector_state.specs.HirCollectorRules.State.{core_in}
 use Rattle.hir_mod_resolution.proofs.modules.take_file.Goals as goal
 
 pub returns-in_err-drop_file-clause-many : goal.returns-in_err-drop_file-clause-many

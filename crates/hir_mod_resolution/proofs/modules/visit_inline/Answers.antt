@@ -1,14 +1,14 @@
 use Rattle.std.proofs.Common.{rules, ◌≡◌, ◌∙◌, ◌++◌, ◌<◌, ℕ, Bool, List, Option, Some, None, length, map, refl, sym, ap, subst}
-use Rattle.hir_item_tree.specs.Collected.{numbered}
-use Rattle.hir_item_tree.specs.Rows.{items_at, numbers_of}
-use Rattle.hir_item_tree.specs.declared.attrs.Attr.{Attr}
-use Rattle.hir_mod_dir.specs.Directory.{Directory}
-use Rattle.hir_mod_dir.specs.ModuleFiles.{inline_directory}
-use Rattle.hir_def_map.specs.WorldParts.{part_of}
-use Rattle.hir_collector_rules.specs.ModuleFiles.{path_attribute}
-use Rattle.hir_collector_rules.specs.State.{core_in, visits_over}
-use Rattle.hir_collector_rules.specs.Steps.{closing, inside_module, path_of, visits_inside}
-use Rattle.hir_collector_rules.specs.TreeReads.{head_of}
+use Rattle.hir_collector_state.specs.HirItemTree.Collected.{numbered}
+use Rattle.hir_collector_state.specs.HirItemTree.Rows.{items_at, numbers_of}
+use Rattle.hir_collector_state.specs.HirItemTree.declared.attrs.Attr.{Attr}
+use Rattle.hir_collector_state.specs.HirModDir.Directory.{Directory}
+use Rattle.hir_collector_state.specs.HirModDir.ModuleFiles.{inline_directory}
+use Rattle.hir_collector_state.specs.HirNameres.WorldParts.{part_of}
+use Rattle.hir_collector_state.specs.HirCollectorRules.ModuleFiles.{path_attribute}
+use Rattle.hir_collector_state.specs.HirCollectorRules.State.{core_in, visits_over}
+use Rattle.hir_collector_state.specs.HirCollectorRules.Steps.{closing, inside_module, path_of, visits_inside}
+use Rattle.hir_collector_state.specs.HirCollectorRules.TreeReads.{head_of}
 use Rattle.hir_mod_resolution.proofs.Outline.{inline_deeper, inline_opened, opened_longer}
 use Rattle.hir_mod_resolution.proofs.modules.visit_inline.Goals as goal
 

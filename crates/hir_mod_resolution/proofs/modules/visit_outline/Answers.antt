@@ -1,22 +1,22 @@
 use Rattle.std.proofs.Common.{rules, ◌≡◌, ◌∙◌, ℕ, List, Option, Some, None, map, refl, ap, sym, subst}
 use Rattle.std.specs.Prelude.{IfSome, option_map}
-use Rattle.hir_item_tree.specs.Collected.{numbered}
-use Rattle.hir_item_tree.specs.declared.attrs.Attr.{Attr}
-use Rattle.hir_mod_dir.specs.ModuleFiles.{candidates_of}
-use Rattle.hir_mod_dir.specs.declared.candidate.Candidate.{Candidate}
-use Rattle.hir_tables.specs.Tables.{KeepsTables, TablesValue}
-use Rattle.hir_tables.proofs.Growth.{KeepsTables-trans}
-use Rattle.hir_def_map.specs.WorldParts.{part_of}
+use Rattle.hir_collector_state.specs.HirItemTree.Collected.{numbered}
+use Rattle.hir_collector_state.specs.HirItemTree.declared.attrs.Attr.{Attr}
+use Rattle.hir_collector_state.specs.HirModDir.ModuleFiles.{candidates_of}
+use Rattle.hir_collector_state.specs.HirModDir.declared.candidate.Candidate.{Candidate}
+use Rattle.hir_collector_state.specs.HirTables.Tables.{KeepsTables, TablesValue}
+use Rattle.hir_collector_state.proofs.HirTables.Growth.{KeepsTables-trans}
+use Rattle.hir_collector_state.specs.HirNameres.WorldParts.{part_of}
 use Rattle.hir_mod_resolution.specs.Types.{FoundFile}
-use Rattle.hir_collector_rules.specs.ModuleFiles.{IsNumberOf, file_tree, path_attribute}
-use Rattle.hir_collector_rules.specs.Moves.{Finds, IsHeld}
+use Rattle.hir_collector_state.specs.HirCollectorRules.ModuleFiles.{IsNumberOf, file_tree, path_attribute}
+use Rattle.hir_collector_state.specs.HirCollectorRules.Moves.{Finds, IsHeld}
 use Rattle.hir_mod_resolution.specs.Walking.{found_view}
-use Rattle.hir_collector_rules.specs.Steps.{path_of}
-use Rattle.hir_collector_rules.specs.TreeReads.{head_of}
+use Rattle.hir_collector_state.specs.HirCollectorRules.Steps.{path_of}
+use Rattle.hir_collector_state.specs.HirCollectorRules.TreeReads.{head_of}
 use Rattle.hir_mod_resolution.proofs.Outline.{file_far, file_missed, missed_far, numbers_far, taken_ok, taken_within}
 use Rattle.hir_collector_state.proofs.Noted.{noted_follow}
 use Rattle.hir_mod_resolution.proofs.modules.visit_outline.Goals as goal
-use Rattle.hir_collector_rules.specs.State.{core_in}
+use Rattle.hir_collector_state.specs.HirCollectorRules.State.{core_in}
 
 pub returns-in_err-found-clause-many : goal.returns-in_err-found-clause-many
 returns-in_err-found-clause-many g c = λ h.

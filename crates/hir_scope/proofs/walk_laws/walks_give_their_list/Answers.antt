@@ -1,6 +1,6 @@
 use Rattle.std.specs.Map.Iter.{deref_pair}
 use Rattle.std.specs.Option.{option_copied}
-use Rattle.hir_scope.specs.PerNs.{items_left}
+use Rattle.hir_per_ns.specs.PerNs.{items_left}
 use Rattle.hir_scope.proofs.WalkLemmas.{gives_its_list}
 use Rattle.hir_scope.proofs.walk_laws.walks_give_their_list.Goals as goal
 

@@ -2,14 +2,14 @@
 ghost use Rattle.std.specs.Prelude.{◌≡◌, ℕ, List};
 ghost use Rattle.std.specs.Iterator.{YieldsFirstBy, item_count};
 ghost use Rattle.std.specs.Map.Iter.{deref_pair};
-ghost use Rattle.hir_scope.specs.PerNs.{Item};
+ghost use Rattle.hir_per_ns.specs.PerNs.{Item};
 
 use crate::imports::{ImportOrExternCrate, ImportOrGlob};
 use crate::item_scope::ItemScope;
 use crate::per_ns::{Item, MacrosItem, TypesItem, ValuesItem};
-use hir_base::ids::ModuleDefId;
-use hir_base::macro_kind::MacroId;
-use hir_base::name::Name;
+use hir_ids::ids::ModuleDefId;
+use hir_ids::macro_kind::MacroId;
+use hir_ids::name::Name;
 use hir_scope_table::slot_walk::SlotWalk;
 use std::marker::Model;
 
@@ -21,7 +21,7 @@ pub struct Bindings<'a, Def, Import> {
 
 impl<'a, Def, Import> Model for Bindings<'a, Def, Import> {
     ghost use Rattle.std.specs.Prelude.{ℕ, List};
-    ghost use Rattle.hir_scope.specs.PerNs.{Item};
+    ghost use Rattle.hir_per_ns.specs.PerNs.{Item};
 
     ghost Value = { List (List ℕ × Item Def Import) };
 

@@ -7,8 +7,8 @@ ghost use Rattle.hir_scope.specs.Scope.Reads.{calls_among, calls_of_attributes, 
 use crate::item_scope::ItemScope;
 use crate::item_scope::macro_calls::{DeriveAttribute, DeriveAttributes};
 use either::Either;
-use hir_base::ast_id::{AstId, MacroCallId};
-use hir_base::macro_kind::BuiltinDeriveImplId;
+use hir_ids::ast_id::{AstId, MacroCallId};
+use hir_ids::macro_kind::BuiltinDeriveImplId;
 use std::marker::Model;
 
 /// What the paths of a `derive` attribute became.
@@ -57,7 +57,7 @@ struct DeriveCallIds<'a> {
 
 impl<'a> Model for DeriveCallIds<'a> {
     ghost use Rattle.std.specs.Prelude.{List, ◌++◌};
-    ghost use Rattle.hir_base.specs.declared.ast_id.MacroCallId.{MacroCallId};
+    ghost use Rattle.hir_ids.specs.declared.ast_id.MacroCallId.{MacroCallId};
     ghost use Rattle.hir_scope.specs.Scope.Reads.{calls_among, calls_of_attributes, calls_of_items};
 
     ghost Value = { List MacroCallId };
@@ -100,7 +100,7 @@ pub struct MacroCalls<'a> {
 
 impl<'a> Model for MacroCalls<'a> {
     ghost use Rattle.std.specs.Prelude.{List, ◌++◌};
-    ghost use Rattle.hir_base.specs.declared.ast_id.MacroCallId.{MacroCallId};
+    ghost use Rattle.hir_ids.specs.declared.ast_id.MacroCallId.{MacroCallId};
 
     ghost Value = { List MacroCallId };
 

@@ -2,16 +2,16 @@
 ghost use Rattle.std.specs.Prelude.{◌≡◌, ℕ, List, Option};
 ghost use Rattle.std.specs.Option.{option_copied};
 ghost use Rattle.std.specs.Iterator.{YieldsFirstBy, item_count};
-ghost use Rattle.hir_base.specs.declared.name.Name.{Name};
-ghost use Rattle.hir_scope.specs.declared.per_ns.PerNs.{PerNs};
+ghost use Rattle.hir_ids.specs.declared.name.Name.{Name};
+ghost use Rattle.hir_per_ns.specs.declared.per_ns.PerNs.{PerNs};
 ghost use Rattle.hir_scope.specs.Inner.Entries.{items_of};
 ghost use Rattle.hir_scope.specs.Scope.Entries.{entries_of, resolutions_in, import_as_item, unnamed_binding};
 
 use crate::imports::{ImportId, ImportOrExternCrate};
 use crate::item_scope::ItemScope;
 use crate::per_ns::{Item, MacrosItem, PerNs, TypesItem, ValuesItem};
-use hir_base::ids::{ModuleDefId, TraitId};
-use hir_base::name::Name;
+use hir_ids::ids::{ModuleDefId, TraitId};
+use hir_ids::name::Name;
 use hir_scope_table::entry::Entry;
 use std::marker::Model;
 
@@ -23,7 +23,7 @@ pub struct Entries<'a> {
 
 impl<'a> Model for Entries<'a> {
     ghost use Rattle.std.specs.Prelude.{ℕ, List};
-    ghost use Rattle.hir_scope.specs.declared.per_ns.PerNs.{PerNs};
+    ghost use Rattle.hir_per_ns.specs.declared.per_ns.PerNs.{PerNs};
     ghost use Rattle.hir_scope.specs.Inner.Entries.{bindings_of};
 
     ghost Value = { List (List ℕ × PerNs) };
@@ -40,7 +40,7 @@ pub struct Resolutions<'a> {
 
 impl<'a> Model for Resolutions<'a> {
     ghost use Rattle.std.specs.Prelude.{ℕ, List, Option};
-    ghost use Rattle.hir_scope.specs.declared.per_ns.PerNs.{PerNs};
+    ghost use Rattle.hir_per_ns.specs.declared.per_ns.PerNs.{PerNs};
     ghost use Rattle.hir_scope.specs.Scope.Entries.{resolutions_in};
 
     ghost Value = { List (Option (List ℕ) × PerNs) };

@@ -5,7 +5,7 @@ ghost use Rattle.hir_scope.specs.declared.item_scope.iter.impls.ImplKind.TheVari
 ghost use Rattle.hir_scope.specs.Scope.Reads.{is_of_kind, impls_of_kind};
 
 use crate::item_scope::ItemScope;
-use hir_base::ids::ImplId;
+use hir_ids::ids::ImplId;
 use std::marker::Model;
 
 /// Which impls a walk gives.
@@ -37,7 +37,7 @@ pub struct Impls<'a> {
 
 impl<'a> Model for Impls<'a> {
     ghost use Rattle.std.specs.Prelude.{List};
-    ghost use Rattle.hir_base.specs.declared.ids.ImplId.{ImplId};
+    ghost use Rattle.hir_ids.specs.declared.ids.ImplId.{ImplId};
     ghost use Rattle.hir_scope.specs.Scope.Reads.{impls_of_kind};
 
     ghost Value = { List ImplId };

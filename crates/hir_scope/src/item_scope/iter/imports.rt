@@ -58,7 +58,7 @@ pub struct Imports<'a> {
 
 impl<'a> Model for Imports<'a> {
     ghost use Rattle.std.specs.Prelude.{List};
-    ghost use Rattle.hir_scope.specs.declared.imports.ImportId.{ImportId};
+    ghost use Rattle.hir_per_ns.specs.declared.imports.ImportId.{ImportId};
 
     ghost Value = { List ImportId };
 

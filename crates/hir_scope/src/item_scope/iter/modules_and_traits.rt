@@ -12,9 +12,9 @@ use crate::item_scope::macro_calls::{DeriveAttribute, DeriveAttributes};
 use crate::per_ns::Item;
 use crate::visibility::Visibility;
 use either::Either;
-use hir_base::ast_id::{AstId, MacroCallId};
-use hir_base::ids::{ModuleDefId, ModuleId, TraitId};
-use hir_base::macro_kind::BuiltinDeriveImplId;
+use hir_ids::ast_id::{AstId, MacroCallId};
+use hir_ids::ids::{ModuleDefId, ModuleId, TraitId};
+use hir_ids::macro_kind::BuiltinDeriveImplId;
 use std::marker::Model;
 
 /// The modules of a scope by name; see `ItemScope::modules_in_scope`.
@@ -25,8 +25,8 @@ pub struct ModulesInScope<'a> {
 
 impl<'a> Model for ModulesInScope<'a> {
     ghost use Rattle.std.specs.Prelude.{List};
-    ghost use Rattle.hir_base.specs.declared.ids.ModuleId.{ModuleId};
-    ghost use Rattle.hir_scope.specs.declared.visibility.Visibility.{Visibility};
+    ghost use Rattle.hir_ids.specs.declared.ids.ModuleId.{ModuleId};
+    ghost use Rattle.hir_per_ns.specs.declared.visibility.Visibility.{Visibility};
     ghost use Rattle.std.specs.Map.{values_of};
     ghost use Rattle.hir_scope.specs.Scope.Reads.{modules_among};
 
@@ -44,7 +44,7 @@ pub struct Traits<'a> {
 
 impl<'a> Model for Traits<'a> {
     ghost use Rattle.std.specs.Prelude.{List, ◌++◌};
-    ghost use Rattle.hir_base.specs.declared.ids.TraitId.{TraitId};
+    ghost use Rattle.hir_ids.specs.declared.ids.TraitId.{TraitId};
     ghost use Rattle.std.specs.Map.{values_of};
     ghost use Rattle.hir_scope.specs.Scope.Reads.{traits_among};
 

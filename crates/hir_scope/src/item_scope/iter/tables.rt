@@ -6,8 +6,8 @@ ghost use Rattle.std.specs.Map.Iter.{deref_pair};
 use crate::item_scope::ItemScope;
 use crate::item_scope::macro_calls::{DeriveAttribute, DeriveAttributes};
 use either::Either;
-use hir_base::ast_id::{AstId, AttrId, MacroCallId};
-use hir_base::macro_kind::BuiltinDeriveImplId;
+use hir_ids::ast_id::{AstId, AttrId, MacroCallId};
+use hir_ids::macro_kind::BuiltinDeriveImplId;
 use hir_textual_scope::textual_scope::TextualMacros;
 use std::marker::Model;
 

@@ -2,7 +2,7 @@
 use Rattle.std.specs.Option.{option_map}
 use Rattle.std.proofs.Common.{◌≡◌, ◌∙◌, sym, refl, Option, Some, None}
 use Rattle.std.proofs.lemmas.Iterator.Consumers.{nth_from_yields_List, YieldsList-from_first}
-use Rattle.hir_base.specs.declared.ids.ImplId.{ImplId}
+use Rattle.hir_session_state.specs.HirIds.declared.ids.ImplId.{ImplId}
 use Rattle.hir_session_answers.proofs.assoc_items.impl_in.Goals as goal
 
 itself : (o : Option ImplId) → option_map (λ x. x) o ≡ o

@@ -1,7 +1,7 @@
 -- Each part is told in its order.
 use Rattle.std.proofs.Common.{◌∙◌, ap}
-use Rattle.hir_def_map.specs.DefMaps.{maps_of}
-use Rattle.hir_def_map_rules.specs.Diagnostics.{diagnostic_view}
+use Rattle.hir_session_state.specs.HirNameres.DefMaps.{maps_of}
+use Rattle.hir_session_state.specs.HirDefMapRules.Diagnostics.{diagnostic_view}
 use Rattle.hir_session_answers.specs.Diagnostics.{diagnostic_source, diagnostics_in}
 use Rattle.hir_session_answers.proofs.Diagnosing.{filter_mapped}
 use Rattle.hir_session_answers.proofs.assoc_items.items_at.Goals as goal

@@ -1,8 +1,8 @@
 -- The next diagnostic is told where it has a source.
 use Rattle.std.proofs.Common.{◌<◌, ◌∙◌, sym, length, arith}
-use Rattle.hir_def_map.specs.DefMaps.{maps_of}
-use Rattle.hir_def_map_rules.specs.Diagnostics.{diagnostic_view}
-use Rattle.hir_def_map_rules.specs.declared.diagnostics.DefDiagnostic.{DefDiagnostic}
+use Rattle.hir_session_state.specs.HirNameres.DefMaps.{maps_of}
+use Rattle.hir_session_state.specs.HirDefMapRules.Diagnostics.{diagnostic_view}
+use Rattle.hir_session_state.specs.HirMapParts.declared.diagnostics.DefDiagnostic.{DefDiagnostic}
 use Rattle.hir_session_answers.specs.Diagnostics.{diagnostic_source}
 use Rattle.hir_session_answers.proofs.Diagnosing.{none_more, some_more}
 use Rattle.hir_session_answers.proofs.diagnostics.diagnostics_at.Goals as goal

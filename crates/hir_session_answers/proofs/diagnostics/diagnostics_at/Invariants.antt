@@ -1,5 +1,5 @@
 use Rattle.std.proofs.Common.{◌≡◌, take}
-use Rattle.hir_def_map.specs.DefMaps.{maps_of}
+use Rattle.hir_session_state.specs.HirNameres.DefMaps.{maps_of}
 use Rattle.hir_session_answers.specs.Diagnostics.{diagnostics_in}
 use Rattle.hir_session_answers.proofs.diagnostics.diagnostics_at.Given as goal
 

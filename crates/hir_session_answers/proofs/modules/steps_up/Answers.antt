@@ -1,7 +1,7 @@
 -- One step more is taken of the way up.
 use Rattle.std.proofs.Common.{◌≡◌, ◌∙◌, ap, sym, ℕ, suc, ◌<◌, ◌-◌, List, [], ◌∷◌, ◌++◌, arith}
-use Rattle.hir_base.specs.declared.place.PlaceElement.{PlaceElement}
-use Rattle.hir_base.specs.declared.place.PlaceElement.TheVariants as element
+use Rattle.hir_session_state.specs.HirBase.declared.place.PlaceElement.{PlaceElement}
+use Rattle.hir_session_state.specs.HirBase.declared.place.PlaceElement.TheVariants as element
 use Rattle.hir_session_answers.specs.Modules.{steps_to}
 use Rattle.hir_session_answers.proofs.Placing.{and_taken, one_step}
 use Rattle.hir_session_answers.proofs.modules.steps_up.Goals as goal

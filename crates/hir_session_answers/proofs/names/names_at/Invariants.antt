@@ -1,6 +1,6 @@
 -- What is told, and what is left to tell.
 use Rattle.std.proofs.Common.{◌≡◌, ◌++◌, length, map}
-use Rattle.hir_def_map.specs.DefMaps.{maps_of}
+use Rattle.hir_session_state.specs.HirNameres.DefMaps.{maps_of}
 use Rattle.hir_session_answers.specs.Names.{named_in, names_in}
 use Rattle.hir_session_answers.proofs.names.names_at.Given as goal
 

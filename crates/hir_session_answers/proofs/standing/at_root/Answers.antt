@@ -1,7 +1,7 @@
 -- What is kept of a block is found by its number.
 use Rattle.std.proofs.Common.{◌∙◌, ap, None, Some, refl}
-use Rattle.hir_base.specs.declared.ids.Crate.{Crate}
-use Rattle.hir_base.specs.declared.ids.MapId.{MapId}
+use Rattle.hir_session_state.specs.HirIds.declared.ids.Crate.{Crate}
+use Rattle.hir_session_state.specs.HirIds.declared.ids.MapId.{MapId}
 use Rattle.hir_session_state.specs.Kept.{kept_in}
 use Rattle.hir_session_state.specs.Standing.{Standing as way}
 use Rattle.hir_session_answers.proofs.Walks.{root_found}

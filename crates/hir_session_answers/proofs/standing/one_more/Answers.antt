@@ -1,6 +1,6 @@
 -- A name is stepped to as it is written, and a block is found by all steps to it.
 use Rattle.std.proofs.Common.{◌∙◌, Bor}
-use Rattle.hir_base.specs.declared.place.BlockPlace.{BlockPlace}
+use Rattle.hir_session_state.specs.HirBase.declared.place.BlockPlace.{BlockPlace}
 use Rattle.hir_session_answers.specs.Walking.{standing_value}
 use Rattle.hir_session_answers.proofs.Walks.{to_found_at, to_name_at}
 use Rattle.hir_session_answers.proofs.standing.one_more.Goals as goal

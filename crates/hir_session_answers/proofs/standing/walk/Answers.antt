@@ -1,7 +1,7 @@
 -- Each turn goes one step further.
 use Rattle.std.proofs.Common.{◌∙◌, ◌<◌, ◌≤◌, ap, arith, length, List, []}
 use Rattle.std.proofs.lemmas.List.{take_all}
-use Rattle.hir_base.specs.declared.place.PlaceElement.{PlaceElement}
+use Rattle.hir_session_state.specs.HirBase.declared.place.PlaceElement.{PlaceElement}
 use Rattle.hir_session_state.specs.Standing.{down}
 use Rattle.hir_session_state.specs.Standing.{Standing as way}
 use Rattle.hir_session_answers.specs.Walking.{standing_value}

@@ -2,9 +2,9 @@
 use Rattle.std.proofs.Common.{◌≡◌, ◌∙◌, ap, sym, subst, Option, option_map}
 use Rattle.std.specs.declared.alloc.Global.{Global}
 use Rattle.std.specs.declared.rc.Rc.{Rc}
-use Rattle.hir_item_tree.specs.Source.{SourceValue, source_view}
-use Rattle.hir_item_tree.specs.SourceTree.{SourceTreeValue}
-use Rattle.hir_tables.specs.SourcePlaces.{SourcePlaceValue}
+use Rattle.hir_session_state.specs.HirItemTree.Source.{SourceValue, source_view}
+use Rattle.hir_session_state.specs.HirItemTree.SourceTree.{SourceTreeValue}
+use Rattle.hir_session_state.specs.HirTables.SourcePlaces.{SourcePlaceValue}
 use Rattle.hir_session_state.specs.Inputs.{InputsValue}
 use Rattle.hir_session_invalidation.specs.Invalidated.{AreChanges}
 use Rattle.hir_session_state.specs.SourceEdits.{SourceEditValue, place_of, source_by}

@@ -9,8 +9,8 @@ use Rattle.hir_session_invalidation.proofs.invalidate.invalidated.Goals as goal
 
 pub returns-in-None : goal.returns-in-None
 returns-in-None c = record {
-  hit =
-      unnumbered_hit c.args.inputs.now.crates c.args.tables.now c.args.inputs.now.sources (edit_value c.args.edit) c.args.kept.now _ c.nothing_hit.ensures.none
+  hit = λ kept held.
+      unnumbered_hit c.args.inputs.now.crates c.args.tables.now c.args.inputs.now.sources (edit_value c.args.edit) kept _ c.nothing_hit.ensures.none
       (λ number h. clash (ap (λ (o : Option SourceNumber). is_some o) ((c.in-None.ensures.value number).1 (rw c.place.ensures.value h))) refl);
   trees = no_trees _ _ _ _ c.nothing_hit.ensures.empty;
 }

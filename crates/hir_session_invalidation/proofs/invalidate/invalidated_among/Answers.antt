@@ -1,30 +1,33 @@
--- One more place is judged.
-use Rattle.std.proofs.Common.{◌∙◌, ap, sym, rules, List, ◌++◌, append-nil, append_assoc, map}
-use Rattle.hir_base.specs.declared.ids.MapId.{MapId}
+-- One more key is judged.
+use Rattle.std.proofs.Common.{rules, sym, subst, List}
+use Rattle.std.specs.Map.Iter.{deref_pair}
+use Rattle.std.proofs.lemmas.Map.Iter.{btree_map_turn}
+use Rattle.hir_session_state.specs.HirIds.declared.ids.MapId.{MapId}
+use Rattle.hir_session_state.specs.HirCollectorRules.contracts.source_database.KeyOrd.TheImpl.Laws.{total-law as keys_total}
 use Rattle.hir_session_sources.proofs.Changing.{no_trees}
-use Rattle.hir_session_invalidation.proofs.Judging.{judged-same, judging-start, judging-more, one_behind}
+use Rattle.hir_session_invalidation.proofs.Judging.{judging-end, judging-more, judging-start}
 use Rattle.hir_session_invalidation.proofs.invalidate.invalidated_among.Goals as goal
 
-pub loop-id-init : goal.loop-id-init
-loop-id-init c = record {
-  judged = rw c.new-hits.ensures.items (judging-start _ _ _ _);
-  left = search rules;
+pub loop-key-init : goal.loop-key-init
+loop-key-init c = record {
+  judging = rw c.new-hits.ensures.items (judging-start _ _ _ c.args.askers.now _ (search rules));
   changes = record { before = no_trees _ _ _ _ c.new.ensures.empty; after = no_trees _ _ _ _ c.new-2.ensures.empty };
 }
 
-pub loop-id-preserved : goal.loop-id-preserved
-loop-id-preserved c = record {
-  judged = judged-same (sym (one_behind _ c.loop-id.yielded c.in-Some.id))
-      (judging-more _ _ _ _ _ c.in-Some.id.now _ _ c.loop-id.invariant.judged c.in_ok-judge.ensures.judged);
-  left = rw (one_behind, append_assoc, ← c.in-Some.ensures.steps) c.loop-id.invariant.left;
-  changes = c.in_ok-judge.ensures.changes;
-}
+pub loop-key-preserved : goal.loop-key-preserved
+loop-key-preserved c =
+    let turn = btree_map_turn deref_pair c.loop-key.yielded c.into_iter-key-iterator.result c.loop-key.key-iterator c.next.new.self c.next.result
+    (c.in-Some.key, c.in-Some.ids) c.loop-key.yielded_by c.in-Some.is c.next.ensures.steps keys_total c.args.askers.now (search rules) (search rules) in
+    record {
+      judging =
+          judging-more _ _ _ c.args.askers.now c.loop-key.key-iterator c.next.new.self c.in-Some.key.now c.in-Some.ids.now (search rules) turn.1 _ _
+          c.loop-key.invariant.judging c.in_ok-judge.ensures.judged;
+      changes = c.in_ok-judge.ensures.changes;
+    }
 
 -- none is left
 pub returns : goal.returns
 returns c = record {
-  judged = judged-same
-      (sym (append-nil _) ∙ ap (λ (rest : List MapId). map (λ i. i.now) c.loop-id.yielded ++ rest) (sym c.in-None.ensures.steps.0) ∙ c.loop-id.invariant.left)
-      c.loop-id.invariant.judged;
-  trees = c.loop-id.invariant.changes.after;
+  judged = judging-end _ _ _ c.args.askers.now c.loop-key.key-iterator _ c.in-None.ensures.steps.0 c.loop-key.invariant.judging;
+  trees = c.loop-key.invariant.changes.after;
 }

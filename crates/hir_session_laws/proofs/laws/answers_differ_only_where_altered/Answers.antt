@@ -1,4 +1,4 @@
-use Rattle.hir_session_answers.proofs.Differ.{differ_only}
+use Rattle.hir_session_machine.proofs.HirSessionAnswers.Differ.{differ_only}
 use Rattle.hir_session_laws.proofs.laws.answers_differ_only_where_altered.Goals as goal
 
 pub returns : goal.returns

@@ -1,8 +1,8 @@
 -- The query changes nothing, and tells the answer or why there is none.
 use Rattle.std.proofs.Common.{ap, inl, inr, refl, sym, ◌∙◌, Result}
-use Rattle.hir_wire.specs.declared.answer.Answer.{Answer}
-use Rattle.hir_session_state.specs.declared.error.QueryError.{QueryError}
-use Rattle.hir_session_machine.specs.Machine.{query_reply, query_error_reply}
+use Rattle.hir_session_core.specs.HirMessages.declared.answer.Answer.{Answer}
+use Rattle.hir_session_core.specs.HirSessionState.declared.error.QueryError.{QueryError}
+use Rattle.hir_session_replies.specs.Replies.{query_reply, query_error_reply}
 use Rattle.hir_session_machine.specs.Machine.Moves.{resolves}
 use Rattle.hir_session_machine.specs.Machine.AnswersCommand.{calls, finds_no_memory}
 use Rattle.hir_session_machine.proofs.server_state.answered.Goals as goal

@@ -1,7 +1,7 @@
 -- Each command is its call; a second session is none.
 use Rattle.std.proofs.Common.{ap, refl}
-use Rattle.hir_wire.specs.declared.reply.Status.{Status}
-use Rattle.hir_wire.specs.declared.reply.Reply.TheVariants as reply
+use Rattle.hir_session_core.specs.HirMessages.declared.reply.Status.{Status}
+use Rattle.hir_session_core.specs.HirMessages.declared.reply.Reply.TheVariants as reply
 use Rattle.hir_session_machine.specs.Machine.Moves.{tells}
 use Rattle.hir_session_machine.specs.Machine.AnswersCommand.{calls, comes_too_late, finds_no_memory}
 use Rattle.hir_session_machine.proofs.server_state.called.Goals as goal

@@ -1,7 +1,7 @@
 -- The scopes are shown, or it is told why they are not; nothing changes.
 use Rattle.std.proofs.Common.{ap, inl, inr, refl, ◌∙◌}
-use Rattle.hir_session_state.specs.declared.error.QueryError.{QueryError}
-use Rattle.hir_session_machine.specs.Machine.{query_error_reply}
+use Rattle.hir_session_core.specs.HirSessionState.declared.error.QueryError.{QueryError}
+use Rattle.hir_session_replies.specs.Replies.{query_error_reply}
 use Rattle.hir_session_machine.specs.Machine.Moves.{dumps, dumps_none}
 use Rattle.hir_session_machine.specs.Machine.AnswersCommand.{calls, finds_no_memory}
 use Rattle.hir_session_machine.proofs.server_state.dumped.Goals as goal

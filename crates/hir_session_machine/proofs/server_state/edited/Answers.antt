@@ -1,8 +1,8 @@
 -- An accepted edit is applied; a refused one changes nothing.
 use Rattle.std.proofs.Common.{ap, inl, inr, refl, ◌∙◌, Some}
-use Rattle.hir_session_state.specs.declared.error.EditError.{EditError}
-use Rattle.hir_session_state.specs.SessionState.{SessionState}
-use Rattle.hir_session_machine.specs.Machine.{edit_reply}
+use Rattle.hir_session_core.specs.HirSessionState.declared.error.EditError.{EditError}
+use Rattle.hir_session_core.specs.HirSessionState.SessionState.{SessionState}
+use Rattle.hir_session_replies.specs.Replies.{edit_reply}
 use Rattle.hir_session_machine.specs.Machine.Moves.{applies, refuses}
 use Rattle.hir_session_machine.specs.Machine.AnswersCommand.{calls, finds_no_memory}
 use Rattle.hir_session_machine.proofs.server_state.edited.Goals as goal

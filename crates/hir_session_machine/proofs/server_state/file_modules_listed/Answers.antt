@@ -1,7 +1,7 @@
 -- The modules are listed, and nothing changes.
 use Rattle.std.proofs.Common.{ap, refl, List}
-use Rattle.hir_base.specs.Place.{PlaceValue}
-use Rattle.hir_wire.specs.declared.reply.Reply.TheVariants as reply
+use Rattle.hir_session_core.specs.HirBase.Place.{PlaceValue}
+use Rattle.hir_session_core.specs.HirMessages.declared.reply.Reply.TheVariants as reply
 use Rattle.hir_session_machine.specs.Machine.Moves.{lists_file_modules}
 use Rattle.hir_session_machine.specs.Machine.AnswersCommand.{calls, finds_no_memory}
 use Rattle.hir_session_machine.proofs.server_state.file_modules_listed.Goals as goal

@@ -1,8 +1,8 @@
 -- The items are listed, or it is told why they are not; calls may have got numbers.
 use Rattle.std.proofs.Common.{Some, ap, inl, inr, refl}
-use Rattle.hir_session_state.specs.SessionState.{SessionState}
-use Rattle.hir_session_state.specs.declared.error.ImplItemsError.TheVariants as impl_error
-use Rattle.hir_session_answers.specs.AssocItems.RefusesImpl.{for_memory}
+use Rattle.hir_session_core.specs.HirSessionState.SessionState.{SessionState}
+use Rattle.hir_session_core.specs.HirSessionState.declared.error.ImplItemsError.TheVariants as impl_error
+use Rattle.hir_session_core.specs.HirSessionAnswers.AssocItems.RefusesImpl.{for_memory}
 use Rattle.hir_session_machine.specs.Machine.AnswersImpl.{lists, gives_up, refuses}
 use Rattle.hir_session_machine.specs.Machine.Moves.{asks_for_impl}
 use Rattle.hir_session_machine.specs.Machine.AnswersCommand.{calls, finds_no_memory}

@@ -1,8 +1,8 @@
 -- The diagnostics are told, or why there are none; nothing changes.
 use Rattle.std.proofs.Common.{ap, inl, inr, refl, sym, ◌∙◌, List, Result}
-use Rattle.hir_wire.specs.declared.diagnostic.Diagnostic.{Diagnostic}
-use Rattle.hir_session_state.specs.declared.error.DiagnosticsError.{DiagnosticsError}
-use Rattle.hir_session_machine.specs.Machine.{diagnostics_reply, diagnostics_error_reply}
+use Rattle.hir_session_core.specs.HirMessages.declared.diagnostic.Diagnostic.{Diagnostic}
+use Rattle.hir_session_core.specs.HirSessionState.declared.error.DiagnosticsError.{DiagnosticsError}
+use Rattle.hir_session_replies.specs.Replies.{diagnostics_reply, diagnostics_error_reply}
 use Rattle.hir_session_machine.specs.Machine.Moves.{lists}
 use Rattle.hir_session_machine.specs.Machine.AnswersCommand.{calls, finds_no_memory}
 use Rattle.hir_session_machine.proofs.server_state.listed.Goals as goal

@@ -1,8 +1,8 @@
 -- The modules are listed, or it is told why they aren't; nothing changes.
 use Rattle.std.proofs.Common.{ap, inl, inr, refl, sym, ◌∙◌, List, Result}
-use Rattle.hir_base.specs.Place.{PlaceValue}
-use Rattle.hir_session_state.specs.declared.error.ModulesError.{ModulesError}
-use Rattle.hir_session_machine.specs.Machine.{modules_error_reply, modules_reply}
+use Rattle.hir_session_core.specs.HirBase.Place.{PlaceValue}
+use Rattle.hir_session_core.specs.HirSessionState.declared.error.ModulesError.{ModulesError}
+use Rattle.hir_session_replies.specs.Replies.{modules_error_reply, modules_reply}
 use Rattle.hir_session_machine.specs.Machine.Moves.{lists_modules}
 use Rattle.hir_session_machine.specs.Machine.AnswersCommand.{calls, finds_no_memory}
 use Rattle.hir_session_machine.proofs.server_state.modules_listed.Goals as goal

@@ -1,8 +1,8 @@
 -- What the names stand for is told, or why it isn't; nothing changes.
 use Rattle.std.proofs.Common.{ap, inl, inr, refl, sym, ◌∙◌, List, Result}
-use Rattle.hir_wire.specs.declared.names.BoundName.{BoundName}
-use Rattle.hir_session_state.specs.declared.error.QueryError.{QueryError}
-use Rattle.hir_session_machine.specs.Machine.{names_reply, query_error_reply}
+use Rattle.hir_session_core.specs.HirMessages.declared.names.BoundName.{BoundName}
+use Rattle.hir_session_core.specs.HirSessionState.declared.error.QueryError.{QueryError}
+use Rattle.hir_session_replies.specs.Replies.{names_reply, query_error_reply}
 use Rattle.hir_session_machine.specs.Machine.Moves.{names_all}
 use Rattle.hir_session_machine.specs.Machine.AnswersCommand.{calls, finds_no_memory}
 use Rattle.hir_session_machine.proofs.server_state.named.Goals as goal

@@ -1,9 +1,9 @@
 -- A refresh resolved all that was due, or a part of it.
 use Rattle.std.proofs.Common.{refl, ap, List, Err}
-use Rattle.hir_base.specs.Place.{PlaceValue}
-use Rattle.hir_wire.specs.declared.reply.Reply.TheVariants as reply
-use Rattle.hir_session_state.specs.declared.error.RefreshError.{RefreshError}
-use Rattle.hir_session_state.specs.declared.error.RefreshError.TheVariants.{Memory}
+use Rattle.hir_session_core.specs.HirBase.Place.{PlaceValue}
+use Rattle.hir_session_core.specs.HirMessages.declared.reply.Reply.TheVariants as reply
+use Rattle.hir_session_core.specs.HirSessionState.declared.error.RefreshError.{RefreshError}
+use Rattle.hir_session_core.specs.HirSessionState.declared.error.RefreshError.TheVariants.{Memory}
 use Rattle.hir_session_machine.specs.Machine.Moves.{refreshes, refreshes_partly}
 use Rattle.hir_session_machine.specs.Machine.AnswersCommand.{calls}
 use Rattle.hir_session_machine.proofs.server_state.refreshed.Goals as goal

@@ -1,7 +1,7 @@
 -- The page is shown, or it is told why there is none; nothing changes.
 use Rattle.std.proofs.Common.{ap, inl, inr, refl, ◌∙◌}
-use Rattle.hir_session_state.specs.declared.error.TreeTextError.{TreeTextError}
-use Rattle.hir_session_machine.specs.Machine.{tree_text_reply}
+use Rattle.hir_session_core.specs.HirSessionState.declared.error.TreeTextError.{TreeTextError}
+use Rattle.hir_session_replies.specs.Replies.{tree_text_reply}
 use Rattle.hir_session_machine.specs.Machine.Moves.{shows, shows_none}
 use Rattle.hir_session_machine.specs.Machine.AnswersCommand.{calls, finds_no_memory}
 use Rattle.hir_session_machine.proofs.server_state.shown.Goals as goal

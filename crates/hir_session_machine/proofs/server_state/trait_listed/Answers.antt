@@ -1,8 +1,8 @@
 -- The items are listed, or it is told why they are not; calls may have got numbers.
 use Rattle.std.proofs.Common.{Some, ap, inl, inr, refl}
-use Rattle.hir_session_state.specs.SessionState.{SessionState}
-use Rattle.hir_session_state.specs.declared.error.TraitItemsError.TheVariants as trait_error
-use Rattle.hir_session_answers.specs.AssocItems.RefusesTrait.{for_memory}
+use Rattle.hir_session_core.specs.HirSessionState.SessionState.{SessionState}
+use Rattle.hir_session_core.specs.HirSessionState.declared.error.TraitItemsError.TheVariants as trait_error
+use Rattle.hir_session_core.specs.HirSessionAnswers.AssocItems.RefusesTrait.{for_memory}
 use Rattle.hir_session_machine.specs.Machine.AnswersTrait.{lists, gives_up, refuses}
 use Rattle.hir_session_machine.specs.Machine.Moves.{asks_for_trait}
 use Rattle.hir_session_machine.specs.Machine.AnswersCommand.{calls, finds_no_memory}

@@ -1,5 +1,5 @@
 use Rattle.std.proofs.Common.{◌≡◌, drop, map}
-use Rattle.hir_wire.specs.CommandValue.{crate_input_view}
+use Rattle.hir_session_state.specs.HirMessages.CommandValue.{crate_input_view}
 use Rattle.hir_session_state.specs.Refusals.{first_out_of_order}
 use Rattle.hir_session_sources.proofs.beginning.first_late.Given as goal
 

@@ -1,6 +1,6 @@
 -- One more crate is made of the next that was handed in.
 use Rattle.std.proofs.Common.{◌<◌, ◌∙◌, List, length, get_or, ap, arith, refl}
-use Rattle.hir_wire.specs.declared.command.CrateInput.{CrateInput}
+use Rattle.hir_session_state.specs.HirMessages.declared.command.CrateInput.{CrateInput}
 use Rattle.hir_session_sources.proofs.Start.{beginning-start, beginning-more, beginning-end}
 use Rattle.hir_session_sources.proofs.beginning.infos_of.Goals as goal
 

@@ -1,6 +1,6 @@
 use Rattle.std.proofs.Common.{◌≡◌, ◌||◌, drop}
-use Rattle.hir_base.specs.CfgOptions.{is_set}
-use Rattle.hir_base.specs.declared.cfg.CfgAtom.{CfgAtom}
+use Rattle.hir_session_state.specs.HirBase.CfgOptions.{is_set}
+use Rattle.hir_session_state.specs.HirBase.declared.cfg.CfgAtom.{CfgAtom}
 use Rattle.hir_session_sources.proofs.beginning.options_of.Given as goal
 
 -- what is set, or is still to be, is what is handed in

@@ -1,8 +1,8 @@
 -- The table of the crate gets one more, or is the first; one that refused the block is as it was.
 use Rattle.std.proofs.Common.{◌∙◌, ap, sym, Some}
 use Rattle.std.specs.BTreeMap.{is_at}
-use Rattle.hir_base.specs.contracts.ids.CrateOrd.TheImpl as crate_order
-use Rattle.hir_def_map_rules.proofs.Rewrites.{on_err, set_value-same}
+use Rattle.hir_session_state.specs.HirIds.contracts.ids.CrateOrd.TheImpl as crate_order
+use Rattle.hir_session_state.proofs.HirMapParts.Rewrites.{on_err, set_value-same}
 use Rattle.hir_session_sources.proofs.BlockLemmas.{set_first, set_there}
 use Rattle.hir_session_sources.proofs.blocks.set_of_crate.Goals as goal
 

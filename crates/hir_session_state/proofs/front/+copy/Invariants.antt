@@ -1,5 +1,5 @@
 use Rattle.std.proofs.Common.{◌≡◌, take, map}
-use Rattle.hir_item_tree.specs.Attributes.{attribute_view}
+use Rattle.hir_collector_rules.specs.HirItemTree.Attributes.{attribute_view}
 use Rattle.hir_session_state.proofs.front.+copy.Given as goal
 
 -- those so far are there again

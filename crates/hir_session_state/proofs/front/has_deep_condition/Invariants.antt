@@ -1,6 +1,6 @@
 use Rattle.std.proofs.Common.{◌≡◌, drop, map}
 use Rattle.std.specs.List.{list_any}
-use Rattle.hir_wire.specs.CommandValue.{crate_input_view}
+use Rattle.hir_messages.specs.CommandValue.{crate_input_view}
 use Rattle.hir_session_state.specs.Refusals.{is_too_deep}
 use Rattle.hir_session_state.proofs.front.has_deep_condition.Given as goal
 

@@ -1,13 +1,14 @@
--- What may join is refused for want of memory alone.
-use Rattle.hir_session_state.proofs.KeptLemmas.{only_memory}
-use Rattle.hir_session_state.proofs.Truth.{clash}
+-- There is at most one map more.
+use Rattle.std.proofs.Common.{arith}
+use Rattle.hir_session_state.proofs.KeptLemmas.{joined_count}
 use Rattle.hir_session_state.proofs.kept.join.Goals as goal
-use Rattle.hir_session_state.proofs.kept.join.Goals.{in-Memory, in_default}
 
 pub prove-unreachable-requires : goal.prove-unreachable-requires
 prove-unreachable-requires c =
-    let memory = only_memory _ c.in-Err.refused.why c.requires.may c.in-Err.ensures.answer.2 in
-    elim c.match-matches.branch [
-      | in-Memory w ↦ clash w.matches-is c.if-prove.true
-      | in_default w ↦ w.in_default.not-Memory memory
-    ]
+    let most =
+    joined_count c.args.world.now.maps c.insert.new.world.maps c.args.map c.args.local c.in_ok-insert.ensures.maps c.len-after.ensures.ordered in
+    omega (arith, most, c.len-before.ensures.len, c.len-after.ensures.len, c.if-prove.true)
+
+pub returns-clause-len : goal.returns-clause-len
+returns-clause-len c =
+    joined_count c.args.world.now.maps c.insert.new.world.maps c.args.map c.args.local c.in_ok-insert.ensures.maps c.len-after.ensures.ordered

@@ -1,6 +1,6 @@
 use Rattle.std.proofs.Common.{◌≡◌, drop, nat_lt}
 use Rattle.std.specs.List.{list_all}
-use Rattle.hir_base.specs.declared.macro_kind.MacroText.{MacroText}
+use Rattle.hir_collector_rules.specs.HirBase.declared.macro_kind.MacroText.{MacroText}
 use Rattle.hir_session_state.proofs.known_crates.are_below.Given as goal
 
 -- all are below exactly where all those are that are left

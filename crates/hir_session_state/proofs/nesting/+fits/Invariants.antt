@@ -1,5 +1,5 @@
 use Rattle.std.proofs.Common.{◌↔◌, ◌≤◌, drop}
-use Rattle.hir_item_tree.specs.Source.{nodes_view}
+use Rattle.hir_collector_rules.specs.HirItemTree.Source.{nodes_view}
 use Rattle.hir_session_state.specs.Nesting.{items_nesting}
 use Rattle.hir_session_state.proofs.nesting.+fits.Given as goal
 

@@ -1,7 +1,7 @@
 -- What watches one of the slots is queued, and what watches one of the items.
 use Rattle.std.proofs.Common.{List, refl, subst}
-use Rattle.hir_base.specs.declared.ast_id.AstId.{AstId}
-use Rattle.hir_def_map.specs.declared.nameres.path_resolution.slots.Slot.{Slot}
+use Rattle.hir_nameres.specs.HirIds.declared.ast_id.AstId.{AstId}
+use Rattle.hir_nameres.specs.declared.nameres.path_resolution.slots.Slot.{Slot}
 use Rattle.hir_worklist.proofs.Passes.{pass_join, queued_join}
 use Rattle.hir_worklist.specs.Waking as waking
 use Rattle.hir_import_resolution.specs.Inner.Queue.{WakesEach}

@@ -1,11 +1,11 @@
 -- What is bound explicitly no glob has brought, and its slot is noted where the push changes anything.
 use Rattle.std.proofs.Common.{rules, ◌≡◌, ◌∙◌, ℕ, List, None, ap, refl, subst, sym}
-use Rattle.hir_scope.specs.Globs.{GlobNames}
-use Rattle.hir_scope.specs.declared.per_ns.PerNs.{PerNs}
-use Rattle.hir_import_rules.specs.Changed.{ChangedValue, with_slot}
-use Rattle.hir_def_map_rules.specs.State.{Map, globs_after, pushed}
-use Rattle.hir_glob_imports.specs.Waves.{GlobsValue, brought_of}
-use Rattle.hir_import_rules.specs.Changes.{forgotten}
+use Rattle.hir_collector_rules.specs.HirScope.Globs.{GlobNames}
+use Rattle.hir_collector_rules.specs.HirPerNs.declared.per_ns.PerNs.{PerNs}
+use Rattle.hir_collector_rules.specs.HirImportRules.Changed.{ChangedValue, with_slot}
+use Rattle.hir_collector_rules.specs.HirDefMapRules.State.{Map, globs_after, pushed}
+use Rattle.hir_collector_rules.specs.HirGlobImports.Waves.{GlobsValue, brought_of}
+use Rattle.hir_collector_rules.specs.HirImportRules.Changes.{forgotten}
 use Rattle.hir_collector_state.specs.contracts.def_collector.DefCollector.{the_view}
 use Rattle.hir_collector_rules.specs.State.{Run, core_in, with_bound}
 use Rattle.hir_collector_state.specs.Waiting.{IsNoted}

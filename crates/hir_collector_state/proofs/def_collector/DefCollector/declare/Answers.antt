@@ -1,6 +1,6 @@
 -- What is listed isn't read by paths.
 use Rattle.std.proofs.Common.{refl, subst}
-use Rattle.hir_def_map_rules.specs.declared.declaration.Declaration.TheVariants as declaration
+use Rattle.hir_collector_rules.specs.HirDefMapRules.declared.declaration.Declaration.TheVariants as declaration
 use Rattle.hir_collector_state.specs.contracts.def_collector.DefCollector.{the_view}
 use Rattle.hir_collector_rules.specs.State.{Run}
 use Rattle.hir_collector_state.specs.Waiting.{IsNoted}

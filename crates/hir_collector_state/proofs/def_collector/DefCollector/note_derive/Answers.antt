@@ -1,6 +1,6 @@
 -- What is noted isn't read by paths.
 use Rattle.std.proofs.Common.{◌∙◌, List, Option, ap, refl, subst}
-use Rattle.hir_scope.specs.Scope.{DeriveCall}
+use Rattle.hir_collector_rules.specs.HirScope.Scope.{DeriveCall}
 use Rattle.hir_collector_state.specs.contracts.def_collector.DefCollector.{the_view}
 use Rattle.hir_collector_rules.specs.Invocations.{derive_met, of_derive, with_noted}
 use Rattle.hir_collector_rules.specs.State.{Run}

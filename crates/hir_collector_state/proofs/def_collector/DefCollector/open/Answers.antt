@@ -1,8 +1,8 @@
 -- No slot changes of a module that was there.
 use Rattle.std.proofs.Common.{◌≡◌, ◌<◌, ◌+◌, ◌∙◌, Option, Some, ap, arith, length, refl, rules, subst, sym}
-use Rattle.hir_base.specs.declared.ids.ModuleId.{ModuleId}
-use Rattle.hir_def_map_rules.specs.State.{Map, new_module}
-use Rattle.hir_def_map_rules.proofs.StaysWellFormed.{length-made}
+use Rattle.hir_collector_rules.specs.HirIds.declared.ids.ModuleId.{ModuleId}
+use Rattle.hir_collector_rules.specs.HirDefMapRules.State.{Map, new_module}
+use Rattle.hir_collector_rules.proofs.HirDefMapRules.StaysWellFormed.{length-made}
 use Rattle.hir_collector_state.specs.contracts.def_collector.DefCollector.{the_view}
 use Rattle.hir_collector_rules.specs.ItemIds.{module_id}
 use Rattle.hir_collector_rules.specs.Moves.{begun}

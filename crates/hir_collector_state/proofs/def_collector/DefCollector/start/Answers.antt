@@ -1,8 +1,8 @@
 -- No glob was recorded, and nothing was come upon.
 use Rattle.std.proofs.Common.{◌≡◌, ◌∷◌, refl, ap}
-use Rattle.hir_glob_imports.specs.Waves.{brought_of}
-use Rattle.hir_import_rules.specs.State.{nothing_brought}
-use Rattle.hir_def_map.specs.WorldParts.{part_of}
+use Rattle.hir_collector_rules.specs.HirGlobImports.Waves.{brought_of}
+use Rattle.hir_collector_rules.specs.HirImportRules.State.{nothing_brought}
+use Rattle.hir_collector_rules.specs.HirNameres.WorldParts.{part_of}
 use Rattle.hir_collector_rules.specs.Start.{held_keys, root_key, root_map, with_own_prelude}
 use Rattle.hir_collector_rules.specs.State.{core_in}
 use Rattle.hir_collector_state.proofs.def_collector.DefCollector.start.Goals as goal

@@ -1,8 +1,8 @@
 -- All slots are noted, where there are macros to use.
 use Rattle.std.proofs.Common.{◌≡◌, ap, false, rules, subst, sym}
 use Rattle.std.specs.Prelude.{ℕ, List, codes, Some}
-use Rattle.hir_base.specs.declared.macro_kind.MacroId.{MacroId}
-use Rattle.hir_def_map.specs.WorldParts.{part_of}
+use Rattle.hir_collector_rules.specs.HirIds.declared.macro_kind.MacroId.{MacroId}
+use Rattle.hir_collector_rules.specs.HirNameres.WorldParts.{part_of}
 use Rattle.hir_collector_rules.specs.CrateTop.{says}
 use Rattle.hir_collector_rules.specs.Macros.{with_macros_used}
 use Rattle.hir_collector_rules.specs.TreeReads.{head_of}

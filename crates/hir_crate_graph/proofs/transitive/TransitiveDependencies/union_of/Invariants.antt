@@ -1,6 +1,6 @@
 use Rattle.std.proofs.Common.{◌≡◌, ◌||◌, drop}
 use Rattle.std.specs.List.{list_any}
-use Rattle.hir_base.specs.declared.ids.Crate.{Crate}
+use Rattle.hir_ids.specs.declared.ids.Crate.{Crate}
 use Rattle.hir_crate_graph.specs.CrateSet.{has_crate, IsAscending}
 use Rattle.hir_crate_graph.specs.Graph.{comes_by}
 use Rattle.hir_crate_graph.proofs.transitive.TransitiveDependencies.union_of.Given as goal

@@ -2,7 +2,7 @@
 use Rattle.std.proofs.Common.{◌∙◌}
 use Rattle.hir_def_map_rules.specs.Overlay.{overlay}
 use Rattle.hir_def_map_rules.specs.References.{is_missing}
-use Rattle.hir_def_map.specs.World.{finished_in}
+use Rattle.hir_nameres.specs.World.{finished_in}
 use Rattle.hir_def_map_rules.proofs.References.{any_is}
 use Rattle.hir_def_map.proofs.world.World.has_dangling.Goals as goal
 

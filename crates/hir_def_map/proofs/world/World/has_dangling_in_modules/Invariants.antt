@@ -3,7 +3,7 @@ use Rattle.std.specs.List.{list_any}
 use Rattle.hir_def_map_rules.specs.References.{is_missing}
 use Rattle.hir_def_map_rules.specs.Inner.ReferenceLists.{listed_in}
 use Rattle.hir_def_map_rules.specs.Overlay.{overlay}
-use Rattle.hir_def_map.specs.World.{finished_in}
+use Rattle.hir_nameres.specs.World.{finished_in}
 use Rattle.hir_def_map.proofs.world.World.has_dangling_in_modules.Given as goal
 
 abbrev pub invariant-next : goal.invariant-next

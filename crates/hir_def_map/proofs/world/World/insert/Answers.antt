@@ -2,7 +2,7 @@
 use Rattle.std.proofs.Common.{◌≡◌, ◌∙◌, ap, sym, refl, Bool, true, false, cond, Option, Some}
 use Rattle.std.specs.Option.{option_map}
 use Rattle.std.specs.BTreeMap.{get, is_at}
-use Rattle.hir_base.specs.contracts.ids.MapIdOrd.TheImpl as map_order
+use Rattle.hir_nameres.specs.HirIds.contracts.ids.MapIdOrd.TheImpl as map_order
 use Rattle.hir_def_map.specs.Types.{Finished}
 use Rattle.hir_def_map.proofs.Entries.{absent_before}
 use Rattle.hir_def_map.proofs.Joined.{insert_checked, joined_under}

@@ -1,5 +1,5 @@
 -- No map is out of its place, and none depends on another.
-use Rattle.hir_def_map.specs.World.{IsChecked-empty, finished_in-none}
+use Rattle.hir_nameres.specs.World.{IsChecked-empty, finished_in-none}
 use Rattle.hir_def_map.proofs.Entries.{empty_index}
 use Rattle.hir_def_map.proofs.FallingSteps.{room_at_first}
 use Rattle.hir_def_map.proofs.world.World.new.Goals as goal

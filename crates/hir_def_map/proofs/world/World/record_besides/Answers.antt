@@ -1,7 +1,7 @@
 -- One reference after another is recorded.
 use Rattle.std.proofs.Common.{rules, ◌≡◌, ap, refl, [], ◌∷◌}
 use Rattle.std.specs.List.{list_any}
-use Rattle.hir_base.specs.declared.ids.MapId.{MapId}
+use Rattle.hir_nameres.specs.HirIds.declared.ids.MapId.{MapId}
 use Rattle.hir_def_map_rules.specs.References.{lies_in, test_of}
 use Rattle.hir_def_map.proofs.Recorded.{records-along, recording-end, recording-start, recording-step}
 use Rattle.hir_def_map.proofs.world.World.record_besides.Goals as goal

@@ -1,7 +1,7 @@
 -- The crates on which that of a recorded map depends are covered by it.
 use Rattle.std.proofs.Common.{◌∙◌, ap, sym, subst, List}
-use Rattle.hir_base.specs.declared.ids.Crate.{Crate}
-use Rattle.hir_crate_graph.specs.CrateSet.{Gains, has_crate}
+use Rattle.hir_nameres.specs.HirIds.declared.ids.Crate.{Crate}
+use Rattle.hir_nameres.specs.HirCrateGraph.CrateSet.{Gains, has_crate}
 use Rattle.hir_def_map_rules.specs.State.{CrateData}
 use Rattle.hir_def_map.proofs.Recorded.{covered-crate, ok-map}
 use Rattle.hir_def_map.proofs.world.World.record_crate.Goals as goal

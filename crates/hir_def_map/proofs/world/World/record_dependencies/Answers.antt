@@ -1,7 +1,7 @@
 -- One crate after another, the last first, is recorded or covered.
 use Rattle.std.proofs.Common.{rules}
 use Rattle.std.specs.List.{list_any}
-use Rattle.hir_base.specs.declared.ids.MapId.{MapId}
+use Rattle.hir_nameres.specs.HirIds.declared.ids.MapId.{MapId}
 use Rattle.hir_def_map_rules.specs.References.{lies_in, test_crate}
 use Rattle.hir_def_map.proofs.Recorded.{fewer_before, gains-none, last-gained, last-less}
 use Rattle.hir_def_map.proofs.world.World.record_dependencies.Goals as goal

@@ -1,7 +1,7 @@
 -- What is recorded are ids of the crates that are not left, or of others.
 use Rattle.std.proofs.Common.{◌≡◌, true, length}
 use Rattle.std.specs.List.{list_any}
-use Rattle.hir_base.specs.declared.ids.MapId.{MapId}
+use Rattle.hir_nameres.specs.HirIds.declared.ids.MapId.{MapId}
 use Rattle.hir_def_map.specs.Inner.Recorded.{AreCovered, GainsOnly}
 use Rattle.hir_def_map_rules.specs.References.{lies_in, test_crate}
 use Rattle.hir_def_map.proofs.world.World.record_dependencies.Given as goal

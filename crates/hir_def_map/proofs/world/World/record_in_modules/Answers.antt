@@ -2,7 +2,7 @@
 use Rattle.std.proofs.Common.{rules, ◌≡◌, ◌∙◌, ◌<◌, ◌≤◌, ◌+◌, ap, sym, refl, List, [], ◌∷◌, drop, length, arith}
 use Rattle.std.specs.List.{list_any}
 use Rattle.std.proofs.lemmas.List.{drop_all, drop_more}
-use Rattle.hir_base.specs.declared.ids.MapId.{MapId}
+use Rattle.hir_nameres.specs.HirIds.declared.ids.MapId.{MapId}
 use Rattle.hir_def_map_rules.specs.Inner.ReferenceLists.{listed_in}
 use Rattle.hir_def_map_rules.specs.References.{lies_in}
 use Rattle.hir_def_map_rules.specs.State.{ModuleValue}

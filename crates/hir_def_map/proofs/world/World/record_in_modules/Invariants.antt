@@ -1,7 +1,7 @@
 -- Those of all modules that are not left are recorded.
 use Rattle.std.proofs.Common.{drop}
 use Rattle.std.specs.List.{list_any}
-use Rattle.hir_base.specs.declared.ids.MapId.{MapId}
+use Rattle.hir_nameres.specs.HirIds.declared.ids.MapId.{MapId}
 use Rattle.hir_def_map_rules.specs.Inner.ReferenceLists.{listed_in}
 use Rattle.hir_def_map_rules.specs.References.{lies_in}
 use Rattle.hir_def_map.proofs.Recorded.{IsRecording}

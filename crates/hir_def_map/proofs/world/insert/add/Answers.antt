@@ -1,6 +1,6 @@
 -- What is not there yet depends on none.
 use Rattle.std.proofs.Common.{◌≡◌, sym, subst, false}
-use Rattle.hir_base.specs.declared.ids.MapId.{MapId}
+use Rattle.hir_nameres.specs.HirIds.declared.ids.MapId.{MapId}
 use Rattle.hir_def_map.specs.Inner.Dependents.{Enters, is_dependent}
 use Rattle.hir_def_map.proofs.Entries.{depends_on_none, entered}
 use Rattle.hir_def_map.proofs.world.insert.add.Goals as goal

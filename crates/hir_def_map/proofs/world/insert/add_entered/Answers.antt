@@ -1,8 +1,8 @@
 -- The index has what joins, and loses what doesn't.
 use Rattle.std.proofs.Common.{subst, Some}
 use Rattle.std.specs.BTreeMap.{Updates}
-use Rattle.hir_base.specs.declared.ids.MapId.{MapId}
-use Rattle.hir_base.specs.contracts.ids.MapIdOrd.TheImpl as map_order
+use Rattle.hir_nameres.specs.HirIds.declared.ids.MapId.{MapId}
+use Rattle.hir_nameres.specs.HirIds.contracts.ids.MapIdOrd.TheImpl as map_order
 use Rattle.hir_def_map.specs.Types.{Finished}
 use Rattle.hir_def_map.specs.Inner.Dependents.{Leaves}
 use Rattle.hir_def_map.proofs.Entries.{alike_index, joined_index, refused_index}

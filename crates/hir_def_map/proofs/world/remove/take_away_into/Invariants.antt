@@ -3,7 +3,7 @@ use Rattle.std.proofs.Common.{◌+◌, ◌≤◌}
 use Rattle.std.specs.Vec.{vec_capacity, vec_len}
 use Rattle.std.specs.BTreeMap.{btree_map_len}
 use Rattle.hir_def_map.specs.Inner.Dependents.{IsIndexed}
-use Rattle.hir_def_map.specs.Removal.{GainsRemoved}
+use Rattle.hir_nameres.specs.Removal.{GainsRemoved}
 use Rattle.hir_def_map.proofs.FallingSteps.{IsHalfFallen}
 use Rattle.hir_def_map.proofs.world.remove.take_away_into.Given as goal
 

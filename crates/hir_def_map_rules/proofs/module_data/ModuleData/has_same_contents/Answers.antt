@@ -1,6 +1,6 @@
 -- Where the children are the same, the scopes decide.
 use Rattle.std.proofs.Common.{◌≡◌, ◌∙◌, ap, sym, Bool, true, ◌&&◌}
-use Rattle.hir_base.specs.contracts.ids.ModuleIdPartialEq.TheImpl as module_id
+use Rattle.hir_scope.specs.HirIds.contracts.ids.ModuleIdPartialEq.TheImpl as module_id
 use Rattle.hir_scope.specs.Inner.Equality.{same_scope}
 use Rattle.hir_def_map_rules.specs.State.{ModuleValue}
 use Rattle.hir_def_map_rules.specs.Equality.{same_by_name, same_contents}

@@ -1,6 +1,6 @@
 -- An import is taken, what read its name is woken, and names go along globs.
 use Rattle.std.proofs.Common.{◌∙◌, ◌++◌, List, Option, ℕ, ap, option_copied, subst, sym, rules}
-use Rattle.hir_def_map.specs.WorldParts.{part_of}
+use Rattle.hir_nameres.specs.WorldParts.{part_of}
 use Rattle.hir_worklist.specs.Queue.{Queue}
 use Rattle.hir_import_resolution.specs.Types.{Resolver}
 use Rattle.hir_import_resolution.specs.Inner.Queue.{IsWoken}

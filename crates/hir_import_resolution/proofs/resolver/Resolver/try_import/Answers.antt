@@ -12,7 +12,7 @@ pub returns-in_default-clause-running : goal.returns-in_default-clause-running
 returns-in_default-clause-running c =
     trying_nothing c.args.self.now c.watch.new.self c.args.i c.requires.running c.watch.ensures.rest c.in_ok-watch.ensures.others c.in_ok-watch.ensures.each
     c.watch.ensures.lasted
-    (sym c.in_default.is ∙ c.path_at.ensures.value)
+    (sym c.in_default.is ∙ c.in_ok-path.ensures.value)
 
 pub returns-in_default-clause-steps : goal.returns-in_default-clause-steps
 returns-in_default-clause-steps c =
@@ -28,14 +28,14 @@ take_import-requires-clause-trying c =
     trying_watched c.args.self.now c.watch.new.self c.note_stop.new.self c.args.i c.in-Some.path c.requires.running c.watch.ensures.rest
     c.note_stop.ensures.rest c.in_ok-watch.ensures.others
     c.in_ok-watch.ensures.each c.watch.ensures.lasted c.in_ok-watch.ensures.there c.note_stop.ensures.lasted c.note_stop.ensures.unstopped
-    (sym c.in-Some.is ∙ c.path_at.ensures.value)
+    (sym c.in-Some.is ∙ c.in_ok-path.ensures.value)
 
 pub take_glob-requires-clause-trying : goal.take_glob-requires-clause-trying
 take_glob-requires-clause-trying c =
     trying_watched c.args.self.now c.watch.new.self c.note_stop.new.self c.args.i c.in-Some.path c.requires.running c.watch.ensures.rest
     c.note_stop.ensures.rest c.in_ok-watch.ensures.others
     c.in_ok-watch.ensures.each c.watch.ensures.lasted c.in_ok-watch.ensures.there c.note_stop.ensures.lasted c.note_stop.ensures.unstopped
-    (sym c.in-Some.is ∙ c.path_at.ensures.value)
+    (sym c.in-Some.is ∙ c.in_ok-path.ensures.value)
 
 pub returns-in-None-clause-running : goal.returns-in-None-clause-running
 returns-in-None-clause-running c =
@@ -45,7 +45,7 @@ returns-in-None-clause-running c =
     (trying_watched c.args.self.now c.watch.new.self c.note_stop.new.self c.args.i c.in-Some.path c.requires.running c.watch.ensures.rest
     c.note_stop.ensures.rest c.in_ok-watch.ensures.others
     c.in_ok-watch.ensures.each c.watch.ensures.lasted c.in_ok-watch.ensures.there c.note_stop.ensures.lasted c.note_stop.ensures.unstopped
-    (sym c.in-Some.is ∙ c.path_at.ensures.value))
+    (sym c.in-Some.is ∙ c.in_ok-path.ensures.value))
     untaken c.in-None.ensures.linked
 
 pub returns-in-None-clause-steps : goal.returns-in-None-clause-steps

@@ -1,6 +1,6 @@
 -- One more is woken in each turn.
 use Rattle.std.proofs.Common.{◌∙◌, ◌+◌, ◌++◌, List, ap, drop, option_copied, rules}
-use Rattle.hir_def_map.specs.declared.nameres.path_resolution.slots.Slot.{Slot as PathSlot}
+use Rattle.hir_nameres.specs.declared.nameres.path_resolution.slots.Slot.{Slot as PathSlot}
 use Rattle.hir_import_resolution.specs.Inner.State.{path_slots}
 use Rattle.hir_import_resolution.proofs.Waking.{reported_all, reported_next, wakes_next, wakes_no_more}
 use Rattle.hir_worklist.proofs.Passes.{pass_join}

@@ -2,7 +2,7 @@
 use Rattle.std.proofs.Common.{[], ◌∷◌, ◌++◌, rules}
 use Rattle.std.proofs.lemmas.List.Elements.{All-push}
 use Rattle.hir_import_rules.specs.Lasting.{IsThere}
-use Rattle.hir_def_map.specs.contracts.nameres.path_resolution.slots.SlotOrd.TheImpl.Laws.{total-law as slot_total}
+use Rattle.hir_nameres.specs.contracts.nameres.path_resolution.slots.SlotOrd.TheImpl.Laws.{total-law as slot_total}
 use Rattle.hir_import_resolution.specs.Inner.Queue.{slot_cmp}
 use Rattle.hir_worklist.proofs.Woken.{keeps_besides, one_done, watches_more}
 use Rattle.hir_import_resolution.proofs.resolver.watch.watch_each.Goals as goal

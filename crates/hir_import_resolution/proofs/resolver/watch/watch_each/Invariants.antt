@@ -1,6 +1,6 @@
 use Rattle.std.proofs.Common.{◌≡◌, ◌++◌, true, List}
 use Rattle.std.specs.List.{All}
-use Rattle.hir_def_map.specs.declared.nameres.path_resolution.slots.Slot.{Slot}
+use Rattle.hir_nameres.specs.declared.nameres.path_resolution.slots.Slot.{Slot}
 use Rattle.hir_worklist.specs.Settling.{WatchesEach}
 use Rattle.hir_import_resolution.specs.Inner.Queue.{KeepsWatched, slot_cmp}
 use Rattle.hir_import_rules.specs.Lasting.{IsThere}

@@ -1,6 +1,6 @@
 use Rattle.std.proofs.Common.{sym, ap, is_some, ◌∙◌, cond, Some}
 use Rattle.std.specs.BTreeMap.{get, is_at}
-use Rattle.hir_item_tree.specs.contracts.tree_id.TreeIdOrd.TheImpl.{ghosts as ids}
+use Rattle.hir_base.specs.contracts.tree_id.TreeIdOrd.TheImpl.{ghosts as ids}
 use Rattle.hir_item_tree.proofs.TreeKeys.{equal_id, kept_under, changed, unchanged, from_none, on_err}
 use Rattle.hir_item_tree.proofs.trees.Trees.set.Goals as goal
 

@@ -1,4 +1,4 @@
-use Rattle.hir_scope.specs.contracts.imports.ImportIdOrd.TheImpl.Laws.{total-law as total}
+use Rattle.hir_per_ns.specs.contracts.imports.ImportIdOrd.TheImpl.Laws.{total-law as total}
 use Rattle.hir_scope.specs.Scope.Entries.{import_order}
 use Rattle.hir_scope_table.proofs.Ascending.{merge_ascends}
 use Rattle.hir_scope.proofs.AscendingLemmas.{imports_among_ascend, value_imports_among_ascend}

@@ -1,7 +1,7 @@
 use Rattle.std.proofs.Common.{◌≡◌, ◌≢◌, true, false}
-use Rattle.hir_scope.specs.contracts.imports.ImportOrExternCrateOrd.TheImpl.Laws.{total-law as import_or_extern_crate_total}
-use Rattle.hir_scope.specs.contracts.imports.ImportOrGlobOrd.TheImpl.Laws.{total-law as import_or_glob_total}
-use Rattle.hir_scope.specs.PerNs.{is_nothing}
+use Rattle.hir_per_ns.specs.contracts.imports.ImportOrExternCrateOrd.TheImpl.Laws.{total-law as import_or_extern_crate_total}
+use Rattle.hir_per_ns.specs.contracts.imports.ImportOrGlobOrd.TheImpl.Laws.{total-law as import_or_glob_total}
+use Rattle.hir_per_ns.specs.PerNs.{is_nothing}
 use Rattle.hir_scope.specs.Scope.Push.{RecordsType, RecordsValue, RecordsMacro, pushed_scope, pushed_globs, push_changes, PushesType, PushesValue, PushesMacro}
 use Rattle.hir_scope.specs.Scope.Push.{slots_of, IsNewlyUnresolved}
 use Rattle.hir_scope.proofs.Pushes.{type_pushed, value_pushed, macro_pushed, type_recorded, value_recorded, macro_recorded, scope_stays, globs_stay}

@@ -3,7 +3,7 @@ use Rattle.std.specs.BTreeMap.{is_at}
 use Rattle.std.specs.Cmp.Lexicographic.{slice_cmp}
 use Rattle.std.specs.Map.{remove_entry}
 use Rattle.std.specs.Ordering.{nat_cmp}
-use Rattle.hir_base.specs.contracts.ids.ModuleDefIdPartialEq.TheImpl as module_def
+use Rattle.hir_ids.specs.contracts.ids.ModuleDefIdPartialEq.TheImpl as module_def
 use Rattle.hir_scope.specs.Scope.{ScopeValue}
 use Rattle.hir_scope.proofs.Updates.{removed_bound, removed_is, removed_others, values_change}
 use Rattle.hir_scope.proofs.item_scope.ItemScope.remove_from_value_ns.Goals as goal

@@ -1,5 +1,5 @@
 use Rattle.std.proofs.Common.{◌∙◌, ap, sym, Some}
-use Rattle.hir_base.specs.contracts.ast_id.AstIdPartialEq.TheImpl as ast_id
+use Rattle.hir_ids.specs.contracts.ast_id.AstIdPartialEq.TheImpl as ast_id
 use Rattle.hir_scope.proofs.Rewrites.{set_value-same, on_err}
 use Rattle.hir_scope.proofs.item_scope.macro_calls.push_derive_attribute.Goals as goal
 

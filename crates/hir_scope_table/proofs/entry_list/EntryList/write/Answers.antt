@@ -1,5 +1,5 @@
 use Rattle.std.proofs.Common.{◌≡◌, ◌∙◌, ap, sym, subst, refl, true, false, Bool, not, ◌||◌, is_some}
-use Rattle.hir_scope_table.specs.Bindings.{first_of}
+use Rattle.hir_scope_item.specs.Bindings.{first_of}
 use Rattle.hir_scope_table.specs.Slots.{types_in, values_in, macros_in, unresolved_in}
 use Rattle.hir_scope_table.specs.Inner.Kept.{over, slots_at, unboxed}
 use Rattle.hir_scope_table.specs.Inner.Place.{IsKept}

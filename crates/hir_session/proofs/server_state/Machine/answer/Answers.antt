@@ -1,7 +1,7 @@
 -- What the core answers is answered.
 use Rattle.std.proofs.Common.{◌≡◌, subst, false}
-use Rattle.hir_wire.specs.Replies.{is_fixed}
-use Rattle.hir_wire.specs.declared.reply.Reply.TheVariants as reply
+use Rattle.hir_session_machine.specs.HirWire.Replies.{is_fixed}
+use Rattle.hir_session_machine.specs.HirMessages.declared.reply.Reply.TheVariants as reply
 use Rattle.hir_session_machine.specs.Machine.{AnswersLine}
 use Rattle.hir_session.proofs.server_state.Machine.answer.Goals as goal
 

@@ -1,6 +1,6 @@
 -- What is kept of the map, the maps that it reads and the module are those of the definitions; in a sound session the answer stands.
 use Rattle.std.proofs.Common.{◌≡◌, ◌∙◌, ap, sym, subst, refl, List, Ok, Some}
-use Rattle.hir_def_map_rules.specs.Overlay.{Maps, overlay}
+use Rattle.hir_session_state.specs.HirDefMapRules.Overlay.{Maps, overlay}
 use Rattle.hir_session_answers.specs.Answers.{answer_kept}
 use Rattle.hir_session_state.specs.Crates.{CrateValue, config_in, transitive_in}
 use Rattle.hir_session_state.specs.Kept.{resolution_of}

@@ -1,7 +1,7 @@
 -- It has the number that is found.
 use Rattle.std.proofs.Common.{◌∙◌, ap, Option, Some, None, option_map}
-use Rattle.hir_base.specs.declared.ast_id.BlockId.{BlockId}
-use Rattle.hir_base.specs.declared.ids.Crate.{Crate}
+use Rattle.hir_session_state.specs.HirIds.declared.ast_id.BlockId.{BlockId}
+use Rattle.hir_session_state.specs.HirIds.declared.ids.Crate.{Crate}
 use Rattle.hir_session_state.specs.SessionState.{SessionState}
 use Rattle.hir_session_state.specs.Standing.{block_map, block_number}
 use Rattle.hir_session_answers.proofs.Walks.{number_found}

@@ -1,7 +1,7 @@
 -- It is that in which the module lies to which the steps lead.
 use Rattle.std.proofs.Common.{◌∙◌, ap, Option, option_map}
 use Rattle.std.specs.Option.{option_and_then}
-use Rattle.hir_base.specs.declared.ids.ModuleId.{ModuleId}
+use Rattle.hir_session_state.specs.HirIds.declared.ids.ModuleId.{ModuleId}
 use Rattle.hir_session_state.specs.Kept.{Resolution}
 use Rattle.hir_session_state.specs.SessionState.{kept_of}
 use Rattle.hir_session_state.specs.Standing.{module_by}

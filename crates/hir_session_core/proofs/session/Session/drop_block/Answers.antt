@@ -3,7 +3,6 @@ use Rattle.std.proofs.Common.{◌∙◌, ap, sym, None, option_map}
 use Rattle.hir_session_state.specs.SessionState.{SessionState, state_of}
 use Rattle.hir_session_state.specs.SourceEdits.{of_block}
 use Rattle.hir_session_state.specs.Standing.{block_map, block_number}
-use Rattle.hir_session_state.proofs.Asking.{noted_fewer}
 use Rattle.hir_session_core.proofs.Awaiting.{known_removed}
 use Rattle.hir_session_core.proofs.Sound.{edited_sound, edited_becomes}
 use Rattle.hir_session_core.proofs.session.Session.drop_block.Goals as goal
@@ -17,9 +16,9 @@ invariant_of-self-2 c =
     let block = c.args.block.now in
     let own = c.block_id-own.ensures.value ∙ ap (λ (t : SessionState). option_map (block_map block.holder.krate) (block_number t.tables block))
     (sym c.self.view_is) in (
-      rw c.in_ok-remove_block.ensures.ok (edited_sound _ (of_block block None) _ _ c.self.invariant.0 c.in_ok-hits.ensures.hit
+      rw c.in_ok-remove_block.ensures.ok (edited_sound _ (of_block block None) _ _ c.self.invariant.0 (c.in_ok-hits.ensures.hit _ c.self.invariant.1)
           c.forget_block.ensures.forgotten),
-      noted_fewer _ _ _ c.self.invariant.1 _ c.forget_block.ensures.forgotten.fewer,
+      c.forget_block.ensures.exact,
       rw c.in_ok-remove_block.ensures.ok (known_removed old block c.block_id-own.result own c.forget_block.new.kept c.self.inside.pending
           c.forget_block.new.pending c.settle.new.pending c.in_ok-one.one c.in_ok-one.ensures.value c.forget_block.ensures.pending c.settle.ensures.settled
           c.self.invariant.2),
@@ -27,5 +26,6 @@ invariant_of-self-2 c =
 
 pub returns-clause-ok : goal.returns-clause-ok
 returns-clause-ok c =
-    rw c.in_ok-remove_block.ensures.ok (edited_becomes _ (of_block c.args.block.now None) _ _ _ c.self.view_is c.self.invariant.0 c.in_ok-hits.ensures.hit
+    rw c.in_ok-remove_block.ensures.ok (edited_becomes _ (of_block c.args.block.now None) _ _ _ c.self.view_is c.self.invariant.0
+    (c.in_ok-hits.ensures.hit _ c.self.invariant.1)
     c.forget_block.ensures.forgotten)

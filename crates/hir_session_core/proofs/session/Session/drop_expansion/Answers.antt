@@ -1,9 +1,8 @@
 -- It was found which runs asked for something that is altered, and nothing is kept of what depends on those.
 use Rattle.std.proofs.Common.{refl, None}
-use Rattle.hir_tables.specs.SourcePlaces.{expansion_value}
+use Rattle.hir_session_state.specs.HirTables.SourcePlaces.{expansion_value}
 use Rattle.hir_session_state.specs.SessionState.{state_of}
 use Rattle.hir_session_state.specs.SourceEdits.{edited, of_expansion}
-use Rattle.hir_session_state.proofs.Asking.{noted_fewer}
 use Rattle.hir_session_core.proofs.Awaiting.{known_forgot}
 use Rattle.hir_session_core.proofs.Sound.{edited_sound, edited_becomes}
 use Rattle.hir_session_core.proofs.session.Session.drop_expansion.Goals as goal
@@ -12,9 +11,10 @@ pub invariant_of-self : goal.invariant_of-self
 invariant_of-self c =
     let old = state_of c.self.inside.inputs c.self.inside.tables c.self.inside.kept in
     let new = record old { sources = edited old.sources (of_expansion (expansion_value c.args.key.now) None); kept = c.forget.new.kept } in (
-      rw c.remove_expansion.ensures.value (edited_sound _ (of_expansion (expansion_value c.args.key.now) None) _ _ c.self.invariant.0 c.in_ok-hits.ensures.hit
+      rw c.remove_expansion.ensures.value (edited_sound _ (of_expansion (expansion_value c.args.key.now) None) _ _ c.self.invariant.0
+          (c.in_ok-hits.ensures.hit _ c.self.invariant.1)
           c.forget.ensures.forgotten),
-      noted_fewer _ _ _ c.self.invariant.1 _ c.forget.ensures.forgotten.fewer,
+      c.forget.ensures.exact,
       rw c.remove_expansion.ensures.value (known_forgot old new c.self.inside.pending c.forget.new.pending refl refl c.forget.ensures.pending
           c.self.invariant.2),
     )
@@ -22,4 +22,4 @@ invariant_of-self c =
 pub returns-clause-ok : goal.returns-clause-ok
 returns-clause-ok c =
     rw c.remove_expansion.ensures.value (edited_becomes _ (of_expansion (expansion_value c.args.key.now) None) _ _ _ c.self.view_is c.self.invariant.0
-    c.in_ok-hits.ensures.hit c.forget.ensures.forgotten)
+    (c.in_ok-hits.ensures.hit _ c.self.invariant.1) c.forget.ensures.forgotten)

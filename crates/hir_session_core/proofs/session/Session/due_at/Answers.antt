@@ -1,6 +1,6 @@
 -- A block that isn't set isn't due.
 use Rattle.std.proofs.Common.{◌≡◌, ◌∙◌, ap, sym, subst, true}
-use Rattle.hir_base.specs.declared.place.BlockPlace.{BlockPlace}
+use Rattle.hir_session_state.specs.HirBase.declared.place.BlockPlace.{BlockPlace}
 use Rattle.hir_session_state.specs.Blocks.{Blocks, place_of_block}
 use Rattle.hir_session_state.specs.Due.{IsDueBlock}
 use Rattle.hir_session_state.specs.SessionState.{SessionState, module_of, IsSound}

@@ -1,6 +1,6 @@
 -- The steps to its holding place lead to a module, or they don't.
 use Rattle.std.proofs.Common.{◌∙◌, ap, sym, Some}
-use Rattle.hir_base.specs.declared.ids.ModuleId.{ModuleId}
+use Rattle.hir_session_state.specs.HirIds.declared.ids.ModuleId.{ModuleId}
 use Rattle.hir_session_state.specs.Standing.{module_by}
 use Rattle.hir_session_state.proofs.Truth.{no_value}
 use Rattle.hir_session_core.proofs.Pending.{on_some}

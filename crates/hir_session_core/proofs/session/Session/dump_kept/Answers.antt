@@ -1,7 +1,7 @@
 -- The map in which the module lies is shown.
 use Rattle.std.proofs.Common.{◌∙◌, ap, sym, ℕ, List, Ok}
-use Rattle.hir_def_map_rules.specs.Dump.{dump_of}
-use Rattle.hir_def_map_rules.specs.Overlay.{Maps, overlay}
+use Rattle.hir_session_state.specs.HirDefMapRules.Dump.{dump_of}
+use Rattle.hir_session_state.specs.HirDefMapRules.Overlay.{Maps, overlay}
 use Rattle.hir_session_answers.specs.Dumps.{dump_around, dump_from}
 use Rattle.hir_session_state.specs.SessionState.{SessionState, finished_of, kept_of}
 use Rattle.hir_session_state.specs.Standing.{module_by}

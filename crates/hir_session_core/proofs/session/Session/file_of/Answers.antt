@@ -1,11 +1,11 @@
 -- Each module of what is kept is written in a file that has a number, or in what a call there expands to.
 use Rattle.std.proofs.Common.{◌∙◌, ap, sym, subst, refl, Option}
 use Rattle.std.specs.Option.{IsSome}
-use Rattle.hir_base.specs.declared.ast_id.EditionedFileId.{EditionedFileId}
+use Rattle.hir_session_state.specs.HirIds.declared.ast_id.EditionedFileId.{EditionedFileId}
 use Rattle.hir_session_state.specs.SessionState.{SessionState, IsSound}
 use Rattle.hir_session_state.specs.Standing.{definition_file}
 use Rattle.hir_session_state.proofs.Truth.{one_value}
-use Rattle.hir_tables.specs.Tables.{file_at}
+use Rattle.hir_session_state.specs.HirTables.Tables.{file_at}
 use Rattle.hir_session_answers.proofs.Defined.{defined_there}
 use Rattle.hir_session_core.proofs.session.Session.file_of.Goals as goal
 

@@ -1,14 +1,14 @@
 -- The run read the maps of its crate and of what holds it, each of which is current and names only what is there.
 use Rattle.std.proofs.Common.{◌≡◌, ◌∙◌, ap, sym, subst, Err}
-use Rattle.hir_def_map_rules.specs.Overlay.{Maps}
-use Rattle.hir_collector_rules.specs.Derivation.{IsOverlong}
-use Rattle.hir_collector_rules.specs.declared.start.CollectError.{CollectError}
+use Rattle.hir_session_state.specs.HirDefMapRules.Overlay.{Maps}
+use Rattle.hir_session_state.specs.HirCollectorRules.Derivation.{IsOverlong}
+use Rattle.hir_session_state.specs.HirCollectorRules.declared.start.CollectError.{CollectError}
 use Rattle.hir_session_state.specs.Crates.{begins_in_block}
 use Rattle.hir_session_state.specs.Inputs.{InputsValue, workspace_by}
 use Rattle.hir_session_state.specs.Kept.{finished_by}
 use Rattle.hir_session_state.specs.SessionState.{state_of}
 use Rattle.hir_session_state.specs.declared.error.RefreshError.TheVariants as refresh_error
-use Rattle.hir_session_state.proofs.Asking.{kept_meant, noted_grown}
+use Rattle.hir_session_state.proofs.Asking.{held_grown, kept_meant}
 use Rattle.hir_session_answers.proofs.LowerLaws.{answers_stand, asked_keys_have_meaning, looks_stand, runs_name}
 use Rattle.hir_session_state.proofs.Resolving.{grown_of, grown_sound}
 use Rattle.hir_session_core.proofs.Begun.{found_held, holder_found, known_held}
@@ -21,7 +21,7 @@ pub invariant_of-self : goal.invariant_of-self
 invariant_of-self g c = (
   rw c.resolve_block.ensures.same (grown_sound looks_stand asked_keys_have_meaning answers_stand _ _ c.resolve_block.ensures.kept c.resolve_block.ensures.placed
       c.self.invariant.0),
-  noted_grown _ _ _ c.self.invariant.1 _ c.resolve_block.ensures.kept (kept_meant asked_keys_have_meaning _ c.self.invariant.0),
+  held_grown _ _ _ c.self.invariant.1 _ c.resolve_block.ensures.kept (kept_meant asked_keys_have_meaning _ c.self.invariant.0),
   rw c.resolve_block.ensures.same (known_grown (state_of c.self.inside.inputs c.self.inside.tables c.self.inside.kept) c.resolve_block.new.tables
       c.self.inside.pending
       c.self.invariant.0 c.resolve_block.ensures.kept c.self.invariant.2),

@@ -1,7 +1,7 @@
 -- What is kept of the map and the module are those of the definitions.
 use Rattle.std.proofs.Common.{◌≡◌, ◌∙◌, ap, sym, subst, Option, Some}
-use Rattle.hir_base.specs.declared.ids.ImplId.{ImplId}
-use Rattle.hir_base.specs.declared.ids.ModuleId.{ModuleId}
+use Rattle.hir_session_state.specs.HirIds.declared.ids.ImplId.{ImplId}
+use Rattle.hir_session_state.specs.HirIds.declared.ids.ModuleId.{ModuleId}
 use Rattle.hir_session_answers.specs.AssocItems.{impl_asked, impl_from, impl_kept}
 use Rattle.hir_session_state.specs.SessionState.{SessionState, Resolution, module_of, state_of}
 use Rattle.hir_session_state.specs.Standing.{module_by}

@@ -2,8 +2,8 @@
 use Rattle.std.proofs.Common.{◌∙◌, ap, Option, Some, None}
 use Rattle.std.specs.Prelude.{is_none}
 use Rattle.std.specs.Option.{option_and_then}
-use Rattle.hir_base.specs.declared.ast_id.BlockId.{BlockId}
-use Rattle.hir_base.specs.declared.ids.Crate.{Crate}
+use Rattle.hir_session_state.specs.HirIds.declared.ast_id.BlockId.{BlockId}
+use Rattle.hir_session_state.specs.HirIds.declared.ids.Crate.{Crate}
 use Rattle.hir_session_state.specs.Kept.{kept_in}
 use Rattle.hir_session_state.specs.SessionState.{SessionState, is_marked}
 use Rattle.hir_session_state.specs.Standing.{block_map, block_number}

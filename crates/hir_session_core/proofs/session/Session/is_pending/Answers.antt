@@ -1,7 +1,7 @@
 -- The block is found by its root.
 use Rattle.std.specs.Prelude.{is_none}
 use Rattle.std.proofs.Common.{◌≡◌, ◌∙◌, ap, refl, subst, sym, true, Option}
-use Rattle.hir_base.specs.declared.place.BlockPlace.{BlockPlace}
+use Rattle.hir_session_state.specs.HirBase.declared.place.BlockPlace.{BlockPlace}
 use Rattle.hir_session_state.specs.Blocks.{Blocks, place_of_block}
 use Rattle.hir_session_state.specs.SessionState.{SessionState, Resolution, block_kept}
 use Rattle.hir_session_state.specs.SourceTable.{SourceTable}

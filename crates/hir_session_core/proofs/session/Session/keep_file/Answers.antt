@@ -1,9 +1,8 @@
 -- It was found which runs asked for something that is altered, and nothing is kept of what depends on those.
 use Rattle.std.proofs.Common.{refl, Some}
-use Rattle.hir_item_tree.specs.Source.{source_view}
+use Rattle.hir_session_state.specs.HirItemTree.Source.{source_view}
 use Rattle.hir_session_state.specs.SessionState.{state_of}
 use Rattle.hir_session_state.specs.SourceEdits.{edited, of_file}
-use Rattle.hir_session_state.proofs.Asking.{noted_fewer}
 use Rattle.hir_session_core.proofs.Awaiting.{known_forgot}
 use Rattle.hir_session_core.proofs.Sound.{edited_sound, edited_becomes}
 use Rattle.hir_session_core.proofs.session.Session.keep_file.Goals as goal
@@ -15,13 +14,14 @@ pub invariant_of-self-2 : goal.invariant_of-self-2
 invariant_of-self-2 c =
     let old = state_of c.self.inside.inputs c.self.inside.tables c.self.inside.kept in
     let new = record old { sources = edited old.sources (of_file c.args.file (Some (source_view c.args.source))); kept = c.forget.new.kept } in (
-      rw c.in_ok-set_file.ensures.ok (edited_sound _ (of_file c.args.file (Some (source_view c.args.source))) _ _ c.self.invariant.0 c.in_ok-hits.ensures.hit
+      rw c.in_ok-set_file.ensures.ok (edited_sound _ (of_file c.args.file (Some (source_view c.args.source))) _ _ c.self.invariant.0
+          (c.in_ok-hits.ensures.hit _ c.self.invariant.1)
           c.forget.ensures.forgotten),
-      noted_fewer _ _ _ c.self.invariant.1 _ c.forget.ensures.forgotten.fewer,
+      c.forget.ensures.exact,
       rw c.in_ok-set_file.ensures.ok (known_forgot old new c.self.inside.pending c.forget.new.pending refl refl c.forget.ensures.pending c.self.invariant.2),
     )
 
 pub returns-clause-ok : goal.returns-clause-ok
 returns-clause-ok c =
     rw c.in_ok-set_file.ensures.ok (edited_becomes _ (of_file c.args.file (Some (source_view c.args.source))) _ _ _ c.self.view_is c.self.invariant.0
-    c.in_ok-hits.ensures.hit c.forget.ensures.forgotten)
+    (c.in_ok-hits.ensures.hit _ c.self.invariant.1) c.forget.ensures.forgotten)

@@ -1,14 +1,14 @@
 -- The maps are those that are read in the impl's map; calls get numbers, and a session stays sound as tables grow.
 use Rattle.std.proofs.Common.{◌≡◌, ◌∙◌, ap, sym, subst, refl, false, List}
-use Rattle.hir_base.specs.declared.ast_id.AstKind.TheVariants as kind
-use Rattle.hir_base.specs.declared.ids.ItemContainerId.TheVariants as container
-use Rattle.hir_def_map_rules.specs.Overlay.{Maps, overlay}
+use Rattle.hir_session_state.specs.HirIds.declared.ast_id.AstKind.TheVariants as kind
+use Rattle.hir_session_state.specs.HirIds.declared.ids.ItemContainerId.TheVariants as container
+use Rattle.hir_session_state.specs.HirDefMapRules.Overlay.{Maps, overlay}
 use Rattle.hir_assoc_items.specs.AssocItems.{items_written, listing_of}
 use Rattle.hir_session_state.specs.Due.{Grows}
 use Rattle.hir_session_state.specs.Crates.{CrateValue, transitive_in}
 use Rattle.hir_session_state.specs.Kept.{resolution_of}
 use Rattle.hir_session_state.specs.SessionState.{SessionState, is_marked, state_of, workspace_of}
-use Rattle.hir_session_state.proofs.Asking.{kept_meant, noted_grown}
+use Rattle.hir_session_state.proofs.Asking.{held_grown, kept_meant}
 use Rattle.hir_session_state.proofs.Resolving.{grown_of, grown_sound}
 use Rattle.hir_session_state.proofs.Truth.{on_ok}
 use Rattle.hir_session_answers.proofs.LowerLaws.{answers_stand, asked_keys_have_meaning, looks_stand}
@@ -33,7 +33,7 @@ pub invariant_of-self : goal.invariant_of-self
 invariant_of-self c = (
   rw c.list_impl.ensures.same (grown_sound looks_stand asked_keys_have_meaning answers_stand _ _ c.list_impl.ensures.kept c.list_impl.ensures.placed
       c.self.invariant.0),
-  noted_grown _ _ _ c.self.invariant.1 _ c.list_impl.ensures.kept (kept_meant asked_keys_have_meaning _ c.self.invariant.0),
+  held_grown _ _ _ c.self.invariant.1 _ c.list_impl.ensures.kept (kept_meant asked_keys_have_meaning _ c.self.invariant.0),
   rw c.list_impl.ensures.same (known_grown (state_of c.self.inside.inputs c.self.inside.tables c.self.inside.kept) c.list_impl.new.tables c.self.inside.pending
       c.self.invariant.0 c.list_impl.ensures.kept c.self.invariant.2),
 )

@@ -1,7 +1,7 @@
 -- What is kept of the map, the maps that it reads, the module and its scope are those of the definitions; in a sound session what is told stands.
 use Rattle.std.proofs.Common.{◌≡◌, ◌∙◌, ap, sym, subst, refl, List, Ok, Some}
-use Rattle.hir_def_map_rules.specs.Overlay.{Maps, overlay}
-use Rattle.hir_wire.specs.declared.names.BoundName.{BoundName}
+use Rattle.hir_session_state.specs.HirDefMapRules.Overlay.{Maps, overlay}
+use Rattle.hir_session_state.specs.HirMessages.declared.names.BoundName.{BoundName}
 use Rattle.hir_session_answers.specs.Names.{names_kept}
 use Rattle.hir_session_state.specs.Crates.{CrateValue, config_in, transitive_in}
 use Rattle.hir_session_state.specs.Kept.{resolution_of}

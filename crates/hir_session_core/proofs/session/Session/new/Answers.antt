@@ -1,6 +1,6 @@
 -- Nothing is said against the crates.
 use Rattle.std.proofs.Common.{◌≤◌, ◌∙◌, sym, length, arith}
-use Rattle.hir_wire.specs.CommandValue.{crate_input_view}
+use Rattle.hir_session_state.specs.HirMessages.CommandValue.{crate_input_view}
 use Rattle.hir_session_core.proofs.Verdicts.{accepted_by}
 use Rattle.hir_session_core.proofs.session.Session.new.Goals as goal
 

@@ -1,6 +1,6 @@
 -- A block that has no number gets the next one; nothing is kept under that.
 use Rattle.std.proofs.Common.{ap, subst, sym}
-use Rattle.hir_session_state.proofs.Asking.{kept_meant, noted_grown}
+use Rattle.hir_session_state.proofs.Asking.{held_grown, kept_meant}
 use Rattle.hir_session_answers.proofs.LowerLaws.{answers_stand, asked_keys_have_meaning, looks_stand}
 use Rattle.hir_session_state.proofs.Resolving.{grown_of, grown_sound}
 use Rattle.hir_session_state.specs.SessionState.{SessionState, IsSound, state_of}
@@ -13,7 +13,7 @@ pub invariant_of-self : goal.invariant_of-self
 invariant_of-self c = (
   grown_sound looks_stand asked_keys_have_meaning answers_stand _ _ c.intern_block.ensures.kept
       (placed_still _ _ c.intern_block.ensures.kept c.intern_block.ensures.others) c.self.invariant.0,
-  noted_grown _ _ _ c.self.invariant.1 _ c.intern_block.ensures.kept (kept_meant asked_keys_have_meaning _ c.self.invariant.0),
+  held_grown _ _ _ c.self.invariant.1 _ c.intern_block.ensures.kept (kept_meant asked_keys_have_meaning _ c.self.invariant.0),
   known_grown (state_of c.self.inside.inputs c.self.inside.tables c.self.inside.kept) c.intern_block.new.self c.self.inside.pending
       c.self.invariant.0 c.intern_block.ensures.kept c.self.invariant.2,
 )
@@ -22,7 +22,7 @@ pub invariant_of-self-2 : goal.invariant_of-self-2
 invariant_of-self-2 c = (
   grown_sound looks_stand asked_keys_have_meaning answers_stand _ _ c.intern_block.ensures.kept
       (placed_still _ _ c.intern_block.ensures.kept c.intern_block.ensures.others) c.self.invariant.0,
-  noted_grown _ _ _ c.self.invariant.1 _ c.intern_block.ensures.kept (kept_meant asked_keys_have_meaning _ c.self.invariant.0),
+  held_grown _ _ _ c.self.invariant.1 _ c.intern_block.ensures.kept (kept_meant asked_keys_have_meaning _ c.self.invariant.0),
   known_grown (state_of c.self.inside.inputs c.self.inside.tables c.self.inside.kept) c.intern_block.new.self c.self.inside.pending
       c.self.invariant.0 c.intern_block.ensures.kept c.self.invariant.2,
 )

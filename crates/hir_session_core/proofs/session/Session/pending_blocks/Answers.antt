@@ -1,8 +1,8 @@
 -- All blocks are gone over.
 use Rattle.std.proofs.Common.{◌≡◌, ◌∙◌, ap, subst, List, [], ◌∷◌, ◌++◌, length, map, arith, rules, Bor}
 use Rattle.std.proofs.lemmas.List.{length-map, map-append}
-use Rattle.hir_base.specs.Place.{PlaceValue}
-use Rattle.hir_base.specs.declared.place.BlockPlace.{BlockPlace}
+use Rattle.hir_session_state.specs.HirBase.Place.{PlaceValue}
+use Rattle.hir_session_state.specs.HirBase.declared.place.BlockPlace.{BlockPlace}
 use Rattle.hir_session_state.specs.Blocks.{place_of_block}
 use Rattle.hir_session_state.specs.SessionState.{SessionState, IsSound}
 use Rattle.hir_session_core.proofs.Pending.{IsCollecting, collecting-end, collecting-last, collecting-more, collecting-start}

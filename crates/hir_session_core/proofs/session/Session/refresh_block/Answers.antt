@@ -1,8 +1,8 @@
 -- Where it is due it is resolved, and otherwise nothing changes.
 use Rattle.std.proofs.Common.{◌∙◌, ap, sym, subst, refl}
-use Rattle.hir_base.specs.Place.{PlaceValue}
-use Rattle.hir_base.specs.declared.place.BlockPlace.{BlockPlace}
-use Rattle.hir_scope.proofs.Rewrites.{on_err}
+use Rattle.hir_session_state.specs.HirBase.Place.{PlaceValue}
+use Rattle.hir_session_state.specs.HirBase.declared.place.BlockPlace.{BlockPlace}
+use Rattle.hir_session_state.proofs.HirScope.Rewrites.{on_err}
 use Rattle.hir_session_state.specs.Blocks.{place_of_block}
 use Rattle.hir_session_state.specs.Due.{IsDueBlock, IsStuckAt}
 use Rattle.hir_session_state.specs.SessionState.{module_of}

@@ -1,6 +1,6 @@
 -- What waits is taken and put back, which changes no answer.
 use Rattle.std.proofs.Common.{sym, subst}
-use Rattle.hir_scope.proofs.Rewrites.{on_err}
+use Rattle.hir_session_state.proofs.HirScope.Rewrites.{on_err}
 use Rattle.hir_session_state.specs.Changes.{RefreshesPartly}
 use Rattle.hir_session_state.specs.SessionState.{SessionState, IsSound}
 use Rattle.hir_session_core.specs.Progress.{AreCratesCurrent, HasAllPending, HasResolved}

@@ -1,5 +1,5 @@
 -- Crates first, and then blocks.
-use Rattle.hir_scope.proofs.Rewrites.{on_err}
+use Rattle.hir_session_state.proofs.HirScope.Rewrites.{on_err}
 use Rattle.hir_session_state.specs.Changes.{RefreshesPartly}
 use Rattle.hir_session_core.proofs.Due.{passed_on}
 use Rattle.hir_session_core.proofs.Waiting.{nowhere_stale, refreshes_all}

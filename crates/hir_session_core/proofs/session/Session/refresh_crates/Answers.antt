@@ -3,7 +3,7 @@ use Rattle.std.proofs.Common.{◌≡◌, ◌∙◌, sym, subst, List, [], length
 use Rattle.hir_session_state.specs.Changes.{RefreshesPartly}
 use Rattle.hir_session_state.specs.Crates.{CrateValue}
 use Rattle.hir_session_state.specs.SessionState.{SessionState}
-use Rattle.hir_scope.proofs.Rewrites.{on_err}
+use Rattle.hir_session_state.proofs.HirScope.Rewrites.{on_err}
 use Rattle.hir_session_core.proofs.Due.{IsRefreshing, grows_not, refreshing-start, refreshing-more, refreshing-skip, resolves_grown, passed_on, overlong_first}
 use Rattle.hir_session_core.proofs.session.Session.refresh_crates.Goals as goal
 use Rattle.hir_session_core.proofs.session.Session.refresh_crates.Goals.{then-is_marked_at+in_ok-note+in_ok-resolve_at, else-is_marked_at}

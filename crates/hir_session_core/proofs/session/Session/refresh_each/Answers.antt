@@ -1,6 +1,6 @@
 -- Each pending block in turn isn't due, or is the next that is.
 use Rattle.std.proofs.Common.{map, sym, subst, List, [], Bor}
-use Rattle.hir_scope.proofs.Rewrites.{on_err}
+use Rattle.hir_session_state.proofs.HirScope.Rewrites.{on_err}
 use Rattle.hir_session_state.specs.Changes.{RefreshesPartly}
 use Rattle.hir_session_state.specs.SessionState.{SessionState}
 use Rattle.hir_session_core.specs.Progress.{HasAllPending, HasResolved}

@@ -2,7 +2,6 @@
 use Rattle.std.proofs.Common.{refl, None}
 use Rattle.hir_session_state.specs.SessionState.{state_of}
 use Rattle.hir_session_state.specs.SourceEdits.{edited, of_file}
-use Rattle.hir_session_state.proofs.Asking.{noted_fewer}
 use Rattle.hir_session_core.proofs.Awaiting.{known_forgot}
 use Rattle.hir_session_core.proofs.Sound.{edited_sound, edited_becomes}
 use Rattle.hir_session_core.proofs.session.Session.remove_file.Goals as goal
@@ -11,12 +10,14 @@ pub invariant_of-self : goal.invariant_of-self
 invariant_of-self c =
     let old = state_of c.self.inside.inputs c.self.inside.tables c.self.inside.kept in
     let new = record old { sources = edited old.sources (of_file c.args.file.now None); kept = c.forget.new.kept } in (
-      rw c.remove_file.ensures.value (edited_sound _ (of_file c.args.file.now None) _ _ c.self.invariant.0 c.in_ok-hits.ensures.hit c.forget.ensures.forgotten),
-      noted_fewer _ _ _ c.self.invariant.1 _ c.forget.ensures.forgotten.fewer,
+      rw c.remove_file.ensures.value (edited_sound _ (of_file c.args.file.now None) _ _ c.self.invariant.0 (c.in_ok-hits.ensures.hit _ c.self.invariant.1)
+          c.forget.ensures.forgotten),
+      c.forget.ensures.exact,
       rw c.remove_file.ensures.value (known_forgot old new c.self.inside.pending c.forget.new.pending refl refl c.forget.ensures.pending c.self.invariant.2),
     )
 
 pub returns-clause-ok : goal.returns-clause-ok
 returns-clause-ok c =
-    rw c.remove_file.ensures.value (edited_becomes _ (of_file c.args.file.now None) _ _ _ c.self.view_is c.self.invariant.0 c.in_ok-hits.ensures.hit
+    rw c.remove_file.ensures.value (edited_becomes _ (of_file c.args.file.now None) _ _ _ c.self.view_is c.self.invariant.0
+    (c.in_ok-hits.ensures.hit _ c.self.invariant.1)
     c.forget.ensures.forgotten)

@@ -1,6 +1,6 @@
 -- Under the number that it has now, its run begins in the module that holds it.
 use Rattle.std.proofs.Common.{refl}
-use Rattle.hir_scope.proofs.Rewrites.{on_err}
+use Rattle.hir_session_state.proofs.HirScope.Rewrites.{on_err}
 use Rattle.hir_session_state.specs.Due.IsStuckAt.{numbered_out}
 use Rattle.hir_session_state.proofs.Truth.{where_ok}
 use Rattle.hir_session_core.proofs.Begun.{at_err, block_resolved, block_stuck, holder_there, ready, where_err}

@@ -1,7 +1,7 @@
 -- The maps are those that are read in the map.
 use Rattle.std.proofs.Common.{◌≡◌, ◌∙◌, ap, sym, subst, refl, false, List}
-use Rattle.hir_def_map.specs.DefMaps.{maps_of}
-use Rattle.hir_def_map_rules.specs.Overlay.{Maps, overlay}
+use Rattle.hir_session_state.specs.HirNameres.DefMaps.{maps_of}
+use Rattle.hir_session_state.specs.HirDefMapRules.Overlay.{Maps, overlay}
 use Rattle.hir_assoc_items.specs.AssocItems.{listing_of}
 use Rattle.hir_session_state.specs.Crates.{CrateValue, transitive_in}
 use Rattle.hir_session_state.specs.Kept.{resolution_of}

@@ -1,7 +1,7 @@
 -- What is kept of the map, the maps that it reads and the module are those of the definitions.
 use Rattle.std.proofs.Common.{◌≡◌, ◌∙◌, ap, sym, subst, refl, List, Option, Some}
-use Rattle.hir_base.specs.declared.ids.ModuleId.{ModuleId}
-use Rattle.hir_def_map_rules.specs.Overlay.{Maps, overlay}
+use Rattle.hir_session_state.specs.HirIds.declared.ids.ModuleId.{ModuleId}
+use Rattle.hir_session_state.specs.HirDefMapRules.Overlay.{Maps, overlay}
 use Rattle.hir_session_answers.specs.AssocItems.{trait_asked, trait_kept}
 use Rattle.hir_session_state.specs.Crates.{CrateValue, config_in, transitive_in}
 use Rattle.hir_session_state.specs.Kept.{resolution_of}

@@ -1,5 +1,5 @@
 -- What is told of the source is, with the steps.
-use Rattle.hir_item_tree.specs.Source.{source_view}
+use Rattle.hir_session_state.specs.HirItemTree.Source.{source_view}
 use Rattle.hir_session_state.specs.Blocks.{place_of_block}
 use Rattle.hir_session_state.specs.Refusals.{verdict_of_source}
 use Rattle.hir_session_core.proofs.Verdicts.{block_told}

@@ -1,9 +1,9 @@
 -- A list that is too long over the parts is too long over the inputs.
 use Rattle.std.proofs.Common.{◌≡◌, subst, Err}
-use Rattle.hir_base.specs.declared.ast_id.AstKind.TheVariants as kind
-use Rattle.hir_base.specs.declared.ids.ItemContainerId.TheVariants as container
-use Rattle.hir_def_map.specs.DefMaps.{maps_of}
-use Rattle.hir_collector_rules.specs.Keys.{environment}
+use Rattle.hir_session_state.specs.HirIds.declared.ast_id.AstKind.TheVariants as kind
+use Rattle.hir_session_state.specs.HirIds.declared.ids.ItemContainerId.TheVariants as container
+use Rattle.hir_session_state.specs.HirNameres.DefMaps.{maps_of}
+use Rattle.hir_session_state.specs.HirCollectorRules.Keys.{environment}
 use Rattle.hir_assoc_items.specs.AssocItems.{IsTooMany, container_of, items_written}
 use Rattle.hir_assoc_items.specs.declared.error.AssocItemsError.TheVariants as assoc_error
 use Rattle.hir_session_state.specs.Inputs.{InputsValue, workspace_by}

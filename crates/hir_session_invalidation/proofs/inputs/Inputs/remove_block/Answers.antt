@@ -1,6 +1,6 @@
 -- What is kept of the other sources stays; of this one nothing is.
 use Rattle.std.proofs.Common.{ap, sym, None}
-use Rattle.hir_tables.specs.SourcePlaces.{block}
+use Rattle.hir_session_state.specs.HirTables.SourcePlaces.{block}
 use Rattle.hir_session_state.specs.SourceEdits.{of_block}
 use Rattle.hir_session_state.specs.SourceTable.{workspace_in}
 use Rattle.hir_session_invalidation.proofs.Current.{current_over, dropped_current, dropped_same}

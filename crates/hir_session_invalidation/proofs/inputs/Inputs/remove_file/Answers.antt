@@ -1,6 +1,6 @@
 -- What is kept of the other sources stays; of this one it is what the file then has.
 use Rattle.std.proofs.Common.{ap, sym, subst, None}
-use Rattle.hir_tables.specs.SourcePlaces.{file}
+use Rattle.hir_session_state.specs.HirTables.SourcePlaces.{file}
 use Rattle.hir_session_state.specs.Inputs.{InputsValue}
 use Rattle.hir_session_state.specs.SourceEdits.{of_file}
 use Rattle.hir_session_state.specs.SourceTable.{workspace_in}

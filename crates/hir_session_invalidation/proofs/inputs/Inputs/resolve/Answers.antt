@@ -1,9 +1,9 @@
 -- A run that is too long, or meets an unknown source, over the parts does so over the inputs.
 use Rattle.std.proofs.Common.{◌≡◌, subst, Err}
-use Rattle.hir_def_map.specs.World.{finished_in}
-use Rattle.hir_collector_rules.specs.Derivation.{IsOverlong}
-use Rattle.hir_collector_rules.specs.UnknownSources.{MeetsUnknownSource}
-use Rattle.hir_collector_rules.specs.declared.start.CollectError.TheVariants as collect_error
+use Rattle.hir_session_state.specs.HirNameres.World.{finished_in}
+use Rattle.hir_session_state.specs.HirCollectorRules.Derivation.{IsOverlong}
+use Rattle.hir_session_state.specs.HirCollectorRules.UnknownSources.{MeetsUnknownSource}
+use Rattle.hir_session_state.specs.HirCollectorRules.declared.start.CollectError.TheVariants as collect_error
 use Rattle.hir_session_state.specs.Crates.{beginning_in}
 use Rattle.hir_session_state.specs.Inputs.{InputsValue, workspace_by}
 use Rattle.hir_session_invalidation.proofs.inputs.Inputs.resolve.Goals as goal

@@ -1,7 +1,7 @@
 -- What is kept of the other sources stays; of this one nothing is.
 use Rattle.std.proofs.Common.{ap, sym, Some}
-use Rattle.hir_item_tree.specs.Source.{source_view}
-use Rattle.hir_tables.specs.SourcePlaces.{block}
+use Rattle.hir_session_state.specs.HirItemTree.Source.{source_view}
+use Rattle.hir_session_state.specs.HirTables.SourcePlaces.{block}
 use Rattle.hir_session_state.specs.SourceEdits.{of_block}
 use Rattle.hir_session_state.specs.SourceTable.{workspace_in}
 use Rattle.hir_session_invalidation.proofs.Current.{current_over, dropped_current, dropped_same}

@@ -1,7 +1,7 @@
 -- What is kept of the other sources stays; of this one nothing is.
 use Rattle.std.proofs.Common.{ap, sym, Some}
-use Rattle.hir_tables.specs.SourcePlaces.{expansion, expansion_value}
-use Rattle.hir_wire.specs.Edits.{entry_view}
+use Rattle.hir_session_state.specs.HirTables.SourcePlaces.{expansion, expansion_value}
+use Rattle.hir_session_state.specs.HirMessages.Edits.{entry_view}
 use Rattle.hir_session_state.specs.SourceEdits.{of_expansion}
 use Rattle.hir_session_state.specs.SourceTable.{workspace_in}
 use Rattle.hir_session_invalidation.proofs.Current.{current_over, dropped_current, dropped_same}

@@ -1,7 +1,7 @@
 -- What is kept of the other sources stays; of this one it is what the file then has.
 use Rattle.std.proofs.Common.{◌≡◌, ◌∙◌, ap, sym, subst, List, ℕ, Some}
-use Rattle.hir_item_tree.specs.Source.{source_view}
-use Rattle.hir_tables.specs.SourcePlaces.{file}
+use Rattle.hir_session_state.specs.HirItemTree.Source.{source_view}
+use Rattle.hir_session_state.specs.HirTables.SourcePlaces.{file}
 use Rattle.hir_session_state.specs.Inputs.{InputsValue}
 use Rattle.hir_session_state.specs.SourceEdits.{edited, of_file}
 use Rattle.hir_session_state.specs.SourceTable.{workspace_in}

@@ -1,8 +1,8 @@
 -- What was made is what the source has; where no room is found for it, what is kept is as it was.
 use Rattle.std.proofs.Common.{◌≡◌, ◌∙◌, ap, Option}
-use Rattle.hir_item_tree.specs.Source.{SourceValue}
-use Rattle.hir_tables.specs.SourcePlaces.{SourcePlaceValue, source_value}
-use Rattle.hir_collector_rules.specs.Workspace.{Workspace}
+use Rattle.hir_session_state.specs.HirItemTree.Source.{SourceValue}
+use Rattle.hir_session_state.specs.HirTables.SourcePlaces.{SourcePlaceValue, source_value}
+use Rattle.hir_session_state.specs.HirCollectorRules.Workspace.{Workspace}
 use Rattle.hir_session_state.specs.SourceTable.{tree_under, workspace_in}
 use Rattle.hir_session_invalidation.proofs.Current.{same_current, set_current}
 use Rattle.hir_session_state.proofs.Truth.{on_either}

@@ -1,7 +1,7 @@
 -- The session begins as the definition says, or is refused as that says.
 use Rattle.std.proofs.Common.{ap, inl, inr, refl, ◌∙◌}
-use Rattle.hir_session_state.specs.declared.error.NewSessionError.{NewSessionError}
-use Rattle.hir_session_machine.specs.Machine.{new_reply}
+use Rattle.hir_session_core.specs.HirSessionState.declared.error.NewSessionError.{NewSessionError}
+use Rattle.hir_session_replies.specs.Replies.{new_reply}
 use Rattle.hir_session_machine.specs.Machine.AnswersCommand.{begins, refuses_session, finds_no_memory}
 use Rattle.hir_session_machine.proofs.server_state.Machine.begin.Goals as goal
 

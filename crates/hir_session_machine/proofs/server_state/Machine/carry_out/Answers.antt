@@ -1,8 +1,8 @@
 -- With a session the command is called on it; without one it is the first.
 use Rattle.std.proofs.Common.{sym, subst, ◌∙◌, Some, ◌≡◌, false}
-use Rattle.hir_wire.specs.CommandValue.{command_view}
+use Rattle.hir_session_core.specs.HirMessages.CommandValue.{command_view}
 use Rattle.hir_wire.specs.Replies.{is_fixed}
-use Rattle.hir_wire.specs.declared.reply.Reply.TheVariants as reply
+use Rattle.hir_session_core.specs.HirMessages.declared.reply.Reply.TheVariants as reply
 use Rattle.hir_session_machine.specs.Machine.{MachineState, AnswersCommand}
 use Rattle.hir_session_machine.proofs.server_state.Machine.carry_out.Goals as goal
 

@@ -1,12 +1,12 @@
 -- The crates begin a session, and any other command comes too soon.
 use Rattle.std.proofs.Common.{◌≡◌, ◌∙◌, None, refl, sym, false}
 use mathlib.Core.Bool.{true≢false}
-use Rattle.hir_wire.specs.CommandValue.{CommandValue, command_view}
+use Rattle.hir_session_core.specs.HirMessages.CommandValue.{CommandValue, command_view}
 use Rattle.hir_wire.specs.Replies.{is_fixed}
-use Rattle.hir_wire.specs.declared.command.Command.{Command}
-use Rattle.hir_wire.specs.declared.command.Command.TheVariants as commands
-use Rattle.hir_wire.specs.declared.reply.Reply.{Reply}
-use Rattle.hir_wire.specs.declared.reply.Reply.TheVariants as reply
+use Rattle.hir_session_core.specs.HirMessages.declared.command.Command.{Command}
+use Rattle.hir_session_core.specs.HirMessages.declared.command.Command.TheVariants as commands
+use Rattle.hir_session_core.specs.HirMessages.declared.reply.Reply.{Reply}
+use Rattle.hir_session_core.specs.HirMessages.declared.reply.Reply.TheVariants as reply
 use Rattle.hir_session_machine.specs.Machine.{makes_session, MachineState, AnswersCommand}
 use Rattle.hir_session_machine.specs.Machine.AnswersCommand.{begins, calls, comes_too_late, comes_too_soon, finds_no_memory, refuses_session}
 use Rattle.hir_session_machine.proofs.server_state.Machine.carry_out_first.Goals as goal

@@ -2,9 +2,9 @@ use Rattle.std.proofs.Common.{◌≡◌, ◌<◌, [], ◌++◌, length, take, Er
 use Rattle.std.specs.Io.KnownBytes.{Consumes, IsAtEnd}
 use Rattle.std.proofs.KnownBytes.{Consumes-nil, Appends-nil, Consumes-trans, Consumes-kept}
 use Rattle.hir_session_server.specs.Runs.{Ends}
-use Rattle.hir_session_server.proofs.RunLemmas.{so_far, ends_at, breaks_at, Fed-append}
+use Rattle.hir_session_server.proofs.RunLemmas.{broken_off, so_far, ends_at, breaks_at, Fed-append}
 use Rattle.hir_session_machine.proofs.Headline.{headline}
-use Rattle.hir_session_answers.proofs.LowerLaws.{paths_answer, paths_lead, runs_bind}
+use Rattle.hir_session_machine.proofs.HirSessionAnswers.LowerLaws.{paths_answer, paths_lead, runs_bind}
 use Rattle.hir_session_machine.specs.Headline.{RepliesHoldTheHeadline}
 use Rattle.hir_session_server.proofs.server.Server.converse.Goals as goal
 
@@ -54,7 +54,7 @@ returns-in-Err-feed g c = record {
       let w1 = g.W.Write.contents c.loop-turn.writer in
       let w2 = g.W.Write.contents c.feed.new.writer in
       let failed = c.in-Err-feed.ensures.err _ fed.open_line in
-      let at = breaks_at c.args.self.now now input (take n buf) w0 w1 w2 first fed failed.1 in (
+      let at = broken_off holds (breaks_at c.args.self.now now input (take n buf) w0 w1 w2 first fed failed.1) in (
         input ++ take n buf,
         Consumes-trans _ _ _ input (take n buf) consumed c.in-Ok.ensures.bytes.0,
         subst (λ f. Ends (Err f) (input ++ take n buf) (g.R.Read.remaining c.read.new.self) w0 w2) (sym failed.0) at,

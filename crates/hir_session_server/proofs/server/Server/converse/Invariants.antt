@@ -1,7 +1,7 @@
 use Rattle.std.proofs.Common.{ℕ, List, []}
 use Rattle.std.specs.Io.KnownBytes.{Consumes}
 use Rattle.hir_session_server.specs.Serving.{Fed}
-use Rattle.hir_lines.specs.OpenLines.{Holds}
+use Rattle.hir_session_machine.specs.HirLines.OpenLines.{Holds}
 use Rattle.hir_session_server.proofs.server.Server.converse.Given as goal
 
 abbrev pub invariant-loop-turn : goal.invariant-loop-turn

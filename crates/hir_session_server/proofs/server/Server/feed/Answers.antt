@@ -1,6 +1,6 @@
 -- the lines that have ended so far, one more line, and at last a piece without a line end
 use Rattle.std.proofs.Common.{◌≡◌, ℕ, List, [], ◌∷◌, ◌++◌, refl, sym, ap, ◌∙◌, subst, append_assoc}
-use Rattle.hir_lines.specs.Lines.{EndsLine, cut_from}
+use Rattle.hir_session_machine.specs.HirLines.Lines.{EndsLine, cut_from}
 use Rattle.hir_session_server.specs.Runs.{BrokenAt}
 use Rattle.hir_session_server.specs.Serving.{Fed}
 use Rattle.hir_session_server.specs.declared.server.Server.{Server}

@@ -1,6 +1,6 @@
 use Rattle.std.proofs.Common.{◌≡◌, ℕ, List, ◌++◌, length}
 use Rattle.hir_session_server.specs.Serving.{Fed}
-use Rattle.hir_lines.specs.OpenLines.{Holds}
+use Rattle.hir_session_machine.specs.HirLines.OpenLines.{Holds}
 use Rattle.hir_session_server.proofs.server.Server.feed.Given as goal
 
 abbrev pub invariant-loop-line : goal.invariant-loop-line

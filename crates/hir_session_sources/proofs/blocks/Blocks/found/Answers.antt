@@ -3,8 +3,8 @@ use Rattle.std.proofs.Common.{◌≡◌, ◌∙◌, ap, sym, refl, subst, Option
 use Rattle.std.specs.Prelude.{IfSome}
 use Rattle.std.specs.BTreeMap.{is_at}
 use Rattle.std.specs.Map.{lookup}
-use Rattle.hir_base.specs.declared.ids.Crate.{Crate}
-use Rattle.hir_base.specs.declared.place.PlaceElement.{PlaceElement}
+use Rattle.hir_session_state.specs.HirIds.declared.ids.Crate.{Crate}
+use Rattle.hir_session_state.specs.HirBase.declared.place.PlaceElement.{PlaceElement}
 use Rattle.hir_session_state.specs.Blocks.{place_of_block, steps_cmp}
 use Rattle.hir_session_sources.specs.BlockTables.{ArePlacedIn, SetBlockValue, SetBlocks, steps_in}
 use Rattle.hir_session_sources.proofs.BlockLemmas.{in_none, in_own, placed_at}

@@ -3,9 +3,9 @@ use Rattle.std.proofs.Common.{◌∙◌, ap, subst, refl, Option}
 use Rattle.std.specs.Prelude.{is_some}
 use Rattle.std.specs.BTreeMap.{is_at}
 use Rattle.std.specs.Map.{lookup}
-use Rattle.hir_base.specs.contracts.ids.CrateOrd.TheImpl as crate_order
-use Rattle.hir_base.specs.declared.ids.Crate.{Crate}
-use Rattle.hir_item_tree.specs.Source.{SourceValue}
+use Rattle.hir_session_state.specs.HirIds.contracts.ids.CrateOrd.TheImpl as crate_order
+use Rattle.hir_session_state.specs.HirIds.declared.ids.Crate.{Crate}
+use Rattle.hir_session_state.specs.HirItemTree.Source.{SourceValue}
 use Rattle.hir_session_state.specs.Blocks.{place_of_block, steps_cmp}
 use Rattle.hir_session_sources.specs.BlockTables.{ArePlacedIn, SetBlockValue}
 use Rattle.hir_session_sources.proofs.BlockLemmas.{in_none, in_own, placed_has, there_of}

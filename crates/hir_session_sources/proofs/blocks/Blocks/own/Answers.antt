@@ -3,8 +3,8 @@ use Rattle.std.proofs.Common.{◌≡◌, ◌∙◌, ap, sym, refl, Option, Some,
 use Rattle.std.specs.Prelude.{IfSome}
 use Rattle.std.specs.BTreeMap.{is_at}
 use Rattle.std.specs.Map.{lookup}
-use Rattle.hir_base.specs.contracts.ids.CrateOrd.TheImpl as crate_order
-use Rattle.hir_base.specs.declared.ids.Crate.{Crate}
+use Rattle.hir_session_state.specs.HirIds.contracts.ids.CrateOrd.TheImpl as crate_order
+use Rattle.hir_session_state.specs.HirIds.declared.ids.Crate.{Crate}
 use Rattle.hir_session_state.specs.Blocks.{Blocks}
 use Rattle.hir_session_sources.specs.BlockTables.{AreInPlace, ArePlacedIn, SetBlocks, SetTables, sources_of}
 use Rattle.hir_session_sources.proofs.BlockLemmas.{own_found, placed-own}

@@ -1,7 +1,7 @@
 -- A block that is there stands in its place.
 use Rattle.std.proofs.Common.{◌∙◌, ap, Option, Some, option_map}
-use Rattle.hir_base.specs.Place.{PlaceValue}
-use Rattle.hir_item_tree.specs.Source.{SourceValue}
+use Rattle.hir_session_state.specs.HirBase.Place.{PlaceValue}
+use Rattle.hir_session_state.specs.HirItemTree.Source.{SourceValue}
 use Rattle.hir_session_state.specs.Blocks.{place_of_block}
 use Rattle.hir_session_sources.specs.BlockTables.{steps_in}
 use Rattle.hir_session_sources.proofs.blocks.Blocks.place.Goals as goal

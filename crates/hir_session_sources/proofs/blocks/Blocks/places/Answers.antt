@@ -1,7 +1,7 @@
 -- The crates that are gone over are those that have a table.
 use Rattle.std.proofs.Common.{◌∙◌, ◌++◌, ap, List, Bor}
 use Rattle.std.specs.List.{flat_map}
-use Rattle.hir_base.specs.declared.place.BlockPlace.{BlockPlace}
+use Rattle.hir_session_state.specs.HirBase.declared.place.BlockPlace.{BlockPlace}
 use Rattle.hir_session_state.specs.Blocks.{Blocks}
 use Rattle.hir_session_sources.specs.BlockPlaces.{places_of}
 use Rattle.hir_session_sources.proofs.BlockLemmas.{all_roots, roots_lent, roots_of, roots_turn}

@@ -1,6 +1,6 @@
 -- The table of the crate has the block, at the steps to it.
 use Rattle.std.proofs.Common.{◌∙◌, ap}
-use Rattle.hir_item_tree.specs.Source.{source_view}
+use Rattle.hir_session_state.specs.HirItemTree.Source.{source_view}
 use Rattle.hir_session_state.specs.Blocks.{Blocks, place_of_block, with_block}
 use Rattle.hir_session_sources.proofs.BlockLemmas.{in_place-new, sources-new}
 use Rattle.hir_session_sources.proofs.blocks.Blocks.set.Goals as goal

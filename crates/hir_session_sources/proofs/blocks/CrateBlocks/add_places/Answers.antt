@@ -1,6 +1,6 @@
 -- The blocks that are gone over are those that are stored.
 use Rattle.std.proofs.Common.{◌++◌, ◌∙◌, ap, map, List, Bor}
-use Rattle.hir_base.specs.declared.place.BlockPlace.{BlockPlace}
+use Rattle.hir_session_state.specs.HirBase.declared.place.BlockPlace.{BlockPlace}
 use Rattle.hir_session_sources.specs.BlockTables.{SetBlockValue, SetBlocks}
 use Rattle.hir_session_sources.proofs.BlockLemmas.{places_by_steps}
 use Rattle.hir_session_sources.proofs.blocks.CrateBlocks.add_places.Goals as goal

@@ -1,7 +1,7 @@
 -- The blocks that are gone over are those that are stored.
 use Rattle.std.proofs.Common.{◌≡◌, ◌∙◌, ap, sym, map, true, false, List}
-use Rattle.hir_base.specs.contracts.place.BlockPlacePartialEq.TheImpl as block_eq
-use Rattle.hir_base.specs.declared.place.BlockPlace.{BlockPlace}
+use Rattle.hir_session_state.specs.HirBase.contracts.place.BlockPlacePartialEq.TheImpl as block_eq
+use Rattle.hir_session_state.specs.HirBase.declared.place.BlockPlace.{BlockPlace}
 use Rattle.hir_session_sources.specs.BlockTables.{SetBlockValue, SetBlocks, has_place}
 use Rattle.hir_session_sources.proofs.BlockLemmas.{has_first, has_later, places_by_steps}
 use Rattle.hir_session_sources.proofs.blocks.CrateBlocks.has.Goals as goal

@@ -3,7 +3,7 @@ use Rattle.std.proofs.Common.{◌∙◌, ap}
 use Rattle.std.specs.BTreeMap.{is_at}
 use Rattle.std.specs.declared.alloc.Global.{Global}
 use Rattle.std.specs.declared.vec.Vec.{Vec}
-use Rattle.hir_base.specs.declared.place.PlaceElement.{PlaceElement}
+use Rattle.hir_session_state.specs.HirBase.declared.place.PlaceElement.{PlaceElement}
 use Rattle.hir_session_state.specs.Blocks.{steps_cmp}
 use Rattle.hir_session_sources.specs.BlockTables.{SetBlocks, by_steps, without_steps}
 use Rattle.hir_session_sources.proofs.BlockLemmas.{left_by_steps}

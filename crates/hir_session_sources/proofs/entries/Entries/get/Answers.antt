@@ -1,7 +1,7 @@
 -- It is found by what its key says.
 use Rattle.std.proofs.Common.{◌∙◌, ap, Some}
-use Rattle.hir_tables.specs.SourcePlaces.{expansion_value}
-use Rattle.hir_wire.specs.Edits.{EntryValue}
+use Rattle.hir_session_state.specs.HirTables.SourcePlaces.{expansion_value}
+use Rattle.hir_session_state.specs.HirMessages.Edits.{EntryValue}
 use Rattle.hir_session_state.specs.Entries.{Entries, entry_at}
 use Rattle.hir_session_sources.proofs.TreeLemmas.{found_by_value}
 use Rattle.hir_session_sources.proofs.entries.Entries.get.Goals as goal

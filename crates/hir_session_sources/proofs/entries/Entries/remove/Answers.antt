@@ -1,8 +1,8 @@
 -- After the call no entry has the key, so the one that went was the only one.
 use Rattle.std.proofs.Common.{◌∙◌, ap}
 use Rattle.std.specs.BTreeMap.{is_at}
-use Rattle.hir_base.specs.contracts.macro_kind.ExpansionKeyOrd.TheImpl as key_order
-use Rattle.hir_tables.specs.SourcePlaces.{expansion_value}
+use Rattle.hir_session_state.specs.HirBase.contracts.macro_kind.ExpansionKeyOrd.TheImpl as key_order
+use Rattle.hir_session_state.specs.HirTables.SourcePlaces.{expansion_value}
 use Rattle.hir_session_state.specs.Entries.{Entries, by_value, without_entry}
 use Rattle.hir_session_sources.proofs.TreeLemmas.{without_by_value}
 use Rattle.hir_session_sources.proofs.EntryLemmas.{remove_entry-filter}

@@ -1,7 +1,7 @@
 -- It stands under what its key says.
 use Rattle.std.proofs.Common.{◌∙◌, ap}
-use Rattle.hir_tables.specs.SourcePlaces.{expansion_value}
-use Rattle.hir_wire.specs.Edits.{entry_view}
+use Rattle.hir_session_state.specs.HirTables.SourcePlaces.{expansion_value}
+use Rattle.hir_session_state.specs.HirMessages.Edits.{entry_view}
 use Rattle.hir_session_state.specs.Entries.{Entries, by_value, with_entry}
 use Rattle.hir_session_sources.proofs.TreeLemmas.{set_by_value}
 use Rattle.hir_session_sources.proofs.entries.Entries.set.Goals as goal

@@ -1,12 +1,12 @@
 -- What is found has a source.
 use Rattle.std.proofs.Common.{◌∙◌, ap, sym, Bor, Option, option_map}
 use Rattle.std.specs.Prelude.{is_some}
-use Rattle.hir_item_tree.specs.Source.{SourceValue, source_view}
-use Rattle.hir_item_tree.specs.declared.source.Source.{Source}
-use Rattle.hir_tables.specs.SourcePlaces.{expansion, expansion_value, file, source_value}
-use Rattle.hir_tables.specs.declared.source_place.SourcePlace.{SourcePlace}
-use Rattle.hir_wire.specs.Edits.{EntryValue, entry_view}
-use Rattle.hir_wire.specs.declared.edit.ExpansionEntry.{ExpansionEntry}
+use Rattle.hir_session_state.specs.HirItemTree.Source.{SourceValue, source_view}
+use Rattle.hir_session_state.specs.HirItemTree.declared.source.Source.{Source}
+use Rattle.hir_session_state.specs.HirTables.SourcePlaces.{expansion, expansion_value, file, source_value}
+use Rattle.hir_session_state.specs.HirTables.declared.source_place.SourcePlace.{SourcePlace}
+use Rattle.hir_session_state.specs.HirMessages.Edits.{EntryValue, entry_view}
+use Rattle.hir_session_state.specs.HirMessages.declared.edit.ExpansionEntry.{ExpansionEntry}
 use Rattle.hir_session_state.specs.Entries.{source_of}
 use Rattle.hir_session_state.specs.SourceTable.{SourceTable, source_at}
 use Rattle.hir_session_sources.proofs.BlockLemmas.{there_of}

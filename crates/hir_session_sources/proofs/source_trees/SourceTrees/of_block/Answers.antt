@@ -2,7 +2,7 @@
 use Rattle.std.proofs.Common.{◌≡◌, ◌∙◌, ap, sym, refl, nat_eq, true, Option, Some, None, option_map, Bor}
 use Rattle.std.specs.declared.alloc.Global.{Global}
 use Rattle.std.specs.declared.rc.Rc.{Rc}
-use Rattle.hir_item_tree.specs.SourceTree.{SourceTreeValue}
+use Rattle.hir_session_state.specs.HirItemTree.SourceTree.{SourceTreeValue}
 use Rattle.hir_session_sources.proofs.source_trees.SourceTrees.of_block.Goals as goal
 
 values_of : (o : Option (Bor (Rc SourceTreeValue Global))) → option_map (λ (t : Bor (Rc SourceTreeValue Global)). t.now.value) o

@@ -1,7 +1,7 @@
 -- After the call no entry has the key, so the one that went was the only one.
 use Rattle.std.proofs.Common.{◌∙◌, refl}
 use Rattle.std.specs.BTreeMap.{is_at}
-use Rattle.hir_base.specs.contracts.macro_kind.ExpansionKeyOrd.TheImpl as key_order
+use Rattle.hir_session_state.specs.HirBase.contracts.macro_kind.ExpansionKeyOrd.TheImpl as key_order
 use Rattle.hir_session_sources.proofs.EntryLemmas.{remove_entry-filter}
 use Rattle.hir_session_sources.proofs.TreeLemmas.{expansion_gone, other_expansions}
 use Rattle.hir_session_sources.proofs.source_trees.SourceTrees.remove.Goals as goal

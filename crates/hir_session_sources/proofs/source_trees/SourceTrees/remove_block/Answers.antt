@@ -1,7 +1,7 @@
 -- After the call no entry has the place, so the one that went was the only one.
 use Rattle.std.proofs.Common.{◌∙◌, refl}
 use Rattle.std.specs.BTreeMap.{is_at}
-use Rattle.hir_base.specs.contracts.place.BlockPlaceOrd.TheImpl as block_order
+use Rattle.hir_session_state.specs.HirBase.contracts.place.BlockPlaceOrd.TheImpl as block_order
 use Rattle.hir_session_sources.proofs.EntryLemmas.{remove_entry-filter}
 use Rattle.hir_session_sources.proofs.TreeLemmas.{block_gone, other_blocks}
 use Rattle.hir_session_sources.proofs.source_trees.SourceTrees.remove_block.Goals as goal

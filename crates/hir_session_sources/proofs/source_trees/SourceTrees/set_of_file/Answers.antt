@@ -3,7 +3,7 @@ use Rattle.std.proofs.Common.{refl, sym, ap, is_some, ◌∙◌, cond, Some}
 use Rattle.std.specs.BTreeMap.{get, is_at}
 use Rattle.std.specs.Cmp.Lexicographic.{slice_cmp}
 use Rattle.std.specs.Ordering.{nat_cmp}
-use Rattle.hir_item_tree.proofs.TreeKeys.{kept_under, changed, unchanged, from_none, on_err}
+use Rattle.hir_session_state.proofs.HirItemTree.TreeKeys.{kept_under, changed, unchanged, from_none, on_err}
 use Rattle.hir_session_sources.proofs.SourceLemmas.{exact_paths}
 use Rattle.hir_session_sources.proofs.TreeLemmas.{files_become, files_stay}
 use Rattle.hir_session_sources.proofs.source_trees.SourceTrees.set_of_file.Goals as goal

@@ -1,48 +1,36 @@
--- The places that may have asked for a source still may: one joins those of this one.
-use Rattle.std.proofs.Common.{◌≡◌, ◌∙◌, ap, sym, refl, Bool, true, false, cond, is_some, Option, Some, None}
-use Rattle.std.specs.BTreeMap.{BTreeMap, get, is_at}
-use Rattle.std.specs.BTreeSet.{BTreeSet, contains}
-use Rattle.hir_base.specs.contracts.ids.MapIdOrd.TheImpl as map_order
-use Rattle.hir_base.specs.declared.ids.MapId.{MapId}
-use Rattle.hir_session_state.specs.Askers.{is_in}
+-- The keys of the source gain the place at one of them.
+use Rattle.std.proofs.Common.{◌≡◌, ◌∙◌, ap, subst, refl, arith, Bool, false, ◌&&◌, ◌||◌, Option, Some}
+use Rattle.std.specs.BTreeMap.{get, IsEmpty, IsOrdered}
+use Rattle.std.specs.Option.{UnwrapsOrElse}
+use Rattle.std.proofs.lemmas.Grind.{common_steps}
+use Rattle.hir_collector_rules.specs.contracts.source_database.KeyOrd.TheImpl as key_order
 use Rattle.hir_session_state.specs.contracts.source_number.SourceNumberOrd.TheImpl as number_order
-use Rattle.hir_session_state.specs.contracts.source_number.SourceNumberOrd.TheImpl.Laws.{matches_eq-law as numbers_tie}
-use Rattle.hir_session_state.specs.Types.{SourceNumber}
-use Rattle.hir_session_state.proofs.NumberLemmas.{same_number}
-use Rattle.hir_session_state.proofs.Truth.{clash, on_bool}
+use Rattle.hir_session_state.specs.Askers.{KeyAskers, has_asked_in}
+use Rattle.hir_session_state.proofs.Entering.{changed_at, exact_number, is_id, is_key, made_map, or-false}
+use Rattle.hir_session_state.proofs.Truth.{where_err, where_ok}
 use Rattle.hir_session_state.proofs.askers.Askers.add.Goals as goal
 
--- where one joins, each that was among them is
-still : (old new : BTreeSet MapId) (id i : MapId) → ((q : MapId) → contains map_order.ghosts.cmp new q ≡ cond (is_at (map_order.ghosts.cmp id) q) true
-    (contains map_order.ghosts.cmp old q))
-    → contains map_order.ghosts.cmp old i ≡ true → contains map_order.ghosts.cmp new i ≡ true
-still old new id i joins was = joins i ∙ on_bool (is_at (map_order.ghosts.cmp id) i) (λ on. rw on refl) (λ off. rw off was)
+pub returns-clause-ok : goal.returns-clause-ok
+returns-clause-ok c =
+    let before : KeyAskers = c.or_default-keys.result.now in
+    where_ok c.add_to.result c.add_to.ensures.ok (λ added n k j.
+    changed_at number_order.ghosts.cmp exact_number (λ (a b : Bool). a || b) or-false (λ (o : Option KeyAskers). has_asked_in o k j)
+    (get number_order.ghosts.cmp c.args.self.now.by_source) c.args.number (Some c.add_to.new.keys) (is_key c.args.key k && is_id c.args.id j)
+    (added k j
+    ∙ ap (λ (a : Bool). a || (is_key c.args.key k && is_id c.args.id j))
+    (made_map (get number_order.ghosts.cmp c.args.self.now.by_source c.args.number) before
+    (subst (λ (o : Option KeyAskers). UnwrapsOrElse o (λ (made : KeyAskers). IsEmpty made × IsOrdered key_order.ghosts.cmp made) before)
+    c.in_ok-self.ensures.value c.or_default-keys.ensures.value) k j))
+    n _ (grind (arith, common_steps)))
 
-module _ (old new : SourceNumber → Option (BTreeSet MapId)) (number : SourceNumber) (now : BTreeSet MapId) (becomes : (n : SourceNumber) → new n ≡ cond (is_at (number_order.ghosts.cmp number) n) (Some now) (old n)) where
-  -- those of each source are what they were, but for one that has these now
-  stay : (n : SourceNumber) (i : MapId) → (number ≡ n → is_in (old n) i ≡ true → contains map_order.ghosts.cmp now i ≡ true) → is_in (old n) i ≡ true
-      → is_in (new n) i ≡ true
-  stay n i here was = on_bool (is_at (number_order.ghosts.cmp number) n)
-      (λ on. ap (λ (o : Option (BTreeSet MapId)). is_in o i) (becomes n ∙ ap (λ (b : Bool). cond b (Some now) (old n)) on) ∙ here
-      (same_number number n (numbers_tie number n ∙ on)) was)
-      (λ off. ap (λ (o : Option (BTreeSet MapId)). is_in o i) (becomes n ∙ ap (λ (b : Bool). cond b (Some now) (old n)) off) ∙ was)
-
-pub returns-in_ok-insert-in-Some-clause-stay : goal.returns-in_ok-insert-in-Some-clause-stay
-returns-in_ok-insert-in-Some-clause-stay c n i was =
-    stay (get number_order.ghosts.cmp c.args.self.now.by_source) (get number_order.ghosts.cmp (c.get_mut.follows.lender c.insert.new.self)) c.args.number
-    c.insert.new.self
-    ((c.get_mut.follows.holds c.insert.new.self).3 (ap is_some (sym c.in-Some.ensures.value))).0 n i
-    (λ same has. still c.in-Some.ids.now c.insert.new.self c.args.id i c.in_ok-insert-in-Some.ensures.updates.0
-    (ap (λ (o : Option (BTreeSet MapId)). is_in o i) (c.in-Some.ensures.value ∙ ap (get number_order.ghosts.cmp c.args.self.now.by_source) same) ∙ has))
-    was
-
-pub returns-in_ok-insert-in-None-2-clause-stay : goal.returns-in_ok-insert-in-None-2-clause-stay
-returns-in_ok-insert-in-None-2-clause-stay c n i was =
-    stay (get number_order.ghosts.cmp c.args.self.now.by_source) (get number_order.ghosts.cmp c.insert-in-None-2.new.self) c.args.number
-    c.insert-in-None.new.self
-    (λ m. c.in_ok-insert-in-None-2.ensures.updates.0 m
-    ∙ ap (λ (table : BTreeMap SourceNumber (BTreeSet MapId)). cond (is_at (number_order.ghosts.cmp c.args.number) m) (Some c.insert-in-None.new.self)
-    (get number_order.ghosts.cmp table m)) c.get_mut.follows.holds-at-none) n i
-    (λ same has. clash has (ap (λ (o : Option (BTreeSet MapId)). is_in o i) (ap (get number_order.ghosts.cmp c.args.self.now.by_source) (sym same) ∙ sym
-    c.in-None.ensures.value)))
-    was
+pub returns-clause-err : goal.returns-clause-err
+returns-clause-err c =
+    let before : KeyAskers = c.or_default-keys.result.now in
+    where_err c.add_to.result c.add_to.ensures.err (λ same n k j.
+    changed_at number_order.ghosts.cmp exact_number (λ (a b : Bool). a) (λ (a : Bool). refl) (λ (o : Option KeyAskers). has_asked_in o k j)
+    (get number_order.ghosts.cmp c.args.self.now.by_source) c.args.number (Some c.add_to.new.keys) false
+    (same k j
+    ∙ made_map (get number_order.ghosts.cmp c.args.self.now.by_source c.args.number) before
+    (subst (λ (o : Option KeyAskers). UnwrapsOrElse o (λ (made : KeyAskers). IsEmpty made × IsOrdered key_order.ghosts.cmp made) before)
+    c.in_ok-self.ensures.value c.or_default-keys.ensures.value) k j)
+    n _ (grind (arith, common_steps)))

@@ -1,7 +1,7 @@
 -- What falls is no longer counted.
 use Rattle.std.proofs.Common.{◌∙◌, ◌+◌, sym}
-use Rattle.hir_base.specs.contracts.ids.MapIdOrd.TheImpl as map_order
-use Rattle.hir_base.specs.contracts.ids.MapIdOrd.TheImpl.Laws.{total-law as order_total}
+use Rattle.hir_collector_rules.specs.HirIds.contracts.ids.MapIdOrd.TheImpl as map_order
+use Rattle.hir_collector_rules.specs.HirIds.contracts.ids.MapIdOrd.TheImpl.Laws.{total-law as order_total}
 use Rattle.hir_session_state.proofs.Counting.{counted, one}
 use Rattle.hir_session_state.proofs.Ids.{equal_id}
 use Rattle.hir_session_state.proofs.kept.Kept.forget_around.Goals as goal
@@ -12,6 +12,7 @@ returns c =
     c.forget.ensures.forgotten.fewer c.args.own in
     record {
       forgotten = c.forget.ensures.forgotten;
+      exact = c.forget.ensures.exact;
       alone = (
         λ on. counts.0 ((λ i. sym c.len-before.ensures.value i + one (sym c.has-has.ensures.value i)) ∙ c.is_as_many.ensures.value.0 on
             ∙ (λ i. c.len.ensures.value i + one (c.has-had.ensures.value i))),

@@ -2,8 +2,8 @@
 use Rattle.std.proofs.Common.{◌∙◌, ap, sym, subst, List, length}
 use Rattle.std.specs.List.Sorted.{IsStrictlySortedBy}
 use Rattle.std.specs.Map.{keys_of}
-use Rattle.hir_base.specs.contracts.ids.MapIdOrd.TheImpl as map_order
-use Rattle.hir_base.specs.declared.ids.MapId.{MapId}
+use Rattle.hir_collector_rules.specs.HirIds.contracts.ids.MapIdOrd.TheImpl as map_order
+use Rattle.hir_collector_rules.specs.HirIds.declared.ids.MapId.{MapId}
 use Rattle.hir_session_state.specs.Kept.{Resolutions}
 use Rattle.hir_session_state.proofs.KeptLemmas.{same_count, same_keys}
 use Rattle.hir_session_state.proofs.kept.Kept.len.Goals as goal

@@ -1,7 +1,7 @@
 use Rattle.std.proofs.Common.{◌≡◌, Some, None, Ok, Err, codes, sym, ap, ◌∙◌, subst, refl, arith}
 use Rattle.serde_json.specs.Find.{get_member}
 use Rattle.serde_json.specs.View.{view, members_view}
-use Rattle.hir_base.specs.declared.ast_id.AstKind.{AstKind}
+use Rattle.hir_ids.specs.declared.ast_id.AstKind.{AstKind}
 use Rattle.hir_item_tree.specs.Source.{node_view}
 use Rattle.hir_wire.specs.Nodes.{kind_of_word, node_of_kind, nodes_in, node_of, nodes_of, trait_in, impl_in, inline_module_in}
 use Rattle.hir_wire.specs.Reading.{Reading, Reads, required, word_as}

@@ -1,8 +1,8 @@
 -- The set at the id gains the other one.
 use Rattle.std.proofs.Common.{◌∙◌, ap, sym, Bool, ◌||◌, is_some, Option, Some}
 use Rattle.std.specs.BTreeSet.{BTreeSet, contains}
-use Rattle.hir_base.specs.declared.ids.MapId.{MapId}
-use Rattle.hir_base.specs.contracts.ids.MapIdOrd.TheImpl as map_order
+use Rattle.hir_nameres.specs.HirIds.declared.ids.MapId.{MapId}
+use Rattle.hir_nameres.specs.HirIds.contracts.ids.MapIdOrd.TheImpl as map_order
 use Rattle.hir_def_map.specs.Inner.Dependents.{has_id}
 use Rattle.hir_def_map.proofs.Entries.{changed_at, is_id, or-false, takes_one}
 use Rattle.hir_def_map.proofs.world.dependents.Dependents.add.Goals as goal

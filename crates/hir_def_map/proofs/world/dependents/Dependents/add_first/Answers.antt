@@ -2,7 +2,7 @@
 use Rattle.std.proofs.Common.{◌∙◌, ap, sym, Bool, ◌||◌, Some}
 use Rattle.std.specs.List.{list_any}
 use Rattle.std.specs.BTreeSet.{contains}
-use Rattle.hir_base.specs.contracts.ids.MapIdOrd.TheImpl as map_order
+use Rattle.hir_nameres.specs.HirIds.contracts.ids.MapIdOrd.TheImpl as map_order
 use Rattle.hir_def_map.proofs.Entries.{changed_at, is_id, or-false, takes_one}
 use Rattle.hir_def_map.proofs.world.dependents.Dependents.add_first.Goals as goal
 

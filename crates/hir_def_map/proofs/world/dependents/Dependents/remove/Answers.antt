@@ -1,8 +1,8 @@
 -- The set at the id loses the other one, and goes where it is left empty.
 use Rattle.std.proofs.Common.{◌∙◌, ap, sym, Bool, ◌&&◌, not, is_some, Option, Some}
 use Rattle.std.specs.BTreeSet.{BTreeSet, contains}
-use Rattle.hir_base.specs.declared.ids.MapId.{MapId}
-use Rattle.hir_base.specs.contracts.ids.MapIdOrd.TheImpl as map_order
+use Rattle.hir_nameres.specs.HirIds.declared.ids.MapId.{MapId}
+use Rattle.hir_nameres.specs.HirIds.contracts.ids.MapIdOrd.TheImpl as map_order
 use Rattle.hir_def_map.specs.Inner.Dependents.{has_id}
 use Rattle.hir_def_map.proofs.Entries.{and-true, changed_at, emptied_at, is_id, loses_one}
 use Rattle.hir_def_map.proofs.world.dependents.Dependents.remove.Goals as goal

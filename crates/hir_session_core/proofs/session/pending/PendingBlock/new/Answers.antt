@@ -1,6 +1,6 @@
 -- It is named by the place of its root.
 use Rattle.std.proofs.Common.{◌∙◌, ap}
-use Rattle.hir_base.specs.Place.{PlaceValue}
+use Rattle.hir_session_state.specs.HirBase.Place.{PlaceValue}
 use Rattle.hir_session_state.specs.Blocks.{nesting_of}
 use Rattle.hir_session_core.proofs.session.pending.PendingBlock.new.Goals as goal
 

@@ -1,0 +1,2 @@
+mod BuiltinLemmas
+mod HeadLemmas

@@ -1,0 +1,4 @@
+pub mod Resuming
+pub mod UpToDate
+pub mod Queued
+pub mod GivingUp

@@ -1,0 +1,22 @@
+-- An attribute that is inert by now, and what reaches a macro without an expansion.
+use Rattle.std.proofs.Common.{◌≡◌, ◌∙◌, true, sym}
+use Rattle.hir_collector_state.specs.HirNameres.WorldParts.{part_of}
+use Rattle.hir_collector_state.specs.HirCollectorRules.Calls.{is_inert_now}
+use Rattle.hir_collector_state.specs.HirCollectorRules.CallMoves.{FindsBuiltin}
+use Rattle.hir_collector_state.specs.HirCollectorRules.State.{core_in}
+use Rattle.hir_collector_state.specs.HirCollectorRules.Steps.{by_helper}
+use Rattle.hir_macro_calls.proofs.GivingUp.{due_builtin, inert_item}
+use Rattle.hir_macro_calls.proofs.due.due_of.Goals as goal
+
+pub returns-then-is_inert_now-clause-value : goal.returns-then-is_inert_now-clause-value
+returns-then-is_inert_now-clause-value c =
+    let inert : is_inert_now (core_in c.args.run.now).map c.args.call.now ≡ true = sym c.is_inert_now.ensures.value ∙ c.if-is_inert_now.true in
+    let k = inert_item (core_in c.args.run.now).map c.args.call.now.ast_id c.args.call.now.kind inert in
+    (k.0, k.1, by_helper inert)
+
+pub returns-then-not-has_expansion-clause-value : goal.returns-then-not-has_expansion-clause-value
+returns-then-not-has_expansion-clause-value c =
+    let finds : FindsBuiltin (part_of c.args.world) (core_in c.args.run.now) c.args.call.now c.in-Some.makro =
+    record { reaches = sym c.called_macro.ensures.value ∙ c.in-Some.is; builtin = sym c.has_expansion.ensures.value ∙ c.if-not-has_expansion.true } in
+    due_builtin (part_of c.args.world) (core_in c.args.run.now) c.args.call.now c.in-Some.makro c.due_of_builtin.result finds c.due_of_builtin.ensures.derives
+    c.due_of_builtin.ensures.skips

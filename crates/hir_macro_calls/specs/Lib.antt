@@ -1,0 +1,2 @@
+-- ---- words of private code
+pub mod Due

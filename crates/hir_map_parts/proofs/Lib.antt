@@ -1,0 +1,4 @@
+pub mod Copies
+pub mod Rewrites
+pub mod Externs
+pub mod Texts

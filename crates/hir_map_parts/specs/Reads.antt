@@ -1,0 +1,11 @@
+-- What does the data of a crate say?
+use Rattle.std.specs.Prelude.{ℕ, List, Bool}
+use Rattle.std.specs.List.{list_any}
+use Rattle.std.specs.Ordering.{nat_cmp}
+use Rattle.std.specs.Cmp.Lexicographic.{slice_cmp}
+use Rattle.std.specs.BTreeMap.{is_at}
+use Rattle.hir_map_parts.specs.State.{CrateData}
+
+-- whether the crate lists a feature
+abbrev pub feature_in : CrateData → List ℕ → Bool
+feature_in crate_data name = list_any (is_at (slice_cmp nat_cmp name)) crate_data.features

@@ -1,0 +1,40 @@
+-- What does an edit hand in?
+use Rattle.std.specs.Prelude.{ℕ, List, Option}
+use Rattle.hir_base.specs.declared.place.BlockPlace.{BlockPlace}
+use Rattle.hir_item_tree.specs.Source.{SourceValue, source_view}
+use Rattle.hir_tables.specs.SourcePlaces.{ExpansionValue, expansion_value}
+use Rattle.hir_messages.specs.Types.{Edit, ExpansionEntry}
+use Rattle.hir_messages.specs.Types.edit
+
+-- what an expansion gives: its syntax, and why it failed, if it did
+pub record EntryValue : Type 0 where
+  pub source : SourceValue
+  pub error : Option (List ℕ)
+
+-- the plain value of an entry
+abbrev pub entry_view : ExpansionEntry → EntryValue
+entry_view e = record { source = source_view e.source; error = e.error }
+
+-- an edit, as plain values
+pub data EditValue : Type 0 where
+  -- a file, and its source
+  set_file : List ℕ → SourceValue → EditValue
+  -- a file that is taken away
+  remove_file : List ℕ → EditValue
+  -- a block, and its source
+  set_block : BlockPlace → SourceValue → EditValue
+  -- a block that is taken away
+  remove_block : BlockPlace → EditValue
+  -- what an expansion depends on, and what it gives
+  set_expansion : ExpansionValue → EntryValue → EditValue
+  -- an expansion that is taken away
+  remove_expansion : ExpansionValue → EditValue
+
+-- the plain value of an edit
+abbrev pub edit_view : Edit → EditValue
+edit_view (edit.SetFile file source) = set_file file (source_view source)
+edit_view (edit.RemoveFile file) = remove_file file
+edit_view (edit.SetBlock place source) = set_block place (source_view source)
+edit_view (edit.RemoveBlock place) = remove_block place
+edit_view (edit.SetExpansion key entry) = set_expansion (expansion_value key) (entry_view entry)
+edit_view (edit.RemoveExpansion key) = remove_expansion (expansion_value key)

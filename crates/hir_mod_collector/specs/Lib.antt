@@ -1,0 +1,14 @@
+pub use Rattle.hir_collector_state.specs.HirBase as HirBase
+pub use Rattle.hir_collector_imports.specs as HirCollectorImports
+pub use Rattle.hir_collector_state.specs.HirCollectorRules as HirCollectorRules
+pub use Rattle.hir_collector_state.specs as HirCollectorState
+pub use Rattle.hir_collector_state.specs.HirDefMapLaws as HirDefMapLaws
+pub use Rattle.hir_collector_state.specs.HirDefMapRules as HirDefMapRules
+pub use Rattle.hir_collector_state.specs.HirIds as HirIds
+pub use Rattle.hir_collector_state.specs.HirImportGrowth as HirImportGrowth
+pub use Rattle.hir_collector_state.specs.HirImportRules as HirImportRules
+pub use Rattle.hir_collector_state.specs.HirItemTree as HirItemTree
+pub use Rattle.hir_collector_state.specs.HirMapParts as HirMapParts
+pub use Rattle.hir_collector_state.specs.HirModDir as HirModDir
+pub use Rattle.hir_collector_state.specs.HirNameres as HirNameres
+pub use Rattle.hir_collector_state.specs.HirTables as HirTables

@@ -1,0 +1,2 @@
+-- ---- laws that the code's own types name
+pub mod PartLaws

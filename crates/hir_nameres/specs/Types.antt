@@ -1,0 +1,21 @@
+-- The types of the crate, under their names.
+pub use Rattle.hir_nameres.specs.declared.def_maps.DefMaps.{DefMaps}
+pub use Rattle.hir_def_map_rules.specs.HirMapParts.declared.add_module_error.AddModuleError.{AddModuleError}
+pub use Rattle.hir_def_map_rules.specs.HirMapParts.declared.block_info.BlockInfo.{BlockInfo}
+pub use Rattle.hir_nameres.specs.declared.nameres.DefMap.{DefMap}
+pub use Rattle.hir_def_map_rules.specs.HirMapParts.declared.crate_data.DefMapCrateData.{DefMapCrateData}
+pub use Rattle.hir_def_map_rules.specs.declared.declaration.Declaration.{Declaration}
+pub use Rattle.hir_def_map_rules.specs.HirMapParts.declared.derive_helpers.DeriveHelper.{DeriveHelper}
+pub use Rattle.hir_def_map_rules.specs.HirMapParts.declared.diagnostics.DefDiagnostic.{DefDiagnostic}
+pub use Rattle.hir_def_map_rules.specs.HirMapParts.declared.diagnostics.DefDiagnosticKind.{DefDiagnosticKind}
+pub use Rattle.hir_def_map_rules.specs.HirMapParts.declared.enum_variants.EnumVariant.{EnumVariant}
+pub use Rattle.hir_def_map_rules.specs.HirMapParts.declared.origin.ModuleOrigin.{ModuleOrigin}
+pub use Rattle.hir_def_map_rules.specs.HirMapParts.declared.origin.ModuleSource.{ModuleSource}
+pub use Rattle.hir_def_map_rules.specs.declared.path_result.ReachedFixedPoint.{ReachedFixedPoint}
+pub use Rattle.hir_def_map_rules.specs.declared.path_result.ResolveMode.{ResolveMode}
+pub use Rattle.hir_def_map_rules.specs.declared.path_result.ResolvePathResult.{ResolvePathResult}
+pub use Rattle.hir_def_map_rules.specs.declared.path_result.ResolvePathResultPrefixInfo.{ResolvePathResultPrefixInfo}
+pub use Rattle.hir_nameres.specs.declared.world.finished.Finished.{Finished}
+pub use Rattle.hir_def_map_rules.specs.declared.reference.Reference.{Reference}
+pub use Rattle.hir_nameres.specs.declared.world.part.WorldPart.{WorldPart}
+pub use Rattle.hir_nameres.specs.declared.nameres.path_resolution.slots.Slot.{Slot}

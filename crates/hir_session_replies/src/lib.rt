@@ -1,0 +1,4 @@
+//! What is told where a session refuses something: the reply to each error.
+#![tactic(auto)]
+
+pub mod replies;

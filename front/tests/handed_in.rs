@@ -1,0 +1,180 @@
+//! What `check` handed in is kept, and handed in again after edits of items: it tells what a check from nothing tells.
+#![cfg(unix)]
+
+use std::path::{Path, PathBuf};
+use std::process::Command;
+
+use cargo_nogsimat::package::{Crates, Wanted};
+use cargo_nogsimat::program;
+use cargo_nogsimat::workspace::Workspace;
+use serde_json::Value;
+use tempfile::TempDir;
+
+use crate::common::{market, package, write_script, Dice};
+
+/// A package, with a script in place of the program that keeps what the program is given.
+struct Checked {
+    folder: TempDir,
+    /// The package's folder within.
+    within: PathBuf,
+}
+
+impl Checked {
+    fn new(folder: TempDir, within: &str) -> Checked {
+        let path = folder.path();
+        std::fs::create_dir_all(path.join("target")).unwrap();
+        std::fs::write(path.join("target/CACHEDIR.TAG"), "").unwrap();
+        let real = program::find(None).unwrap();
+        let text = format!("#!/bin/sh\ntee -a $0.log | {}\n", real.display());
+        write_script(&path.join("program"), &text);
+        assert!(Command::new("touch").args(["-d", "2020-01-01"]).arg(path.join("program")).status().unwrap().success());
+        let within = path.join(within);
+        Checked { folder, within }
+    }
+
+    fn wanted(&self) -> Wanted {
+        Wanted { path: self.within.clone(), no_std: true, ..Wanted::default() }
+    }
+
+    /// What `check` tells, but for the time, and how often the program resolved.
+    fn check(&self) -> (Vec<Value>, usize) {
+        let log = self.folder.path().join("program.log");
+        std::fs::write(&log, "").unwrap();
+        let made = Command::new(env!("CARGO_BIN_EXE_cargo-nogsimat"))
+            .args(["nogsimat", "check", "--no-std", "--json", "--program"])
+            .arg(self.folder.path().join("program"))
+            .arg(&self.within)
+            .env_remove("CARGO_TARGET_DIR")
+            .current_dir(self.folder.path())
+            .output()
+            .unwrap();
+        let lines = String::from_utf8_lossy(&made.stdout).into_owned();
+        let mut told: Vec<Value> = lines.lines().map(|it| serde_json::from_str(it).unwrap()).collect();
+        told.last_mut().unwrap()["milliseconds"] = Value::Null;
+        let given = std::fs::read_to_string(&log).unwrap();
+        (told, given.lines().filter(|it| *it == "{\"do\":\"refresh\"}").count())
+    }
+
+    /// How many errors, nodes, paths that aren't judged, and uses of macros that aren't run a check from nothing tells of.
+    fn checked_anew(&self) -> [usize; 4] {
+        let crates = Crates::read(&self.wanted()).unwrap();
+        let mut space = Workspace::open_brief(crates, &program::find(None).unwrap(), None, |_, _, _| {}).unwrap();
+        let report = space.report().unwrap();
+        [report.diagnostics.len(), space.counts().nodes, report.unjudged, report.not_run.values().sum()]
+    }
+
+    /// Whether what was handed in was handed in again; what is told is right.
+    fn is_handed_in_again(&self, why: &str) -> bool {
+        let (told, resolved) = self.check();
+        let last = told.last().unwrap();
+        let number = |it: &Value| it.as_u64().unwrap() as usize;
+        let uses = last["not_run"].as_array().unwrap().iter().map(|it| number(&it["uses"])).sum();
+        let made = [number(&last["errors"]), number(&last["nodes"]), number(&last["unjudged"]), uses];
+        assert_eq!(made, self.checked_anew(), "{why}");
+        assert_eq!(told.len() - 1, made[0], "{why}");
+        // The same again starts nothing.
+        assert_eq!(self.check(), (told, 0), "{why}");
+        resolved == 1
+    }
+
+    fn write(&self, name: &str, text: &str) {
+        std::fs::write(self.within.join(name), text).unwrap();
+    }
+}
+
+const ROOT: &str = "mod a;\nmod b;\npub use a::f;\nmacro_rules! m { () => { pub struct M; } }\nm!();\n\
+    #[macro_export] macro_rules! one { () => { pub struct One; } }\n#[macro_export] macro_rules! two { () => { pub struct Two; } }\n\
+    b::chosen! {}\nuse crate::a::Later as _;\n";
+const A: &str = "pub fn f() {}\npub struct Later;\npub mod k { pub struct Deep; }\n";
+const B: &str = "pub use crate::one as chosen;\npub use crate::a::k::*;\n";
+
+/// Each edit of what is behind the texts above, and whether the rest of what was handed in is of use behind it.
+const EDITS: [(&str, &str, &str, bool); 22] = [
+    ("src/a.rs", "", "pub fn more() {}\n", true),
+    ("src/a.rs", "", "use crate::M; pub use self::k::Deep as Here; pub struct S(u8, pub u16);\n", true),
+    ("src/a.rs", "pub fn f() {}", "pub fn f() { more(); } const N: usize = 1;", true),
+    ("src/a.rs", "pub fn f() {}", "pub const f: u8 = 1;", true),
+    ("src/a.rs", "", "pub enum E { A } use self::E::A;\n", true),
+    ("src/a.rs", "", "#[derive(Clone)] pub struct T; #[inline] fn g() {}\n", true),
+    ("src/b.rs", "", "pub struct Deep;\n", true),
+    // An error.
+    ("src/a.rs", "", "use crate::nothing;\n", false),
+    ("src/a.rs", "", "pub enum E { A } use self::E::B;\n", false),
+    ("src/a.rs", "pub fn f() {}", "fn none() {}", false),
+    ("src/a.rs", "", "fn {\n", false),
+    ("src/a.rs", "", "use u8::nothing;\n", false),
+    ("src/a.rs", "", "pub struct k2; mod x { use super::k2::y; }\n", false),
+    // What a walk looks at: modules, macros, calls, blocks, attributes that may be macros, globs.
+    ("src/a.rs", "", "pub mod l {}\n", false),
+    ("src/a.rs", "", "macro_rules! n { () => {} }\n", false),
+    ("src/a.rs", "", "m!();\n", false),
+    ("src/a.rs", "pub fn f() {}", "pub fn f() { use crate::M; }", false),
+    ("src/a.rs", "", "use std::fmt as Debug;\n", false),
+    ("src/b.rs", "", "use crate::*;\n", false),
+    // Another macro is reached.
+    ("src/b.rs", "crate::one", "crate::two", false),
+    ("src/b.rs", "pub use crate::one as chosen;", "pub use crate::a::chosen;", false),
+    ("src/lib.rs", "use crate::a::Later as _;", "pub struct Later; use crate::b::Deep as D;", true),
+];
+
+#[test]
+fn what_was_handed_in_is_kept() {
+    let texts = [("src/lib.rs", ROOT), ("src/a.rs", A), ("src/b.rs", B)];
+    let package = Checked::new(package(&texts), "");
+    for (name, from, to, is_again) in EDITS {
+        for (name, text) in texts {
+            package.write(name, text);
+        }
+        assert!(package.check().0.len() == 1, "{:?}", package.check());
+        let text = texts.iter().find(|it| it.0 == name).unwrap().1;
+        let edited = if from.is_empty() { format!("{text}{to}") } else { text.replace(from, to) };
+        assert_ne!(edited, text);
+        package.write(name, &edited);
+        assert_eq!(package.is_handed_in_again(to), is_again, "{name}: {to}");
+    }
+}
+
+/// What is written into files of the example at random.
+const LINES: [&str; 14] = [
+    "pub fn more() {}",
+    "pub struct More(u8);",
+    "use crate::price::Price as Cost;",
+    "use crate::model::*;",
+    "use crate::none;",
+    "#[derive(codec::Codec)] struct Coded;",
+    "#[codec::traced] fn traced() {}",
+    "macro_rules! local { () => { struct Local; } }",
+    "mod inner { pub struct Inner; }",
+    "use self::inner::Inner;",
+    "fn f() { use crate::model::Order; }",
+    "pub use std::collections::HashMap as Map;",
+    "pub enum Kind { One, Two }",
+    "use self::Kind::Two;",
+];
+
+/// The example, of which one package is asked for, so that it stands on the others.
+#[test]
+fn random_items() {
+    let package = Checked::new(market(), "shop");
+    let report = std::fs::read_to_string(package.within.join("src/report.rs")).unwrap();
+    package.write("src/report.rs", &report.replace(", Rebate", ""));
+    let (mut dice, mut again) = (Dice(7), 0);
+    let names = ["src/lib.rs", "src/model.rs", "src/price.rs", "src/report.rs", "src/report/table.rs"];
+    let texts: Vec<(&str, String)> = names.map(|it| (it, read(&package.within.join(it)))).into_iter().collect();
+    for round in 0..24 {
+        let count = 1 + dice.below(2);
+        let added: Vec<(usize, usize)> =
+            (0..count).map(|_| (dice.below(texts.len()), dice.below(LINES.len()))).collect();
+        for (at, (name, text)) in texts.iter().enumerate() {
+            let more: String = added.iter().filter(|it| it.0 == at).map(|it| format!("{}\n", LINES[it.1])).collect();
+            package.write(name, &format!("{text}{more}"));
+        }
+        again += usize::from(package.is_handed_in_again(&format!("round {round}: {added:?}")));
+    }
+    // Some edits leave alone what a walk looks at, others don't.
+    assert!((1..24).contains(&again), "{again}");
+}
+
+fn read(path: &Path) -> String {
+    std::fs::read_to_string(path).unwrap()
+}
