@@ -16,7 +16,7 @@ use Rattle.hir_nameres.specs.HirDefMapRules.Overlay.{Maps, Placed, entry_in, hol
 use Rattle.hir_nameres.specs.HirDefMapRules.Scoping.Segments.{variant_in}
 use Rattle.hir_nameres.specs.HirDefMapRules.State.{Map, ModuleValue, Variants, at_name, changed_at, entry_of, module_at, numbered, variants_at, with_module_scope}
 use Rattle.hir_nameres.specs.HirDefMapRules.State.{with_scope}
-use Rattle.hir_nameres.proofs.HirDefMapRules.Grown.{frame_of-changed}
+use Rattle.hir_def_map_rules.proofs.Grown.{frame_of-changed}
 use Rattle.hir_def_map_laws.specs.ReadLaw.{DiffersInScopes}
 use Rattle.hir_glob_imports.specs.Keys.{is_slot, same_slot, slot_at}
 use Rattle.hir_glob_imports.specs.View.{ChangesOnly, bound_in}

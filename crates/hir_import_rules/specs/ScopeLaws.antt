@@ -30,7 +30,7 @@ use Rattle.hir_nameres.specs.HirPerNs.declared.visibility.Visibility.{Visibility
 use Rattle.hir_nameres.specs.HirPerNs.declared.imports.ImportOrExternCrate.TheVariants as ways
 use Rattle.hir_nameres.specs.HirPerNs.declared.imports.ImportOrGlob.TheVariants as value_ways
 use Rattle.hir_nameres.specs.HirPerNs.declared.item_in_ns.ItemInNs.TheVariants as in_ns
-use Rattle.hir_nameres.proofs.HirScope.AfterPush.{binding_of-pushed_by_glob, binding_of-pushed_other, item_at-with_entry, item_at-with_entry_other}
+use Rattle.hir_scope.proofs.AfterPush.{binding_of-pushed_by_glob, binding_of-pushed_other, item_at-with_entry, item_at-with_entry_other}
 use Rattle.hir_glob_imports.specs.Keys.{slot_at}
 use Rattle.hir_glob_imports.specs.declared.edge.Bound.{Bound}
 use Rattle.hir_glob_imports.specs.declared.edge.Key.{Key}
