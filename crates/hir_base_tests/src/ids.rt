@@ -228,6 +228,15 @@ fn styles_of_macros(rt: HostRuntime) {
     }
 }
 
+/// All styles are each of them.
+#[test]
+fn all_styles(rt: HostRuntime) {
+    let all = MacroCallStyles::all();
+    assert!(rt; all.contains(MacroCallStyles::FN_LIKE));
+    assert!(rt; all.contains(MacroCallStyles::ATTR));
+    assert!(rt; all.contains(MacroCallStyles::DERIVE));
+}
+
 /// A procedural macro has its own.
 #[test]
 fn styles_of_procedural_macros(rt: HostRuntime) {

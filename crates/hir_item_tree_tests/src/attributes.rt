@@ -122,6 +122,14 @@ fn attrs(rt: HostRuntime) -> Result<(), Fail> {
     are_left(&rt, rt.alloc(), ATTRS)
 }
 
+/// Where nothing is collected, there is no attribute and no condition.
+#[test]
+fn nothing_collected(rt: HostRuntime) {
+    let none = AttrsOrCfg::empty(rt.alloc());
+    assert!(rt; none.attrs().as_slice().len() == 0);
+    assert!(rt; none.is_enabled());
+}
+
 /// What is left of the first, merged with what is left of the second.
 fn merged(alloc: Global, first: &str, second: &str) -> Result<AttrsOrCfg, Fail> {
     let second = left(alloc, second, false)?;

@@ -1,8 +1,8 @@
-//! What a crate's attributes say, beside its calls.
+//! A crate's edition and what its attributes say, beside its calls.
 
 use crate::calls::{begun, edit};
 use hir_def_map::nameres::DefMap;
-use hir_session::{Crate, Name, Session};
+use hir_session::{Crate, Edition, Name, Session};
 use std::alloc::Global;
 use std::process::Abort;
 use std::test::Fail;
@@ -25,6 +25,7 @@ fn refreshed(alloc: Global) -> Result<Session, Fail> {
 }
 
 fn has_attributes(rt: &impl Abort, alloc: Global, map: &DefMap) -> Result<(), Fail> {
+    assert!(rt; map.edition() == Edition::Edition2021);
     assert!(rt; map.recursion_limit() == 4);
     assert!(rt; map.is_no_std(), "without the standard library");
     assert!(rt; map.is_no_core(), "and without the core library");
@@ -38,7 +39,7 @@ fn has_attributes(rt: &impl Abort, alloc: Global, map: &DefMap) -> Result<(), Fa
     Ok(())
 }
 
-/// What a crate's attributes say stands beside its calls.
+/// A crate's edition and what its attributes say stand beside its calls.
 #[test]
 fn attributes_beside_calls(rt: HostRuntime) -> Result<(), Fail> {
     let session = refreshed(rt.alloc())?;
