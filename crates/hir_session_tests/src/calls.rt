@@ -11,7 +11,7 @@ use std::alloc::Global;
 use std::process::Abort;
 use std::test::Fail;
 
-pub const CRATE: &str = r#"{"do":"crates","crates":[{"edition":"2021","root":"lib.rs"}]}"#;
+const CRATE: &str = r#"{"do":"crates","crates":[{"edition":"2021","root":"lib.rs"}]}"#;
 
 /// Crate 0 depends on crate 1.
 const LATE: &str = r#"{"do":"crates","crates":[

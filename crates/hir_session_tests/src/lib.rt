@@ -8,6 +8,4 @@ mod attributes;
 #[cfg(test)]
 mod calls;
 #[cfg(test)]
-mod items;
-#[cfg(test)]
 mod library;

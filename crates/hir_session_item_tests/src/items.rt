@@ -1,14 +1,15 @@
 //! The items of traits and impls.
 
-use crate::calls::{CRATE, begun, edit};
 use hir_base::ast_id::AstKind;
 use hir_session::{
     AssocItem, Crate, ImplItemsError, Items, ModPath, Place, Session, SyntaxId, TraitItemsError,
 };
-use hir_wire::{SourceCall, SourceCallKind, SourceKind};
+use hir_wire::{Command, SourceCall, SourceCallKind, SourceKind, read_command};
 use std::alloc::Global;
 use std::process::Abort;
 use std::test::Fail;
+
+const CRATE: &str = r#"{"do":"crates","crates":[{"edition":"2021","root":"lib.rs"}]}"#;
 
 /// `macro_rules! foo {} pub trait T { fn f(); foo!(k); type A; } struct S; impl S { fn f() {} }`
 const FILE: &str = r#"{"do":"set file","file":"lib.rs","unit":{"nodes":[
@@ -26,11 +27,18 @@ const ENTRY: &str =
     r#"{"do":"set expansion","key":{"caller":0,"crate":0,"text":"foo","call":"bang","input":"k"},
 "unit":{"nodes":[{"kind":"Fn","id":[1,0],"name":"g"}]}}"#;
 
-/// A session over the file, refreshed.
+/// A session over the file and the entry, refreshed.
 fn refreshed(alloc: Global) -> Result<Session, Fail> {
-    let mut session = begun(alloc, CRATE)?;
-    edit(alloc, &mut session, FILE)?;
-    edit(alloc, &mut session, ENTRY)?;
+    let Ok(Command::Crates(crates)) = read_command(alloc, CRATE.as_bytes()) else {
+        return Err(Fail::new("crates"));
+    };
+    let mut session = Session::new(alloc, crates)?;
+    for line in [FILE, ENTRY] {
+        let Ok(Command::Edit(edit)) = read_command(alloc, line.as_bytes()) else {
+            return Err(Fail::new("an edit"));
+        };
+        session.apply(alloc, edit)?;
+    }
     session.refresh(alloc)?;
     Ok(session)
 }
