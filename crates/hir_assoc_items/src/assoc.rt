@@ -3,9 +3,9 @@ ghost use Rattle.std.specs.Prelude.{◌≡◌, List};
 ghost use Rattle.std.specs.Iterator.{YieldsFirst, item_count};
 ghost use Rattle.hir_assoc_items.specs.Readers.{as_function, as_item, as_type, first_named, types_among};
 
-use hir_collector_rules::hir_base::ast_id::{AstId, MacroCallId};
-use hir_collector_rules::hir_base::ids::{AssocItemId, FunctionId, TypeAliasId};
-use hir_collector_rules::hir_base::name::Name;
+use hir_base::ast_id::{AstId, MacroCallId};
+use hir_base::ids::{AssocItemId, FunctionId, TypeAliasId};
+use hir_base::name::Name;
 use std::marker::Model;
 
 /// The items of a trait.

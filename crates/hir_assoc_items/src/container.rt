@@ -5,13 +5,13 @@ ghost use Rattle.hir_assoc_items.specs.Steps.{container_view};
 ghost use Rattle.hir_assoc_items.specs.Written.{written_view};
 
 use crate::written::{AssocKind, Written};
-use hir_collector_rules::hir_base::ids::{
+use hir_base::ids::{
     AssocItemId, ConstId, Crate, FunctionId, HasModule, ItemContainerId, ItemLoc, ModuleId,
     TypeAliasId,
 };
-use hir_collector_rules::hir_base::macro_kind::MacroId;
-use hir_collector_rules::hir_base::mod_path::ModPath;
-use hir_collector_rules::hir_base::name::Name;
+use hir_base::macro_kind::MacroId;
+use hir_base::mod_path::ModPath;
+use hir_base::name::Name;
 use hir_collector_rules::hir_nameres::def_maps::DefMaps;
 use hir_collector_rules::hir_nameres::nameres::local_def_map::LocalDefMap;
 use hir_collector_rules::hir_nameres::nameres::path_resolution::{

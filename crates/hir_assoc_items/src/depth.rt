@@ -3,9 +3,9 @@ ghost use Rattle.std.specs.Prelude.{◌≡◌};
 ghost use Rattle.hir_collector_rules.specs.HirDefMapRules.Diagnostics.{call_node};
 ghost use Rattle.hir_assoc_items.specs.Depth.{call_around, expansions_around, most_around};
 
-use hir_collector_rules::hir_base::ast_id::{AstId, BlockId, HirFileId};
-use hir_collector_rules::hir_base::macro_kind::MacroCallKind;
-use hir_collector_rules::hir_tables::Tables;
+use hir_base::ast_id::{AstId, BlockId, HirFileId};
+use hir_base::macro_kind::MacroCallKind;
+use hir_tables::Tables;
 
 /// The node of a call.
 fn node_of(call: MacroCallKind) -> AstId

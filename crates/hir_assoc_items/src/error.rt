@@ -1,6 +1,6 @@
 //! Why associated items are not answered.
 
-use hir_collector_rules::hir_base::locations::LocationsError;
+use hir_base::locations::LocationsError;
 use std::alloc::{AllocError, AllocFailed};
 use thiserror::Error;
 

@@ -12,18 +12,18 @@ ghost use Rattle.hir_assoc_items.specs.Steps.{SeesCall, container_view};
 use crate::container::Container;
 use crate::error::AssocItemsError;
 use crate::sources::{input_at, is_meant, text_at};
-use hir_collector_rules::hir_base::ast_id::{AstId, HirFileId, MacroCallId};
-use hir_collector_rules::hir_base::ids::{Crate, HasModule};
-use hir_collector_rules::hir_base::macro_kind::{
+use hir_base::ast_id::{AstId, HirFileId, MacroCallId};
+use hir_base::ids::{Crate, HasModule};
+use hir_base::macro_kind::{
     CallStyle, ExpansionKey, MacroCallKind, MacroCallLoc, MacroId, MacroText,
 };
-use hir_collector_rules::hir_base::text::Text;
-use hir_collector_rules::hir_item_tree::source_tree::SourceTree;
-use hir_collector_rules::hir_item_tree::tree_id::{TreeId, TreeKey};
+use hir_base::text::Text;
 use hir_collector_rules::hir_nameres::def_maps::DefMaps;
-use hir_collector_rules::hir_tables::Tables;
 use hir_collector_rules::source_database::{ExpansionLook, SourceDatabase};
 use hir_collector_start::sources::source_at;
+use hir_item_tree::source_tree::SourceTree;
+use hir_item_tree::tree_id::{TreeId, TreeKey};
+use hir_tables::Tables;
 use std::alloc::{AllocError, Global};
 use std::rc::Rc;
 

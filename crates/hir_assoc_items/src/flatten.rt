@@ -14,18 +14,18 @@ use crate::container::Container;
 use crate::error::AssocItemsError;
 use crate::expansions::{Expansion, call_tree, look_at_call};
 use crate::written::{Written, of_tree};
-use hir_collector_rules::hir_base::ast_id::{AstId, MacroCallId};
-use hir_collector_rules::hir_base::cfg::CfgExpr;
-use hir_collector_rules::hir_base::cfg_options::CfgOptions;
-use hir_collector_rules::hir_base::ids::{AssocItemId, Crate};
-use hir_collector_rules::hir_base::macro_kind::{MacroCallKind, MacroId};
-use hir_collector_rules::hir_base::mod_path::ModPath;
-use hir_collector_rules::hir_base::name::Name;
-use hir_collector_rules::hir_base::text::Text;
+use hir_base::ast_id::{AstId, MacroCallId};
+use hir_base::cfg::CfgExpr;
+use hir_base::cfg_options::CfgOptions;
+use hir_base::ids::{AssocItemId, Crate};
+use hir_base::macro_kind::{MacroCallKind, MacroId};
+use hir_base::mod_path::ModPath;
+use hir_base::name::Name;
+use hir_base::text::Text;
 use hir_collector_rules::hir_nameres::nameres::diagnostics::DefDiagnostic;
-use hir_collector_rules::hir_tables::Tables;
 use hir_collector_rules::source_database::SourceDatabase;
 use hir_collector_rules::start::STEP_LIMIT;
+use hir_tables::Tables;
 use std::alloc::{AllocError, Global};
 
 /// The items of a list with their names, its calls that were expanded, and what went wrong.

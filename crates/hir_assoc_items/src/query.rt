@@ -14,16 +14,16 @@ use crate::depth::expansions_around;
 use crate::error::AssocItemsError;
 use crate::flatten::{Listing, flatten};
 use crate::written::{Written, of_rows};
-use hir_collector_rules::hir_base::ast_id::AstKind;
-use hir_collector_rules::hir_base::ids::{ImplId, ItemContainerId, ItemLoc, ModuleId, TraitId};
-use hir_collector_rules::hir_item_tree::check::NodeId;
-use hir_collector_rules::hir_item_tree::tree_id::{TreeId, TreeKey};
+use hir_base::ast_id::AstKind;
+use hir_base::ids::{ImplId, ItemContainerId, ItemLoc, ModuleId, TraitId};
 use hir_collector_rules::hir_nameres::def_maps::DefMaps;
 use hir_collector_rules::hir_nameres::nameres::diagnostics::DefDiagnostics;
 use hir_collector_rules::hir_nameres::nameres::local_def_map::LocalDefMap;
-use hir_collector_rules::hir_tables::Tables;
 use hir_collector_rules::source_database::SourceDatabase;
 use hir_collector_start::sources::source_at;
+use hir_item_tree::check::NodeId;
+use hir_item_tree::tree_id::{TreeId, TreeKey};
+use hir_tables::Tables;
 use std::alloc::{AllocError, Global};
 
 /// The items that are written for a trait or an impl, in the source as it is now.

@@ -3,15 +3,15 @@ ghost use Rattle.std.specs.Prelude.{◌≡◌, ◌↔◌, IfOk, IsTrue, option_m
 ghost use Rattle.hir_collector_rules.specs.HirItemTree.SyntaxIds.{node_id};
 ghost use Rattle.hir_collector_rules.specs.Keys.{IsMeant, input_at, macro_key, macro_tree, node_tree, source_in, text_at, text_of};
 
-use hir_collector_rules::hir_base::ast_id::{AstId, AstKind};
-use hir_collector_rules::hir_base::ids::Crate;
-use hir_collector_rules::hir_base::macro_kind::{MacroId, MacroLoc};
-use hir_collector_rules::hir_base::text::Text;
-use hir_collector_rules::hir_item_tree::check::NodeId;
-use hir_collector_rules::hir_item_tree::tree_id::{TreeId, TreeKey};
-use hir_collector_rules::hir_tables::Tables;
+use hir_base::ast_id::{AstId, AstKind};
+use hir_base::ids::Crate;
+use hir_base::macro_kind::{MacroId, MacroLoc};
+use hir_base::text::Text;
 use hir_collector_rules::source_database::SourceDatabase;
 use hir_collector_start::sources::source_at;
+use hir_item_tree::check::NodeId;
+use hir_item_tree::tree_id::{TreeId, TreeKey};
+use hir_tables::Tables;
 use std::alloc::{AllocError, Global};
 
 /// The same text without a copy, if there is one.

@@ -7,15 +7,15 @@ ghost use Rattle.hir_collector_rules.specs.HirItemTree.Kinds.{kind_content};
 ghost use Rattle.hir_collector_rules.specs.HirItemTree.SideLists.{row_item};
 ghost use Rattle.hir_assoc_items.specs.Written.{content_kind, item_node, node_kind, path_called, top_items, written, written_content, written_found, written_view};
 
-use hir_collector_rules::hir_base::ast_id::{AstId, AstKind, SyntaxId};
-use hir_collector_rules::hir_base::cfg::CfgExpr;
-use hir_collector_rules::hir_base::mod_path::ModPath;
-use hir_collector_rules::hir_base::name::Name;
-use hir_collector_rules::hir_item_tree::attrs::AttrsOrCfg;
-use hir_collector_rules::hir_item_tree::item_tree::ItemTree;
-use hir_collector_rules::hir_item_tree::kinds::{ModItemKind, RawVisibilityId, kind_of_row};
-use hir_collector_rules::hir_item_tree::rows::{ModItemId, Row};
-use hir_collector_rules::hir_item_tree::tree_id::TreeId;
+use hir_base::ast_id::{AstId, AstKind, SyntaxId};
+use hir_base::cfg::CfgExpr;
+use hir_base::mod_path::ModPath;
+use hir_base::name::Name;
+use hir_item_tree::attrs::AttrsOrCfg;
+use hir_item_tree::item_tree::ItemTree;
+use hir_item_tree::kinds::{ModItemKind, RawVisibilityId, kind_of_row};
+use hir_item_tree::rows::{ModItemId, Row};
+use hir_item_tree::tree_id::TreeId;
 use std::alloc::{AllocError, Global};
 
 /// What an associated item is.

@@ -22,15 +22,13 @@ ghost use Rattle.hir_collector_state.specs.HirCollectorRules.TreeReads.{head_of}
 ghost use Rattle.hir_collector_state.specs.Waiting.{IsNoted};
 
 use crate::builtin_attr::is_inert_by_name;
+use hir_base::ast_id::{AstId, AttrId, MacroCallId};
+use hir_base::ids::{AdtId, Crate, EnumId, ItemLoc, StructId, UnionId};
+use hir_base::macro_kind::{CallStyle, ExpansionKey, MacroCallKind, MacroCallLoc, MacroText};
+use hir_base::mod_path::{ModPath, PathKind};
+use hir_base::name::Name;
+use hir_base::text::Text;
 use hir_collector_state::def_collector::DefCollector;
-use hir_collector_state::hir_base::ast_id::{AstId, AttrId, MacroCallId};
-use hir_collector_state::hir_base::ids::{AdtId, Crate, EnumId, ItemLoc, StructId, UnionId};
-use hir_collector_state::hir_base::macro_kind::{
-    CallStyle, ExpansionKey, MacroCallKind, MacroCallLoc, MacroText,
-};
-use hir_collector_state::hir_base::mod_path::{ModPath, PathKind};
-use hir_collector_state::hir_base::name::Name;
-use hir_collector_state::hir_base::text::Text;
 use hir_collector_state::hir_collector_rules::crate_attrs::is_keyed;
 use hir_collector_state::hir_collector_rules::macro_directive::{
     MacroDirective, MacroDirectiveKind, WaitingItem,
@@ -39,15 +37,15 @@ use hir_collector_state::hir_collector_rules::shared_tree::SharedTree;
 use hir_collector_state::hir_collector_rules::site::{ItemHead, Site};
 use hir_collector_state::hir_collector_rules::start::StepError;
 use hir_collector_state::hir_collector_start::helpers::is_helper;
-use hir_collector_state::hir_item_tree::attrs::Attr;
-use hir_collector_state::hir_item_tree::kinds::ModItemKind;
-use hir_collector_state::hir_item_tree::raw_attr::{AttrInput, TokenTree};
-use hir_collector_state::hir_item_tree::rows::ModItemId;
-use hir_collector_state::hir_item_tree::source_tree::SourceTree;
 use hir_collector_state::hir_nameres::nameres::DefMap;
 use hir_collector_state::hir_nameres::nameres::diagnostics::DefDiagnostic;
-use hir_collector_state::hir_tables::Tables;
-use hir_collector_state::hir_use_tree::use_tree::place_after;
+use hir_item_tree::attrs::Attr;
+use hir_item_tree::kinds::ModItemKind;
+use hir_item_tree::raw_attr::{AttrInput, TokenTree};
+use hir_item_tree::rows::ModItemId;
+use hir_item_tree::source_tree::SourceTree;
+use hir_tables::Tables;
+use hir_use_tree::use_tree::place_after;
 use std::alloc::{AllocError, Global};
 use std::rc::Rc;
 

@@ -3,7 +3,7 @@ ghost use Rattle.std.specs.Prelude.{◌≡◌};
 ghost use Rattle.hir_collector_state.specs.HirIds.Display.{is_one_of};
 ghost use Rattle.hir_collector_state.specs.HirCollectorRules.BuiltinAttributes.{testing_and_macros, lints_and_documentation, crate_properties, symbols_and_code, is_listed, is_builtin, is_inert};
 
-use hir_collector_state::hir_base::mod_path::{ModPath, PathKind};
+use hir_base::mod_path::{ModPath, PathKind};
 
 /// Attributes of tests, and of macros.
 fn is_of_tests_or_macros(name: &str) -> bool

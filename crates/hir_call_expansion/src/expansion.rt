@@ -16,13 +16,11 @@ ghost use Rattle.hir_collector_state.specs.HirCollectorRules.Steps.{failing, key
 ghost use Rattle.hir_collector_state.specs.HirCollectorRules.Workspace.{entry_look};
 ghost use Rattle.hir_collector_state.specs.Waiting.{IsNoted};
 
+use hir_base::ast_id::{AstId, AstKind, HirFileId, MacroCallId};
+use hir_base::ids::{Crate, HasModule};
+use hir_base::macro_kind::{CallStyle, ExpansionKey, MacroCallLoc, MacroId, MacroLoc, MacroText};
+use hir_base::text::Text;
 use hir_collector_state::def_collector::DefCollector;
-use hir_collector_state::hir_base::ast_id::{AstId, AstKind, HirFileId, MacroCallId};
-use hir_collector_state::hir_base::ids::{Crate, HasModule};
-use hir_collector_state::hir_base::macro_kind::{
-    CallStyle, ExpansionKey, MacroCallLoc, MacroId, MacroLoc, MacroText,
-};
-use hir_collector_state::hir_base::text::Text;
 use hir_collector_state::hir_collector_rules::macro_directive::MacroDirective;
 use hir_collector_state::hir_collector_rules::site::Site;
 use hir_collector_state::hir_collector_rules::source_database::{
@@ -30,12 +28,12 @@ use hir_collector_state::hir_collector_rules::source_database::{
 };
 use hir_collector_state::hir_collector_rules::start::StepError;
 use hir_collector_state::hir_collector_start::sources::source_at;
-use hir_collector_state::hir_item_tree::check::NodeId;
-use hir_collector_state::hir_item_tree::source_tree::SourceTree;
-use hir_collector_state::hir_item_tree::tree_id::{TreeId, TreeKey};
 use hir_collector_state::hir_nameres::nameres::diagnostics::DefDiagnostic;
 use hir_collector_state::hir_nameres::world::part::WorldPart;
-use hir_collector_state::hir_tables::Tables;
+use hir_item_tree::check::NodeId;
+use hir_item_tree::source_tree::SourceTree;
+use hir_item_tree::tree_id::{TreeId, TreeKey};
+use hir_tables::Tables;
 use std::alloc::{AllocError, Global};
 use std::rc::Rc;
 

@@ -10,8 +10,8 @@ ghost use Rattle.hir_import_resolution.specs.Inner.Queue.{KeepsWatched, slot_cmp
 ghost use Rattle.hir_import_rules.specs.Changed.{IsThere};
 ghost use Rattle.hir_call_queue.specs.Waking.{IsWatching, IsWoken, KeepsItems, is_apart, watches_item, with_worklist, worklist_of};
 
+use hir_base::ast_id::AstId;
 use hir_import_growth::Changed;
-use hir_nameres::hir_base::ast_id::AstId;
 use hir_nameres::nameres::path_resolution::slots::{PathSlots, Slot, SlotRef};
 use hir_worklist::{Watchers, Worklist};
 use std::alloc::{AllocError, Global};

@@ -16,12 +16,15 @@ ghost use Rattle.hir_mod_collector.specs.HirCollectorRules.Derivation.{IsSpent};
 ghost use Rattle.hir_mod_collector.specs.HirCollectorRules.Moves.{OnceGrown};
 ghost use Rattle.hir_mod_collector.specs.HirCollectorImports.Outside.{begins_inside, begins_outside};
 
+use hir_base::ast_id::FileId;
+use hir_base::cfg_options::CfgOptions;
+use hir_base::ids::{MapId, ModuleId};
 use hir_def_map::nameres::local_def_map::LocalDefMap;
 use hir_def_map::world::World;
 use hir_def_map::world::part::WorldPart;
-use hir_mod_collector::hir_base::ast_id::FileId;
-use hir_mod_collector::hir_base::cfg_options::CfgOptions;
-use hir_mod_collector::hir_base::ids::{MapId, ModuleId};
+use hir_item_tree::item_tree::ItemTree;
+use hir_item_tree::source_tree::SourceTree;
+use hir_item_tree::tree_id::{TreeId, TreeKey};
 use hir_mod_collector::hir_collector_rules::site::Site;
 use hir_mod_collector::hir_collector_rules::source_database::{
     Config, CrateRoot, Dependency, SourceDatabase,
@@ -31,13 +34,10 @@ use hir_mod_collector::hir_collector_start::sources::source_at;
 use hir_mod_collector::hir_collector_start::start_data::{start_data, start_local};
 use hir_mod_collector::hir_collector_state::def_collector::DefCollector;
 use hir_mod_collector::hir_crate_graph::crate_set::CrateSet;
-use hir_mod_collector::hir_item_tree::item_tree::ItemTree;
-use hir_mod_collector::hir_item_tree::source_tree::SourceTree;
-use hir_mod_collector::hir_item_tree::tree_id::{TreeId, TreeKey};
-use hir_mod_collector::hir_mod_dir::ModDir;
 use hir_mod_collector::hir_mod_resolution::mod_resolution::file_of_tree;
-use hir_mod_collector::hir_tables::Tables;
 use hir_mod_collector::mod_collector::walk_all;
+use hir_mod_dir::ModDir;
+use hir_tables::Tables;
 use std::alloc::{AllocError, Global};
 use std::rc::Rc;
 

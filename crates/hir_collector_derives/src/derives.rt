@@ -10,10 +10,10 @@ ghost use Rattle.hir_collector_state.specs.HirCollectorRules.Steps.{DerivesBuilt
 ghost use Rattle.hir_collector_state.specs.Waiting.{IsNoted};
 
 use either::Either;
+use hir_base::ast_id::{AstId, MacroCallId};
+use hir_base::macro_kind::{BuiltinDeriveImplId, MacroId};
+use hir_base::name::Name;
 use hir_collector_state::def_collector::DefCollector;
-use hir_collector_state::hir_base::ast_id::{AstId, MacroCallId};
-use hir_collector_state::hir_base::macro_kind::{BuiltinDeriveImplId, MacroId};
-use hir_collector_state::hir_base::name::Name;
 use hir_collector_state::hir_collector_rules::macro_directive::{
     Fate, MacroDirective, MacroDirectiveKind,
 };

@@ -10,9 +10,9 @@ ghost use Rattle.hir_collector_rules.specs.Steps.{Steps};
 ghost use Rattle.hir_collector_state.specs.Waiting.{IsNotedBeside};
 ghost use Rattle.hir_collector_imports.specs.Waiting.{noted_along, noted_name};
 
+use hir_base::name::Name;
 use hir_collector_rules::start::StepError;
 use hir_collector_state::def_collector::DefCollector;
-use hir_collector_state::hir_base::name::Name;
 use hir_collector_state::hir_glob_imports::Slot;
 use hir_collector_state::hir_import_growth::Changed;
 use hir_collector_state::hir_nameres::world::part::WorldPart;

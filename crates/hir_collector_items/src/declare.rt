@@ -14,23 +14,23 @@ ghost use Rattle.hir_collector_state.specs.HirCollectorRules.Moves.{Handles};
 ghost use Rattle.hir_collector_state.specs.Waiting.{IsNoted};
 
 use crate::exports::{declare_exporting, export_at};
-use hir_collector_state::declare::declare;
-use hir_collector_state::def_collector::DefCollector;
-use hir_collector_state::hir_base::ids::{
+use hir_base::ids::{
     AdtId, ConstId, FunctionId, ItemLoc, ModuleDefId, ModuleId, StaticId, StructId, TraitId,
     TypeAliasId, UnionId,
 };
-use hir_collector_state::hir_base::name::Name;
+use hir_base::name::Name;
+use hir_collector_state::declare::declare;
+use hir_collector_state::def_collector::DefCollector;
 use hir_collector_state::hir_collector_rules::declaration::Declaration;
 use hir_collector_state::hir_collector_rules::site::{ItemHead, Site};
 use hir_collector_state::hir_collector_rules::start::{STEP_LIMIT, StepError};
 use hir_collector_state::hir_import_growth::visibilities::lesser;
-use hir_collector_state::hir_item_tree::kinds::Struct;
-use hir_collector_state::hir_item_tree::raw_visibility::RawVisibility;
-use hir_collector_state::hir_item_tree::shape::FieldsShape;
 use hir_collector_state::hir_nameres::world::part::WorldPart;
 use hir_collector_state::hir_scope::per_ns::{Item, PerNs};
 use hir_collector_state::hir_scope::visibility::Visibility;
+use hir_item_tree::kinds::Struct;
+use hir_item_tree::raw_visibility::RawVisibility;
+use hir_item_tree::shape::FieldsShape;
 
 /// Declares what an item's name stands for as a type.
 fn declare_type(

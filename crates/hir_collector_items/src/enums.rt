@@ -11,21 +11,21 @@ ghost use Rattle.hir_collector_state.specs.HirCollectorRules.Steps.{visit};
 ghost use Rattle.hir_collector_state.specs.HirCollectorRules.Moves.{Handles, OnceGrown};
 ghost use Rattle.hir_collector_state.specs.Waiting.{IsNoted};
 
+use hir_base::ids::{AdtId, EnumId, EnumVariantId, ItemLoc, ModuleDefId};
+use hir_base::name::Name;
 use hir_collector_state::declare::declare;
 use hir_collector_state::def_collector::DefCollector;
-use hir_collector_state::hir_base::ids::{AdtId, EnumId, EnumVariantId, ItemLoc, ModuleDefId};
-use hir_collector_state::hir_base::name::Name;
 use hir_collector_state::hir_collector_rules::declaration::Declaration;
 use hir_collector_state::hir_collector_rules::site::{ItemHead, Site};
 use hir_collector_state::hir_collector_rules::source_database::SourceDatabase;
 use hir_collector_state::hir_collector_rules::start::{STEP_LIMIT, StepError};
 use hir_collector_state::hir_collector_start::sources::source_at;
-use hir_collector_state::hir_item_tree::side_lists::VariantItem;
-use hir_collector_state::hir_item_tree::tree_id::TreeKey;
 use hir_collector_state::hir_nameres::nameres::enum_variants::{EnumVariant, EnumVariants};
 use hir_collector_state::hir_nameres::world::part::WorldPart;
 use hir_collector_state::hir_scope::per_ns::PerNs;
-use hir_collector_state::hir_tables::Tables;
+use hir_item_tree::side_lists::VariantItem;
+use hir_item_tree::tree_id::TreeKey;
+use hir_tables::Tables;
 use std::alloc::{AllocError, Global};
 
 /// A variant of an enum.

@@ -11,24 +11,22 @@ ghost use Rattle.hir_collector_state.specs.HirCollectorRules.State.{core_in, cou
 ghost use Rattle.hir_collector_state.specs.HirCollectorRules.TreeReads.{head_of};
 ghost use Rattle.hir_collector_state.specs.Waiting.{IsNoted};
 
+use hir_base::ids::{FunctionId, ModuleDefId};
+use hir_base::macro_kind::{MacroId, ProcMacroId, ProcMacroLoc, ProcMacroStyle};
+use hir_base::name::Name;
 use hir_collector_state::declare::{bind, declare};
 use hir_collector_state::def_collector::DefCollector;
-use hir_collector_state::hir_base::ids::{FunctionId, ModuleDefId};
-use hir_collector_state::hir_base::macro_kind::{
-    MacroId, ProcMacroId, ProcMacroLoc, ProcMacroStyle,
-};
-use hir_collector_state::hir_base::name::Name;
 use hir_collector_state::hir_collector_rules::crate_attrs::{is_keyed, says};
 use hir_collector_state::hir_collector_rules::declaration::Declaration;
 use hir_collector_state::hir_collector_rules::exported::{Export, ExportedFunction};
 use hir_collector_state::hir_collector_rules::names::cloned;
 use hir_collector_state::hir_collector_rules::site::{ItemHead, Site};
 use hir_collector_state::hir_collector_rules::start::{STEP_LIMIT, StepError};
-use hir_collector_state::hir_item_tree::attrs::Attr;
-use hir_collector_state::hir_item_tree::raw_attr::{AttrInput, TokenTree};
 use hir_collector_state::hir_nameres::nameres::macro_data::MacroData;
 use hir_collector_state::hir_scope::per_ns::PerNs;
 use hir_collector_state::hir_scope::visibility::Visibility;
+use hir_item_tree::attrs::Attr;
+use hir_item_tree::raw_attr::{AttrInput, TokenTree};
 use std::alloc::{AllocError, Global};
 
 /// A derive macro, with its own name and its helpers, if an attribute names one.

@@ -15,27 +15,25 @@ ghost use Rattle.hir_collector_state.specs.HirCollectorRules.Steps.{closing, exp
 ghost use Rattle.hir_collector_state.specs.HirCollectorRules.TreeReads.{head_of};
 ghost use Rattle.hir_collector_state.specs.Waiting.{IsNoted};
 
+use hir_base::ast_id::{AstId, AstKind, SyntaxId};
+use hir_base::ids::{ModuleDefId, ModuleId};
+use hir_base::macro_kind::{Macro2Id, MacroExpander, MacroId, MacroLoc, MacroRulesId};
+use hir_base::name::Name;
 use hir_collector_state::declare::bind;
 use hir_collector_state::def_collector::DefCollector;
-use hir_collector_state::hir_base::ast_id::{AstId, AstKind, SyntaxId};
-use hir_collector_state::hir_base::ids::{ModuleDefId, ModuleId};
-use hir_collector_state::hir_base::macro_kind::{
-    Macro2Id, MacroExpander, MacroId, MacroLoc, MacroRulesId,
-};
-use hir_collector_state::hir_base::name::Name;
 use hir_collector_state::hir_collector_rules::crate_attrs::says;
 use hir_collector_state::hir_collector_rules::declaration::Declaration;
 use hir_collector_state::hir_collector_rules::names::cloned;
 use hir_collector_state::hir_collector_rules::site::{ItemHead, Site};
 use hir_collector_state::hir_collector_rules::start::{STEP_LIMIT, StepError};
-use hir_collector_state::hir_item_tree::attrs::AttrsOrCfg;
-use hir_collector_state::hir_item_tree::kinds::{Macro2, MacroRules};
-use hir_collector_state::hir_item_tree::tree_id::TreeId;
 use hir_collector_state::hir_nameres::nameres::diagnostics::DefDiagnostic;
 use hir_collector_state::hir_nameres::nameres::macro_data::MacroData;
 use hir_collector_state::hir_nameres::world::part::WorldPart;
 use hir_collector_state::hir_scope::per_ns::PerNs;
 use hir_collector_state::hir_scope::visibility::Visibility;
+use hir_item_tree::attrs::AttrsOrCfg;
+use hir_item_tree::kinds::{Macro2, MacroRules};
+use hir_item_tree::tree_id::TreeId;
 use std::alloc::AllocError;
 
 /// Whether `macro_rules` binds its macro at the root of the map too.

@@ -5,7 +5,7 @@ ghost use Rattle.hir_collector_rules.specs.Asked.{IsOwnPart};
 ghost use Rattle.hir_collector_rules.specs.Keys.{map_keys};
 
 use crate::source_database::Key;
-use hir_nameres::hir_base::ids::MapId;
+use hir_base::ids::MapId;
 use hir_nameres::hir_crate_graph::crate_set::CrateSet;
 use hir_nameres::hir_crate_graph::crates::Crates;
 use hir_nameres::hir_scope::imports::ImportOrExternCrate;

@@ -4,10 +4,10 @@ ghost use Rattle.hir_item_tree.specs.Attributes.{input_view};
 ghost use Rattle.hir_item_tree.specs.Collected.{numbered};
 ghost use Rattle.hir_collector_rules.specs.CrateTop.{is_keyed, listed_under, name_alone, names_among, names_in, says};
 
+use hir_base::mod_path::{ModPath, PathKind};
+use hir_base::name::Name;
 use hir_item_tree::attrs::Attr;
 use hir_item_tree::raw_attr::{AttrInput, TokenTree};
-use hir_nameres::hir_base::mod_path::{ModPath, PathKind};
-use hir_nameres::hir_base::name::Name;
 use std::alloc::{AllocError, Global};
 
 /// Whether an attribute's path is this name alone.

@@ -1,7 +1,7 @@
 //! What items declare.
 
-use hir_nameres::hir_base::ids::ModuleDefId;
-use hir_nameres::hir_base::name::Name;
+use hir_base::ids::ModuleDefId;
+use hir_base::name::Name;
 use hir_nameres::hir_scope::per_ns::PerNs;
 
 /// A definition with its name, and what the name stands for.

@@ -1,8 +1,8 @@
 //! What functions of a procedural-macro crate export.
 
-use hir_nameres::hir_base::ids::FunctionId;
-use hir_nameres::hir_base::macro_kind::ProcMacroStyle;
-use hir_nameres::hir_base::name::Name;
+use hir_base::ids::FunctionId;
+use hir_base::macro_kind::ProcMacroStyle;
+use hir_base::name::Name;
 use hir_nameres::nameres::macro_data::MacroData;
 
 /// A macro that a function exports: how it may be called, under which name, and the attributes that deriving with it

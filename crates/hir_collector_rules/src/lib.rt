@@ -3,12 +3,8 @@
 
 pub use hir_glob_imports;
 pub use hir_import_rules;
-pub use hir_item_tree;
-pub use hir_mod_dir;
 pub use hir_nameres;
-pub use hir_nameres::{hir_base, hir_crate_graph, hir_scope, hir_textual_scope};
-pub use hir_tables;
-pub use hir_use_tree;
+pub use hir_nameres::{hir_crate_graph, hir_scope, hir_textual_scope};
 
 pub mod collected;
 pub mod crate_attrs;

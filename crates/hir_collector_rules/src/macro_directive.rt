@@ -4,14 +4,14 @@ ghost use Rattle.hir_collector_rules.specs.Calls.{call_kind, call_style, has_exp
 
 use crate::shared_tree::SharedTree;
 use crate::site::Site;
-use hir_item_tree::rows::ModItemId;
-use hir_nameres::hir_base::ast_id::{AstId, AttrId};
-use hir_nameres::hir_base::ids::AdtId;
-use hir_nameres::hir_base::macro_kind::{
+use hir_base::ast_id::{AstId, AttrId};
+use hir_base::ids::AdtId;
+use hir_base::macro_kind::{
     CallStyle, MacroCallKind, MacroCallStyles, MacroExpander, MacroId, macro_styles_from_id,
 };
-use hir_nameres::hir_base::mod_path::ModPath;
-use hir_nameres::hir_base::resolve_mode::MacroSubNs;
+use hir_base::mod_path::ModPath;
+use hir_base::resolve_mode::MacroSubNs;
+use hir_item_tree::rows::ModItemId;
 use std::alloc::AllocError;
 
 /// An item that waits for the macro of one of its attributes.

@@ -1,7 +1,7 @@
 //! Names that the rules themselves speak of, and lists of names.
 ghost use Rattle.std.specs.Prelude.{◌≡◌, IfOk};
 
-use hir_nameres::hir_base::name::Name;
+use hir_base::name::Name;
 use std::alloc::{AllocError, Global};
 
 /// The name that a text is, which has the form of one.

@@ -4,6 +4,8 @@ ghost use Rattle.hir_item_tree.specs.KeptForest.{all_items};
 ghost use Rattle.hir_item_tree.specs.Kinds.{item_head};
 ghost use Rattle.hir_collector_rules.specs.TreeReads.{head_of};
 
+use hir_base::ast_id::{FileId, SyntaxId};
+use hir_base::ids::ExternBlockId;
 use hir_item_tree::attrs::AttrsOrCfg;
 use hir_item_tree::item_tree::ItemTree;
 use hir_item_tree::kinds::RawVisibilityId;
@@ -11,8 +13,6 @@ use hir_item_tree::raw_visibility::RawVisibility;
 use hir_item_tree::rows::ModItemId;
 use hir_item_tree::tree_id::TreeId;
 use hir_mod_dir::ModDir;
-use hir_nameres::hir_base::ast_id::{FileId, SyntaxId};
-use hir_nameres::hir_base::ids::ExternBlockId;
 use std::alloc::AllocError;
 
 /// Where an item is written.

@@ -2,12 +2,12 @@
 ghost use Rattle.std.specs.Prelude.{◌≡◌};
 ghost use Rattle.hir_collector_rules.specs.Start.{block_of, id_of, krate_of, origin_of, root_visibility};
 
+use hir_base::ast_id::{BlockId, EditionedFileId, InFile, SyntaxId};
+use hir_base::ids::{Crate, MapId, ModuleId};
+use hir_base::locations::LocationsError;
 use hir_glob_imports::MAX_STEPS;
 use hir_import_rules::ImportError;
 use hir_item_tree::raw_visibility::VisibilityExplicitness;
-use hir_nameres::hir_base::ast_id::{BlockId, EditionedFileId, InFile, SyntaxId};
-use hir_nameres::hir_base::ids::{Crate, MapId, ModuleId};
-use hir_nameres::hir_base::locations::LocationsError;
 use hir_nameres::hir_scope::visibility::Visibility;
 use hir_nameres::nameres::origin::ModuleOrigin;
 use hir_nameres::nameres::{AddModuleError, BlockInfo};

@@ -3,8 +3,8 @@ ghost use Rattle.std.specs.Prelude.{◌≡◌};
 ghost use Rattle.hir_collector_rules.specs.HirDefMapRules.State.{with_scope};
 ghost use Rattle.hir_collector_rules.specs.Ended.{exporting_scope, without_functions};
 
+use hir_base::ids::{Crate, ModuleDefId};
 use hir_collector_rules::exported::ExportedFunction;
-use hir_collector_rules::hir_base::ids::{Crate, ModuleDefId};
 use hir_collector_rules::hir_nameres::nameres::DefMap;
 use hir_collector_rules::hir_scope::item_scope::ItemScope;
 

@@ -4,14 +4,14 @@ ghost use Rattle.hir_collector_rules.specs.HirItemTree.Attributes.{input_view};
 ghost use Rattle.hir_collector_rules.specs.HirItemTree.Collected.{collected_of, numbered};
 ghost use Rattle.hir_collector_rules.specs.CrateTop.{builtin_tools, crate_data_of, is_keyed, limit_after, limit_by, limit_in, says, with_names};
 
+use hir_base::edition::Edition;
+use hir_base::name::Name;
 use hir_collector_rules::crate_attrs::{is_keyed, listed, says};
-use hir_collector_rules::hir_base::edition::Edition;
-use hir_collector_rules::hir_base::name::Name;
 use hir_collector_rules::hir_crate_graph::crate_set::CrateSet;
-use hir_collector_rules::hir_item_tree::attrs::{Attr, AttrsOrCfg};
-use hir_collector_rules::hir_item_tree::raw_attr::{AttrInput, TokenTree};
 use hir_collector_rules::hir_nameres::nameres::crate_data::DefMapCrateData;
 use hir_collector_rules::names::known_name;
+use hir_item_tree::attrs::{Attr, AttrsOrCfg};
+use hir_item_tree::raw_attr::{AttrInput, TokenTree};
 use std::alloc::{AllocError, Global};
 use std::rc::Rc;
 

@@ -4,19 +4,19 @@ ghost use Rattle.hir_collector_rules.specs.HirBase.Cfg.{cfg_view};
 ghost use Rattle.hir_collector_rules.specs.CrateTop.{with_names};
 ghost use Rattle.hir_collector_rules.specs.Reports.{IsUnconfigured, IsUnresolvedModule, begins_with, call_report, crate_names, crates_among, report_by, reports_of, unresolved_among, unresolved_calls, with_diagnostics};
 
-use hir_collector_rules::hir_base::ast_id::{AstId, AstKind};
-use hir_collector_rules::hir_base::cfg::CfgExpr;
-use hir_collector_rules::hir_base::cfg_options::CfgOptions;
-use hir_collector_rules::hir_base::ids::{ExternCrateId, ModuleId};
-use hir_collector_rules::hir_base::mod_path::PathKind;
-use hir_collector_rules::hir_base::name::Name;
-use hir_collector_rules::hir_base::text::Text;
+use hir_base::ast_id::{AstId, AstKind};
+use hir_base::cfg::CfgExpr;
+use hir_base::cfg_options::CfgOptions;
+use hir_base::ids::{ExternCrateId, ModuleId};
+use hir_base::mod_path::PathKind;
+use hir_base::name::Name;
+use hir_base::text::Text;
 use hir_collector_rules::hir_import_rules::{ImportDirective, ImportSource, Taken};
-use hir_collector_rules::hir_item_tree::shared_path::SharedPath;
-use hir_collector_rules::hir_mod_dir::Candidate;
 use hir_collector_rules::hir_nameres::nameres::DefMap;
 use hir_collector_rules::hir_nameres::nameres::diagnostics::DefDiagnostic;
 use hir_collector_rules::macro_directive::{Fate, MacroDirective};
+use hir_item_tree::shared_path::SharedPath;
+use hir_mod_dir::Candidate;
 use std::alloc::{AllocError, Global};
 use std::collections::BTreeSet;
 

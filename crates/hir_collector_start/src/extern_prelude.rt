@@ -2,8 +2,8 @@
 ghost use Rattle.std.specs.Prelude.{◌≡◌, [], IfOk};
 ghost use Rattle.hir_collector_rules.specs.Preludes.{extern_prelude, is_kept_away, joins};
 
-use hir_collector_rules::hir_base::ids::{MapId, ModuleId};
-use hir_collector_rules::hir_base::name::Name;
+use hir_base::ids::{MapId, ModuleId};
+use hir_base::name::Name;
 use hir_collector_rules::hir_nameres::nameres::crate_data::DefMapCrateData;
 use hir_collector_rules::hir_nameres::nameres::local_def_map::LocalDefMap;
 use hir_collector_rules::source_database::Dependency;

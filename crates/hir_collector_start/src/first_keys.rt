@@ -3,10 +3,10 @@ ghost use Rattle.std.specs.Prelude.{◌≡◌, ◌++◌, ◌∷◌, IfOk, OnOk};
 ghost use Rattle.hir_collector_rules.specs.Keys.{map_key};
 ghost use Rattle.hir_collector_rules.specs.Start.{held_keys, holder_keys, root_key};
 
-use hir_collector_rules::hir_base::ids::{Crate, MapId, ModuleId};
-use hir_collector_rules::hir_item_tree::tree_id::{TreeId, TreeKey};
+use hir_base::ids::{Crate, MapId, ModuleId};
 use hir_collector_rules::source_database::Key;
 use hir_collector_rules::start::Start;
+use hir_item_tree::tree_id::{TreeId, TreeKey};
 use std::alloc::{AllocError, Global};
 
 /// Asks for the maps in which modules lie.

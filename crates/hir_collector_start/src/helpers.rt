@@ -2,9 +2,9 @@
 ghost use Rattle.std.specs.Prelude.{◌≡◌};
 ghost use Rattle.hir_collector_rules.specs.Attributes.{is_helper, is_named_by};
 
-use hir_collector_rules::hir_base::ast_id::AstId;
-use hir_collector_rules::hir_base::mod_path::{ModPath, PathKind};
-use hir_collector_rules::hir_base::name::Name;
+use hir_base::ast_id::AstId;
+use hir_base::mod_path::{ModPath, PathKind};
+use hir_base::name::Name;
 use hir_collector_rules::hir_nameres::nameres::DefMap;
 use hir_collector_rules::hir_nameres::nameres::derive_helpers::DeriveHelper;
 

@@ -7,15 +7,15 @@ ghost use Rattle.hir_collector_rules.specs.HirNameres.WorldParts.{part_of};
 ghost use Rattle.hir_collector_rules.specs.Macros.{is_macro_use, lists_names, public_among, public_at, public_named, public_one, root_scope, wanted_among, wants_all, with_macros_used};
 ghost use Rattle.hir_collector_rules.specs.Preludes.{with_prelude_macros};
 
+use hir_base::ids::{Crate, ExternCrateId, MapId};
+use hir_base::name::Name;
 use hir_collector_rules::crate_attrs::{is_keyed, listed, says};
-use hir_collector_rules::hir_base::ids::{Crate, ExternCrateId, MapId};
-use hir_collector_rules::hir_base::name::Name;
-use hir_collector_rules::hir_item_tree::attrs::{Attr, AttrsOrCfg};
-use hir_collector_rules::hir_item_tree::raw_attr::{AttrInput, TokenTree};
 use hir_collector_rules::hir_nameres::nameres::DefMap;
 use hir_collector_rules::hir_nameres::world::part::WorldPart;
 use hir_collector_rules::hir_scope::item_scope::ItemScope;
 use hir_collector_rules::hir_scope::per_ns::MacrosItem;
+use hir_item_tree::attrs::{Attr, AttrsOrCfg};
+use hir_item_tree::raw_attr::{AttrInput, TokenTree};
 use std::alloc::{AllocError, Global};
 
 /// Uses a macro, if it is public.

@@ -4,10 +4,10 @@ ghost use Rattle.hir_collector_rules.specs.HirNameres.WorldParts.{part_of};
 ghost use Rattle.hir_collector_rules.specs.Start.{own_prelude};
 ghost use Rattle.hir_collector_rules.specs.Preludes.{edition_module, module_named, module_of, prelude_crate, prelude_of, prelude_path};
 
-use hir_collector_rules::hir_base::edition::Edition;
-use hir_collector_rules::hir_base::ids::{ModuleDefId, ModuleId, UseId};
-use hir_collector_rules::hir_base::mod_path::{ModPath, PathKind};
-use hir_collector_rules::hir_base::name::Name;
+use hir_base::edition::Edition;
+use hir_base::ids::{ModuleDefId, ModuleId, UseId};
+use hir_base::mod_path::{ModPath, PathKind};
+use hir_base::name::Name;
 use hir_collector_rules::hir_nameres::def_maps::DefMaps;
 use hir_collector_rules::hir_nameres::nameres::DefMap;
 use hir_collector_rules::hir_nameres::nameres::local_def_map::LocalDefMap;

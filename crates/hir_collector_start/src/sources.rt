@@ -2,11 +2,11 @@
 ghost use Rattle.std.specs.Prelude.{◌≡◌, IfOk};
 ghost use Rattle.hir_collector_rules.specs.Keys.{absent_source, source_in};
 
-use hir_collector_rules::hir_base::cfg_options::CfgOptions;
-use hir_collector_rules::hir_item_tree::source_tree::SourceTree;
-use hir_collector_rules::hir_item_tree::tree_id::TreeKey;
-use hir_collector_rules::hir_tables::Tables;
+use hir_base::cfg_options::CfgOptions;
 use hir_collector_rules::source_database::SourceDatabase;
+use hir_item_tree::source_tree::SourceTree;
+use hir_item_tree::tree_id::TreeKey;
+use hir_tables::Tables;
 use std::alloc::{AllocError, Global};
 use std::rc::Rc;
 

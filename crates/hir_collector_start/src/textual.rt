@@ -2,8 +2,8 @@
 ghost use Rattle.std.specs.Prelude.{◌≡◌, ◌<◌, length, IfOk, OnOk};
 ghost use Rattle.hir_collector_rules.specs.Macros.{textual_at, with_textual_macro, with_textual_scope};
 
-use hir_collector_rules::hir_base::macro_kind::MacroId;
-use hir_collector_rules::hir_base::name::Name;
+use hir_base::macro_kind::MacroId;
+use hir_base::name::Name;
 use hir_collector_rules::hir_nameres::nameres::DefMap;
 use hir_collector_rules::hir_textual_scope::TextualScope;
 use std::alloc::{AllocError, Global};

@@ -22,23 +22,20 @@ ghost use Rattle.hir_collector_rules.specs.Moves.{begun};
 ghost use Rattle.hir_collector_state.specs.Waiting.{IsNoted};
 
 use crate::def_collector::changes::note_variants;
-use hir_collector_rules::collected::{Asked, Collected};
-use hir_collector_rules::crate_attrs::says;
-use hir_collector_rules::exported::ExportedFunction;
-use hir_collector_rules::hir_base::ast_id::{AstId, EditionedFileId, FileId, HirFileId};
-use hir_collector_rules::hir_base::cfg_options::CfgOptions;
-use hir_collector_rules::hir_base::ids::{
+use hir_base::ast_id::{AstId, EditionedFileId, FileId, HirFileId};
+use hir_base::cfg_options::CfgOptions;
+use hir_base::ids::{
     ConstId, Crate, EnumId, ExternBlockId, ExternCrateId, ImplId, ItemContainerId, MapId,
     ModuleDefId, ModuleId, UseId,
 };
-use hir_collector_rules::hir_base::macro_kind::MacroId;
-use hir_collector_rules::hir_base::name::Name;
+use hir_base::macro_kind::MacroId;
+use hir_base::name::Name;
+use hir_collector_rules::collected::{Asked, Collected};
+use hir_collector_rules::crate_attrs::says;
+use hir_collector_rules::exported::ExportedFunction;
 use hir_collector_rules::hir_crate_graph::crate_set::CrateSet;
 use hir_collector_rules::hir_glob_imports::GlobImports;
 use hir_collector_rules::hir_import_rules::{ImportDirective, ImportSource, Taken};
-use hir_collector_rules::hir_item_tree::raw_visibility::RawVisibility;
-use hir_collector_rules::hir_item_tree::shape::ExternCrateName;
-use hir_collector_rules::hir_item_tree::tree_id::{TreeId, TreeKey};
 use hir_collector_rules::hir_nameres::nameres::DefMap;
 use hir_collector_rules::hir_nameres::nameres::crate_data::DefMapCrateData;
 use hir_collector_rules::hir_nameres::nameres::diagnostics::DefDiagnostic;
@@ -64,6 +61,9 @@ use hir_collector_start::preludes::own_prelude;
 use hir_collector_start::textual;
 use hir_import_growth::visibilities::visibility;
 use hir_import_growth::{Changed, forget};
+use hir_item_tree::raw_visibility::RawVisibility;
+use hir_item_tree::shape::ExternCrateName;
+use hir_item_tree::tree_id::{TreeId, TreeKey};
 use std::alloc::{AllocError, Global};
 use std::marker::Model;
 use std::rc::Rc;

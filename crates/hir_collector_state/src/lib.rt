@@ -3,8 +3,7 @@
 
 pub use hir_collector_rules;
 pub use hir_collector_rules::{
-    hir_base, hir_crate_graph, hir_glob_imports, hir_import_rules, hir_item_tree, hir_mod_dir,
-    hir_nameres, hir_scope, hir_tables, hir_use_tree,
+    hir_crate_graph, hir_glob_imports, hir_import_rules, hir_nameres, hir_scope,
 };
 pub use hir_collector_start;
 pub use hir_import_growth;

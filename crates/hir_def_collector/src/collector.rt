@@ -50,6 +50,7 @@ use hir_collector_begin::begin::{begin, holders_by, is_apart, lacks_its_file, tr
 use hir_def_map::nameres::local_def_map::LocalDefMap;
 use hir_def_map::world::World;
 use hir_def_map::world::part::WorldPart;
+use hir_item_tree::tree_id::TreeId;
 pub use hir_macro_rounds::calls;
 use hir_macro_rounds::calls::resolve_rounds;
 pub use hir_mod_collector::hir_attr_resolution::attributes;
@@ -62,10 +63,9 @@ pub use hir_mod_collector::hir_collector_rules::start::{
 pub use hir_mod_collector::hir_collector_rules::{
     collected, declaration, macro_directive, shared_tree, site,
 };
-use hir_mod_collector::hir_item_tree::tree_id::TreeId;
 pub use hir_mod_collector::hir_mod_resolution::mod_resolution;
-use hir_mod_collector::hir_tables::Tables;
 pub use hir_mod_collector::mod_collector;
+use hir_tables::Tables;
 use std::alloc::Global;
 
 /// Finds what the names of a crate's or a block's modules stand for, beside the finished maps of the crates on which the

@@ -5,4 +5,4 @@ pub mod collector;
 
 pub use hir_mod_collector::hir_attr_resolution::builtin_attr;
 pub use hir_mod_collector::hir_collector_rules::source_database;
-pub use hir_mod_collector::hir_mod_dir::{ModDir, resolve_declaration};
+pub use hir_mod_dir::{ModDir, resolve_declaration};

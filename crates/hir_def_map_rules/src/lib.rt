@@ -1,7 +1,6 @@
 //! What def maps are and what paths mean in them, and the parts that a map is made of.
 #![tactic(auto)]
 
-pub use hir_base;
 pub use hir_crate_graph;
 pub use hir_map_parts::{
     add_module_error, block_info, crate_data, derive_helpers, diagnostics, enum_variants,

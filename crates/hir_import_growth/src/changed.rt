@@ -2,8 +2,8 @@
 ghost use Rattle.std.specs.Prelude.{◌≡◌, ◌∷◌, [], OnOk};
 ghost use Rattle.hir_import_rules.specs.Changed.{everything, joined, nothing, with_item, with_preludes, with_slot, with_slots};
 
-use hir_nameres::hir_base::ast_id::AstId;
-use hir_nameres::hir_base::name::Name;
+use hir_base::ast_id::AstId;
+use hir_base::name::Name;
 use hir_nameres::nameres::path_resolution::slots::Slot;
 use std::alloc::{AllocError, Global};
 use std::marker::Model;

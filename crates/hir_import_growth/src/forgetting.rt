@@ -5,8 +5,8 @@ ghost use Rattle.hir_glob_imports.specs.Waves.{IsKept, brought_of};
 ghost use Rattle.hir_import_rules.specs.Changes.{forgotten, forgotten_in};
 ghost use Rattle.hir_import_growth.specs.Binding.{IsBound, MayBind};
 
+use hir_base::name::Name;
 use hir_glob_imports::{GlobImports, Key, Slot};
-use hir_nameres::hir_base::name::Name;
 use hir_nameres::hir_scope::per_ns::PerNs;
 use std::alloc::AllocError;
 

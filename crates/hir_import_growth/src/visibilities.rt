@@ -3,8 +3,8 @@ ghost use Rattle.std.specs.Prelude.{◌≡◌};
 ghost use Rattle.hir_nameres.specs.WorldParts.{part_of};
 ghost use Rattle.hir_import_rules.specs.Visibilities.{lesser_in, visibility_in};
 
+use hir_base::ids::ModuleId;
 use hir_nameres::def_maps::DefMaps;
-use hir_nameres::hir_base::ids::ModuleId;
 use hir_nameres::hir_raw_visibility::raw_visibility::RawVisibility;
 use hir_nameres::hir_scope::visibility::Visibility;
 use hir_nameres::nameres::DefMap;

@@ -4,11 +4,11 @@ ghost use Rattle.hir_nameres.specs.WorldParts.{part_of};
 ghost use Rattle.hir_import_rules.specs.Directives.{answer_in, answer_of_crate, brought, brought_type, imported, is_of_extern_crate, kept_by_kind, kept_of, open_items, target_among, target_at, trait_among};
 ghost use Rattle.hir_import_rules.specs.Visibilities.{is_public};
 
+use hir_base::ids::{AdtId, Crate, MapId, ModuleDefId, ModuleId, TraitId};
+use hir_base::mod_path::ModPath;
 use hir_glob_imports::Target;
 pub use hir_import_growth::visibilities::{lesser, visibility};
 use hir_nameres::def_maps::DefMaps;
-use hir_nameres::hir_base::ids::{AdtId, Crate, MapId, ModuleDefId, ModuleId, TraitId};
-use hir_nameres::hir_base::mod_path::ModPath;
 use hir_nameres::hir_scope::imports::ImportOrExternCrate;
 use hir_nameres::hir_scope::per_ns::{Item, PerNs, TypesItem};
 use hir_nameres::hir_scope::visibility::Visibility;

@@ -19,8 +19,8 @@ ghost use Rattle.hir_import_rules.specs.Names.{trait_vis};
 
 use crate::imports::Imports;
 use crate::scopes::{bound_inside, trait_vis};
+use hir_base::ids::{AdtId, EnumId, ModuleDefId, TraitId};
 use hir_glob_imports::{Edge, GlobImports, Slot, Target};
-use hir_nameres::hir_base::ids::{AdtId, EnumId, ModuleDefId, TraitId};
 use hir_nameres::hir_scope::per_ns::TypesItem;
 use hir_nameres::hir_scope::visibility::Visibility;
 use hir_nameres::nameres::DefMap;

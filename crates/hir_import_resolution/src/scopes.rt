@@ -15,11 +15,11 @@ mod keys;
 mod writes;
 
 use crate::answers::open_items;
+use hir_base::ids::{MapId, ModuleDefId, ModuleId, TraitId};
+use hir_base::name::Name;
 use hir_glob_imports::{Bound, Key, Names, Slot, Target};
 use hir_import_growth::visibilities::lesser;
 use hir_nameres::def_maps::DefMaps;
-use hir_nameres::hir_base::ids::{MapId, ModuleDefId, ModuleId, TraitId};
-use hir_nameres::hir_base::name::Name;
 use hir_nameres::hir_scope::glob_imports::PerNsGlobImports;
 use hir_nameres::hir_scope::imports::{GlobId, ImportId, ImportOrExternCrate};
 use hir_nameres::hir_scope::item_in_ns::ItemInNs;

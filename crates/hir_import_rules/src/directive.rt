@@ -2,10 +2,10 @@
 ghost use Rattle.std.specs.Prelude.{◌≡◌, IfOk};
 ghost use Rattle.hir_import_rules.specs.Directives.{glob_of, is_one_name, is_plain, is_unnamed, kind_of, leaf_of, name_of, way_of};
 
+use hir_base::ids::{Crate, ExternCrateId};
+use hir_base::mod_path::PathKind;
+use hir_base::name::Name;
 use hir_item_tree::shared_path::SharedPath;
-use hir_nameres::hir_base::ids::{Crate, ExternCrateId};
-use hir_nameres::hir_base::mod_path::PathKind;
-use hir_nameres::hir_base::name::Name;
 use hir_nameres::hir_raw_visibility::raw_visibility::RawVisibility;
 use hir_nameres::hir_scope::imports::{GlobId, ImportId, ImportOrExternCrate};
 use hir_use_tree::imports::{ImportAlias, ImportKind};

@@ -7,8 +7,8 @@ ghost use Rattle.hir_collector_state.specs.HirCollectorRules.declared.macro_dire
 ghost use Rattle.hir_collector_state.specs.HirCollectorRules.declared.macro_directive.WaitingItem.{WaitingItem};
 ghost use Rattle.hir_collector_state.specs.HirCollectorRules.State.{core_in};
 
+use hir_base::macro_kind::MacroId;
 use hir_collector_state::def_collector::DefCollector;
-use hir_collector_state::hir_base::macro_kind::MacroId;
 use hir_collector_state::hir_collector_rules::macro_directive::MacroDirective;
 use hir_collector_state::hir_nameres::world::part::WorldPart;
 

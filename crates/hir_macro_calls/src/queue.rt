@@ -10,9 +10,9 @@ ghost use Rattle.hir_collector_state.specs.HirCollectorRules.declared.macro_dire
 ghost use Rattle.hir_collector_state.specs.HirCollectorRules.State.{at_rest, core_in};
 ghost use Rattle.hir_collector_imports.specs.Waiting.{IsBetweenPasses, IsStale, IsUpToDate, LiesApart, item_of};
 
+use hir_base::ast_id::AstId;
 use hir_call_queue::CallQueue;
 use hir_collector_state::def_collector::DefCollector;
-use hir_collector_state::hir_base::ast_id::AstId;
 use hir_collector_state::hir_collector_rules::macro_directive::MacroDirective;
 use hir_collector_state::hir_nameres::world::part::WorldPart;
 use std::alloc::AllocError;

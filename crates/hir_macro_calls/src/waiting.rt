@@ -6,7 +6,7 @@ ghost use Rattle.hir_collector_state.specs.HirCollectorRules.Steps.{site_behind}
 
 use hir_collector_state::def_collector::DefCollector;
 use hir_collector_state::hir_collector_rules::site::Site;
-use hir_collector_state::hir_use_tree::use_tree::place_after;
+use hir_use_tree::use_tree::place_after;
 use std::alloc::AllocError;
 
 /// Where an item goes on that waited for an attribute: one level deeper.

@@ -26,6 +26,7 @@ ghost use Rattle.hir_mod_collector.specs.HirCollectorState.Waiting.{IsNotedBesid
 
 use crate::resume::{give_up, skip};
 use either::Either;
+use hir_base::macro_kind::MacroId;
 use hir_call_expansion::expansion::{Expansion, call_site, is_meant, look_at_call, report_failed};
 use hir_call_queue::{CallQueue, Changed};
 use hir_collector_derives::derives::{
@@ -34,15 +35,14 @@ use hir_collector_derives::derives::{
 use hir_import_resolution::ImportQueue;
 use hir_macro_calls::due::{Due, due_of};
 use hir_macro_calls::queue::{requeue, wake, watch};
-use hir_mod_collector::hir_base::macro_kind::MacroId;
 use hir_mod_collector::hir_collector_imports::settling;
 use hir_mod_collector::hir_collector_rules::macro_directive::{Fate, MacroDirective};
 use hir_mod_collector::hir_collector_rules::source_database::SourceDatabase;
 use hir_mod_collector::hir_collector_rules::start::{CollectError, STEP_LIMIT, StepError};
 use hir_mod_collector::hir_collector_state::def_collector::DefCollector;
 use hir_mod_collector::hir_nameres::world::part::WorldPart;
-use hir_mod_collector::hir_tables::Tables;
 use hir_mod_collector::mod_collector::walk_all;
+use hir_tables::Tables;
 
 /// How many rounds may make progress. One more ends a run.
 pub const ROUND_LIMIT: u32 = 8192;

@@ -18,8 +18,8 @@ use hir_mod_collector::hir_collector_rules::start::StepError;
 use hir_mod_collector::hir_collector_state::def_collector::DefCollector;
 use hir_mod_collector::hir_nameres::nameres::diagnostics::DefDiagnostic;
 use hir_mod_collector::hir_nameres::world::part::WorldPart;
-use hir_mod_collector::hir_tables::Tables;
 use hir_mod_collector::mod_collector::walk_item;
+use hir_tables::Tables;
 
 /// Lets the item of the attribute at the place go on behind it, since that is inert by now, or builtin: handles the item,
 /// with all that is in it.

@@ -6,8 +6,7 @@ pub use hir_collector_imports;
 pub use hir_collector_items;
 pub use hir_collector_state;
 pub use hir_collector_state::{
-    hir_base, hir_collector_rules, hir_collector_start, hir_crate_graph, hir_item_tree,
-    hir_mod_dir, hir_nameres, hir_tables,
+    hir_collector_rules, hir_collector_start, hir_crate_graph, hir_nameres,
 };
 pub use hir_mod_resolution;
 

@@ -21,6 +21,11 @@ ghost use Rattle.hir_mod_resolution.specs.Walking.{GoesInside, tasks_of};
 ghost use Rattle.hir_collector_state.specs.Waiting.{IsNoted, IsNotedBeside};
 
 use hir_attr_resolution::attributes::{Visited, adt_of, pass_attributes};
+use hir_base::ast_id::{AstId, AstKind, SyntaxId};
+use hir_base::cfg::CfgExpr;
+use hir_base::ids::{ConstId, ImplId, ItemLoc};
+use hir_base::mod_path::ModPath;
+use hir_base::name::Name;
 use hir_collector_imports::spread_changes;
 use hir_collector_items::declare::{
     declare_const, declare_function, declare_static, declare_struct, declare_trait,
@@ -30,11 +35,6 @@ use hir_collector_items::enums::declare_enum;
 use hir_collector_macros::imports::{reach_extern_crate, reach_use};
 use hir_collector_macros::macros::{close, define_macro, define_rules};
 use hir_collector_state::def_collector::DefCollector;
-use hir_collector_state::hir_base::ast_id::{AstId, AstKind, SyntaxId};
-use hir_collector_state::hir_base::cfg::CfgExpr;
-use hir_collector_state::hir_base::ids::{ConstId, ImplId, ItemLoc};
-use hir_collector_state::hir_base::mod_path::ModPath;
-use hir_collector_state::hir_base::name::Name;
 use hir_collector_state::hir_collector_rules::macro_directive::{
     MacroDirective, MacroDirectiveKind,
 };
@@ -42,12 +42,12 @@ use hir_collector_state::hir_collector_rules::site::{ItemHead, Site, head_at};
 use hir_collector_state::hir_collector_rules::source_database::SourceDatabase;
 use hir_collector_state::hir_collector_rules::start::{STEP_LIMIT, StepError};
 use hir_collector_state::hir_collector_start::diagnostics::unconfigured;
-use hir_collector_state::hir_item_tree::kinds::{ModItemKind, ModKind};
-use hir_collector_state::hir_item_tree::rows::ModItemId;
-use hir_collector_state::hir_item_tree::source_tree::SourceTree;
 use hir_collector_state::hir_nameres::world::part::WorldPart;
-use hir_collector_state::hir_tables::Tables;
+use hir_item_tree::kinds::{ModItemKind, ModKind};
+use hir_item_tree::rows::ModItemId;
+use hir_item_tree::source_tree::SourceTree;
 use hir_mod_resolution::modules::{Inside, enter, visit_inline, visit_outline};
+use hir_tables::Tables;
 use std::rc::Rc;
 
 /// Lists a constant that has no name.

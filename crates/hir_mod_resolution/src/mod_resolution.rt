@@ -11,19 +11,19 @@ ghost use Rattle.hir_collector_state.specs.HirCollectorRules.NumberedOut.{IsNumb
 ghost use Rattle.hir_mod_resolution.specs.Walking.{found_view, looked_view};
 ghost use Rattle.hir_collector_state.specs.Waiting.{IsNoted};
 
+use hir_base::ast_id::{FileId, HirFileId};
+use hir_base::file_path::FilePath;
 use hir_collector_state::def_collector::DefCollector;
-use hir_collector_state::hir_base::ast_id::{FileId, HirFileId};
-use hir_collector_state::hir_base::file_path::FilePath;
 use hir_collector_state::hir_collector_rules::crate_attrs::is_keyed;
 use hir_collector_state::hir_collector_rules::source_database::{Key, SourceDatabase};
 use hir_collector_state::hir_collector_rules::start::StepError;
 use hir_collector_state::hir_collector_start::sources::source_at;
-use hir_collector_state::hir_item_tree::attrs::Attr;
-use hir_collector_state::hir_item_tree::raw_attr::AttrInput;
-use hir_collector_state::hir_item_tree::source_tree::SourceTree;
-use hir_collector_state::hir_item_tree::tree_id::TreeId;
-use hir_collector_state::hir_mod_dir::{Candidate, ModDir, resolve_candidate};
-use hir_collector_state::hir_tables::Tables;
+use hir_item_tree::attrs::Attr;
+use hir_item_tree::raw_attr::AttrInput;
+use hir_item_tree::source_tree::SourceTree;
+use hir_item_tree::tree_id::TreeId;
+use hir_mod_dir::{Candidate, ModDir, resolve_candidate};
+use hir_tables::Tables;
 use std::alloc::{AllocError, Global};
 use std::rc::Rc;
 

@@ -23,26 +23,26 @@ ghost use Rattle.hir_mod_resolution.specs.Walking.{GoesInside, TakesFile, found_
 ghost use Rattle.hir_collector_state.specs.Waiting.{IsNoted};
 
 use crate::mod_resolution::{FoundFile, find_file, path_attr, path_of};
+use hir_base::ast_id::{AstId, AstKind, EditionedFileId, HirFileId, SyntaxId};
+use hir_base::cfg::CfgExpr;
+use hir_base::ids::{ExternBlockId, ItemLoc, ModuleDefId};
+use hir_base::name::Name;
 use hir_collector_state::declare::declare;
 use hir_collector_state::def_collector::DefCollector;
-use hir_collector_state::hir_base::ast_id::{AstId, AstKind, EditionedFileId, HirFileId, SyntaxId};
-use hir_collector_state::hir_base::cfg::CfgExpr;
-use hir_collector_state::hir_base::ids::{ExternBlockId, ItemLoc, ModuleDefId};
-use hir_collector_state::hir_base::name::Name;
 use hir_collector_state::hir_collector_rules::declaration::Declaration;
 use hir_collector_state::hir_collector_rules::site::{ItemHead, Site};
 use hir_collector_state::hir_collector_rules::source_database::SourceDatabase;
 use hir_collector_state::hir_collector_rules::start::{STEP_LIMIT, StepError};
 use hir_collector_state::hir_collector_start::diagnostics::{unconfigured, unresolved_module};
 use hir_collector_state::hir_collector_start::macro_use::is_macro_use;
-use hir_collector_state::hir_item_tree::rows::ModItemId;
-use hir_collector_state::hir_item_tree::source_tree::SourceTree;
-use hir_collector_state::hir_item_tree::tree_id::TreeId;
-use hir_collector_state::hir_mod_dir::Candidate;
 use hir_collector_state::hir_nameres::nameres::origin::ModuleOrigin;
 use hir_collector_state::hir_nameres::world::part::WorldPart;
 use hir_collector_state::hir_scope::per_ns::PerNs;
-use hir_collector_state::hir_tables::Tables;
+use hir_item_tree::rows::ModItemId;
+use hir_item_tree::source_tree::SourceTree;
+use hir_item_tree::tree_id::TreeId;
+use hir_mod_dir::Candidate;
+use hir_tables::Tables;
 use std::rc::Rc;
 
 /// Items that are visited next, and where they are written.

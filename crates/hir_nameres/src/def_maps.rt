@@ -17,11 +17,11 @@ mod visibilities;
 
 use crate::nameres::DefMap;
 use crate::world::part::WorldPart;
+use hir_base::edition::Edition;
+use hir_base::ids::{Crate, EnumId, ExternCrateId, MapId, ModuleId, UseId};
+use hir_base::macro_kind::MacroId;
+use hir_base::name::Name;
 use hir_def_map_rules::enum_variants::EnumVariant;
-use hir_def_map_rules::hir_base::edition::Edition;
-use hir_def_map_rules::hir_base::ids::{Crate, EnumId, ExternCrateId, MapId, ModuleId, UseId};
-use hir_def_map_rules::hir_base::macro_kind::MacroId;
-use hir_def_map_rules::hir_base::name::Name;
 use hir_def_map_rules::hir_scope::module_tree::ModuleTree;
 use hir_def_map_rules::hir_scope::per_ns::PerNs;
 

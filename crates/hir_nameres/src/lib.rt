@@ -9,9 +9,7 @@
 //! maps: it takes no memory, and depends on nothing but the slots that are read on the way (`hir_def_map_laws`).
 #![tactic(auto)]
 
-pub use hir_def_map_rules::{
-    hir_base, hir_crate_graph, hir_raw_visibility, hir_scope, hir_textual_scope,
-};
+pub use hir_def_map_rules::{hir_crate_graph, hir_raw_visibility, hir_scope, hir_textual_scope};
 
 pub mod def_maps;
 pub mod laws;

@@ -16,19 +16,17 @@ mod reads;
 mod same;
 mod tree;
 
+use hir_base::ast_id::AstId;
+use hir_base::edition::Edition;
+use hir_base::ids::{Crate, EnumId, ExternCrateId, FunctionId, MapId, ModuleId, UseId};
+use hir_base::macro_kind::{MacroId, ProcMacroId};
+use hir_base::name::Name;
 pub use hir_def_map_rules::add_module_error::AddModuleError;
 pub use hir_def_map_rules::block_info::BlockInfo;
 use hir_def_map_rules::crate_data::DefMapCrateData;
 use hir_def_map_rules::derive_helpers::DeriveHelpers;
 use hir_def_map_rules::diagnostics::DefDiagnostics;
 use hir_def_map_rules::enum_variants::EnumVariants;
-use hir_def_map_rules::hir_base::ast_id::AstId;
-use hir_def_map_rules::hir_base::edition::Edition;
-use hir_def_map_rules::hir_base::ids::{
-    Crate, EnumId, ExternCrateId, FunctionId, MapId, ModuleId, UseId,
-};
-use hir_def_map_rules::hir_base::macro_kind::{MacroId, ProcMacroId};
-use hir_def_map_rules::hir_base::name::Name;
 use hir_def_map_rules::hir_scope::glob_imports::PerNsGlobImports;
 use hir_def_map_rules::hir_scope::imports::ImportOrExternCrate;
 use hir_def_map_rules::hir_scope::item_scope::ItemScope;

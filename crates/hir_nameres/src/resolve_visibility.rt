@@ -11,7 +11,7 @@ use crate::def_maps::DefMaps;
 use crate::nameres::DefMap;
 use crate::world::finished_maps::FinishedMaps;
 use crate::world::part::WorldPart;
-use hir_def_map_rules::hir_base::ids::{MapId, ModuleDefId, ModuleId};
+use hir_base::ids::{MapId, ModuleDefId, ModuleId};
 use hir_def_map_rules::hir_raw_visibility::raw_visibility::{
     RawVisibility, VisibilityExplicitness,
 };

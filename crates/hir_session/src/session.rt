@@ -17,7 +17,7 @@ ghost use Rattle.hir_session_machine.specs.HirSessionAnswers.Status.{status_of};
 ghost use Rattle.hir_session.specs.Lending.{LendsCore};
 
 use crate::collector::Collector;
-use hir_session_machine::hir_base::place::Place;
+use hir_base::place::Place;
 pub use hir_session_machine::hir_session_core::session::MAX_CRATES;
 use hir_session_machine::hir_session_core::session::Session as SessionCore;
 use hir_session_machine::hir_session_state::error::{NewSessionError, RefreshError};

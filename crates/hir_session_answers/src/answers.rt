@@ -8,8 +8,8 @@ ghost use Rattle.hir_session_answers.specs.Answers.{shadow_mode_of, sub_ns_of, a
 use crate::source_items::definitions::{definition_at, macro_at};
 use crate::source_items::imports::{import_at, value_import_at};
 use crate::source_items::visibilities::visibility_at;
-use hir_session_state::hir_base::ids::ModuleId;
-use hir_session_state::hir_base::mod_path::ModPath;
+use hir_base::ids::ModuleId;
+use hir_base::mod_path::ModPath;
 use hir_session_state::hir_def_map::def_maps::DefMaps;
 use hir_session_state::hir_def_map::nameres::local_def_map::LocalDefMap;
 use hir_session_state::hir_def_map::nameres::path_resolution::{
@@ -21,7 +21,7 @@ use hir_session_state::hir_messages::answer::{
 use hir_session_state::hir_messages::command::{MacroStyle, Shadow};
 use hir_session_state::hir_scope::imports::{ImportOrExternCrate, ImportOrGlob};
 use hir_session_state::hir_scope::per_ns::{MacrosItem, TypesItem, ValuesItem};
-use hir_session_state::hir_tables::Tables;
+use hir_tables::Tables;
 use std::alloc::{AllocError, Global};
 
 fn shadow_mode(shadow: Shadow) -> BuiltinShadowMode

@@ -12,12 +12,12 @@ ghost use Rattle.hir_session_state.specs.HirMessages.declared.command.Shadow.The
 
 use crate::diagnostics::{diagnostics_at, node_at};
 use crate::source_items::source_calls::source_at;
-use hir_session_state::hir_base::ast_id::{AstId, AstKind, MacroCallId};
-use hir_session_state::hir_base::ids::{
+use hir_base::ast_id::{AstId, AstKind, MacroCallId};
+use hir_base::ids::{
     AssocItemId, ImplId, ItemContainerId, ItemLoc, ModuleDefId, ModuleId, TraitId,
 };
-use hir_session_state::hir_base::mod_path::ModPath;
-use hir_session_state::hir_base::name::Name;
+use hir_base::mod_path::ModPath;
+use hir_base::name::Name;
 use hir_session_state::hir_def_map::def_maps::DefMaps;
 use hir_session_state::hir_def_map::nameres::DefMap;
 use hir_session_state::hir_def_map::nameres::diagnostics::DefDiagnostics;
@@ -27,7 +27,7 @@ use hir_session_state::hir_messages::answer::{SourceCallKind, SourceItem, Source
 use hir_session_state::hir_messages::diagnostic::{CalledItem, Diagnostics};
 use hir_session_state::hir_messages::items::{AssocItem, AssocItems, CalledItems, Items};
 use hir_session_state::hir_scope::item_scope::ItemScope;
-use hir_session_state::hir_tables::Tables;
+use hir_tables::Tables;
 use std::alloc::{AllocError, Global};
 
 /// A trait, where a definition is one.

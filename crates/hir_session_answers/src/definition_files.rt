@@ -3,11 +3,11 @@ ghost use Rattle.std.specs.Prelude.{◌≡◌};
 ghost use Rattle.hir_session_state.specs.Standing.{definition_file, file_around, file_of_origin};
 
 use crate::source_items::source_calls::{most_calls_in, node_of};
-use hir_session_state::hir_base::ast_id::{EditionedFileId, HirFileId};
-use hir_session_state::hir_base::ids::ModuleId;
+use hir_base::ast_id::{EditionedFileId, HirFileId};
+use hir_base::ids::ModuleId;
 use hir_session_state::hir_def_map::nameres::origin::ModuleOrigin;
-use hir_session_state::hir_tables::Tables;
 use hir_session_state::kept::Kept;
+use hir_tables::Tables;
 
 /// The file in which syntax is written, or the outermost call around it.
 fn outermost_file(tables: &Tables, file: HirFileId) -> Option<EditionedFileId>

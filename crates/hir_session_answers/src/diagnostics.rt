@@ -7,14 +7,14 @@ ghost use Rattle.hir_session_answers.specs.Diagnostics.{diagnostic_source, diagn
 
 use crate::source_items::definitions::module_at;
 use crate::source_items::source_calls::{how, source_at};
-use hir_session_state::hir_base::ast_id::AstId;
-use hir_session_state::hir_base::cfg::CfgExpr;
-use hir_session_state::hir_base::text::Text;
+use hir_base::ast_id::AstId;
+use hir_base::cfg::CfgExpr;
+use hir_base::text::Text;
 use hir_session_state::hir_def_map::def_maps::DefMaps;
 use hir_session_state::hir_def_map::nameres::diagnostics::{DefDiagnostic, DefDiagnosticKind};
 use hir_session_state::hir_messages::answer::{Definition, SourceItem, SourceKind};
 use hir_session_state::hir_messages::diagnostic::{CalledItem, Diagnostic, DiagnosticKind, Texts};
-use hir_session_state::hir_tables::Tables;
+use hir_tables::Tables;
 use std::alloc::{AllocError, Global};
 
 /// The source item of a node.

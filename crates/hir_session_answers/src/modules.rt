@@ -7,13 +7,13 @@ ghost use Rattle.std.specs.Option.{option_copied};
 ghost use Rattle.hir_session_state.specs.HirDefMapRules.State.{module_at};
 ghost use Rattle.hir_session_answers.specs.Modules.{is_of_file, is_wanted, name_among, name_below, place_of, places_of, steps_to, wanted_place};
 
-use hir_session_state::hir_base::ast_id::EditionedFileId;
-use hir_session_state::hir_base::file_path::FilePath;
-use hir_session_state::hir_base::name::Name;
-use hir_session_state::hir_base::place::{Place, PlaceElement};
+use hir_base::ast_id::EditionedFileId;
+use hir_base::file_path::FilePath;
+use hir_base::name::Name;
+use hir_base::place::{Place, PlaceElement};
 use hir_session_state::hir_def_map::nameres::DefMap;
 use hir_session_state::hir_def_map::nameres::module_data::ModuleData;
-use hir_session_state::hir_tables::Tables;
+use hir_tables::Tables;
 use std::alloc::{AllocError, Global};
 
 /// The name under which a module has another in it.

@@ -5,12 +5,12 @@ ghost use Rattle.hir_session_state.specs.HirNameres.DefMaps.{maps_of};
 ghost use Rattle.hir_session_answers.specs.Names.{named_in, names_in};
 
 use crate::answers::{macro_item_at, type_at, value_at};
-use hir_session_state::hir_base::name::Name;
+use hir_base::name::Name;
 use hir_session_state::hir_def_map::def_maps::DefMaps;
 use hir_session_state::hir_messages::names::BoundName;
 use hir_session_state::hir_scope::item_scope::ItemScope;
 use hir_session_state::hir_scope::per_ns::PerNs;
-use hir_session_state::hir_tables::Tables;
+use hir_tables::Tables;
 use std::alloc::{AllocError, Global};
 
 /// The same name, where there is one; its bytes are shared.

@@ -8,10 +8,10 @@ pub mod source_calls;
 pub mod visibilities;
 
 use self::source_calls::source_at;
-use hir_session_state::hir_base::ast_id::{BlockId, HirFileId, SyntaxId};
-use hir_session_state::hir_base::ids::Crate;
+use hir_base::ast_id::{BlockId, HirFileId, SyntaxId};
+use hir_base::ids::Crate;
 use hir_session_state::hir_messages::answer::{Definition, SourceItem, SourceKind};
-use hir_session_state::hir_tables::Tables;
+use hir_tables::Tables;
 use std::alloc::{AllocError, Global};
 
 /// An item of a crate, by what holds it and its node there.

@@ -6,13 +6,13 @@ ghost use Rattle.hir_session_state.specs.Standing.Standing.{at};
 ghost use Rattle.hir_session_answers.specs.Status.{status_by};
 ghost use Rattle.hir_session_answers.specs.Walking.{root_kept, standing_value, to_block, to_name};
 
+use hir_base::ids::{Crate, MapId, ModuleId};
+use hir_base::name::Name;
+use hir_base::place::{BlockPlace, PlaceElement};
 use hir_session_sources::blocks::Blocks;
-use hir_session_state::hir_base::ids::{Crate, MapId, ModuleId};
-use hir_session_state::hir_base::name::Name;
-use hir_session_state::hir_base::place::{BlockPlace, PlaceElement};
 use hir_session_state::hir_messages::reply::Status;
-use hir_session_state::hir_tables::Tables;
 use hir_session_state::kept::Kept;
+use hir_tables::Tables;
 
 /// Where steps lead.
 #[derive(Clone, Copy)]

@@ -4,8 +4,6 @@
 pub use hir_session_invalidation;
 pub use hir_session_sources;
 pub use hir_session_state;
-pub use hir_session_state::{
-    hir_base, hir_collector_rules, hir_def_collector_laws, hir_def_map, hir_item_tree, hir_tables,
-};
+pub use hir_session_state::{hir_collector_rules, hir_def_collector_laws, hir_def_map};
 
 pub mod session;

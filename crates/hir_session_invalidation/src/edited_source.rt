@@ -8,8 +8,8 @@ use crate::inputs::Inputs;
 use hir_session_sources::seen_entry::is_same_look;
 use hir_session_sources::source_edit::SourceEdit;
 use hir_session_state::hir_collector_rules::source_database::Key;
-use hir_session_state::hir_tables::Tables;
 use hir_session_state::source_number::{SourceNumber, asked_number};
+use hir_tables::Tables;
 
 /// An edit of a source that has a number, and what was handed in before it.
 #[derive(Drop)]

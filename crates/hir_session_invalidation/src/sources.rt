@@ -12,13 +12,15 @@ ghost use Rattle.hir_session_state.specs.SessionState.{IsResolved};
 ghost use Rattle.hir_session_state.specs.SourceTable.{source_at, tree_under, workspace_in};
 ghost use Rattle.hir_session_sources.specs.SourceTrees.{AreCurrent, current_prop};
 
+use hir_base::ast_id::{BlockId, EditionedFileId, HirFileId, InFile, SyntaxId};
+use hir_base::ids::{Crate, ModuleId};
+use hir_base::macro_kind::ExpansionKey;
+use hir_item_tree::source_tree::SourceTree;
+use hir_item_tree::tree_id::TreeId;
 use hir_session_sources::crates::Crates;
 use hir_session_sources::seen_entry::look_at;
 use hir_session_sources::source_table::SourceTable;
 use hir_session_sources::source_trees::{SourceTrees, source_tree};
-use hir_session_state::hir_base::ast_id::{BlockId, EditionedFileId, HirFileId, InFile, SyntaxId};
-use hir_session_state::hir_base::ids::{Crate, ModuleId};
-use hir_session_state::hir_base::macro_kind::ExpansionKey;
 use hir_session_state::hir_collector_rules::collected::Collected;
 use hir_session_state::hir_collector_rules::source_database::{
     Config, CrateRoot, ExpansionLook, SourceDatabase,
@@ -26,9 +28,7 @@ use hir_session_state::hir_collector_rules::source_database::{
 use hir_session_state::hir_collector_rules::start::{CollectError, Start};
 use hir_session_state::hir_crate_graph::CrateSet;
 use hir_session_state::hir_def_map::world::World;
-use hir_session_state::hir_item_tree::source_tree::SourceTree;
-use hir_session_state::hir_item_tree::tree_id::TreeId;
-use hir_session_state::hir_tables::{SourcePlace, Tables};
+use hir_tables::{SourcePlace, Tables};
 use std::alloc::{AllocError, Global};
 use std::rc::Rc;
 

@@ -6,10 +6,10 @@ ghost use Rattle.hir_wire.specs.Replies.{is_fixed};
 ghost use Rattle.hir_session_core.specs.HirMessages.declared.reply.Reply.TheVariants as reply;
 ghost use Rattle.hir_session_machine.specs.Machine.{MachineState, first_state, AnswersCommand, AnswersLine};
 
-use hir_session_core::hir_base::file_path::FilePath;
-use hir_session_core::hir_base::ids::Crate;
-use hir_session_core::hir_base::mod_path::ModPath;
-use hir_session_core::hir_base::place::Place;
+use hir_base::file_path::FilePath;
+use hir_base::ids::Crate;
+use hir_base::mod_path::ModPath;
+use hir_base::place::Place;
 use hir_session_core::hir_session_invalidation::sources::CollectDefs;
 use hir_session_core::session::Session;
 use hir_session_replies::replies::{

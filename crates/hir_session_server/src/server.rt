@@ -1,7 +1,7 @@
 // Bytes as they come, cut into lines, each answered.
 ghost use Rattle.hir_session_server.specs.Runs.{Converses};
 
-use hir_session_machine::hir_base::limit::Limit;
+use hir_base::limit::Limit;
 use hir_session_machine::hir_lines::open_line::{Fate, OpenLine, split_line};
 use hir_session_machine::hir_lines::output::{Fault, write_reply};
 use hir_session_machine::hir_session_invalidation::sources::CollectDefs;

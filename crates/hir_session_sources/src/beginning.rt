@@ -9,16 +9,16 @@ ghost use Rattle.hir_session_state.specs.HirTables.Tables.{file_at, KeepsTables}
 
 use crate::crate_info::CrateInfo;
 use crate::crates::Crates;
+use hir_base::ast_id::FileId;
+use hir_base::cfg::CfgAtom;
+use hir_base::cfg_options::CfgOptions;
+use hir_base::file_path::FilePath;
 use hir_session_state::front::copy_attrs;
-use hir_session_state::hir_base::ast_id::FileId;
-use hir_session_state::hir_base::cfg::CfgAtom;
-use hir_session_state::hir_base::cfg_options::CfgOptions;
-use hir_session_state::hir_base::file_path::FilePath;
 use hir_session_state::hir_collector_rules::source_database::{
     Config, CrateRoot, Dependency as RunDependency,
 };
 use hir_session_state::hir_messages::command::{CrateInput, Dependency};
-use hir_session_state::hir_tables::Tables;
+use hir_tables::Tables;
 use std::alloc::{AllocError, Global};
 
 /// Dependencies as a run sees them.

@@ -11,9 +11,9 @@ ghost use Rattle.hir_session_state.specs.Blocks.{block_in, place_of_block, steps
 ghost use Rattle.hir_session_sources.specs.BlockTables.{ArePlacedIn, has_place, sources_of, steps_in, with_set, without_set, without_steps};
 ghost use Rattle.hir_session_sources.specs.BlockPlaces.{places_of};
 
-use hir_session_state::hir_base::ids::Crate;
-use hir_session_state::hir_base::place::{BlockPlace, Place, PlaceElement};
-use hir_session_state::hir_item_tree::source::Source;
+use hir_base::ids::Crate;
+use hir_base::place::{BlockPlace, Place, PlaceElement};
+use hir_item_tree::source::Source;
 use std::alloc::{AllocError, Global};
 use std::collections::BTreeMap;
 use std::marker::Model;

@@ -2,7 +2,7 @@
 ghost use Rattle.std.specs.Prelude.{◌≡◌, IfOk};
 ghost use Rattle.hir_session_state.specs.HirTables.SourcePlaces.{expansion_value};
 
-use hir_session_state::hir_base::macro_kind::{ExpansionKey, MacroText};
+use hir_base::macro_kind::{ExpansionKey, MacroText};
 use std::alloc::{AllocError, Global};
 
 fn copied_text(text: &MacroText) -> Result<MacroText, AllocError>

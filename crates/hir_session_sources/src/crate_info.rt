@@ -6,11 +6,11 @@ ghost use Rattle.hir_session_state.specs.HirCollectorRules.Workspace.{config_vie
 ghost use Rattle.hir_session_state.specs.Crates.{root_of};
 ghost use Rattle.hir_session_state.specs.SourceTable.{front_in};
 
-use hir_session_state::hir_base::ast_id::{EditionedFileId, FileId};
-use hir_session_state::hir_base::cfg_options::CfgOptions;
+use hir_base::ast_id::{EditionedFileId, FileId};
+use hir_base::cfg_options::CfgOptions;
+use hir_item_tree::raw_attr::RawAttr;
 use hir_session_state::hir_collector_rules::source_database::{Config, CrateRoot};
-use hir_session_state::hir_item_tree::raw_attr::RawAttr;
-use hir_session_state::hir_tables::SourcePlace;
+use hir_tables::SourcePlace;
 use std::marker::Model;
 
 /// A crate: its root, what else it was handed in with, and the number of its root file.

@@ -5,7 +5,7 @@ ghost use Rattle.hir_session_state.specs.HirCrateGraph.Dependencies.{AreTransiti
 ghost use Rattle.hir_session_state.specs.Crates.{config_in, crate_in, no_crate, transitive_in};
 
 use crate::crate_info::CrateInfo;
-use hir_session_state::hir_base::ids::Crate;
+use hir_base::ids::Crate;
 use hir_session_state::hir_collector_rules::source_database::Dependency;
 use hir_session_state::hir_crate_graph::{CrateGraphError, CrateSet, TransitiveDependencies};
 use std::alloc::{AllocError, Global};

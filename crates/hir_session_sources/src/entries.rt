@@ -4,7 +4,7 @@ ghost use Rattle.hir_session_state.specs.HirTables.SourcePlaces.{expansion_value
 ghost use Rattle.hir_session_state.specs.HirMessages.Edits.{entry_view};
 ghost use Rattle.hir_session_state.specs.Entries.{entry_at, with_entry, without_entry};
 
-use hir_session_state::hir_base::macro_kind::ExpansionKey;
+use hir_base::macro_kind::ExpansionKey;
 use hir_session_state::hir_messages::edit::ExpansionEntry;
 use std::alloc::{AllocError, Global};
 use std::collections::BTreeMap;

@@ -3,8 +3,8 @@ ghost use Rattle.std.specs.Prelude.{◌≡◌, ℕ, List, [], length, map, None,
 ghost use Rattle.hir_session_state.specs.HirItemTree.Source.{source_view};
 ghost use Rattle.hir_session_state.specs.Files.{file_at, with_file, without_file};
 
-use hir_session_state::hir_base::file_path::FilePath;
-use hir_session_state::hir_item_tree::source::Source;
+use hir_base::file_path::FilePath;
+use hir_item_tree::source::Source;
 use std::alloc::{AllocError, Global};
 use std::collections::{BTreeMap, btree_map};
 use std::marker::Model;

@@ -5,9 +5,9 @@ ghost use Rattle.hir_session_state.specs.HirCollectorRules.Workspace.{entry_look
 ghost use Rattle.hir_session_state.specs.HirMessages.Edits.{entry_view};
 ghost use Rattle.hir_session_state.specs.Entries.{look_of, source_of};
 
-use hir_session_state::hir_base::text::Text;
+use hir_base::text::Text;
+use hir_item_tree::source::Source;
 use hir_session_state::hir_collector_rules::source_database::ExpansionLook;
-use hir_session_state::hir_item_tree::source::Source;
 use hir_session_state::hir_messages::edit::ExpansionEntry;
 
 /// The source of an expansion, where it is there.

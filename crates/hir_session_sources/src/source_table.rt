@@ -12,12 +12,12 @@ use crate::blocks::Blocks;
 use crate::entries::Entries;
 use crate::files::Files;
 use crate::seen_entry::source_in;
-use hir_session_state::hir_base::file_path::FilePath;
-use hir_session_state::hir_base::macro_kind::ExpansionKey;
-use hir_session_state::hir_base::place::BlockPlace;
-use hir_session_state::hir_item_tree::source::Source;
+use hir_base::file_path::FilePath;
+use hir_base::macro_kind::ExpansionKey;
+use hir_base::place::BlockPlace;
+use hir_item_tree::source::Source;
 use hir_session_state::hir_messages::edit::ExpansionEntry;
-use hir_session_state::hir_tables::SourcePlace;
+use hir_tables::SourcePlace;
 use std::alloc::{AllocError, Global};
 use std::marker::Model;
 

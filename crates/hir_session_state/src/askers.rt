@@ -10,10 +10,10 @@ ghost use Rattle.hir_session_state.specs.contracts.source_number.SourceNumberOrd
 ghost use Rattle.hir_session_state.specs.Askers.{has_asked, is_asker, Enters, IsSame, IsSameBut, Leaves};
 
 use crate::source_number::{SourceNumber, asked_number};
+use hir_base::ids::MapId;
 use hir_collector_rules::collected::Asked;
-use hir_collector_rules::hir_base::ids::MapId;
-use hir_collector_rules::hir_tables::Tables;
 use hir_collector_rules::source_database::Key;
+use hir_tables::Tables;
 use std::alloc::{AllocError, Global};
 use std::collections::{BTreeMap, BTreeSet};
 

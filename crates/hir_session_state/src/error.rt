@@ -1,10 +1,10 @@
 //! What the calls of a session are refused for, each in the order in which it is looked for.
 
-use hir_collector_rules::hir_base::ast_id::{AstKind, SyntaxId};
-use hir_collector_rules::hir_base::ids::Crate;
-use hir_collector_rules::hir_base::limit::Limit;
-use hir_collector_rules::hir_base::locations::LocationsError;
-use hir_collector_rules::hir_item_tree::check::CheckError;
+use hir_base::ast_id::{AstKind, SyntaxId};
+use hir_base::ids::Crate;
+use hir_base::limit::Limit;
+use hir_base::locations::LocationsError;
+use hir_item_tree::check::CheckError;
 use std::alloc::{AllocError, AllocFailed};
 use thiserror::Error;
 

@@ -5,9 +5,9 @@ ghost use Rattle.hir_collector_rules.specs.HirItemTree.Attributes.{attribute_vie
 ghost use Rattle.hir_messages.specs.CommandValue.{crate_input_view};
 ghost use Rattle.hir_session_state.specs.Refusals.{is_too_deep, is_too_long};
 
-use hir_collector_rules::hir_item_tree::check::long_paths::any_long_attr;
-use hir_collector_rules::hir_item_tree::check::nesting::deep_attrs;
-use hir_collector_rules::hir_item_tree::raw_attr::RawAttr;
+use hir_item_tree::check::long_paths::any_long_attr;
+use hir_item_tree::check::nesting::deep_attrs;
+use hir_item_tree::raw_attr::RawAttr;
 use hir_messages::command::CrateInput;
 use std::alloc::{AllocError, Global};
 

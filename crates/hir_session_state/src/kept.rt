@@ -20,15 +20,15 @@ ghost use Rattle.hir_session_state.specs.Kept.{finished_by, held, kept_in, names
 
 use crate::askers::Askers;
 use crate::runs::{KeptRun, Runs};
+use hir_base::ids::{MapId, ModuleId};
 use hir_collector_rules::collected::{Asked, Collected};
-use hir_collector_rules::hir_base::ids::{MapId, ModuleId};
 use hir_collector_rules::hir_scope::imports::ImportOrExternCrate;
-use hir_collector_rules::hir_tables::Tables;
 use hir_def_map::nameres::DefMap;
 use hir_def_map::nameres::local_def_map::LocalDefMap;
 use hir_def_map::world::World;
 use hir_def_map::world::finished::Finished;
 use hir_def_map::world::insert::InsertError;
+use hir_tables::Tables;
 use std::alloc::{AllocError, Global};
 use std::marker::Model;
 

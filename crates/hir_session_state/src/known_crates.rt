@@ -4,7 +4,7 @@ ghost use Rattle.std.specs.List.{list_all};
 ghost use Rattle.hir_collector_rules.specs.HirTables.SourcePlaces.{expansion_value};
 ghost use Rattle.hir_session_state.specs.Refusals.{are_known};
 
-use hir_collector_rules::hir_base::macro_kind::{ExpansionKey, MacroText};
+use hir_base::macro_kind::{ExpansionKey, MacroText};
 
 /// Whether the macros are those of crates with numbers below this.
 fn are_below(count: usize, macros: &[MacroText]) -> bool

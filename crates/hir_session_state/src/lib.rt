@@ -2,7 +2,7 @@
 #![tactic(auto)]
 
 pub use hir_collector_rules;
-pub use hir_collector_rules::{hir_base, hir_crate_graph, hir_item_tree, hir_scope, hir_tables};
+pub use hir_collector_rules::{hir_crate_graph, hir_scope};
 pub use hir_def_collector_laws;
 pub use hir_def_map;
 pub use hir_messages;

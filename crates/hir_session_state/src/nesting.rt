@@ -3,7 +3,7 @@ ghost use Rattle.std.specs.Prelude.{◌≡◌, ◌≤◌, ◌↔◌, IsTrue};
 ghost use Rattle.hir_collector_rules.specs.HirItemTree.Source.{node_view, nodes_view, source_view};
 ghost use Rattle.hir_session_state.specs.Nesting.{item_nesting, items_nesting, is_nested_too_deep};
 
-use hir_collector_rules::hir_item_tree::source::{Node, NodeKind, Source};
+use hir_item_tree::source::{Node, NodeKind, Source};
 
 /// The most modules, traits, impls and extern blocks in one another. No line nests as many.
 pub const MAX_NESTING: u32 = 128;

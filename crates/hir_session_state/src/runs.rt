@@ -4,8 +4,8 @@ ghost use Rattle.std.specs.BTreeMap.{get, is_at, IsUnchanged, Updates};
 ghost use Rattle.hir_collector_rules.specs.HirIds.declared.ids.MapId.{MapId};
 ghost use Rattle.hir_collector_rules.specs.HirIds.contracts.ids.MapIdOrd.TheImpl as map_order;
 
+use hir_base::ids::MapId;
 use hir_collector_rules::collected::Asked;
-use hir_collector_rules::hir_base::ids::MapId;
 use hir_collector_rules::hir_scope::imports::ImportOrExternCrate;
 use std::alloc::Global;
 use std::collections::BTreeMap;

@@ -7,12 +7,12 @@ ghost use Rattle.hir_session_state.specs.declared.source_number.SourceNumber.{So
 ghost use Rattle.hir_session_state.specs.KeySources.{key_tree, macro_source};
 ghost use Rattle.hir_session_state.specs.SourceNumbers.{asked_number, number_under, place_at};
 
-use hir_collector_rules::hir_base::ast_id::{BlockId, EntryId, FileId, HirFileId};
-use hir_collector_rules::hir_base::ids::Crate;
-use hir_collector_rules::hir_base::macro_kind::{MacroId, MacroLoc};
-use hir_collector_rules::hir_item_tree::tree_id::{TreeId, TreeKey};
-use hir_collector_rules::hir_tables::{SourcePlace, Tables};
+use hir_base::ast_id::{BlockId, EntryId, FileId, HirFileId};
+use hir_base::ids::Crate;
+use hir_base::macro_kind::{MacroId, MacroLoc};
 use hir_collector_rules::source_database::Key;
+use hir_item_tree::tree_id::{TreeId, TreeKey};
+use hir_tables::{SourcePlace, Tables};
 
 /// The number of a file, a block or an expansion.
 #[derive(Clone, Copy, Debug, PartialEq, Eq, PartialOrd, Ord, Hash)]

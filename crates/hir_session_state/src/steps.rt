@@ -5,10 +5,10 @@ ghost use Rattle.hir_session_state.specs.Blocks.{nesting_of, place_of_block};
 ghost use Rattle.hir_session_state.specs.Refusals.{has_high_index, is_before_index, passes_before_index, passes_limit, verdict_with_steps};
 
 use crate::error::EditError;
-use hir_collector_rules::hir_base::ast_id::SyntaxId;
-use hir_collector_rules::hir_base::limit::Limit;
-use hir_collector_rules::hir_base::place::{BlockPlace, PlaceElement};
-use hir_collector_rules::hir_item_tree::check::MAX_INDEX;
+use hir_base::ast_id::SyntaxId;
+use hir_base::limit::Limit;
+use hir_base::place::{BlockPlace, PlaceElement};
+use hir_item_tree::check::MAX_INDEX;
 
 /// The most blocks that are in one another.
 pub const MAX_BLOCKS: usize = 16;

@@ -3,7 +3,7 @@ ghost use Rattle.std.specs.Prelude.{◌≡◌, IsSome, None};
 ghost use Rattle.hir_collector_rules.specs.HirDefMapRules.State.{variants_at};
 ghost use Rattle.hir_collector_rules.specs.HirImportRules.Changed.{everything};
 
-use hir_collector_rules::hir_base::ids::EnumId;
+use hir_base::ids::EnumId;
 use hir_collector_rules::hir_nameres::nameres::DefMap;
 use hir_import_growth::Changed;
 

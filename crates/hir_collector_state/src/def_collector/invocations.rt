@@ -8,9 +8,9 @@ ghost use Rattle.hir_collector_state.specs.Waiting.{IsNoted};
 
 use crate::def_collector::DefCollector;
 use either::Either;
-use hir_collector_rules::hir_base::ast_id::{AstId, AttrId, MacroCallId};
-use hir_collector_rules::hir_base::macro_kind::BuiltinDeriveImplId;
-use hir_collector_rules::hir_base::mod_path::ModPath;
+use hir_base::ast_id::{AstId, AttrId, MacroCallId};
+use hir_base::macro_kind::BuiltinDeriveImplId;
+use hir_base::mod_path::ModPath;
 use hir_collector_rules::hir_nameres::nameres::DefMap;
 use hir_collector_rules::hir_scope::item_scope::ItemScope;
 use hir_collector_rules::macro_directive::{MacroDirective, MacroDirectiveKind};

@@ -12,10 +12,10 @@ ghost use Rattle.hir_collector_rules.specs.Changes.{with_derived};
 ghost use Rattle.hir_collector_state.specs.Waiting.{IsNoted, call_reads};
 
 use crate::def_collector::DefCollector;
+use hir_base::ast_id::AstId;
+use hir_base::ids::HasModule;
+use hir_base::macro_kind::{BuiltinDeriveImplId, MacroId, ProcMacroId};
 use hir_collector_rules::exported::ExportedFunction;
-use hir_collector_rules::hir_base::ast_id::AstId;
-use hir_collector_rules::hir_base::ids::HasModule;
-use hir_collector_rules::hir_base::macro_kind::{BuiltinDeriveImplId, MacroId, ProcMacroId};
 use hir_collector_rules::hir_nameres::def_maps::DefMaps;
 use hir_collector_rules::hir_nameres::nameres::DefMap;
 use hir_collector_rules::hir_nameres::nameres::derive_helpers::DeriveHelper;

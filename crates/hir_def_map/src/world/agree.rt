@@ -4,7 +4,7 @@ ghost use Rattle.std.specs.List.{list_all};
 ghost use Rattle.hir_def_map.specs.Agreement.{agrees_at};
 
 use crate::world::World;
-use hir_nameres::hir_base::ids::MapId;
+use hir_base::ids::MapId;
 
 impl World {
     #[tactic(auto, unfolding(hir_nameres::specs::World::finished_in))]

@@ -3,7 +3,7 @@ ghost use Rattle.std.specs.Prelude.{◌≡◌, ◌∷◌, [], IfSome, IfNone, On
 ghost use Rattle.hir_nameres.specs.HirIds.declared.ids.MapId.{MapId};
 ghost use Rattle.hir_def_map.specs.Inner.Dependents.{is_dependent, Enters, IsSame, IsSameBut, Leaves};
 
-use hir_nameres::hir_base::ids::MapId;
+use hir_base::ids::MapId;
 use std::alloc::{AllocError, Global};
 use std::collections::{BTreeMap, BTreeSet};
 

@@ -14,8 +14,8 @@ use crate::nameres::DefMap;
 use crate::world::World;
 use crate::world::dependents::Dependents;
 use crate::world::finished::Finished;
+use hir_base::ids::{MapId, ModuleId};
 use hir_def_map_rules::local_def_map::LocalDefMap;
-use hir_nameres::hir_base::ids::{MapId, ModuleId};
 use std::alloc::AllocError;
 use std::collections::{BTreeMap, BTreeSet};
 

@@ -7,8 +7,8 @@ ghost use Rattle.hir_nameres.specs.World.{finished_in, local_in};
 
 use crate::nameres::DefMap;
 use crate::world::World;
+use hir_base::ids::{Crate, MapId, ModuleId};
 use hir_def_map_rules::local_def_map::LocalDefMap;
-use hir_nameres::hir_base::ids::{Crate, MapId, ModuleId};
 
 impl World {
     /// The map of an id, where it is there.

@@ -14,10 +14,10 @@ ghost use Rattle.hir_def_map_rules.specs.References.{any_own_crate, lies_in, tes
 use crate::nameres::DefMap;
 use crate::world::World;
 use crate::world::references::{MapReferences, ModuleReferences};
+use hir_base::ids::{Crate, MapId};
 use hir_def_map_rules::local_def_map::LocalDefMap;
 use hir_def_map_rules::module_data::ModuleData;
 use hir_def_map_rules::reference::Reference;
-use hir_nameres::hir_base::ids::{Crate, MapId};
 use hir_nameres::hir_crate_graph::CrateSet;
 use std::alloc::AllocError;
 use std::collections::BTreeSet;

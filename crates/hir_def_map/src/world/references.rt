@@ -6,12 +6,12 @@ ghost use Rattle.std.specs.Iterator.{YieldsFirst, item_count};
 ghost use Rattle.hir_def_map_rules.specs.Inner.ReferenceLists.{block_crate, references_besides, references_in, references_in_scope};
 
 use crate::nameres::DefMap;
+use hir_base::ids::{Crate, ExternCrateId, MapId, ModuleDefId, ModuleId, TraitId};
+use hir_base::macro_kind::MacroId;
+use hir_base::name::Name;
 use hir_def_map_rules::local_def_map::LocalDefMap;
 use hir_def_map_rules::module_data::ModuleData;
 use hir_def_map_rules::reference::{Reference, reference_to, visibility_reference};
-use hir_nameres::hir_base::ids::{Crate, ExternCrateId, MapId, ModuleDefId, ModuleId, TraitId};
-use hir_nameres::hir_base::macro_kind::MacroId;
-use hir_nameres::hir_base::name::Name;
 use hir_nameres::hir_crate_graph::Crates;
 use hir_nameres::hir_scope::imports::{ImportId, ImportOrExternCrate, ImportOrGlob};
 use hir_nameres::hir_scope::item_scope::ItemScope;

@@ -10,7 +10,7 @@ ghost use Rattle.hir_nameres.specs.Removal.{refers_in, Depends, GainsRemoved, Is
 use crate::world::World;
 use crate::world::dependents::Dependents;
 use crate::world::finished::Finished;
-use hir_nameres::hir_base::ids::MapId;
+use hir_base::ids::MapId;
 use std::alloc::AllocError;
 use std::collections::BTreeMap;
 

@@ -11,10 +11,10 @@ ghost use Rattle.hir_def_map_rules.specs.References.{any_reference, is_holder_fo
 use crate::nameres::DefMap;
 use crate::world::World;
 use crate::world::references::{MapReferences, ModuleReferences};
+use hir_base::ids::{EnumId, MapId, ModuleId};
 use hir_def_map_rules::local_def_map::LocalDefMap;
 use hir_def_map_rules::module_data::ModuleData;
 use hir_def_map_rules::reference::Reference;
-use hir_nameres::hir_base::ids::{EnumId, MapId, ModuleId};
 
 impl World {
     /// Whether a module is there, in a finished map or in the current one.

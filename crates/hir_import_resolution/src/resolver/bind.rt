@@ -4,11 +4,11 @@ ghost use Rattle.hir_import_rules.specs.Changes.{bound_as, bound_in, with_kept};
 ghost use Rattle.hir_import_resolution.specs.Inner.State.{ArePlacedIn, IsKeptIn, IsTraitPlaced, finished_by, state_by, with_globs};
 
 use crate::resolver::Resolver;
+use hir_base::ids::TraitId;
+use hir_base::name::Name;
 use hir_glob_imports::{Key, Slot};
 use hir_import_growth::forgetting::forget;
 use hir_import_rules::directive::ImportSource;
-use hir_nameres::hir_base::ids::TraitId;
-use hir_nameres::hir_base::name::Name;
 use hir_nameres::hir_scope::imports::ImportId;
 use hir_nameres::hir_scope::per_ns::PerNs;
 use hir_nameres::hir_scope::visibility::Visibility;

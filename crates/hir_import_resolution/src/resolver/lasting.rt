@@ -10,8 +10,8 @@ ghost use Rattle.hir_import_rules.specs.Names.{trait_vis};
 
 use crate::lasting::{has_variants, is_placed, is_trait_placed, stops_bare};
 use crate::resolver::Resolver;
+use hir_base::ids::TraitId;
 use hir_glob_imports::Edge;
-use hir_nameres::hir_base::ids::TraitId;
 use hir_nameres::nameres::path_resolution::ResolvePathResult;
 
 impl Resolver<'_> {

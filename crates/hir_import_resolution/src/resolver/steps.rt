@@ -12,14 +12,14 @@ use crate::answers::{
     answer, answer_of_crate, imported, kept, target_among, trait_among, visibility,
 };
 use crate::resolver::Resolver;
+use hir_base::ids::TraitId;
+use hir_base::mod_path::ModPath;
+use hir_base::name::Name;
 use hir_glob_imports::{Edge, MAX_STEPS, Target};
 use hir_import_rules::directive::{ImportDirective, ImportSource, is_one_name};
 use hir_import_rules::error::ImportError;
 use hir_import_rules::namespaces::Namespaces;
 use hir_import_rules::taken::Taken;
-use hir_nameres::hir_base::ids::TraitId;
-use hir_nameres::hir_base::mod_path::ModPath;
-use hir_nameres::hir_base::name::Name;
 use hir_nameres::hir_scope::per_ns::PerNs;
 use hir_nameres::hir_scope::visibility::Visibility;
 use hir_nameres::nameres::path_resolution::{ReachedFixedPoint, ResolvePathResult};

@@ -9,8 +9,8 @@ ghost use Rattle.hir_import_rules.specs.Lasting.{IsThere};
 
 use crate::lasting::is_there;
 use crate::resolver::Resolver;
+use hir_base::name::Name;
 use hir_import_rules::directive::ImportSource;
-use hir_nameres::hir_base::name::Name;
 use hir_nameres::nameres::path_resolution::slots::{PathSlots, Slot};
 use hir_nameres::nameres::path_resolution::{BuiltinShadowMode, ResolveMode};
 use hir_worklist::{Watchers, Worklist};

@@ -6,10 +6,10 @@ ghost use Rattle.hir_import_resolution.specs.KeyLists.{enum_keys, has_namespace,
 ghost use Rattle.hir_import_resolution.specs.Scopes.{value_of};
 
 use crate::scopes::{OpenScopes, is_foreign, is_open, variant_items};
+use hir_base::ids::{EnumId, ModuleId, TraitId};
+use hir_base::name::Name;
 use hir_glob_imports::{Key, Target};
 use hir_nameres::def_maps::DefMaps;
-use hir_nameres::hir_base::ids::{EnumId, ModuleId, TraitId};
-use hir_nameres::hir_base::name::Name;
 use hir_nameres::hir_scope::item_scope::ItemScope;
 use hir_nameres::hir_scope::item_scope::iter::bindings::Bindings;
 use hir_nameres::hir_scope::per_ns::{Namespace, PerNs};

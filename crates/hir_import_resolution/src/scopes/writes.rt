@@ -8,10 +8,10 @@ ghost use Rattle.hir_import_rules.specs.Changes.{kept_vis};
 ghost use Rattle.hir_import_rules.specs.Names.{trait_vis, with_trait};
 
 use crate::scopes::{OpenScopes, keep_trait_at, trait_vis};
+use hir_base::ids::{ModuleId, TraitId};
+use hir_base::name::Name;
 use hir_glob_imports::Names;
 use hir_nameres::def_maps::DefMaps;
-use hir_nameres::hir_base::ids::{ModuleId, TraitId};
-use hir_nameres::hir_base::name::Name;
 use hir_nameres::hir_scope::imports::{ImportId, ImportOrExternCrate};
 use hir_nameres::hir_scope::per_ns::PerNs;
 use hir_nameres::hir_scope::visibility::Visibility;

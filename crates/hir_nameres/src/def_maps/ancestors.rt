@@ -10,7 +10,7 @@ use crate::def_maps::DefMaps;
 use crate::nameres::DefMap;
 use crate::world::finished_maps::FinishedMaps;
 use crate::world::part::WorldPart;
-use hir_def_map_rules::hir_base::ids::ModuleId;
+use hir_base::ids::ModuleId;
 
 impl DefMaps<'_> {
     /// Asks about a module and its map, then about the module that holds the block of that map, and so on outwards, until

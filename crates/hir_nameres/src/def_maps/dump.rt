@@ -6,7 +6,7 @@ ghost use Rattle.hir_def_map_rules.specs.Dump.{pages_outwards};
 ghost use Rattle.hir_def_map_rules.specs.Inner.Branches.{with_pages};
 
 use crate::def_maps::DefMaps;
-use hir_def_map_rules::hir_base::ids::ModuleId;
+use hir_base::ids::ModuleId;
 use std::alloc::{AllocError, Global};
 
 impl DefMaps<'_> {

@@ -11,8 +11,8 @@ use crate::nameres::path_resolution::query::Query;
 use crate::nameres::path_resolution::{
     BuiltinShadowMode, MacroSubNs, ResolveMode, ResolvePathResult,
 };
-use hir_def_map_rules::hir_base::ids::ModuleId;
-use hir_def_map_rules::hir_base::mod_path::ModPath;
+use hir_base::ids::ModuleId;
+use hir_base::mod_path::ModPath;
 use hir_def_map_rules::hir_scope::per_ns::PerNs;
 use hir_def_map_rules::local_def_map::LocalDefMap;
 

@@ -9,7 +9,7 @@ ghost use Rattle.hir_def_map_rules.specs.Visibilities.{assoc_visibility_of, reso
 use crate::def_maps::DefMaps;
 use crate::nameres::path_resolution::{BuiltinShadowMode, ResolveMode};
 use crate::resolve_visibility::path_seen;
-use hir_def_map_rules::hir_base::ids::ModuleId;
+use hir_base::ids::ModuleId;
 use hir_def_map_rules::hir_raw_visibility::raw_visibility::RawVisibility;
 use hir_def_map_rules::hir_scope::visibility::Visibility;
 use hir_def_map_rules::local_def_map::LocalDefMap;

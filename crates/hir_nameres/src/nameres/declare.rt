@@ -6,10 +6,8 @@ ghost use Rattle.hir_def_map_rules.specs.State.{with_declared, with_extern_block
 ghost use Rattle.hir_def_map_rules.specs.Declaration.{listed};
 
 use crate::nameres::DefMap;
+use hir_base::ids::{ConstId, ExternBlockId, ExternCrateId, ImplId, ModuleDefId, UseId};
 use hir_def_map_rules::declaration::Declaration;
-use hir_def_map_rules::hir_base::ids::{
-    ConstId, ExternBlockId, ExternCrateId, ImplId, ModuleDefId, UseId,
-};
 use std::alloc::AllocError;
 
 impl DefMap {

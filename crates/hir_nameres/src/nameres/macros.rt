@@ -3,11 +3,11 @@ ghost use Rattle.std.specs.Prelude.{◌≡◌, ◌++◌, ◌∷◌, [], option_m
 ghost use Rattle.hir_def_map_rules.specs.Macros.{exporting_function, helpers_at, macro_at, macro_data_at, proc_macro_at, with_derive_helper, with_diagnostic, with_exported, with_macro_data, with_macro_def};
 
 use crate::nameres::DefMap;
+use hir_base::ast_id::AstId;
+use hir_base::ids::FunctionId;
+use hir_base::macro_kind::{MacroId, ProcMacroId};
 use hir_def_map_rules::derive_helpers::{DeriveHelper, DeriveHelpers, push_helper};
 use hir_def_map_rules::diagnostics::{DefDiagnostic, DefDiagnostics};
-use hir_def_map_rules::hir_base::ast_id::AstId;
-use hir_def_map_rules::hir_base::ids::FunctionId;
-use hir_def_map_rules::hir_base::macro_kind::{MacroId, ProcMacroId};
 use hir_def_map_rules::macro_data::MacroData;
 use std::alloc::AllocError;
 

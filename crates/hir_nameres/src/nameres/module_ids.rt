@@ -5,8 +5,8 @@ ghost use Rattle.hir_nameres.specs.ModuleIds.{ids_held, is_expansion, is_file, i
 ghost use Rattle.hir_nameres.specs.declared.nameres.module_ids.WantedFile.TheVariants.{Expansion, Own};
 
 use crate::nameres::DefMap;
-use hir_def_map_rules::hir_base::ast_id::{EditionedFileId, FileId, HirFileId, MacroCallId};
-use hir_def_map_rules::hir_base::ids::{MapId, ModuleId};
+use hir_base::ast_id::{EditionedFileId, FileId, HirFileId, MacroCallId};
+use hir_base::ids::{MapId, ModuleId};
 use hir_def_map_rules::module_data::ModuleData;
 use hir_def_map_rules::origin::ModuleOrigin;
 use std::marker::Model;

@@ -30,9 +30,9 @@ use crate::def_maps::DefMaps;
 use crate::nameres::DefMap;
 use crate::world::finished_maps::FinishedMaps;
 use crate::world::part::WorldPart;
-use hir_def_map_rules::hir_base::ids::ModuleId;
-use hir_def_map_rules::hir_base::mod_path::ModPath;
-pub use hir_def_map_rules::hir_base::resolve_mode::{BuiltinShadowMode, MacroSubNs};
+use hir_base::ids::ModuleId;
+use hir_base::mod_path::ModPath;
+pub use hir_base::resolve_mode::{BuiltinShadowMode, MacroSubNs};
 use hir_def_map_rules::hir_scope::per_ns::PerNs;
 use hir_def_map_rules::local_def_map::LocalDefMap;
 pub use hir_def_map_rules::path_result::{

@@ -4,9 +4,9 @@ ghost use Rattle.hir_def_map_rules.specs.State.{at_name, crate_root, module_at, 
 ghost use Rattle.hir_def_map_rules.specs.Reads.{containing_module, contains_module, feature_in, is_without_std};
 
 use crate::nameres::DefMap;
-use hir_def_map_rules::hir_base::ast_id::BlockId;
-use hir_def_map_rules::hir_base::ids::{Crate, MapId, ModuleId};
-use hir_def_map_rules::hir_base::name::Name;
+use hir_base::ast_id::BlockId;
+use hir_base::ids::{Crate, MapId, ModuleId};
+use hir_base::name::Name;
 use hir_def_map_rules::module_data::ModuleData;
 use std::collections::BTreeSet;
 use std::ops::{Index, IndexMut};

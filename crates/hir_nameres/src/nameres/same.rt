@@ -3,7 +3,7 @@ ghost use Rattle.std.specs.Prelude.{◌≡◌};
 ghost use Rattle.hir_def_map_rules.specs.Equality.{same_def_map, same_items, same_macro_use, same_macros, same_prelude, same_preludes, same_reports};
 
 use crate::nameres::DefMap;
-use hir_def_map_rules::hir_base::ids::{ModuleId, UseId};
+use hir_base::ids::{ModuleId, UseId};
 
 fn is_same_prelude(
     prelude: Option<(ModuleId, Option<UseId>)>,

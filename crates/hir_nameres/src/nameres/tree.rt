@@ -4,7 +4,7 @@ ghost use Rattle.hir_def_map_rules.specs.Ancestors.{leads_to_root, own_frame, pa
 ghost use Rattle.hir_def_map_rules.specs.References.{each_leads_to_root, has_its_variants, has_its_parents, is_parent_in};
 
 use crate::nameres::DefMap;
-use hir_def_map_rules::hir_base::ids::{MapId, ModuleId};
+use hir_base::ids::{MapId, ModuleId};
 
 /// Whether a parent, if there is one, lies in the map of this id.
 fn is_parent_in(id: MapId, parent: Option<ModuleId>) -> bool

@@ -1,7 +1,7 @@
 //! A finished map, and what a world keeps with it.
 
 use crate::nameres::DefMap;
-use hir_def_map_rules::hir_base::ids::{MapId, ModuleId};
+use hir_base::ids::{MapId, ModuleId};
 use hir_def_map_rules::local_def_map::LocalDefMap;
 use std::collections::BTreeSet;
 

@@ -1,7 +1,7 @@
 //! What has finished maps.
 
 use crate::world::finished::Finished;
-use hir_def_map_rules::hir_base::ids::MapId;
+use hir_base::ids::MapId;
 use std::collections::BTreeMap;
 
 /// What has the finished maps of crates and blocks, none of which has a dangling reference.

@@ -4,7 +4,7 @@ ghost use Rattle.hir_nameres.specs.World.{IsChecked};
 mod look_up;
 
 use crate::world::finished::Finished;
-use hir_def_map_rules::hir_base::ids::{MapId, ModuleId};
+use hir_base::ids::{MapId, ModuleId};
 use hir_def_map_rules::hir_crate_graph::CrateSet;
 use std::collections::BTreeMap;
 

@@ -6,14 +6,14 @@ ghost use Rattle.hir_session_state.specs.HirDefMapRules.Overlay.{module_in};
 ghost use Rattle.hir_session_answers.specs.SourceItems.{block_definition, item_of, crate_of, module_by, module_definition, adt_definition, macro_definition, definition_of};
 
 use super::item_at;
+use hir_base::ast_id::{AstKind, BlockId, HirFileId, SyntaxId};
+use hir_base::ids::{AdtId, Crate, ItemContainerId, ModuleDefId, ModuleId};
+use hir_base::macro_kind::MacroId;
 use hir_session_sources::blocks::root_of_block;
-use hir_session_state::hir_base::ast_id::{AstKind, BlockId, HirFileId, SyntaxId};
-use hir_session_state::hir_base::ids::{AdtId, Crate, ItemContainerId, ModuleDefId, ModuleId};
-use hir_session_state::hir_base::macro_kind::MacroId;
 use hir_session_state::hir_def_map::def_maps::DefMaps;
 use hir_session_state::hir_def_map::nameres::origin::ModuleOrigin;
 use hir_session_state::hir_messages::answer::{Definition, SourceKind};
-use hir_session_state::hir_tables::Tables;
+use hir_tables::Tables;
 use std::alloc::{AllocError, Global};
 
 /// The crate of what holds an item.

@@ -3,10 +3,10 @@ ghost use Rattle.std.specs.Prelude.{◌≡◌, IfOk};
 ghost use Rattle.hir_session_answers.specs.SourceItems.{use_source, import_source, value_import_source};
 
 use super::source_calls::source_at;
-use hir_session_state::hir_base::ids::UseId;
+use hir_base::ids::UseId;
 use hir_session_state::hir_messages::answer::{ImportOrigin, ImportSource};
 use hir_session_state::hir_scope::imports::{ImportOrExternCrate, ImportOrGlob};
-use hir_session_state::hir_tables::Tables;
+use hir_tables::Tables;
 use std::alloc::{AllocError, Global};
 
 /// A `use` item, with the kind and the place of its leaf.

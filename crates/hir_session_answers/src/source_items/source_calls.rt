@@ -4,13 +4,13 @@ ghost use Rattle.hir_session_state.specs.HirDefMapRules.Diagnostics.{call_node};
 ghost use Rattle.hir_session_state.specs.Standing.{most_calls};
 ghost use Rattle.hir_session_answers.specs.SourceCalls.{and_calls, call_kind, root_in, rooted, source_call, source_of};
 
+use hir_base::ast_id::{AstId, BlockId, HirFileId};
+use hir_base::macro_kind::MacroCallKind;
 use hir_session_sources::blocks::root_of_block;
-use hir_session_state::hir_base::ast_id::{AstId, BlockId, HirFileId};
-use hir_session_state::hir_base::macro_kind::MacroCallKind;
 use hir_session_state::hir_messages::answer::{
     ItemSource, SourceCall, SourceCallKind, SourceCalls, SourceRoot,
 };
-use hir_session_state::hir_tables::Tables;
+use hir_tables::Tables;
 use std::alloc::{AllocError, Global};
 
 /// How a macro is called.

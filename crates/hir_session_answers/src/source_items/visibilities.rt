@@ -4,11 +4,11 @@ ghost use Rattle.hir_session_state.specs.HirNameres.DefMaps.{maps_of};
 ghost use Rattle.hir_session_answers.specs.SourceItems.{is_explicit, visibility_source};
 
 use super::definitions::module_at;
+use hir_item_tree::raw_visibility::VisibilityExplicitness;
 use hir_session_state::hir_def_map::def_maps::DefMaps;
-use hir_session_state::hir_item_tree::raw_visibility::VisibilityExplicitness;
 use hir_session_state::hir_messages::answer::AnswerVisibility;
 use hir_session_state::hir_scope::visibility::Visibility;
-use hir_session_state::hir_tables::Tables;
+use hir_tables::Tables;
 use std::alloc::{AllocError, Global};
 
 fn is_written(explicitness: VisibilityExplicitness) -> bool

@@ -19,13 +19,13 @@ ghost use Rattle.hir_session_answers.specs.AssocItems.{impl_asked, impl_at, impl
 
 use super::Session;
 use hir_assoc_items::error::AssocItemsError;
+use hir_base::ids::{Crate, ImplId, MapId, TraitId};
+use hir_base::mod_path::ModPath;
+use hir_base::place::Place;
 use hir_session_answers::assoc_items::{impl_at, items_at, trait_at};
 use hir_session_invalidation::inputs::AssocList;
 use hir_session_sources::crates::Crates;
 use hir_session_state::error::{ImplItemsError, TraitItemsError};
-use hir_session_state::hir_base::ids::{Crate, ImplId, MapId, TraitId};
-use hir_session_state::hir_base::mod_path::ModPath;
-use hir_session_state::hir_base::place::Place;
 use hir_session_state::hir_crate_graph::crate_set::CrateSet;
 use hir_session_state::hir_def_map::def_maps::DefMaps;
 use hir_session_state::hir_def_map::world::part::WorldPart;

@@ -11,12 +11,12 @@ ghost use Rattle.hir_session_core.specs.BlockVerdicts.{told_with_steps};
 
 use super::pending::{PendingBlock, forget_block, settle};
 use super::{Session, check_source};
+use hir_base::ids::MapId;
+use hir_base::place::BlockPlace;
+use hir_item_tree::source::Source;
 use hir_session_invalidation::invalidate::{Invalidation, invalidated};
 use hir_session_sources::source_edit::SourceEdit;
 use hir_session_state::error::EditError;
-use hir_session_state::hir_base::ids::MapId;
-use hir_session_state::hir_base::place::BlockPlace;
-use hir_session_state::hir_item_tree::source::Source;
 use hir_session_state::steps::check_with_steps;
 use std::alloc::{AllocError, Global};
 

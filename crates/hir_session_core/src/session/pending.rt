@@ -8,13 +8,13 @@ ghost use Rattle.hir_session_state.specs.SessionState.{block_kept, is_marked, Is
 ghost use Rattle.hir_session_core.specs.Progress.{pending_of, with_pending, ArePending, HasAllPending, IsPendingAt, IsSettled, IsSifted};
 
 use super::Session;
+use hir_base::ids::MapId;
+use hir_base::place::{BlockPlace, Place};
 use hir_session_sources::blocks::root_of_block;
 use hir_session_state::askers::Askers;
-use hir_session_state::hir_base::ids::MapId;
-use hir_session_state::hir_base::place::{BlockPlace, Place};
-use hir_session_state::hir_tables::Tables;
 use hir_session_state::kept::Kept;
 use hir_session_state::steps::nesting;
+use hir_tables::Tables;
 use std::alloc::{AllocError, Global};
 use std::collections::BTreeSet;
 

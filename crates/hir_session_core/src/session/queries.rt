@@ -21,6 +21,11 @@ ghost use Rattle.hir_session_answers.specs.Names.{names_kept, names_of};
 ghost use Rattle.hir_session_answers.specs.NamesStand.{NamesStand};
 
 use super::Session;
+use hir_base::file_path::FilePath;
+use hir_base::ids::{Crate, MapId};
+use hir_base::mod_path::ModPath;
+use hir_base::place::Place;
+use hir_item_tree::source::Source;
 use hir_session_answers::answers::answer_at;
 use hir_session_answers::diagnostics::diagnostics_at;
 use hir_session_answers::modules::list_modules;
@@ -29,20 +34,15 @@ use hir_session_answers::standing::{PlaceStanding, standing_at};
 use hir_session_sources::crate_info::CrateInfo;
 use hir_session_sources::files::Files;
 use hir_session_state::error::{DiagnosticsError, ModulesError, QueryError, TreeTextError};
-use hir_session_state::hir_base::file_path::FilePath;
-use hir_session_state::hir_base::ids::{Crate, MapId};
-use hir_session_state::hir_base::mod_path::ModPath;
-use hir_session_state::hir_base::place::Place;
 use hir_session_state::hir_def_map::def_maps::DefMaps;
 use hir_session_state::hir_def_map::nameres::DefMap;
 use hir_session_state::hir_def_map::world::part::WorldPart;
-use hir_session_state::hir_item_tree::source::Source;
 use hir_session_state::hir_messages::answer::Answer;
 use hir_session_state::hir_messages::command::{MacroStyle, Shadow};
 use hir_session_state::hir_messages::diagnostic::Diagnostics;
 use hir_session_state::hir_messages::names::BoundNames;
 use hir_session_state::hir_messages::reply::{Places, Status};
-use hir_session_state::hir_tables::SourcePlace;
+use hir_tables::SourcePlace;
 use std::alloc::{AllocError, Global};
 
 impl Session {

@@ -20,13 +20,13 @@ ghost use Rattle.hir_session_state.specs.HirMessages.declared.reply.Status.TheVa
 
 use super::Session;
 use super::pending::PendingBlock;
+use hir_base::ast_id::{BlockId, EditionedFileId};
+use hir_base::ids::{Crate, MapId, ModuleId};
+use hir_base::place::{BlockPlace, Place};
 use hir_session_answers::definition_files::definition_file_at;
 use hir_session_invalidation::sources::{CollectDefs, HeldBlock};
 use hir_session_sources::source_trees::copied_place;
 use hir_session_state::error::RefreshError;
-use hir_session_state::hir_base::ast_id::{BlockId, EditionedFileId};
-use hir_session_state::hir_base::ids::{Crate, MapId, ModuleId};
-use hir_session_state::hir_base::place::{BlockPlace, Place};
 use hir_session_state::hir_collector_rules::collected::Collected;
 use hir_session_state::hir_collector_rules::start::CollectError;
 use std::alloc::{AllocError, Global};

@@ -14,14 +14,14 @@ use super::Inputs;
 use crate::sources::Sources;
 use hir_assoc_items::assoc::{ImplItems, TraitItems};
 use hir_assoc_items::error::AssocItemsError;
+use hir_base::ast_id::{AstId, MacroCallId};
+use hir_base::ids::{AssocItemId, ImplId, TraitId};
+use hir_base::name::Name;
 use hir_session_sources::source_trees::SourceTrees;
-use hir_session_state::hir_base::ast_id::{AstId, MacroCallId};
-use hir_session_state::hir_base::ids::{AssocItemId, ImplId, TraitId};
-use hir_session_state::hir_base::name::Name;
 use hir_session_state::hir_def_map::def_maps::DefMaps;
 use hir_session_state::hir_def_map::nameres::diagnostics::DefDiagnostics;
 use hir_session_state::hir_def_map::nameres::local_def_map::LocalDefMap;
-use hir_session_state::hir_tables::Tables;
+use hir_tables::Tables;
 use std::alloc::Global;
 use std::mem::replace;
 

@@ -9,9 +9,9 @@ use crate::nameres::path_resolution::query::Query;
 use crate::nameres::path_resolution::start::is_import;
 use crate::nameres::path_resolution::{ReachedFixedPoint, ResolvePathResult};
 use crate::nameres::reads::crate_root;
-use hir_def_map_rules::hir_base::ids::ModuleId;
-use hir_def_map_rules::hir_base::mod_path::PathKind;
-use hir_def_map_rules::hir_base::name::Name;
+use hir_base::ids::ModuleId;
+use hir_base::mod_path::PathKind;
+use hir_base::name::Name;
 
 impl Query<'_> {
     /// A path in the preludes of a crate, asked from its root.

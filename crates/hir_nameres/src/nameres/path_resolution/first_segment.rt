@@ -7,10 +7,10 @@ ghost use Rattle.hir_def_map_rules.specs.Scoping.FirstSegment.{builtin_name, ext
 use crate::nameres::path_resolution::query::Query;
 use crate::nameres::path_resolution::{BuiltinShadowMode, MacroSubNs};
 use crate::nameres::reads::crate_root;
-use hir_def_map_rules::hir_base::builtin_type::BuiltinType;
-use hir_def_map_rules::hir_base::ids::{ModuleDefId, ModuleId};
-use hir_def_map_rules::hir_base::macro_kind::{MacroId, macro_styles_from_id};
-use hir_def_map_rules::hir_base::name::Name;
+use hir_base::builtin_type::BuiltinType;
+use hir_base::ids::{ModuleDefId, ModuleId};
+use hir_base::macro_kind::{MacroId, macro_styles_from_id};
+use hir_base::name::Name;
 use hir_def_map_rules::hir_scope::imports::ImportOrExternCrate;
 use hir_def_map_rules::hir_scope::per_ns::{MacrosItem, PerNs, TypesItem};
 use hir_def_map_rules::hir_scope::visibility::Visibility;

@@ -11,9 +11,9 @@ use crate::nameres::path_resolution::first_segment::is_block_root;
 use crate::nameres::path_resolution::{
     ReachedFixedPoint, ResolvePathResult, ResolvePathResultPrefixInfo,
 };
+use hir_base::ids::{AdtId, ModuleDefId, ModuleId};
+use hir_base::name::Name;
 use hir_def_map_rules::enum_variants::EnumVariant;
-use hir_def_map_rules::hir_base::ids::{AdtId, ModuleDefId, ModuleId};
-use hir_def_map_rules::hir_base::name::Name;
 use hir_def_map_rules::hir_scope::per_ns::{Item, PerNs, TypesItem};
 use hir_def_map_rules::hir_scope::visibility::Visibility;
 

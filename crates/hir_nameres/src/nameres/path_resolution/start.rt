@@ -9,9 +9,9 @@ use crate::nameres::path_resolution::first_segment::{is_block_root, shadow_befor
 use crate::nameres::path_resolution::query::Query;
 use crate::nameres::path_resolution::{ReachedFixedPoint, ResolveMode, ResolvePathResult};
 use crate::nameres::reads::crate_root;
-use hir_def_map_rules::hir_base::ids::{Crate, ModuleDefId, ModuleId};
-use hir_def_map_rules::hir_base::mod_path::PathKind;
-use hir_def_map_rules::hir_base::name::Name;
+use hir_base::ids::{Crate, ModuleDefId, ModuleId};
+use hir_base::mod_path::PathKind;
+use hir_base::name::Name;
 use hir_def_map_rules::hir_scope::per_ns::PerNs;
 use hir_def_map_rules::hir_scope::visibility::Visibility;
 

@@ -11,7 +11,7 @@ use crate::nameres::DefMap;
 use crate::world::finished::Finished;
 use crate::world::finished_maps::FinishedMaps;
 use crate::world::part::WorldPart;
-use hir_def_map_rules::hir_base::ids::{MapId, ModuleId};
+use hir_base::ids::{MapId, ModuleId};
 use hir_def_map_rules::hir_crate_graph::CrateSet;
 use hir_def_map_rules::local_def_map::LocalDefMap;
 
