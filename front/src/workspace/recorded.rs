@@ -4,7 +4,7 @@
 //! Where a walk looks at the same in an edited file, it takes the same way, as long as each path reaches the macro that it
 //! reached. So the units of all other files and all expansions are those that would be handed in anew. The program is
 //! asked what it was asked for the report; where it replies the same, and no import names what an item doesn't hold, the
-//! report is the same.
+//! report is the same. Where only items come, go or change whose names nothing looks up, it isn't asked.
 
 use std::collections::{BTreeSet, HashSet};
 use std::path::Path;
@@ -17,6 +17,7 @@ use super::expansions::macro_question;
 use super::files::key_of;
 use super::hand_in::set_file;
 use super::looked_at::looked_at;
+use super::unnamed::{are_unnamed, Edit};
 use super::{Key, Parsed, Workspace};
 use crate::cfg::Options;
 use crate::package::Crates;
@@ -51,6 +52,8 @@ struct File {
     nodes: usize,
     /// Which of the lines sets it, if one does.
     line: Option<usize>,
+    /// Whether it is one of a crate that is asked for, or that stands on one of these.
+    is_above: bool,
     editable: Option<Editable>,
 }
 
@@ -142,7 +145,8 @@ impl Workspace {
         keys.sort();
         for key in keys {
             let (file, line) = self.record_file(key, &needed, &trimmed, &mut made.type_names);
-            made.files.push(File { line: line.is_some().then_some(lines.len()), ..file });
+            let is_above = self.crates_of(key).iter().any(|it| above.contains(it));
+            made.files.push(File { line: line.is_some().then_some(lines.len()), is_above, ..file });
             lines.extend(line);
         }
         for (key, it) in &self.expansions {
@@ -182,7 +186,8 @@ impl Workspace {
             }
             None => None,
         };
-        (File { key: key.to_string(), nodes: sent.built.nodes.len(), line: None, editable }, line)
+        let (key, nodes) = (key.to_string(), sent.built.nodes.len());
+        (File { key, nodes, line: None, is_above: false, editable }, line)
     }
 
     /// What an edit of a file of this crate alone has to leave as it is, if it may be edited.
@@ -264,6 +269,10 @@ impl Recorded {
             files[at] = (key, built.nodes.len(), Some(now));
             made.push((self.files[at].line?, set_file(key, &built.json)));
         }
+        let count = || files.iter().map(|it| it.1).sum::<usize>();
+        if self.is_unnamed(&lines, &made) {
+            return Some(count());
+        }
         for (at, line) in &made {
             *lines.get_mut(*at)? = line;
         }
@@ -275,7 +284,18 @@ impl Recorded {
         let mut program = Program::start(program).ok()?;
         let same = self.replies_are_same(crates, &lines, &now, edited, &mut program);
         program.end();
-        same.ok()?.then(|| files.iter().map(|it| it.1).sum())
+        same.ok()?.then(count)
+    }
+
+    /// Whether these commands in place of others bring, take away or change such items alone whose names stand in nothing
+    /// else that is looked up in the crates that are asked about.
+    fn is_unnamed(&self, lines: &[&str], made: &[(usize, String)]) -> bool {
+        let below: HashSet<usize> = self.files.iter().filter(|it| !it.is_above).filter_map(|it| it.line).collect();
+        let edits = made.iter().map(|(at, line)| Edit::read(lines.get(*at)?, line));
+        let is_other = |it: &(usize, &&str)| !below.contains(&it.0) && made.iter().all(|(at, _)| *at != it.0);
+        let others = lines.iter().enumerate().filter(is_other).map(|it| *it.1);
+        let others = others.chain(self.asked.iter().map(|it| &*it.0));
+        edits.collect::<Option<Vec<Edit>>>().is_some_and(|it| are_unnamed(&it, &others))
     }
 
     fn replies_are_same(
