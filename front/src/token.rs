@@ -408,14 +408,23 @@ pub fn count(tokens: &[Token]) -> usize {
     tokens.iter().map(inner).sum()
 }
 
+/// Whether a character may be one of a word.
+pub(crate) fn is_of_word(it: char) -> bool {
+    it.is_alphanumeric() || it == '_'
+}
+
 /// Whether a word stands in a text, but for a part of it.
 pub(crate) fn has_word(text: &str, word: &str, except: Range<usize>) -> bool {
-    let is_of_word = |it: char| it.is_alphanumeric() || it == '_';
     text.match_indices(word).any(|(at, _)| {
         let before = text[..at].chars().next_back().is_some_and(is_of_word);
         let behind = text[at + word.len()..].chars().next().is_some_and(is_of_word);
         !except.contains(&at) && !before && !behind
     })
+}
+
+/// The words of a text.
+pub(crate) fn words_of(text: &str) -> impl Iterator<Item = &str> {
+    text.split(|it| !is_of_word(it)).filter(|it| !it.is_empty())
 }
 
 /// A hash that is the same in each run and on each machine.
@@ -512,5 +521,6 @@ mod tests {
     fn words_of_a_text() {
         assert!(has_word("a b", "b", 0..0) && has_word("\"{b}\" r#b", "b", 0..4) && !has_word("ab b_ bé", "b", 0..0));
         assert!(!has_word("use b;", "b", 0..6));
+        assert!(words_of("\"{b}\" r#é::_1").eq(["b", "r", "é", "_1"]));
     }
 }

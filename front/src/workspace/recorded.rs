@@ -24,6 +24,7 @@ use crate::package::Crates;
 use crate::program::{hash_of, Program, MOST_BYTES};
 use crate::report::past_items;
 use crate::syntax::{Item, ItemKind, Unit};
+use crate::token::has_word;
 use crate::unit::{build_without, quoted, Built, Derives, Id, Without};
 
 /// An import: its node, the modules around it in its file, and its leaves, each with its path and what it binds.
@@ -107,6 +108,11 @@ fn exporting(unit: &Unit) -> Option<Unit> {
     (!unit.items.iter().any(brings)).then_some(made)
 }
 
+/// The crate in which the call stands whose expansion has a key.
+pub(super) fn caller_of(key: &str) -> Option<u32> {
+    key.strip_prefix("{\"caller\":")?.split(',').next()?.parse().ok()
+}
+
 /// The crate that a question is about.
 fn crate_of(line: &str) -> Option<u32> {
     let rest = line.split_once("\"at\":[").or_else(|| line.split_once("\"crate\":"))?.1;
@@ -150,9 +156,8 @@ impl Workspace {
             lines.extend(line);
         }
         for (key, it) in &self.expansions {
-            let caller = key.strip_prefix("{\"caller\":").and_then(|it| it.split(',').next()?.parse::<u32>().ok());
             made.type_names.extend(it.built.type_names().iter().map(|it| it.to_string()));
-            if caller.map_or(true, |it| needed.contains(&it)) {
+            if caller_of(key).map_or(true, |it| needed.contains(&it)) {
                 lines.push(it.line.clone());
             }
         }
@@ -294,8 +299,9 @@ impl Recorded {
         let edits = made.iter().map(|(at, line)| Edit::read(lines.get(*at)?, line));
         let is_other = |it: &(usize, &&str)| !below.contains(&it.0) && made.iter().all(|(at, _)| *at != it.0);
         let others = lines.iter().enumerate().filter(is_other).map(|it| *it.1);
-        let others = others.chain(self.asked.iter().map(|it| &*it.0));
-        edits.collect::<Option<Vec<Edit>>>().is_some_and(|it| are_unnamed(&it, &others))
+        let others: Vec<&str> = others.chain(self.asked.iter().map(|it| &*it.0)).collect();
+        let stands_elsewhere = |name: &str| others.iter().any(|it| has_word(it, name, 0..0));
+        edits.collect::<Option<Vec<Edit>>>().is_some_and(|it| are_unnamed(&it, stands_elsewhere))
     }
 
     fn replies_are_same(

@@ -5,7 +5,7 @@ use std::collections::{BTreeSet, HashMap};
 
 use serde_json::Value;
 
-use crate::token::has_word;
+use crate::token::{has_word, is_of_word};
 
 /// The kinds of nodes that bind names and, without attributes, look none up.
 const PLAIN: [&str; 8] = ["Const", "Enum", "Fn", "Static", "Struct", "Trait", "TypeAlias", "Union"];
@@ -121,7 +121,7 @@ impl<'a> Changes<'a> {
             }
         }
         self.names.extend(&names);
-        names.iter().all(|it| it.len() <= MOST_OF_NAME).then_some(())
+        names.iter().all(|it| it.len() <= MOST_OF_NAME && it.chars().all(is_of_word)).then_some(())
     }
 }
 
@@ -135,16 +135,13 @@ fn stands_in(value: &Value, word: &str) -> bool {
     }
 }
 
-/// Whether by these edits only items come, go or change whose names stand neither in the rest of these files nor in the
-/// other texts.
-pub(super) fn are_unnamed<'a>(edits: &[Edit], others: &(impl Iterator<Item = &'a str> + Clone)) -> bool {
+/// Whether by these edits only items come, go or change whose names stand neither in the rest of these files nor elsewhere.
+pub(super) fn are_unnamed(edits: &[Edit], stands_elsewhere: impl Fn(&str) -> bool) -> bool {
     let mut changes = Changes::default();
     if !edits.iter().all(|it| changes.add(it).is_some()) || changes.names.len() > MOST_NAMES {
         return false;
     }
-    let stands = |name: &&str| {
-        changes.kept.iter().any(|it| stands_in(it, name)) || others.clone().any(|it| has_word(it, name, 0..0))
-    };
+    let stands = |name: &&str| changes.kept.iter().any(|it| stands_in(it, name)) || stands_elsewhere(name);
     !changes.names.iter().any(stands)
 }
 
@@ -165,7 +162,7 @@ mod tests {
 
     fn is_unnamed(before: &str, now: &str, other: &str) -> bool {
         let edit = Edit::read(&command(before), &command(now)).unwrap();
-        are_unnamed(&[edit], &[&*command(other)].into_iter())
+        are_unnamed(&[edit], |name| has_word(&command(other), name, 0..0))
     }
 
     const TEXT: &str = "use b::c; pub mod m { fn d() {} use super::e; } struct F; #[g] fn h() {} m::i!(); impl F {}";
@@ -212,6 +209,7 @@ mod tests {
             ("struct F;", "struct F; struct x(pub(in crate::y) u8);"),
             ("struct F;", "struct F; extern \"C\" { fn x(); }"),
             ("struct F;", "struct F; mod x {}"),
+            ("struct F;", "struct F; fn e\u{301}() {}"),
             ("struct F;", "struct F; macro_rules! x { () => {} }"),
             ("use b::c;", "#![x] use b::c;"),
         ] {

@@ -10,11 +10,12 @@ use super::files::{key_of, parse, parse_text, path_of_key};
 use super::hand_in::{built_of, set_file};
 use super::left_out::left_out_of;
 use super::looked_at::looked_at;
+use super::recorded::caller_of;
 use super::unnamed::{are_unnamed, Edit};
 use super::{Key, Parsed, Sent, Workspace};
 use crate::syntax::Unit;
 use crate::token::Hash;
-use crate::unit::{build_without, quoted, BuiltBlock, Without};
+use crate::unit::{build_without, quoted, Built, BuiltBlock, Without};
 
 impl Workspace {
     /// The files that were looked for without being read as modules: those that weren't there, and what `include!` names.
@@ -167,9 +168,12 @@ impl Workspace {
         // A crate stands behind all that it stands on.
         let above = &self.states[krate as usize..];
         let sees = |it: &&Key| **it != *key && above.iter().any(|state| state.places.contains_key(*it));
-        let files = self.sent.keys().filter(sees).map(|it| &*self.sent[it].built.json);
-        let others = files.chain(self.expansions.values().map(|it| &*it.line));
-        are_unnamed(&[edit], &others)
+        let files: Vec<&Built> = self.sent.keys().filter(sees).map(|it| &*self.sent[it].built).collect();
+        let is_above = |key: &str| caller_of(key).map_or(true, |it| it >= krate);
+        are_unnamed(&[edit], |name| {
+            let mut expansions = self.expansions.iter().filter(|it| is_above(it.0));
+            files.iter().any(|it| it.has_word(name)) || expansions.any(|it| it.1.built.has_word(name))
+        })
     }
 
     /// The crates in which the file is a module, or in which a module looked for it.
