@@ -24,7 +24,8 @@ struct Cli {
     edits: usize,
     #[arg(long)]
     std_sources: Option<PathBuf>,
-    /// Measures the language server beside this executable: from an edit to the answer of a request right behind it
+    /// Measures the language server beside this executable: from an edit to the answer of a request right behind it, or to
+    /// the diagnostics that are published
     #[arg(long)]
     server: bool,
 }

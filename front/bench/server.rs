@@ -50,6 +50,17 @@ impl Server {
         }
     }
 
+    /// Waits until diagnostics are published.
+    fn published(&mut self) -> Result<()> {
+        loop {
+            match message::read(&mut self.output) {
+                Read::Message(it) if it["method"] == "textDocument/publishDiagnostics" => return Ok(()),
+                Read::Message(_) => {}
+                _ => bail!("the server ends"),
+            }
+        }
+    }
+
     /// The processes that it has started, the resolver's program among them, where Linux tells them.
     fn children(&self) -> Vec<u32> {
         let threads = std::fs::read_dir(format!("/proc/{}/task", self.child.id())).into_iter().flatten().flatten();
@@ -115,6 +126,22 @@ impl Opened<'_> {
         self.server.notify("textDocument/didChange", json!({"textDocument": document, "contentChanges": [change]}))
     }
 
+    /// Puts lines in at a place above an import of nothing, and waits each time until that is published where it is then.
+    fn published(&mut self, what: &str, place: &Value, text: &dyn Fn(usize) -> String) -> Result<()> {
+        let mut times = Vec::new();
+        let before = self.processes.map(processor_of);
+        for it in 0..self.cli.edits {
+            let start = Instant::now();
+            self.change(place.clone(), place.clone(), &text(it))?;
+            self.server.published()?;
+            times.push(start.elapsed().as_secs_f64() * 1000.0);
+        }
+        let after = self.processes.map(processor_of);
+        told(what, times, [after[0] - before[0], after[1] - before[1]]);
+        self.server.ask("textDocument/hover", json!({}))?;
+        Ok(())
+    }
+
     /// Types a word behind a path in a body at the end of the file, and asks each time what it may become.
     fn completions(&mut self, what: &str, path: &str) -> Result<()> {
         let line = self.text.lines().count() + self.cli.edits;
@@ -159,6 +186,14 @@ pub fn measure(cli: &Cli, path: &Path) -> Result<()> {
     opened.completions("a name is completed", "")?;
     opened.completions("behind a type of the package", "Item0In3::")?;
     opened.completions("behind a type of the standard library", "Vec::")?;
+    let place = |line: usize| json!({"line": line, "character": 0});
+    let last = place(text.lines().count() + cli.edits);
+    opened.change(last.clone(), last.clone(), "use crate::nothing;\n")?;
+    opened.server.published()?;
+    opened.published("a line in a body, published", &place(line), &|_| "\n".to_owned())?;
+    let last = place(text.lines().count() + 2 * cli.edits);
+    opened.published("an item is added, published", &last, &|it| format!("fn told_{it}() {{}}\n"))?;
+    opened.published("an import is added, published", &last, &|it| format!("use self::Item{it}In3 as Told{it};\n"))?;
     let [own, program] = opened.processes.map(memory_of);
     println!("at most {own} MB, the program {program} MB");
     let mut server = opened.server;

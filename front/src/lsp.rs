@@ -20,7 +20,7 @@ use std::collections::{BTreeMap, HashMap, HashSet, VecDeque};
 use std::io::{BufReader, Read, Write};
 use std::panic::{catch_unwind, AssertUnwindSafe};
 use std::path::PathBuf;
-use std::sync::mpsc::{channel, Receiver, Sender};
+use std::sync::mpsc::{channel, Receiver, RecvTimeoutError, Sender};
 use std::sync::Arc;
 use std::time::{Duration, Instant};
 
@@ -78,10 +78,10 @@ pub fn serve(settings: Settings, input: impl Read + Send + 'static, output: impl
         }
         server.cancel()?;
         if server.queue.is_empty() {
-            server.guarded(|it| it.flush())?;
-            match server.events.recv() {
-                Ok(it) => server.keep(it),
-                Err(_) => break,
+            server.guarded(|it| it.flush(true))?;
+            match server.next_event()? {
+                Some(it) => server.keep(it),
+                None => break,
             }
             continue;
         }
@@ -118,6 +118,8 @@ struct Document {
     /// The text from which the items of the file were read.
     good: Option<Arc<Text>>,
     is_dirty: bool,
+    /// Whether the text is handed in when something is asked, or when nothing comes for a while.
+    waits: bool,
 }
 
 struct Server<W: Write> {
@@ -152,6 +154,9 @@ struct Server<W: Write> {
     /// How often a package was opened.
     openings: u32,
 }
+
+/// What waits to be handed in is when nothing comes for so long.
+const PAUSE: Duration = Duration::from_millis(200);
 
 /// More often than this, within a minute or for the same work, the program isn't started again.
 const MOST_RESTARTS: usize = 3;
@@ -193,6 +198,17 @@ impl<W: Write> Server<W> {
         if let Event::Read(it) = event {
             self.queue.push_back(it);
         }
+    }
+
+    /// Waits for the next event, and hands in what waits if none comes for a while.
+    fn next_event(&mut self) -> Result<Option<Event>> {
+        if self.documents.values().any(|it| it.waits) {
+            match self.events.recv_timeout(PAUSE) {
+                Err(RecvTimeoutError::Timeout) => self.guarded(|it| it.flush(false))?,
+                it => return Ok(it.ok()),
+            };
+        }
+        Ok(self.events.recv().ok())
     }
 
     fn send(&mut self, it: &Value) -> Result<()> {
@@ -272,7 +288,7 @@ impl<W: Write> Server<W> {
                     self.space = None;
                 }
                 // It may be one of these texts that can't be read. The next edit tries again.
-                self.documents.values_mut().for_each(|it| it.is_dirty = false);
+                self.documents.values_mut().for_each(|it| (it.is_dirty, it.waits) = (false, false));
                 Ok(None)
             }
         }
@@ -316,7 +332,7 @@ impl<W: Write> Server<W> {
     }
 
     fn flushed(&mut self) -> Result<&mut Self> {
-        self.flush()?;
+        self.flush(false)?;
         Ok(self)
     }
 
@@ -361,7 +377,7 @@ impl<W: Write> Server<W> {
             }
             ("textDocument/didSave", _) if self.space.is_none() => self.open(),
             // One that another includes is taken as it is on the disk.
-            ("textDocument/didSave", Some(key)) if !self.is_module(&key) => self.update_file(&key),
+            ("textDocument/didSave", Some(key)) if !self.is_module(&key) => self.update_files(&[key]),
             ("textDocument/didClose", Some(key)) => self.close_document(&key),
             ("workspace/didChangeWatchedFiles", _) => self.read_changed_files(&params["changes"]),
             _ => Ok(()),
@@ -397,7 +413,7 @@ impl<W: Write> Server<W> {
         let is_known = self.space.as_ref().is_some_and(|it| it.built(&key).is_some());
         let good = is_known.then(|| self.unit_text(&key));
         self.texts.remove(&key);
-        let document = Document { uri: uri.to_owned(), text, good, is_dirty: true };
+        let document = Document { uri: uri.to_owned(), text, good, is_dirty: true, waits: false };
         self.documents.insert(key.clone(), document);
         self.needs_report |= self.is_renamed(&key);
         match self.space.is_none() && self.package().is_none() {
@@ -434,7 +450,7 @@ impl<W: Write> Server<W> {
         };
         self.texts.extend(document.good.map(|it| (key.clone(), it)));
         self.needs_report |= self.is_renamed(key);
-        self.read_file(key)
+        self.read_files(std::slice::from_ref(key))
     }
 
     /// Reads files that changed on the disk, or the whole package where a manifest did.
@@ -448,13 +464,10 @@ impl<W: Write> Server<W> {
         if paths.iter().any(is_manifest) {
             return self.open();
         }
-        for key in paths.iter().filter_map(|it| key_of_path(it)) {
-            let is_read = self.space.as_ref().is_some_and(|it| it.reads(&path_of_key(&key)));
-            if is_read && !self.documents.contains_key(&key) {
-                self.read_file(&key)?;
-            }
-        }
-        Ok(())
+        let is_read = |key: &Key| self.space.as_ref().is_some_and(|it| it.reads(&path_of_key(key)));
+        let is_due = |key: &Key| is_read(key) && !self.documents.contains_key(key);
+        let keys: Vec<Key> = paths.iter().filter_map(|it| key_of_path(it)).filter(is_due).collect();
+        self.read_files(&keys)
     }
 
     /// Does the work with the session. Where the program died it is started again with the present files, and the work

@@ -1,6 +1,7 @@
 //! Token trees as plain values: read from text by `proc_macro2`, sent between threads, and cheap to clone.
 
 use std::fmt::Write as _;
+use std::ops::Range;
 use std::sync::Arc;
 
 use proc_macro2::{TokenStream, TokenTree};
@@ -140,8 +141,15 @@ impl Token {
     }
 }
 
+/// A text above this isn't read.
+pub(crate) const MOST_BYTES: usize = 64 << 20;
+
 /// The tokens of a file or of a piece of one. To be called on a thread of its own for each text, see [`on_a_thread`].
 pub fn tokens_of(text: &str) -> Result<Vec<Token>, SyntaxError> {
+    if text.len() > MOST_BYTES {
+        let message = format!("this can't be read: it has more than {} MB; split it", MOST_BYTES >> 20);
+        return Err(SyntaxError { at: Span::default(), message });
+    }
     let mut text = text.strip_prefix('\u{feff}').unwrap_or(text);
     let mut blanked = String::new();
     if text.starts_with("#!") {
@@ -400,6 +408,25 @@ pub fn count(tokens: &[Token]) -> usize {
     tokens.iter().map(inner).sum()
 }
 
+/// Whether a character may be one of a word.
+pub(crate) fn is_of_word(it: char) -> bool {
+    it.is_alphanumeric() || it == '_'
+}
+
+/// Whether a word stands in a text, but for a part of it.
+pub(crate) fn has_word(text: &str, word: &str, except: Range<usize>) -> bool {
+    text.match_indices(word).any(|(at, _)| {
+        let before = text[..at].chars().next_back().is_some_and(is_of_word);
+        let behind = text[at + word.len()..].chars().next().is_some_and(is_of_word);
+        !except.contains(&at) && !before && !behind
+    })
+}
+
+/// The words of a text.
+pub(crate) fn words_of(text: &str) -> impl Iterator<Item = &str> {
+    text.split(|it| !is_of_word(it)).filter(|it| !it.is_empty())
+}
+
 /// A hash that is the same in each run and on each machine.
 #[derive(Clone, Copy, PartialEq, Eq, Hash, Debug)]
 pub struct Hash(pub u128);
@@ -488,5 +515,12 @@ mod tests {
         ] {
             check(&on_a_thread(|| tokens_of(text)).unwrap(), text);
         }
+    }
+
+    #[test]
+    fn words_of_a_text() {
+        assert!(has_word("a b", "b", 0..0) && has_word("\"{b}\" r#b", "b", 0..4) && !has_word("ab b_ bé", "b", 0..0));
+        assert!(!has_word("use b;", "b", 0..6));
+        assert!(words_of("\"{b}\" r#é::_1").eq(["b", "r", "é", "_1"]));
     }
 }

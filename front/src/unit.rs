@@ -5,16 +5,18 @@ mod blocks;
 mod derives;
 
 use std::borrow::Cow;
-use std::collections::HashMap;
+use std::collections::hash_map::DefaultHasher;
+use std::collections::{HashMap, HashSet};
 use std::fmt::Write as _;
-use std::sync::Arc;
+use std::hash::{Hash as _, Hasher as _};
+use std::sync::{Arc, OnceLock};
 
 use crate::cfg::Options;
 use crate::syntax::{
     plain, Attribute, Call, Field, ImplHead, Item, ItemKind, MacroDefinition, Path, Shape, Unit, UseTree, Variant,
     Visibility,
 };
-use crate::token::{opened, Delimiter, Hash, Kind, Span, Token};
+use crate::token::{opened, words_of, Delimiter, Hash, Kind, Span, Token};
 use attributes::{builtin_name, is_kept, names_json, write_attributes};
 
 pub(crate) use attributes::expander_of;
@@ -121,6 +123,8 @@ pub struct Built {
     type_names: Vec<Arc<str>>,
     /// Those of them that stand for what may have another name.
     aliases: Vec<Arc<str>>,
+    /// The hashes of the words in its JSON, where these were asked for.
+    words: OnceLock<HashSet<u64>>,
 }
 
 impl Built {
@@ -128,6 +132,16 @@ impl Built {
     pub fn find(&self, kind: &str, id: Id) -> Option<&Node> {
         let kind = KINDS.iter().find(|it| **it == kind)?;
         self.by_id.get(&(*kind, id)).map(|at| &self.nodes[*at])
+    }
+
+    /// Whether a word stands in its JSON. It may be said of one that doesn't.
+    pub fn has_word(&self, word: &str) -> bool {
+        let hash_of = |word: &str| {
+            let mut hasher = DefaultHasher::new();
+            word.hash(&mut hasher);
+            hasher.finish()
+        };
+        self.words.get_or_init(|| words_of(&self.json).map(hash_of).collect()).contains(&hash_of(word))
     }
 
     /// Its imports, each with its leaves.

@@ -12,6 +12,7 @@ mod names;
 mod places;
 mod recorded;
 mod type_names;
+mod unnamed;
 mod updates;
 mod walk;
 

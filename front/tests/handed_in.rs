@@ -1,4 +1,5 @@
-//! What `check` handed in is kept, and handed in again after edits of items: it tells what a check from nothing tells.
+//! What `check` handed in is kept, and handed in again after edits of items, or not even that where nothing names them: it
+//! tells what a check from nothing tells.
 #![cfg(unix)]
 
 use std::path::{Path, PathBuf};
@@ -63,8 +64,9 @@ impl Checked {
         [report.diagnostics.len(), space.counts().nodes, report.unjudged, report.not_run.values().sum()]
     }
 
-    /// Whether what was handed in was handed in again; what is told is right.
-    fn is_handed_in_again(&self, why: &str) -> bool {
+    /// How often the program resolved: not at all where nothing names what an edit changes, once where what was handed in
+    /// was handed in again, more often in a check from nothing. What is told is right.
+    fn resolved(&self, why: &str) -> usize {
         let (told, resolved) = self.check();
         let last = told.last().unwrap();
         let number = |it: &Value| it.as_u64().unwrap() as usize;
@@ -74,7 +76,7 @@ impl Checked {
         assert_eq!(told.len() - 1, made[0], "{why}");
         // The same again starts nothing.
         assert_eq!(self.check(), (told, 0), "{why}");
-        resolved == 1
+        resolved
     }
 
     fn write(&self, name: &str, text: &str) {
@@ -88,40 +90,53 @@ const ROOT: &str = "mod a;\nmod b;\npub use a::f;\nmacro_rules! m { () => { pub 
 const A: &str = "pub fn f() {}\npub struct Later;\npub mod k { pub struct Deep; }\n";
 const B: &str = "pub use crate::one as chosen;\npub use crate::a::k::*;\n";
 
-/// Each edit of what is behind the texts above, and whether the rest of what was handed in is of use behind it.
-const EDITS: [(&str, &str, &str, bool); 22] = [
-    ("src/a.rs", "", "pub fn more() {}\n", true),
-    ("src/a.rs", "", "use crate::M; pub use self::k::Deep as Here; pub struct S(u8, pub u16);\n", true),
-    ("src/a.rs", "pub fn f() {}", "pub fn f() { more(); } const N: usize = 1;", true),
-    ("src/a.rs", "pub fn f() {}", "pub const f: u8 = 1;", true),
-    ("src/a.rs", "", "pub enum E { A } use self::E::A;\n", true),
-    ("src/a.rs", "", "#[derive(Clone)] pub struct T; #[inline] fn g() {}\n", true),
-    ("src/b.rs", "", "pub struct Deep;\n", true),
+/// Each edit of what is behind the texts above, and how often the program resolves behind it, 2 standing for more often
+/// than once too.
+const EDITS: [(&str, &str, &str, usize); 31] = [
+    // Items that nothing names.
+    ("src/a.rs", "", "pub fn more() {}\n", 0),
+    ("src/a.rs", "pub fn f() {}", "pub fn f() { more(); } const N: usize = 1;", 0),
+    ("src/a.rs", "pub struct Later;", "pub struct Later; enum Side { Left, Right(u8) } pub trait Trait { fn f(); }", 0),
+    ("src/a.rs", "pub struct Deep;", "pub struct Other(pub u8); pub(crate) type Alias = u8;", 0),
+    ("src/b.rs", "pub use", "fn before() {}\npub use", 0),
+    // Others.
+    ("src/a.rs", "", "use crate::M; pub use self::k::Deep as Here; pub struct S(u8, pub u16);\n", 1),
+    ("src/a.rs", "pub fn f() {}", "pub const f: u8 = 1;", 1),
+    ("src/a.rs", "pub fn f() {}\npub struct Later;", "pub struct Later;\npub fn f() {}", 1),
+    ("src/a.rs", "", "pub enum E { A } use self::E::A;\n", 1),
+    ("src/a.rs", "", "pub struct chosen;\n", 1),
+    ("src/a.rs", "", "pub struct M;\n", 1),
+    ("src/a.rs", "", "pub enum E { Later }\n", 1),
+    ("src/a.rs", "", "#[cfg(all())] fn conditional() {}\n", 1),
+    ("src/a.rs", "", "#[derive(Clone)] pub struct T; #[inline] fn g() {}\n", 0),
+    ("src/b.rs", "", "pub struct Deep;\n", 1),
+    ("src/lib.rs", "use crate::a::Later as _;", "pub struct Later; use crate::b::Deep as D;", 1),
     // An error.
-    ("src/a.rs", "", "use crate::nothing;\n", false),
-    ("src/a.rs", "", "pub enum E { A } use self::E::B;\n", false),
-    ("src/a.rs", "pub fn f() {}", "fn none() {}", false),
-    ("src/a.rs", "", "fn {\n", false),
-    ("src/a.rs", "", "use u8::nothing;\n", false),
-    ("src/a.rs", "", "pub struct k2; mod x { use super::k2::y; }\n", false),
+    ("src/a.rs", "", "use crate::nothing;\n", 2),
+    ("src/a.rs", "", "pub enum E { A } use self::E::B;\n", 2),
+    ("src/a.rs", "pub fn f() {}", "fn none() {}", 2),
+    ("src/a.rs", "", "fn {\n", 2),
+    ("src/a.rs", "", "use u8::nothing;\n", 2),
+    ("src/a.rs", "", "pub struct k2; mod x { use super::k2::y; }\n", 2),
     // What a walk looks at: modules, macros, calls, blocks, attributes that may be macros, globs.
-    ("src/a.rs", "", "pub mod l {}\n", false),
-    ("src/a.rs", "", "macro_rules! n { () => {} }\n", false),
-    ("src/a.rs", "", "m!();\n", false),
-    ("src/a.rs", "pub fn f() {}", "pub fn f() { use crate::M; }", false),
-    ("src/a.rs", "", "use std::fmt as Debug;\n", false),
-    ("src/b.rs", "", "use crate::*;\n", false),
+    ("src/a.rs", "", "pub mod l {}\n", 2),
+    ("src/a.rs", "", "macro_rules! n { () => {} }\n", 2),
+    ("src/a.rs", "", "m!();\n", 2),
+    ("src/a.rs", "pub fn f() {}", "pub fn f() { use crate::M; }", 2),
+    ("src/a.rs", "", "use std::fmt as Debug;\n", 2),
+    ("src/b.rs", "", "use crate::*;\n", 2),
     // Another macro is reached.
-    ("src/b.rs", "crate::one", "crate::two", false),
-    ("src/b.rs", "pub use crate::one as chosen;", "pub use crate::a::chosen;", false),
-    ("src/lib.rs", "use crate::a::Later as _;", "pub struct Later; use crate::b::Deep as D;", true),
+    ("src/b.rs", "crate::one", "crate::two", 2),
+    ("src/b.rs", "pub use crate::one as chosen;", "pub use crate::a::chosen;", 2),
+    // Nothing is any more what an import names.
+    ("src/a.rs", "pub struct Later;", "", 2),
 ];
 
 #[test]
 fn what_was_handed_in_is_kept() {
     let texts = [("src/lib.rs", ROOT), ("src/a.rs", A), ("src/b.rs", B)];
     let package = Checked::new(package(&texts), "");
-    for (name, from, to, is_again) in EDITS {
+    for (name, from, to, resolved) in EDITS {
         for (name, text) in texts {
             package.write(name, text);
         }
@@ -130,7 +145,19 @@ fn what_was_handed_in_is_kept() {
         let edited = if from.is_empty() { format!("{text}{to}") } else { text.replace(from, to) };
         assert_ne!(edited, text);
         package.write(name, &edited);
-        assert_eq!(package.is_handed_in_again(to), is_again, "{name}: {to}");
+        assert_eq!(package.resolved(to).min(2), resolved, "{name}: {to}");
+    }
+}
+
+/// What a crate names of the one on which it stands.
+#[test]
+fn items_that_a_crate_above_names() {
+    let (both, main) = ("pub struct S;\npub struct T;\n", "use one::S;\nfn main() {}\n");
+    let package = Checked::new(package(&[("src/lib.rs", both), ("src/main.rs", main)]), "");
+    assert_eq!(package.resolved("both").min(2), 2);
+    for (text, resolved) in [("pub struct S;\n", 0), ("pub struct T;\n", 2), (both, 0), ("struct S;\nstruct U;\n", 1)] {
+        package.write("src/lib.rs", text);
+        assert_eq!(package.resolved(text).min(2), resolved, "{text}");
     }
 }
 
@@ -169,7 +196,7 @@ fn random_items() {
             let more: String = added.iter().filter(|it| it.0 == at).map(|it| format!("{}\n", LINES[it.1])).collect();
             package.write(name, &format!("{text}{more}"));
         }
-        again += usize::from(package.is_handed_in_again(&format!("round {round}: {added:?}")));
+        again += usize::from(package.resolved(&format!("round {round}: {added:?}")) < 2);
     }
     // Some edits leave alone what a walk looks at, others don't.
     assert!((1..24).contains(&again), "{again}");

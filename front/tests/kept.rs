@@ -190,7 +190,10 @@ fn what_was_told_is_kept() {
         ("src/lib.rs", &edited("1;", "let x = [1, 2]; f(x.len());"), false),
         ("src/lib.rs", &edited("mod a;", "// A module.\n\n/// It.\nmod a;"), false),
         ("src/a.rs", "pub fn f() { let x = 1; }\n", false),
-        // Items: one more, another macro, what one is called with, an item in a body, what has another condition.
+        // An item more that nothing names.
+        ("src/a.rs", "pub fn f() {}\npub fn more() {}\n", false),
+        // Items: one of another's name more, another macro, what one is called with, an item in a body, what has another
+        // condition.
         ("src/a.rs", "pub fn f() {}\npub fn g() {}\n", true),
         ("src/lib.rs", &edited("struct M", "struct N"), true),
         ("src/lib.rs", &edited("m!()", "m! {}"), true),
@@ -240,8 +243,9 @@ fn what_was_told_of_texts_is_kept() {
     // What doesn't parse.
     write("src/b.rs", "fn {");
     assert!(package.run(&[]).0.contains("\"syntax\""));
+    // All is again as it was when nothing was told.
     write("src/b.rs", "");
-    assert_eq!(package.run(&[]), (String::new(), true));
+    assert_eq!(package.run(&[]), (String::new(), false));
     // Other options; another program, which is settled later.
     assert!(package.run(&["--cfg", "x"]).1);
     assert!(!package.starts());

@@ -4,6 +4,8 @@ use std::collections::BTreeMap;
 use std::path::Path;
 
 use crate::common::client::Client;
+#[cfg(unix)]
+use crate::common::{client::program, logged, package, write_script};
 use crate::common::{market, own, Dice};
 use cargo_nogsimat::lsp::message;
 use cargo_nogsimat::lsp::text::Text;
@@ -346,6 +348,81 @@ fn compare_afresh(points: &[Point]) {
         let threads: Vec<_> = (0..4).map(|_| scope.spawn(compare)).collect();
         threads.into_iter().for_each(|it| it.join().unwrap());
     });
+}
+
+/// Files that change together behind the editor's back: their crate is resolved once.
+#[cfg(unix)]
+#[test]
+fn files_that_change_together() {
+    let names: Vec<String> = (0..12).map(|it| format!("m{it}")).collect();
+    let root: String = names.iter().map(|it| format!("mod {it};\n")).collect();
+    let folder = package(&[("src/lib.rs", &root)]);
+    let path = |name: &String| folder.path().join(format!("src/{name}.rs"));
+    names.iter().for_each(|it| std::fs::write(path(it), "pub struct S;\n").unwrap());
+    let (log, script) = (folder.path().join("log"), folder.path().join("program"));
+    let text = logged(&log.to_string_lossy(), &program().to_string_lossy());
+    write_script(&script, &format!("#!/bin/sh\n{text}\n"));
+    let mut client = Client::start(folder.path(), &["--program", script.to_str().unwrap()]);
+    client.initialize();
+    let refreshed = |client: &mut Client, names: &[String]| {
+        let before = std::fs::read_to_string(&log).unwrap();
+        let change = |it: &String| json!({"uri": format!("file://DIR/src/{it}.rs"), "type": 2});
+        let changes: Vec<Value> = names.iter().map(change).collect();
+        client.notify("workspace/didChangeWatchedFiles", json!({"changes": changes}));
+        let now = std::fs::read_to_string(&log).unwrap();
+        now[before.len()..].lines().filter(|it| it.contains("\"refresh\"")).count()
+    };
+    // An import of nothing in each, a bracket too many in one, and one that isn't there any more.
+    names.iter().for_each(|it| std::fs::write(path(it), "use crate::nothing::S;\n").unwrap());
+    std::fs::write(path(&names[3]), "}").unwrap();
+    assert_eq!(refreshed(&mut client, &names), 1);
+    assert_eq!(client.published.len(), 12);
+    std::fs::remove_file(path(&names[5])).unwrap();
+    names[6..].iter().for_each(|it| std::fs::write(path(it), "pub struct S;\n").unwrap());
+    assert!(refreshed(&mut client, &names[5..]) <= 2);
+    let told: Vec<&str> = client.published.keys().map(|it| it.rsplit('/').next().unwrap()).collect();
+    assert_eq!(told, ["lib.rs", "m0.rs", "m1.rs", "m2.rs", "m3.rs", "m4.rs"]);
+    assert_eq!(client.end(), 1);
+}
+
+/// Items that nothing names: what is told is published at its new place before the program has them, and what is asked
+/// afterwards is answered with them.
+#[cfg(unix)]
+#[test]
+fn items_that_nothing_names_wait() {
+    let text = "mod a;\nuse crate::a::nothing;\n";
+    let folder = package(&[("src/lib.rs", text), ("src/a.rs", "pub struct S;\nimpl S {}\n")]);
+    let (gate, script) = (folder.path().join("gate"), folder.path().join("program"));
+    let wait = format!("while [ -e {} ]; do sleep 0.01; done", gate.display());
+    let passes = format!("while IFS= read -r line; do {wait}; printf '%s\\n' \"$line\"; done");
+    write_script(&script, &format!("#!/bin/sh\n{passes} | {}\n", program().display()));
+    let mut client = Client::start(folder.path(), &["--program", script.to_str().unwrap()]);
+    client.initialize();
+    client.open("src/lib.rs", text);
+    client.open("src/a.rs", "pub struct S;\nimpl S {}\n");
+    let uri = |name: &str| format!("file://DIR/src/{name}");
+    let insert = |name: &str, line: u32, text: &str| {
+        let range = json!({"start": {"line": line, "character": 0}, "end": {"line": line, "character": 0}});
+        let params = json!({"textDocument": {"uri": uri(name)}, "contentChanges": [{"range": range, "text": text}]});
+        message::notification("textDocument/didChange", params)
+    };
+    std::fs::write(&gate, "").unwrap();
+    client.send(&insert("lib.rs", 1, "pub fn added() {}\n"));
+    let is_moved = |it: &Value| it["params"]["diagnostics"][0]["range"]["start"]["line"] == 2;
+    client.receive_to(is_moved);
+    std::fs::remove_file(&gate).unwrap();
+    let hover = client.at("textDocument/hover", "src/lib.rs", (1, 8));
+    assert!(hover["contents"]["value"].as_str().unwrap().starts_with("function `one::added`"), "{hover}");
+    client.send(&insert("a.rs", 1, "pub enum Kind { One }\n"));
+    let found = client.at("textDocument/definition", "src/a.rs", (1, 10));
+    assert_eq!((&found[0]["uri"], &found[0]["range"]["start"]["line"]), (&json!(uri("a.rs")), &json!(1)));
+    // An import of one of them, and one of what is taken away.
+    client.exchange(&[insert("lib.rs", 0, "use self::a::Kind::One;\n")]);
+    assert_eq!(lines_of(&client.published).len(), 1, "{:?}", client.published);
+    let whole = json!({"textDocument": {"uri": uri("a.rs")}, "contentChanges": [{"text": "pub struct S;\n"}]});
+    client.exchange(&[message::notification("textDocument/didChange", whole)]);
+    assert_eq!(lines_of(&client.published).len(), 2, "{:?}", client.published);
+    assert_eq!(client.end(), 1);
 }
 
 /// Whatever is typed and asked, nothing panics.

@@ -13,7 +13,7 @@ use super::text::Text;
 use super::{place_of, Failure, Server};
 use crate::question::{Context, Question};
 use crate::syntax::{Block, Item, ItemKind, UseTree, Visibility};
-use crate::token::{Position, Span};
+use crate::token::{has_word, Position, Span};
 use crate::unit::joined;
 use crate::workspace::Key;
 
@@ -194,16 +194,6 @@ fn cut_of(text: &Text, it: &Imported) -> Range<usize> {
     }
 }
 
-/// Whether a word stands in a text, but for a part of it.
-fn has_word(text: &str, word: &str, except: Range<usize>) -> bool {
-    let is_of_word = |it: char| it.is_alphanumeric() || it == '_';
-    text.match_indices(word).any(|(at, _)| {
-        let before = text[..at].chars().next_back().is_some_and(is_of_word);
-        let behind = text[at + word.len()..].chars().next().is_some_and(is_of_word);
-        !except.contains(&at) && !before && !behind
-    })
-}
-
 #[cfg(test)]
 mod tests {
     use super::*;
@@ -241,11 +231,5 @@ mod tests {
             "mod m { use a::{b}; } fn f() { use c::d; }",
             &[("a::b", "mod m {  } fn f() { use c::d; }"), ("c::d", "mod m { use a::{b}; } fn f() {  }")],
         );
-    }
-
-    #[test]
-    fn words_of_a_text() {
-        assert!(has_word("a b", "b", 0..0) && has_word("\"{b}\" r#b", "b", 0..4) && !has_word("ab b_ bé", "b", 0..0));
-        assert!(!has_word("use b;", "b", 0..6));
     }
 }

@@ -2,6 +2,7 @@
 
 use std::collections::{BTreeMap, HashSet};
 use std::io::Write;
+use std::path::PathBuf;
 use std::sync::Arc;
 
 use super::message::notification;
@@ -13,81 +14,116 @@ use super::{key_of_place, span_of, Phase, Server, ERROR};
 use crate::report::Diagnostic;
 use crate::workspace::{bytes_of, parse_text, path_of_key, Key};
 
+/// What became of a text.
+#[derive(Clone, Copy, PartialEq, Eq)]
+pub(super) enum Reading {
+    /// The items of its file are those of this text.
+    Taken,
+    /// It doesn't parse.
+    Broken,
+    /// It isn't handed in yet: what is told is the same, but for places.
+    Waits,
+}
+
 impl<W: Write> Server<W> {
     /// Whether the file has the items of a module.
     pub(super) fn is_module(&self, key: &Key) -> bool {
         self.space.as_ref().is_some_and(|it| !it.crates_of(key).is_empty())
     }
 
-    /// Reads a file that isn't open in the editor.
-    pub(super) fn read_file(&mut self, key: &Key) -> Result<()> {
-        let text = bytes_of(&path_of_key(key)).ok().and_then(|it| String::from_utf8(it).ok());
-        match text {
-            Some(text) if self.is_module(key) => {
-                let text = Arc::new(Text::new(text));
-                if self.read_text(key, &text)? {
-                    self.texts.insert(key.clone(), text);
-                }
-                Ok(())
+    /// Reads files that aren't open in the editor.
+    pub(super) fn read_files(&mut self, keys: &[Key]) -> Result<()> {
+        let (mut texts, mut others) = (Vec::new(), Vec::new());
+        for key in keys {
+            let text = bytes_of(&path_of_key(key)).ok().and_then(|it| String::from_utf8(it).ok());
+            match text {
+                Some(text) if self.is_module(key) => texts.push((key.clone(), Arc::new(Text::new(text)))),
+                // Not there any more, no UTF-8, new, or included by another.
+                _ => others.push(key.clone()),
             }
-            // Not there any more, no UTF-8, new, or included by another.
-            _ => self.update_file(key),
         }
+        let readings = self.read_texts(&texts, false)?;
+        let taken = texts.into_iter().zip(readings).filter(|it| it.1 == Reading::Taken);
+        self.texts.extend(taken.map(|it| it.0));
+        self.update_files(&others)
     }
 
-    /// Has a file read as it is on the disk.
-    pub(super) fn update_file(&mut self, key: &Key) -> Result<()> {
-        self.texts.remove(key);
-        self.needs_report |= self.errors.remove(key).is_some() || self.touched.contains(key);
-        let path = path_of_key(key);
-        let resolved = self.with_space(|it| it.update(std::slice::from_ref(&path)))?;
+    /// Has files read as they are on the disk.
+    pub(super) fn update_files(&mut self, keys: &[Key]) -> Result<()> {
+        if keys.is_empty() {
+            return Ok(());
+        }
+        for key in keys {
+            self.texts.remove(key);
+            self.needs_report |= self.errors.remove(key).is_some() || self.touched.contains(key);
+        }
+        let paths: Vec<PathBuf> = keys.iter().map(|it| path_of_key(it)).collect();
+        let resolved = self.with_space(|it| it.update(&paths))?;
         self.needs_report |= resolved.is_some_and(|it| !it.is_empty());
         Ok(())
     }
 
-    /// Hands a text in. Answers whether the items of the file are those of this text.
-    pub(super) fn read_text(&mut self, key: &Key, text: &Text) -> Result<bool> {
-        if self.space.is_none() {
-            return Ok(true);
+    /// Hands texts in, where they don't wait.
+    pub(super) fn read_texts(&mut self, texts: &[(Key, Arc<Text>)], may_wait: bool) -> Result<Vec<Reading>> {
+        let (mut readings, mut work, mut before) = (Vec::new(), Vec::new(), Vec::new());
+        for (key, text) in texts {
+            let Some(space) = self.space.as_mut() else {
+                return Ok(vec![Reading::Taken; texts.len()]);
+            };
+            let parsed = parse_text(&path_of_key(key), key, text.as_str());
+            let built = space.built(key).cloned();
+            let has_items = built.is_some() && space.parsed(key).is_some_and(|it| it.error.is_none());
+            if let (Some(error), true) = (&parsed.error, has_items) {
+                self.errors.insert(key.clone(), error.clone());
+                self.needs_report = true;
+                readings.push(Reading::Broken);
+                continue;
+            }
+            self.needs_report |= self.errors.remove(key).is_some() || self.touched.contains(key);
+            // Where the items stand that are told of has to be known.
+            let may_wait = may_wait && self.documents.get(key).is_some_and(|it| it.good.is_some());
+            if may_wait && !space.take_unchanged(key, &parsed) && space.reports_same(key, &parsed) {
+                readings.push(Reading::Waits);
+                continue;
+            }
+            readings.push(Reading::Taken);
+            work.push((key.clone(), parsed));
+            before.push((key, built));
         }
-        let parsed = parse_text(&path_of_key(key), key, text.as_str());
-        let space = self.space.as_ref();
-        let before = space.and_then(|it| it.built(key)).cloned();
-        let has_items = before.is_some() && space.and_then(|it| it.parsed(key)).is_some_and(|it| it.error.is_none());
-        if let (Some(error), true) = (&parsed.error, has_items) {
-            self.errors.insert(key.clone(), error.clone());
-            self.needs_report = true;
-            return Ok(false);
+        if work.is_empty() {
+            return Ok(readings);
         }
-        self.needs_report |= self.errors.remove(key).is_some() || self.touched.contains(key);
-        let parsed = std::cell::RefCell::new(Some(parsed));
-        let resolved = self.with_space(|it| {
-            let parsed = parsed.borrow_mut().take();
-            // After a new start the text is in it already.
-            parsed.map_or(Ok(Vec::new()), |parsed| it.update_parsed(key.clone(), parsed))
-        })?;
-        let after = self.space.as_ref().and_then(|it| it.built(key));
-        let is_same = match (&before, after) {
-            (Some(before), Some(after)) => before.json == after.json,
-            (before, after) => before.is_none() && after.is_none(),
-        };
-        self.needs_report |= !is_same || resolved.is_some_and(|it| !it.is_empty());
-        Ok(true)
+        let work = std::cell::RefCell::new(work);
+        // After a new start the texts are in it already.
+        let resolved = self.with_space(|it| it.update_parsed(work.take()))?;
+        self.needs_report |= resolved.is_some_and(|it| !it.is_empty());
+        for (key, before) in before {
+            let after = self.space.as_ref().and_then(|it| it.built(key));
+            self.needs_report |= match (&before, after) {
+                (Some(before), Some(after)) => before.json != after.json,
+                (before, after) => before.is_some() || after.is_some(),
+            };
+        }
+        Ok(readings)
     }
 
-    /// Hands in what was typed, and publishes what that changes.
-    pub(super) fn flush(&mut self) -> Result<()> {
-        let mut due: Vec<Key> = self.documents.iter().filter(|it| it.1.is_dirty).map(|it| it.0.clone()).collect();
-        due.sort();
-        for key in due {
-            let Some(document) = self.documents.get_mut(&key) else {
-                continue;
-            };
-            document.is_dirty = false;
-            let text = document.text.clone();
-            let is_read = self.read_text(&key, &text)?;
-            if let (true, Some(document)) = (is_read, self.documents.get_mut(&key)) {
-                document.good = Some(text);
+    /// Hands in what was typed, and publishes what that changes. What changes nothing of it may wait.
+    pub(super) fn flush(&mut self, may_wait: bool) -> Result<()> {
+        let mut texts: Vec<(Key, Arc<Text>)> = Vec::new();
+        for (key, it) in &mut self.documents {
+            if it.is_dirty || it.waits && !may_wait {
+                (it.is_dirty, it.waits) = (false, false);
+                texts.push((key.clone(), it.text.clone()));
+            }
+        }
+        texts.sort_by(|one, two| one.0.cmp(&two.0));
+        let readings = self.read_texts(&texts, may_wait)?;
+        for ((key, text), reading) in texts.into_iter().zip(readings) {
+            if let Some(document) = self.documents.get_mut(&key) {
+                document.waits = reading == Reading::Waits;
+                if reading == Reading::Taken {
+                    document.good = Some(text);
+                }
             }
         }
         if !std::mem::take(&mut self.needs_report) || self.phase != Phase::Serving {

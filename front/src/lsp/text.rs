@@ -28,17 +28,16 @@ impl Text {
 
     fn find_lines(&mut self) {
         (self.lines, self.token_lines) = (vec![0], vec![0]);
+        self.move_lines(0..0, self.text.len());
+    }
+
+    /// Finds the lines again where a range was replaced by so many bytes.
+    fn move_lines(&mut self, old: Range<usize>, new: usize) {
         let bytes = self.text.as_bytes();
-        for (at, it) in bytes.iter().enumerate() {
-            match it {
-                b'\n' => {
-                    self.lines.push(at + 1);
-                    self.token_lines.push(at + 1);
-                }
-                b'\r' if bytes.get(at + 1) != Some(&b'\n') => self.lines.push(at + 1),
-                _ => {}
-            }
-        }
+        let ends = |at: usize| bytes[at - 1] == b'\n';
+        let ends_here = |at: usize| ends(at) || bytes[at - 1] == b'\r' && bytes.get(at) != Some(&b'\n');
+        move_starts(&mut self.lines, old.clone(), new, ends_here);
+        move_starts(&mut self.token_lines, old, new, ends);
     }
 
     /// The text itself.
@@ -134,13 +133,16 @@ impl Text {
     /// Puts a text in place of what stands in a range of the editor, or of all.
     pub fn edit(&mut self, range: Option<[(u32, u32); 2]>, new: &str) {
         match range {
-            None => new.clone_into(&mut self.text),
+            None => {
+                new.clone_into(&mut self.text);
+                self.find_lines();
+            }
             Some([start, end]) => {
                 let (start, end) = (self.offset(start.0, start.1), self.offset(end.0, end.1));
                 self.text.replace_range(start..end.max(start), new);
+                self.move_lines(start..end.max(start), new.len());
             }
         }
-        self.find_lines();
     }
 
     /// Where an offset of this text is in another that was made of it by an edit.
@@ -156,6 +158,16 @@ impl Text {
             _ => other.boundary(same),
         }
     }
+}
+
+/// Where lines begin after a range was replaced by so many bytes, if before each of them `ends` holds. Of the end of a line
+/// two bytes count.
+fn move_starts(starts: &mut Vec<usize>, old: Range<usize>, new: usize, ends: impl Fn(usize) -> bool) {
+    let first = old.start.max(1);
+    let from = starts.partition_point(|it| *it < first);
+    let to = starts.partition_point(|it| *it <= old.end);
+    starts[to..].iter_mut().for_each(|it| *it = *it - old.len() + new);
+    starts.splice(from..to, (first..=old.start + new).filter(|it| ends(*it)));
 }
 
 #[cfg(test)]
@@ -222,6 +234,25 @@ mod tests {
         assert_eq!(text.as_str(), "aébc!");
         text.edit(None, "x");
         assert_eq!(text.as_str(), "x");
+    }
+
+    #[test]
+    fn lines_after_edits() {
+        const PIECES: [&str; 8] = ["", "\r", "\n", "\r\n", "a", "🦀\n", "b\rc\n\n", "\n\r"];
+        let mut number = 1usize;
+        let mut below = |most: usize| {
+            number = number.wrapping_mul(6_364_136_223_846_793_005).wrapping_add(1_442_695_040_888_963_407);
+            (number >> 33) % most
+        };
+        let mut text = Text::new(String::new());
+        for _ in 0..5000 {
+            let mut place = || (below(12) as u32, below(5) as u32);
+            let range = [place(), place()];
+            let is_long = text.as_str().len() > 60;
+            text.edit(Some(range), if is_long { "" } else { PIECES[below(PIECES.len())] });
+            let fresh = Text::new(text.as_str().to_owned());
+            assert_eq!((&text.lines, &text.token_lines), (&fresh.lines, &fresh.token_lines), "{:?}", text.as_str());
+        }
     }
 
     #[test]

@@ -10,11 +10,8 @@ use super::walk::{is_exported, target_of};
 use super::{Key, Parsed, Target, Workspace};
 use crate::cfg::Options;
 use crate::syntax::{unit_of, Item, ItemKind};
-use crate::token::{on_a_thread, spawn, tokens_of, Hash, Span, SyntaxError};
+use crate::token::{on_a_thread, spawn, tokens_of, Hash, Span, SyntaxError, MOST_BYTES};
 use crate::unit::{is_enabled, text_attribute, Given};
-
-/// A file above this isn't read.
-const MOST_BYTES: u64 = 64 << 20;
 
 /// The key of the file at a path.
 pub fn key_of(path: &Path) -> Result<Key> {
@@ -46,7 +43,7 @@ pub(crate) fn bytes_of(path: &Path) -> std::io::Result<Vec<u8>> {
     if !about.is_file() {
         return Err(refused("it is no file".to_owned()));
     }
-    if about.len() > MOST_BYTES {
+    if about.len() > MOST_BYTES as u64 {
         return Err(refused(format!("it has more than {} MB; split it", MOST_BYTES >> 20)));
     }
     std::fs::read(path)

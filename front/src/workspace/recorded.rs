@@ -4,7 +4,7 @@
 //! Where a walk looks at the same in an edited file, it takes the same way, as long as each path reaches the macro that it
 //! reached. So the units of all other files and all expansions are those that would be handed in anew. The program is
 //! asked what it was asked for the report; where it replies the same, and no import names what an item doesn't hold, the
-//! report is the same.
+//! report is the same. Where only items come, go or change whose names nothing looks up, it isn't asked.
 
 use std::collections::{BTreeSet, HashSet};
 use std::path::Path;
@@ -17,12 +17,14 @@ use super::expansions::macro_question;
 use super::files::key_of;
 use super::hand_in::set_file;
 use super::looked_at::looked_at;
+use super::unnamed::{are_unnamed, Edit};
 use super::{Key, Parsed, Workspace};
 use crate::cfg::Options;
 use crate::package::Crates;
 use crate::program::{hash_of, Program, MOST_BYTES};
 use crate::report::past_items;
 use crate::syntax::{Item, ItemKind, Unit};
+use crate::token::has_word;
 use crate::unit::{build_without, quoted, Built, Derives, Id, Without};
 
 /// An import: its node, the modules around it in its file, and its leaves, each with its path and what it binds.
@@ -51,6 +53,8 @@ struct File {
     nodes: usize,
     /// Which of the lines sets it, if one does.
     line: Option<usize>,
+    /// Whether it is one of a crate that is asked for, or that stands on one of these.
+    is_above: bool,
     editable: Option<Editable>,
 }
 
@@ -104,6 +108,11 @@ fn exporting(unit: &Unit) -> Option<Unit> {
     (!unit.items.iter().any(brings)).then_some(made)
 }
 
+/// The crate in which the call stands whose expansion has a key.
+pub(super) fn caller_of(key: &str) -> Option<u32> {
+    key.strip_prefix("{\"caller\":")?.split(',').next()?.parse().ok()
+}
+
 /// The crate that a question is about.
 fn crate_of(line: &str) -> Option<u32> {
     let rest = line.split_once("\"at\":[").or_else(|| line.split_once("\"crate\":"))?.1;
@@ -142,13 +151,13 @@ impl Workspace {
         keys.sort();
         for key in keys {
             let (file, line) = self.record_file(key, &needed, &trimmed, &mut made.type_names);
-            made.files.push(File { line: line.is_some().then_some(lines.len()), ..file });
+            let is_above = self.crates_of(key).iter().any(|it| above.contains(it));
+            made.files.push(File { line: line.is_some().then_some(lines.len()), is_above, ..file });
             lines.extend(line);
         }
         for (key, it) in &self.expansions {
-            let caller = key.strip_prefix("{\"caller\":").and_then(|it| it.split(',').next()?.parse::<u32>().ok());
             made.type_names.extend(it.built.type_names().iter().map(|it| it.to_string()));
-            if caller.map_or(true, |it| needed.contains(&it)) {
+            if caller_of(key).map_or(true, |it| needed.contains(&it)) {
                 lines.push(it.line.clone());
             }
         }
@@ -182,7 +191,8 @@ impl Workspace {
             }
             None => None,
         };
-        (File { key: key.to_string(), nodes: sent.built.nodes.len(), line: None, editable }, line)
+        let (key, nodes) = (key.to_string(), sent.built.nodes.len());
+        (File { key, nodes, line: None, is_above: false, editable }, line)
     }
 
     /// What an edit of a file of this crate alone has to leave as it is, if it may be edited.
@@ -264,6 +274,10 @@ impl Recorded {
             files[at] = (key, built.nodes.len(), Some(now));
             made.push((self.files[at].line?, set_file(key, &built.json)));
         }
+        let count = || files.iter().map(|it| it.1).sum::<usize>();
+        if self.is_unnamed(&lines, &made) {
+            return Some(count());
+        }
         for (at, line) in &made {
             *lines.get_mut(*at)? = line;
         }
@@ -275,7 +289,19 @@ impl Recorded {
         let mut program = Program::start(program).ok()?;
         let same = self.replies_are_same(crates, &lines, &now, edited, &mut program);
         program.end();
-        same.ok()?.then(|| files.iter().map(|it| it.1).sum())
+        same.ok()?.then(count)
+    }
+
+    /// Whether these commands in place of others bring, take away or change such items alone whose names stand in nothing
+    /// else that is looked up in the crates that are asked about.
+    fn is_unnamed(&self, lines: &[&str], made: &[(usize, String)]) -> bool {
+        let below: HashSet<usize> = self.files.iter().filter(|it| !it.is_above).filter_map(|it| it.line).collect();
+        let edits = made.iter().map(|(at, line)| Edit::read(lines.get(*at)?, line));
+        let is_other = |it: &(usize, &&str)| !below.contains(&it.0) && made.iter().all(|(at, _)| *at != it.0);
+        let others = lines.iter().enumerate().filter(is_other).map(|it| *it.1);
+        let others: Vec<&str> = others.chain(self.asked.iter().map(|it| &*it.0)).collect();
+        let stands_elsewhere = |name: &str| others.iter().any(|it| has_word(it, name, 0..0));
+        edits.collect::<Option<Vec<Edit>>>().is_some_and(|it| are_unnamed(&it, stands_elsewhere))
     }
 
     fn replies_are_same(

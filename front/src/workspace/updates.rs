@@ -7,13 +7,15 @@ use std::sync::{Arc, PoisonError};
 use anyhow::Result;
 
 use super::files::{key_of, parse, parse_text, path_of_key};
-use super::hand_in::built_of;
+use super::hand_in::{built_of, set_file};
 use super::left_out::left_out_of;
 use super::looked_at::looked_at;
+use super::recorded::caller_of;
+use super::unnamed::{are_unnamed, Edit};
 use super::{Key, Parsed, Sent, Workspace};
 use crate::syntax::Unit;
 use crate::token::Hash;
-use crate::unit::{quoted, BuiltBlock, Without};
+use crate::unit::{build_without, quoted, Built, BuiltBlock, Without};
 
 impl Workspace {
     /// The files that were looked for without being read as modules: those that weren't there, and what `include!` names.
@@ -115,16 +117,18 @@ impl Workspace {
     pub fn update_text(&mut self, path: &Path, text: &str) -> Result<Vec<u32>> {
         let key = key_of(path)?;
         let parsed = parse_text(path, &key, text);
-        self.update_parsed(key, parsed)
+        self.update_parsed(vec![(key, parsed)])
     }
 
-    /// Takes what [`parse_text`] made in place of what the file holds.
-    pub fn update_parsed(&mut self, key: Key, parsed: Parsed) -> Result<Vec<u32>> {
+    /// Takes what [`parse_text`] made in place of what these files hold.
+    pub fn update_parsed(&mut self, files: Vec<(Key, Parsed)>) -> Result<Vec<u32>> {
         let mut crates = self.restore_circular();
-        let is_same = self.parsed.get(&key).is_some_and(|it| it.text == parsed.text) || self.take_same(&key, &parsed);
-        if !is_same {
-            self.parsed.insert(key.clone(), Arc::new(parsed));
-            crates.extend(self.looking_for(&key));
+        for (key, parsed) in files {
+            let is_same = self.parsed.get(&key).is_some_and(|it| it.text == parsed.text);
+            if !is_same && !self.take_same(&key, &parsed) {
+                self.parsed.insert(key.clone(), Arc::new(parsed));
+                crates.extend(self.looking_for(&key));
+            }
         }
         let mut crates: Vec<u32> = crates.into_iter().collect();
         crates.sort_unstable();
@@ -132,6 +136,44 @@ impl Workspace {
             true => Ok(crates),
             false => self.settle(&crates),
         }
+    }
+
+    /// Takes what [`parse_text`] made in place of what a file holds, where only places are others.
+    pub fn take_unchanged(&mut self, key: &Key, parsed: &Parsed) -> bool {
+        let is_same = self.parsed.get(key).is_some_and(|it| it.text == parsed.text);
+        self.circular.is_empty() && (is_same || self.take_same(key, parsed))
+    }
+
+    /// Whether a report would be the same, but for places, with what [`parse_text`] made in place of what a file holds: of
+    /// the file only such items come, go or change whose names stand in nothing else that may see them.
+    pub fn reports_same(&self, key: &Key, parsed: &Parsed) -> bool {
+        let of = self.crates_of(key);
+        let (Some(sent), &[krate]) = (self.sent.get(key), &of[..]) else {
+            return false;
+        };
+        let state = &self.states[krate as usize];
+        let is_once = state.files.iter().filter(|it| it.0 == *key).count() == 1;
+        let are_whole = self.parsed.get(key).is_some_and(|it| it.error.is_none()) && parsed.error.is_none();
+        let is_known = self.circular.is_empty() && self.refused.is_empty() && sent.replaced.is_empty();
+        if !is_once || !are_whole || !is_known || looked_at(&sent.unit) != looked_at(&parsed.unit) {
+            return false;
+        }
+        // No report hangs on impls and on what is in traits.
+        let without = Without { derives: sent.left_out, associated: true };
+        let options = &self.crates.all[krate as usize].options;
+        let command = |it: &Unit| set_file(key, &build_without(it, options, &|_| None, without).json);
+        let Some(edit) = Edit::read(&command(&sent.unit), &command(&parsed.unit)) else {
+            return false;
+        };
+        // A crate stands behind all that it stands on.
+        let above = &self.states[krate as usize..];
+        let sees = |it: &&Key| **it != *key && above.iter().any(|state| state.places.contains_key(*it));
+        let files: Vec<&Built> = self.sent.keys().filter(sees).map(|it| &*self.sent[it].built).collect();
+        let is_above = |key: &str| caller_of(key).map_or(true, |it| it >= krate);
+        are_unnamed(&[edit], |name| {
+            let mut expansions = self.expansions.iter().filter(|it| is_above(it.0));
+            files.iter().any(|it| it.has_word(name)) || expansions.any(|it| it.1.built.has_word(name))
+        })
     }
 
     /// The crates in which the file is a module, or in which a module looked for it.
