@@ -1,9 +1,0 @@
-pub mod Reading
-pub mod Around
-pub mod Growth
-pub mod Placed
-pub mod Kept
-pub mod Expanding
-pub mod Taking
-pub mod OnItsWay
-pub mod Unique

@@ -1,2 +1,0 @@
-pub mod Deriving
-pub mod Passing

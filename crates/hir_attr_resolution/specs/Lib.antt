@@ -1,2 +1,0 @@
--- ---- words of private code
-pub mod Visiting

@@ -1,2 +1,0 @@
--- What is a path?
-pub use Rattle.hir_base.specs.ModPath.{Path}

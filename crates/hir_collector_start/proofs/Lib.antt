@@ -1,4 +1,0 @@
-pub mod Digits
-pub mod Rootless
-pub mod CallPlaces
-pub mod Untaken

@@ -1,3 +1,0 @@
-pub mod CrateLists
-mod Rows
-pub mod Closure

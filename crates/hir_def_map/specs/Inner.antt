@@ -1,3 +1,0 @@
--- ---- what private code answers
-pub mod Dependents
-pub mod Recorded

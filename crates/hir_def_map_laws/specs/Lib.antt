@@ -1,4 +1,0 @@
-pub mod Paths
-pub mod Building
-pub mod ReadLaw
-pub mod SlotChanges

@@ -1,2 +1,0 @@
-mod BuiltinLemmas
-mod HeadLemmas

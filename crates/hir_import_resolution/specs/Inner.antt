@@ -1,6 +1,0 @@
--- Words of private code.
-pub mod TableLaws
-pub mod OpenLaws
-pub mod State
-pub mod Steps
-pub mod Queue

@@ -1,6 +1,0 @@
-use Rattle.std.proofs.Common.{◌≡◌, ◌↔◌, length, drop}
-use Rattle.hir_item_tree.proofs.same.same_visibilities.Given as goal
-
--- all are alike exactly where those that are left are
-abbrev pub invariant-loop-i : goal.invariant-loop-i
-invariant-loop-i l = (length l.a ≡ length l.b) × ((drop l.i l.a ≡ drop l.i l.b) ↔ (l.a ≡ l.b))

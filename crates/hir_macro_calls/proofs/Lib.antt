@@ -1,4 +1,0 @@
-pub mod Resuming
-pub mod UpToDate
-pub mod Queued
-pub mod GivingUp

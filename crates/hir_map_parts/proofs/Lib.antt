@@ -1,4 +1,0 @@
-pub mod Copies
-pub mod Rewrites
-pub mod Externs
-pub mod Texts

@@ -1,3 +1,0 @@
-pub mod Edits
-pub mod CommandValue
-pub mod Types

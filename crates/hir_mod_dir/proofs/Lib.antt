@@ -1,2 +1,0 @@
-pub mod PathTextLemmas
-pub mod PlaceLemmas

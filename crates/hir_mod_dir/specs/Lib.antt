@@ -1,5 +1,0 @@
-pub mod Directory
-pub mod PathText
-pub mod ModuleFiles
-pub mod Declaration
-pub mod Types

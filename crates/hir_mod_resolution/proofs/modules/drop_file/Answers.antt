@@ -1,6 +1,0 @@
--- What each part notes, all note.
-use Rattle.hir_collector_state.proofs.Noted.{noted_follow}
-use Rattle.hir_mod_resolution.proofs.modules.drop_file.Goals as goal
-
-pub returns-clause-noted : goal.returns-clause-noted
-returns-clause-noted c = noted_follow c.in_ok-tell.ensures.noted c.in_ok-tick.ensures.noted

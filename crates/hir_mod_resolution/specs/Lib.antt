@@ -1,3 +1,0 @@
--- ---- words of private code
-pub mod Walking
-pub mod Types

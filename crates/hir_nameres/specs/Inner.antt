@@ -1,2 +1,0 @@
--- ---- laws that the code's own types name
-pub mod PartLaws

@@ -1,2 +1,0 @@
-pub mod Wider
-pub mod FilterLemmas

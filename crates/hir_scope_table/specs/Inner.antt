@@ -1,4 +1,0 @@
-pub mod Reserved
-pub mod Picked
-pub mod Place
-pub mod Kept

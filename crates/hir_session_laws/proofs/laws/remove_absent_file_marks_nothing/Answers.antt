@@ -1,8 +1,0 @@
-use Rattle.hir_session_laws.proofs.EditLaws as edits
-use Rattle.hir_session_laws.proofs.laws.remove_absent_file_marks_nothing.Goals as goal
-
-pub returns : goal.returns
-returns c = record {
-  law = edits.remove_absent_file_marks_nothing;
-  answers = edits.remove_absent_file_leaves_answers;
-}

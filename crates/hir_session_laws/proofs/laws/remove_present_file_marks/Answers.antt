@@ -1,5 +1,0 @@
-use Rattle.hir_session_laws.proofs.EditLaws as edits
-use Rattle.hir_session_laws.proofs.laws.remove_present_file_marks.Goals as goal
-
-pub returns : goal.returns
-returns c = record { law = edits.remove_present_file_marks }

@@ -1,4 +1,0 @@
-//! What holds of all that a session does.
-#![tactic(auto)]
-
-pub mod laws;

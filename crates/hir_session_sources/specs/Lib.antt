@@ -1,5 +1,0 @@
-pub mod BlockPlaces
-pub mod BlockTables
-pub mod BlockCodes
-pub mod EditValues
-pub mod SourceTrees

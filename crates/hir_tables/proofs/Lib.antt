@@ -1,5 +1,0 @@
-pub mod Growth
-mod InternerLemmas
-mod PlainLemmas
-mod Exact
-mod TableLemmas

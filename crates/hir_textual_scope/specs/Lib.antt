@@ -1,4 +1,0 @@
-pub mod Macros
-pub mod Node
-pub mod Laws
-pub mod Types

@@ -1,3 +1,0 @@
-pub mod UseTreeLemmas
-pub mod CallLemmas
-pub mod UseTreePlaces

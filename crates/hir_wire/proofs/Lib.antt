@@ -1,7 +1,0 @@
-pub mod PlainLemmas
-pub mod ReadingLemmas
-pub mod FieldLemmas
-pub mod PairLemmas
-pub mod NodeLemmas
-pub mod LineLemmas
-mod BlockLemmas

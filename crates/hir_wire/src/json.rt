@@ -1,7 +1,0 @@
-//! Readers of JSON values, and how they are put together.
-
-pub mod combinators;
-pub mod floats;
-pub mod from_json;
-pub mod parts;
-pub mod words;

@@ -1,8 +1,0 @@
-//! Writing replies.
-
-pub mod answer;
-pub mod definition;
-pub mod diagnostic;
-pub mod items;
-pub mod names;
-pub mod reply;

@@ -1,6 +1,0 @@
-pub mod Idle
-pub mod Settled
-pub mod Waking
-pub mod Watched
-pub mod Passes
-pub mod Woken

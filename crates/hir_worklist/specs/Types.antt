@@ -1,2 +1,0 @@
--- The types of the crate, under their names.
-pub use Rattle.hir_worklist.specs.declared.watchers.Watchers.{Watchers}

@@ -1,6 +1,0 @@
-#[macro_export]
-macro_rules! codecs {
-    ($($t:ty)*) => {
-        $(impl $crate::Codec for $t {})*
-    };
-}

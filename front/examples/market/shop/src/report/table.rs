@@ -1,3 +1,0 @@
-pub(super) fn row(price: u32, tax: u32) -> String {
-    format!("{price} {tax}")
-}

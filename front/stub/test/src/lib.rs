@@ -1,3 +1,0 @@
-//! Stands for `test` where the standard library's sources aren't there.
-
-pub struct Bencher;
