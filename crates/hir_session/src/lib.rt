@@ -18,11 +18,11 @@ pub use hir_item_tree::source::{Node, NodeKind, Source, Unit};
 pub use hir_session_laws::laws;
 pub use hir_session_machine::hir_lines::open_line::LINE_LIMIT;
 pub use hir_session_machine::hir_lines::output::Fault;
-pub use hir_session_machine::hir_session_sources::crate_info::CrateInfo;
-pub use hir_session_machine::hir_session_sources::files::Files;
-pub use hir_session_machine::hir_session_sources::{crate_info, files};
-pub use hir_session_machine::hir_session_state::error;
-pub use hir_session_machine::hir_session_state::error::{
+pub use hir_session_machine::hir_session_core::hir_session_sources::crate_info::CrateInfo;
+pub use hir_session_machine::hir_session_core::hir_session_sources::files::Files;
+pub use hir_session_machine::hir_session_core::hir_session_sources::{crate_info, files};
+pub use hir_session_machine::hir_session_core::hir_session_state::error;
+pub use hir_session_machine::hir_session_core::hir_session_state::error::{
     DiagnosticsError, EditError, ImplItemsError, ModulesError, NewSessionError, QueryError,
     RefreshError, TraitItemsError, TreeTextError,
 };

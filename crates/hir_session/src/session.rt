@@ -18,9 +18,11 @@ ghost use Rattle.hir_session.specs.Lending.{LendsCore};
 
 use crate::collector::Collector;
 use hir_base::place::Place;
+use hir_session_machine::hir_session_core::hir_session_state::error::{
+    NewSessionError, RefreshError,
+};
 pub use hir_session_machine::hir_session_core::session::MAX_CRATES;
 use hir_session_machine::hir_session_core::session::Session as SessionCore;
-use hir_session_machine::hir_session_state::error::{NewSessionError, RefreshError};
 use hir_session_machine::hir_wire::command::CrateInput;
 use std::alloc::Global;
 use std::marker::Model;

@@ -4,6 +4,5 @@
 pub use hir_session_invalidation;
 pub use hir_session_sources;
 pub use hir_session_state;
-pub use hir_session_state::{hir_collector_rules, hir_def_collector_laws, hir_def_map};
 
 pub mod session;

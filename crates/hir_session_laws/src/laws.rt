@@ -5,10 +5,10 @@ ghost use Rattle.hir_session_machine.specs.MachineHistories.{LinesBeginHistories
 ghost use Rattle.hir_session_laws.specs.Laws.{BodyEditsMarkNothing, BodyEditsLeaveAnswers, ExpansionBodyEditsMarkNothing, ExpansionBodyEditsLeaveAnswers, SetAbsentFileMarks, RemovePresentFileMarks, RemoveAbsentFileMarksNothing, RemoveAbsentFileLeavesAnswers, SetAbsentExpansionMarks, RemovePresentExpansionMarks, RemoveAbsentExpansionMarksNothing, RemoveAbsentExpansionLeavesAnswers, BlockBodyEditsMarkNothing, BlockBodyEditsLeaveAnswers, SetAbsentBlockMarks, RemovePresentBlockMarks, RemoveAbsentBlockMarksNothing, RemoveAbsentBlockLeavesAnswers, BlockEditsSpareTheCrate, UnaskedSourcesMarkNothing, UnaskedSourcesLeaveAnswers, UnaskedSourcesLeaveCurrentAnswers, NumbersChangeNoAnswer};
 
 use hir_item_tree::laws::body_texts_leave_the_tree;
-use hir_session_machine::hir_def_collector_laws::laws::{
+use hir_session_machine::hir_session_core::hir_session_state::hir_def_collector_laws::laws::{
     crates_ask_for_no_block, runs_bind_from_sources,
 };
-use hir_session_machine::hir_def_map::laws::{
+use hir_session_machine::hir_session_core::hir_session_state::hir_def_map::laws::{
     paths_answer_from_sources, paths_lead_to_what_is_there,
 };
 

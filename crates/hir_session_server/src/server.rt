@@ -4,7 +4,7 @@ ghost use Rattle.hir_session_server.specs.Runs.{Converses};
 use hir_base::limit::Limit;
 use hir_session_machine::hir_lines::open_line::{Fate, OpenLine, split_line};
 use hir_session_machine::hir_lines::output::{Fault, write_reply};
-use hir_session_machine::hir_session_invalidation::sources::CollectDefs;
+use hir_session_machine::hir_session_core::hir_session_invalidation::sources::CollectDefs;
 use hir_session_machine::hir_wire::Reply;
 use hir_session_machine::server_state::Machine;
 use std::alloc::Global;
